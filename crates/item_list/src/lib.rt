@@ -108,7 +108,10 @@ impl Items<u8> {
     pub fn copy(&self, alloc: Global) -> Result<Bytes, AllocError>
         ensures { IfOk result (λ copy. copy ≡ self.now) }
     {
-        let items = Vec::from_slice(alloc, self.items.as_slice())?;
+        let items = Vec::from_slice(alloc, self.as_slice())?;
         Ok(Items { items })
     }
 }
+
+#[cfg(test)]
+mod tests;
