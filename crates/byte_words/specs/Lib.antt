@@ -1,0 +1,4 @@
+pub mod Blocks
+pub mod Numbers
+pub mod Tables
+pub mod Xor
