@@ -1,0 +1,4 @@
+pub mod Schedule
+pub mod Rounds
+pub mod Following
+pub mod StandardFacts

@@ -1,0 +1,7 @@
+use Rattle.std.proofs.Common.{refl}
+use Rattle.blake2_core.specs.Compression.{mixed}
+use Rattle.blake2_core.proofs.compression.mix.Goals as goal
+
+pub returns : goal.returns
+unfolding mixed
+returns c = rw (c.rotate_right-b-2.ensures, c.rotate_right-d-2.ensures, c.rotate_right-b.ensures, c.rotate_right-d.ensures) refl

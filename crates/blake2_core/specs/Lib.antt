@@ -1,0 +1,5 @@
+pub mod Words
+pub mod Constants
+pub mod Compression
+pub mod Digest
+pub mod Hasher
