@@ -1,0 +1,9 @@
+//! The entries of a history of calls, and the words in which contracts speak of such histories:
+//! places, the entries of one caller, entries put in order of place, and beginnings.
+#![tactic(auto)]
+
+mod entry;
+mod laws;
+
+pub use entry::Entry;
+pub use laws::callers_determine_history;
