@@ -1,0 +1,80 @@
+//! HKDF: a short key drawn from the key material, and stretched to any length.
+
+ghost use Rattle.std.specs.Prelude.{◌≡◌, ◌++◌, ◌*◌, ◌<◌, ◌≤◌, ◌^◌, ◌-◌, ◌∷◌, [], ℕ, List, length, take, min};
+ghost use Rattle.std.specs.Int.{div_ceil};
+ghost use Rattle.hmac_kdf.specs.Hmac.{hash_of};
+ghost use Rattle.hmac_kdf.specs.Hkdf.{hkdf_with, okm_blocks};
+ghost use lib.Seq.{paste};
+
+use crate::hash::BlockHash;
+use crate::keyed::{Keyed, mac};
+
+/// HKDF: extract, then expand, into the whole of `out`.
+pub(crate) fn derive<H, const B: usize, const N: usize>(
+    salt: &[u8],
+    ikm: &[u8],
+    info: &[u8],
+    out: &mut [u8],
+)
+where
+    H: BlockHash<B, N>,
+    requires digest { 0 < N }
+    requires digest_in_block { N ≤ B }
+    requires small { B < 2 ^ 63 }
+    requires fits { length out.old ≤ 255 * N }
+    ensures { out.new ≡ hkdf_with (hash_of H.digest_bytes B N) salt.now ikm.now info.now (length out.old) }
+{
+    let key = mac::<H, B, N>(salt, ikm, &[]);
+    expand::<H, B, N>(&key, info, out);
+}
+
+// HKDF-Expand: the blocks T(1), T(2) and so on, the last of them cut where `out` ends.
+fn expand<H, const B: usize, const N: usize>(key: &[u8], info: &[u8], out: &mut [u8])
+where
+    H: BlockHash<B, N>,
+    requires digest { 0 < N }
+    requires digest_in_block { N ≤ B }
+    requires small { B < 2 ^ 63 }
+    requires fits { length out.old ≤ 255 * N }
+    ensures { out.new ≡ take (length out.old)
+        (okm_blocks (hash_of H.digest_bytes B N) key.now info.now (div_ceil (length out.old) N)) }
+{
+    let keyed: Keyed<H> = Keyed::new::<B, N>(key);
+    let mut block = [0; N];
+    let mut filled = 0;
+    'pieces: for i in 0..out.len().div_ceil(N) {
+        block = next_block::<H, B, N>(&keyed, &block[..filled], info, i as u8 + 1);
+        filled = N;
+        write_at(out, i * N, &block);
+    }
+}
+
+// T(i), from T(i-1) and the number i.
+fn next_block<H, const B: usize, const N: usize>(
+    keyed: &Keyed<H>,
+    previous: &[u8],
+    info: &[u8],
+    number: u8,
+) -> [u8; N]
+where
+    H: BlockHash<B, N>,
+    ensures value { (inner outer : List ℕ) → H.holds keyed.now.inner inner → H.holds keyed.now.outer outer
+        → result ≡ H.digest_bytes
+        (outer ++ H.digest_bytes (inner ++ (previous.now ++ info.now ++ number ∷ []))) }
+    ensures size { length result ≡ N }
+{
+    let mut mac = keyed.copy::<B, N>();
+    mac.update::<B, N>(previous);
+    mac.update::<B, N>(info);
+    mac.update::<B, N>(&[number]);
+    mac.finish::<B, N>()
+}
+
+// Writes the bytes at the place, as far as there is room.
+fn write_at(out: &mut [u8], at: usize, bytes: &[u8])
+    requires { at ≤ length out.old }
+    ensures { out.new ≡ paste out.old at bytes.now (min (length bytes.now) (length out.old - at)) }
+{
+    let count = bytes.len().min(out.len() - at);
+    out[at..at + count].copy_from_slice(&bytes[..count]);
+}
