@@ -1,0 +1,30 @@
+-- The keys and names that Linux fscrypt draws from a raw master key (fs/crypto/hkdf.c), and the
+-- descriptor that the fscrypt tool gives a protector's key.
+use Rattle.std.specs.Prelude.{ℕ, List, [], ◌∷◌, ◌++◌, take, codes}
+use Rattle.sha2.specs.Sha512.{sha512}
+use Rattle.hex.specs.Hex.{encode_lower}
+use Rattle.hmac_kdf.specs.Hkdf.{hkdf_sha512}
+use Rattle.policy_ctx.specs.declared.policy.KeyId.{KeyId}
+use Rattle.fsc_keys.specs.declared.file_keys.KeyKind.{KeyKind}
+use Rattle.fsc_keys.specs.declared.file_keys.KeyKind.TheVariants.{Contents, Names}
+use Rattle.fsc_keys.specs.declared.file_keys.FileKey.{FileKey}
+use Rattle.fsc_keys.specs.declared.file_keys.FileKey.TheVariants as key
+
+-- len bytes drawn from a raw key: HKDF-SHA512 without salt; the info is `fscrypt`, a zero byte, the
+-- byte of the context that the bytes are drawn for, and what that context adds
+unfoldable pub derived : List ℕ → ℕ → List ℕ → ℕ → List ℕ
+derived raw context info len = hkdf_sha512 [] raw (codes "fscrypt" ++ 0 ∷ context ∷ info) len
+
+-- the identifier of a raw key: 16 bytes in context 1
+unfoldable pub key_id_of : List ℕ → KeyId
+key_id_of raw = record { 0 = derived raw 1 [] 16 }
+
+-- the key of one file, directory or symlink, by its nonce, in context 2: 64 bytes for contents, 32
+-- for names
+abbrev pub file_key_of : List ℕ → KeyKind → List ℕ → FileKey
+file_key_of raw Contents nonce = key.Contents (derived raw 2 nonce 64)
+file_key_of raw Names nonce = key.Names (derived raw 2 nonce 32)
+
+-- the first 8 bytes of SHA-512 taken twice, in lower-case digits
+abbrev pub descriptor_of : List ℕ → List ℕ
+descriptor_of bytes = encode_lower (take 8 (sha512 (sha512 bytes)))
