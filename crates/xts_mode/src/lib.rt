@@ -1,0 +1,87 @@
+//! XTS-AES-256 on data units of whole blocks (IEEE 1619), in place.
+#![tactic(auto)]
+
+mod block;
+#[cfg(test)]
+mod tests;
+
+ghost use Rattle.std.specs.Prelude.{◌≡◌, ◌%◌, ◌++◌, List, ℕ, length};
+ghost use Rattle.xts_mode.specs.Laws.{DecryptionUndoes, EncryptionUndoes, KeepsLength, MakesUnits};
+ghost use Rattle.xts_mode.specs.Xts.{first_tweak, xts_decrypted, xts_encrypted};
+
+use crate::block::{block_at, decrypt_tweaked, encrypt_tweaked, half_of, times_alpha};
+use aes_core::Aes256;
+use std::marker::Model;
+
+/// A key of 64 bytes, whose halves are two keys of AES-256. In contracts it is the 64 bytes. Equal
+/// halves are not refused.
+#[derive(Drop)]
+pub struct XtsKey {
+    // Enciphers the blocks.
+    cipher: Aes256,
+    // Makes the first tweak of a unit.
+    tweaker: Aes256,
+}
+
+impl Model for XtsKey {
+    ghost Value = { List ℕ };
+
+    ghost view = { λ k. k.cipher ++ k.tweaker };
+
+    ghost invariant = { λ k. (length k.cipher ≡ 32) × (length k.tweaker ≡ 32) };
+}
+
+impl XtsKey {
+    /// Makes the round keys of both halves.
+    pub fn new(key: &[u8; 64]) -> XtsKey
+        ensures { result ≡ key.now }
+    {
+        XtsKey {
+            cipher: Aes256::new(&half_of(key, 0)),
+            tweaker: Aes256::new(&half_of(key, 32)),
+        }
+    }
+
+    /// Encrypts the unit with this index, in place. Its length is a multiple of 16 bytes.
+    pub fn encrypt_unit(&self, index: u64, unit: &mut [u8])
+        requires whole_blocks { length unit.old % 16 ≡ 0 }
+        ensures { unit.new ≡ xts_encrypted self.now index unit.old }
+    {
+        let mut tweak = self.first_tweak(index);
+        'units: for j in 0..unit.len() / 16 {
+            let block = encrypt_tweaked(&self.cipher, tweak, block_at(unit, j));
+            unit[16 * j..16 * j + 16].copy_from_slice(&block);
+            tweak = times_alpha(tweak);
+        }
+    }
+
+    /// Decrypts the unit with this index, in place. Its length is a multiple of 16 bytes.
+    pub fn decrypt_unit(&self, index: u64, unit: &mut [u8])
+        requires whole_blocks { length unit.old % 16 ≡ 0 }
+        ensures { unit.new ≡ xts_decrypted self.now index unit.old }
+    {
+        let mut tweak = self.first_tweak(index);
+        'units: for j in 0..unit.len() / 16 {
+            let block = decrypt_tweaked(&self.cipher, tweak, block_at(unit, j));
+            unit[16 * j..16 * j + 16].copy_from_slice(&block);
+            tweak = times_alpha(tweak);
+        }
+    }
+
+    fn first_tweak(&self, index: u64) -> u128
+        ensures { result ≡ first_tweak self.now index }
+    {
+        let [a, b, c, d, e, f, g, h] = index.to_le_bytes();
+        let block = [a, b, c, d, e, f, g, h, 0, 0, 0, 0, 0, 0, 0, 0];
+        u128::from_le_bytes(self.tweaker.encrypt_block(block))
+    }
+}
+
+/// Does nothing. Its contract is the law that decryption and encryption undo one another, for every
+/// key, index and unit, and that both keep the length.
+pub fn decryption_undoes_encryption()
+    ensures decrypted { DecryptionUndoes }
+    ensures encrypted { EncryptionUndoes }
+    ensures length { KeepsLength }
+    ensures units { MakesUnits }
+{}
