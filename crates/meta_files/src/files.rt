@@ -1,0 +1,139 @@
+//! The records themselves, in the order in which they were first stored.
+
+ghost use Rattle.std.specs.Prelude.{◌≡◌, ◌+◌, ℕ, List, [], ◌∷◌, ◌++◌, length, IfSome, IfNone, IfOk, IsOk, IsOkUnless, OnErr, position, bytes_eq};
+ghost use Rattle.meta_files.specs.Records.{record_of, version_of, with_record};
+ghost use Rattle.meta_files.specs.Faults.{store_fault};
+ghost use Rattle.meta_files.specs.Kept.{rewrite_fault, append_fault};
+
+use super::{Bytes, StoreFault};
+use std::alloc::{AllocError, Global};
+use std::marker::Model;
+
+/// The most bytes that a record may have.
+const BYTES_MAX: usize = 8_192;
+
+/// The most records that there may be.
+const RECORDS_MAX: usize = 1_024;
+
+/// A record as it is kept.
+#[derive(Drop)]
+struct Record {
+    name: Bytes,
+    version: u32,
+    bytes: Bytes,
+}
+
+/// The records of a mount. In clauses it is the list of (name, (version, bytes)).
+#[derive(Drop)]
+pub struct MetaFiles {
+    records: Vec<Record>,
+}
+
+impl Model for MetaFiles {
+    ghost use Rattle.std.specs.Prelude.{ℕ, List};
+    ghost use Rattle.meta_files.specs.Kept.{pairs_of};
+
+    ghost Value = { List (List ℕ × (ℕ × List ℕ)) };
+
+    ghost view = { λ files. pairs_of files.records.items };
+}
+
+impl MetaFiles {
+    /// No records yet. It takes no memory before the first one is stored.
+    pub fn new(alloc: Global) -> MetaFiles
+        ensures { result ≡ [] }
+    {
+        MetaFiles {
+            records: Vec::new(alloc),
+        }
+    }
+
+    /// The version and a copy of the bytes of the record of this name, where there is one.
+    pub fn load(&self, alloc: Global, name: &[u8]) -> Result<Option<(u32, Bytes)>, AllocError>
+        ensures { IfOk result (λ found. found ≡ record_of self.now name.now) }
+    {
+        let Some(place) = place_of(&self.records, name) else {
+            return Ok(None);
+        };
+        let kept = &self.records[place];
+        let bytes = kept.bytes.copy(alloc)?;
+        Ok(Some((kept.version, bytes)))
+    }
+
+    /// Stores the bytes under the name, and answers the record's new version. The caller tells
+    /// which version the record has to have now: 0 where there has to be none.
+    pub fn store(
+        &mut self,
+        alloc: Global,
+        name: &[u8],
+        expected: u32,
+        bytes: &[u8],
+    ) -> Result<u32, StoreFault>
+        ensures version { IfOk result (λ version. version ≡ version_of self.old name.now + 1) }
+        ensures stored { IfOk result (λ version. self.new ≡ with_record self.old name.now version bytes.now) }
+        ensures kept { OnErr result (self.new ≡ self.old) }
+        ensures refused { IfSome (store_fault self.old name.now expected bytes.now) (λ fault. result ≡ Err fault) }
+        ensures accepted { IfNone (store_fault self.old name.now expected bytes.now) (IsOkUnless result StoreFault.NoMemory) }
+    {
+        if bytes.len() > BYTES_MAX {
+            return Err(StoreFault::TooBig);
+        }
+        let Some(place) = place_of(&self.records, name) else {
+            return append(alloc, &mut self.records, name, expected, bytes);
+        };
+        let version = next_version(self.records[place].version, expected)?;
+        let bytes = Bytes::from_vec(Vec::from_slice(alloc, bytes)?);
+        let kept = &mut self.records[place];
+        kept.version = version;
+        kept.bytes = bytes;
+        Ok(version)
+    }
+}
+
+/// The index of the record of this name.
+fn place_of(records: &[Record], name: &[u8]) -> Option<usize>
+    ensures { result ≡ position (λ kept. bytes_eq kept.name name.now) records.now }
+{
+    records.iter().position(|kept| kept.name.as_slice() == name)
+}
+
+/// The version after this one, where this one is expected.
+fn next_version(version: u32, expected: u32) -> Result<u32, StoreFault>
+    ensures next { IfOk result (λ next. next ≡ version + 1) }
+    ensures refused { IfSome (rewrite_fault version expected) (λ fault. result ≡ Err fault) }
+    ensures accepted { IfNone (rewrite_fault version expected) (IsOk result) }
+{
+    if version != expected {
+        return Err(StoreFault::Changed { version });
+    }
+    version.checked_add(1).ok_or(StoreFault::NoSpace)
+}
+
+/// Puts a new record of version 1 behind the others.
+fn append(
+    alloc: Global,
+    records: &mut Vec<Record>,
+    name: &[u8],
+    expected: u32,
+    bytes: &[u8],
+) -> Result<u32, StoreFault>
+    ensures written { IfOk result (λ version. records.new.items ≡ records.old.items ++ record { name = name.now; version = version; bytes = bytes.now } ∷ []) }
+    ensures version { IfOk result (λ version. version ≡ 1) }
+    ensures kept { OnErr result (records.new.items ≡ records.old.items) }
+    ensures refused { IfSome (append_fault (length records.old.items) expected) (λ fault. result ≡ Err fault) }
+    ensures accepted { IfNone (append_fault (length records.old.items) expected) (IsOkUnless result StoreFault.NoMemory) }
+{
+    if expected != 0 {
+        return Err(StoreFault::Changed { version: 0 });
+    }
+    if records.len() >= RECORDS_MAX {
+        return Err(StoreFault::NoSpace);
+    }
+    let record = Record {
+        name: Bytes::from_vec(Vec::from_slice(alloc, name)?),
+        version: 1,
+        bytes: Bytes::from_vec(Vec::from_slice(alloc, bytes)?),
+    };
+    records.push(record)?;
+    Ok(1)
+}

@@ -1,0 +1,13 @@
+//! The records of a mount: small texts under names, each with a version that counts its writings.
+#![tactic(auto)]
+
+mod fault;
+mod files;
+mod laws;
+#[cfg(test)]
+mod tests;
+
+pub use fault::StoreFault;
+pub use files::MetaFiles;
+pub use item_list::Bytes;
+pub use laws::writing_changes_one_record;
