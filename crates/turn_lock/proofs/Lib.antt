@@ -1,0 +1,6 @@
+pub mod Calls
+pub mod Closing
+pub mod Passing
+pub mod Sharing
+pub mod Shares
+pub mod Views

@@ -1,0 +1,59 @@
+-- What a pass knows, and what becomes of that at a call, a split and a join.
+use Rattle.std.specs.Prelude.{ℕ, ◌+◌, ◌-◌, [], ◌∷◌, ◌++◌, length, filter, if◌then◌else◌, nat_lt, nat_le}
+use Rattle.atomic_table.specs.Seated.{TableId}
+use Rattle.call_history.specs.declared.entry.Entry.{Entry}
+use Rattle.call_history.specs.Entries.{History, PlacedList, by, merged}
+
+-- a shared machine: which one it is, and what it was started with
+pub record SharedView : Type 0 where
+  pub table : TableId
+  pub numbers : ℕ
+  pub allowance : ℕ
+
+-- a pass: the shared machine that made it, the caller numbers from who to below high, and the calls left.
+-- seen begins the history, mine has the pass's own entries, past those of ended passes that it took in
+pub record PassView (C R : Type 0) : Type 0 where
+  pub table : TableId
+  pub who : ℕ
+  pub high : ℕ
+  pub left : ℕ
+  pub seen : History C R
+  pub mine : PlacedList C R
+  pub past : PlacedList C R
+
+module _ {C R : Type 0} where
+  -- the entries that ended passes made under a caller's number
+  abbrev pub past_of : PassView C R → ℕ → PlacedList C R
+  past_of pass caller = by caller pass.past
+
+  -- the history that all entries of a pass make, in order of place
+  abbrev pub merged_entries : PassView C R → History C R
+  merged_entries pass = merged (pass.past ++ pass.mine)
+
+  abbrev pub first_pass : TableId → ℕ → ℕ → PassView C R
+  first_pass table numbers allowance = record { table = table; who = 0; high = numbers; left = allowance; seen = []; mine = []; past = [] }
+
+  -- after a call that found this history before it
+  abbrev pub after_call : PassView C R → History C R → Entry C R → PassView C R
+  after_call pass before entry = record pass { left = pass.left - 1; seen = before ++ entry ∷ []; mine = pass.mine ++ (length before, entry) ∷ [] }
+
+  -- the entries of callers below a number, and of the others
+  abbrev pub under : ℕ → PlacedList C R → PlacedList C R
+  under at placed = filter (λ x. nat_lt x.1.who at) placed
+
+  abbrev pub over : ℕ → PlacedList C R → PlacedList C R
+  over at placed = filter (λ x. nat_le at x.1.who) placed
+
+  -- what a pass keeps when it is split at a number, and what the new pass gets
+  abbrev pub lower_part : ℕ → ℕ → PassView C R → PassView C R
+  lower_part at give pass = record pass { high = at; left = pass.left - give; past = under at pass.past }
+
+  abbrev pub upper_part : ℕ → ℕ → PassView C R → PassView C R
+  upper_part at give pass = record pass { who = at; left = give; mine = []; past = over at pass.past }
+
+  abbrev pub longer : History C R → History C R → History C R
+  longer g h = if nat_le (length g) (length h) then h else g
+
+  -- a pass that took in another: its entries are now past
+  abbrev pub with_other : PassView C R → PassView C R → PassView C R
+  with_other pass other = record pass { high = other.high; left = pass.left + other.left; seen = longer pass.seen other.seen; past = pass.past ++ (other.past ++ other.mine) }

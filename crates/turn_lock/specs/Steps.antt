@@ -1,0 +1,47 @@
+-- What each atomic step tells the seat that makes it, and what a split and a join make of views.
+use Rattle.std.specs.Prelude.{◌≡◌, ◌≢◌, ℕ, ◌+◌, ◌-◌, ◌^◌, ◌≤◌, true, false, [], ◌∷◌, ◌++◌, length, if◌then◌else◌, nat_le, Option, Some}
+use Rattle.atomic_table.specs.Table.{Me}
+use Rattle.call_history.specs.Entries.{History, numbered, by, entries_by}
+use Rattle.call_history.specs.Prefix.{IsPrefix}
+use Rattle.turn_lock.specs.declared.view.View.{View}
+use Rattle.turn_lock.specs.Passes.{under, over, longer}
+
+-- what a seat knows, and the slots in its hand
+abbrev pub Seated : Type 0 → Type 0 → Type 0
+Seated C R = Me (Option (History C R)) (View C R)
+
+module _ {C R : Type 0} where
+  -- the turn is taken, with the value and its history, or it was not free
+  abbrev pub tried : Seated C R → ℕ → Seated C R → Type 0
+  tried m found m' =
+      (found ≡ 0 → (h : History C R) × IsPrefix m.0.seen h × (m' ≡ (record m.0 { turn = true; seen = h }, (0, Some h) ∷ [])))
+      × (found ≢ 0 → m' ≡ m)
+
+  abbrev pub counted_view : View C R → History C R → View C R
+  counted_view v said = record v { left = v.left - 1; seen = v.seen ++ said; mine = v.mine ++ numbered (length v.seen) said }
+
+  -- the entry is counted: its place is the number of entries before it, and the caller's entries are those in its past and its own
+  abbrev pub counted : History C R → Seated C R → ℕ → Seated C R → Type 0
+  counted said m found m' =
+      (found ≡ length m.0.seen) × (m' ≡ (counted_view m.0 said, m.1)) × (by m'.0.who (m'.0.past ++ m'.0.mine) ≡ entries_by m'.0.who m'.0.seen)
+
+  -- the value goes home and the turn is free
+  abbrev pub released : Seated C R → ℕ → Seated C R → Type 0
+  released m stored m' = m' ≡ (record m.0 { turn = false }, [])
+
+  abbrev pub lower_view : ℕ → ℕ → View C R → View C R
+  lower_view at give v = record v { high = at; left = v.left - give; past = under at v.past }
+
+  abbrev pub upper_view : ℕ → ℕ → View C R → View C R
+  upper_view at give v = record v { who = at; left = give; mine = []; past = over at v.past }
+
+  abbrev pub shorter : History C R → History C R → History C R
+  shorter g h = if nat_le (length g) (length h) then g else h
+
+  abbrev pub joined_view : View C R → View C R → View C R
+  joined_view v w =
+      record v { high = w.high; left = v.left + w.left; seen = longer v.seen w.seen; told = shorter v.seen w.seen; past = v.past ++ (w.past ++ w.mine) }
+
+  -- nothing changes; of two views that were joined, the shorter list begins the longer, and the calls fit
+  abbrev pub looked : Seated C R → ℕ → Seated C R → Type 0
+  looked m found m' = (m' ≡ m) × IsPrefix m.0.told m.0.seen × (m.0.left + length m.0.mine ≤ 2 ^ 40)

@@ -1,0 +1,21 @@
+//! What lies in the slot while the turn is free.
+ghost use Rattle.call_history.specs.Entries.{History};
+
+use crate::machine::Machine;
+use crate::recorder::Recorder;
+use std::marker::Model;
+
+/// A value with the history that it stands after.
+#[derive(Drop)]
+pub(crate) struct Held<M: Machine> {
+    pub(crate) value: M,
+    pub(crate) recorder: Recorder<M::Call, M::Reply>,
+}
+
+impl<M: Machine> Model for Held<M> {
+    ghost Value = { History M.Call M.Reply };
+
+    ghost view = { λ h. h.recorder };
+
+    ghost invariant = { λ h. M.leads h.recorder h.value };
+}

@@ -1,0 +1,20 @@
+//! One machine shared by threads behind a turn. Each call has a place in one history, on which all
+//! threads agree: what a caller has seen is a beginning of it, and its own entries stand in it in
+//! order. Proved over any `Machine`, from the machine's laws alone.
+#![tactic(auto)]
+
+mod crossing;
+mod held;
+mod laws;
+mod machine;
+mod pass;
+mod plays;
+mod recorder;
+mod shared;
+mod steps;
+mod view;
+
+pub use laws::free_turn_matches_history;
+pub use machine::{At, Machine, Worn};
+pub use pass::Pass;
+pub use shared::Shared;
