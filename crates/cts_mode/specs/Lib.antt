@@ -1,0 +1,4 @@
+pub mod Cbc
+pub mod CbcStealing
+pub mod Cts
+pub mod Laws
