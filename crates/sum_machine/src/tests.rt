@@ -1,0 +1,294 @@
+//! Calls on a shared machine, by one thread and by many.
+ghost use Rattle.std.specs.Prelude.{◌≡◌, ◌<◌, ℕ};
+ghost use Rattle.std.specs.Thread.{IsSync};
+ghost use Rattle.sum_machine.specs.Sums.{HasSums};
+
+use crate::Sum;
+use std::alloc::{AllocError, Global};
+use std::sync::atomic::{AtomicU64, Ordering};
+use std::sync::{Arc, Wait};
+use std::test::Fail;
+use std::thread;
+use std::thread::{Threads, join};
+use turn_lock::{Machine, Pass, Shared};
+
+// The place and the reply, or how many calls a worn out pass has made.
+fn add<W: Wait>(
+    rt: &W,
+    shared: &Shared<Sum>,
+    pass: &mut Pass<Sum>,
+    number: u64,
+) -> Result<(u64, u64), u64>
+    requires belongs { pass.old.table ≡ shared.now.table }
+    requires small { number < 1000 }
+    ensures { (pass.new.table ≡ pass.old.table) × (pass.new.who ≡ pass.old.who) × (pass.new.high ≡ pass.old.high) }
+{
+    match shared.call(rt, pass, number) {
+        Ok(at) => Ok((at.place, at.reply)),
+        Err(worn) => Err(worn.made),
+    }
+}
+
+#[test]
+fn allowance_wears_out_after_three_calls(rt: HostRuntime) -> Result<(), Fail> {
+    let (shared, mut pass) = Shared::start(rt.alloc(), Sum::new(), 1, 3)?;
+    assert_eq!(rt; add(&rt, &shared, &mut pass, 5), Ok((0, 5)));
+    assert_eq!(rt; add(&rt, &shared, &mut pass, 700), Ok((1, 705)));
+    assert_eq!(rt; add(&rt, &shared, &mut pass, 999), Ok((2, 1704)));
+    assert_eq!(rt; add(&rt, &shared, &mut pass, 1), Err(3));
+    assert_eq!(rt; pass.left(), 0);
+    assert_eq!(rt; shared.close(pass).total, 1704);
+    Ok(())
+}
+
+#[test]
+fn split_gives_all_calls_away(rt: HostRuntime) -> Result<(), Fail> {
+    let (shared, mut first) = Shared::start(rt.alloc(), Sum::new(), 2, 3)?;
+    let mut second = shared.split(&mut first, 1, 3)?;
+    assert_eq!(rt;
+        (first.who(), first.high(), second.who(), second.high()),
+        (0, 1, 1, 2)
+    );
+    assert_eq!(rt; add(&rt, &shared, &mut first, 5), Err(0));
+    assert_eq!(rt; add(&rt, &shared, &mut second, 5), Ok((0, 5)));
+    assert_eq!(rt; add(&rt, &shared, &mut second, 6), Ok((1, 11)));
+    assert_eq!(rt; add(&rt, &shared, &mut second, 7), Ok((2, 18)));
+    assert_eq!(rt; add(&rt, &shared, &mut second, 8), Err(3));
+    shared.join(&mut first, second);
+    assert_eq!(rt; shared.close(first).total, 18);
+    Ok(())
+}
+
+/// A machine that takes numbers below 1,000.
+trait NumberMachine: Machine<Call = u64, Reply = u64> {
+    ghost takes_small: { (number : ℕ) → number < 1000 → Self.fits number };
+}
+
+impl NumberMachine for Sum {
+    ghost takes_small = { λ number small. small };
+}
+
+// One caller's calls: the places that it was told.
+fn run_one<M: NumberMachine, W: Wait>(
+    rt: &W,
+    alloc: Global,
+    shared: &Shared<M>,
+    pass: &mut Pass<M>,
+    calls: u64,
+) -> Result<Vec<u64>, AllocError>
+    requires { pass.old.table ≡ shared.now.table }
+    ensures { (pass.new.table ≡ pass.old.table) × (pass.new.who ≡ pass.old.who) × (pass.new.high ≡ pass.old.high) }
+{
+    let mut places = Vec::new(alloc);
+    for n in 0..calls {
+        if let Ok(at) = shared.call(rt, pass, n % 1000) {
+            places.push(at.place)?;
+        }
+    }
+    Ok(places)
+}
+
+type Told = Result<Vec<Vec<u64>>, AllocError>;
+
+// Each caller of the pass in a thread of its own: the pass again, and the places that each was told.
+fn run_all<M: NumberMachine + Send, R: Threads + Wait + Sync>(
+    rt: &R,
+    alloc: Global,
+    shared: &Shared<M>,
+    mut pass: Pass<M>,
+    calls: u64,
+) -> (Pass<M>, Told)
+    requires { pass.table ≡ shared.now.table }
+    ensures { (result.0.table ≡ pass.table) × (result.0.who ≡ pass.who) × (result.0.high ≡ pass.high) }
+{
+    let count = pass.high() - pass.who();
+    if count == 1 {
+        let told = run_one(rt, alloc, shared, &mut pass, calls);
+        return (pass, alone(alloc, told));
+    }
+    let middle = pass.who() + count / 2;
+    let half = pass.left() / 2;
+    let Ok(upper) = shared.split(&mut pass, middle, half) else {
+        return (pass, Err(AllocError));
+    };
+    let ((mut lower, told), (upper, more)) = join(
+        rt,
+        move || -> (Pass<M>, Told)
+            requires { IsSync R.row × (pass.table ≡ shared.now.table) }
+            ensures { (result.0.table ≡ pass.table) × (result.0.who ≡ pass.who) × (result.0.high ≡ pass.high) }
+        { run_all(rt, alloc, shared, pass, calls) },
+        move || -> (Pass<M>, Told)
+            requires { IsSync R.row × (upper.table ≡ shared.now.table) }
+            ensures { (result.0.table ≡ upper.table) × (result.0.who ≡ upper.who) × (result.0.high ≡ upper.high) }
+        { run_all(rt, alloc, shared, upper, calls) },
+    );
+    shared.join(&mut lower, upper);
+    (lower, both(told, more))
+}
+
+fn alone(alloc: Global, told: Result<Vec<u64>, AllocError>) -> Told {
+    let mut all = Vec::new(alloc);
+    all.push(told?)?;
+    Ok(all)
+}
+
+fn both(told: Told, more: Told) -> Told {
+    let mut told = told?;
+    for places in more? {
+        told.push(places)?;
+    }
+    Ok(told)
+}
+
+// Marks the places of one caller: false where they don't rise, or one is marked already.
+fn mark(seen: &mut [bool], places: &[u64]) -> bool {
+    let mut least = 0;
+    for place in places.iter() {
+        let place = *place;
+        let Some(mark) = seen.get_mut(place as usize) else {
+            return false;
+        };
+        if *mark || place < least {
+            return false;
+        }
+        *mark = true;
+        least = place.saturating_add(1);
+    }
+    true
+}
+
+// Whether each caller was told as many places, which rise, and no place twice.
+fn each_once(
+    alloc: Global,
+    told: &[Vec<u64>],
+    calls: usize,
+    all_calls: usize,
+) -> Result<bool, AllocError> {
+    let mut seen = vec![in alloc; false; all_calls]?;
+    for places in told.iter() {
+        if places.len() != calls || !mark(seen.as_mut_slice(), places.as_slice()) {
+            return Ok(false);
+        }
+    }
+    Ok(true)
+}
+
+#[test]
+fn eight_threads_agree_on_places(rt: HostRuntime) -> Result<(), Fail> {
+    let (shared, pass) = Shared::start(rt.alloc(), Sum::new(), 8, 80_000)?;
+    let (pass, told) = run_all(&rt, rt.alloc(), &shared, pass, 10_000);
+    // Ten times the numbers from 0 to 999, by each of the eight.
+    assert_eq!(rt; shared.close(pass).total, 8 * 10 * 499_500);
+    let told = told?;
+    assert_eq!(rt; told.len(), 8);
+    let once = each_once(rt.alloc(), told.as_slice(), 10_000, 80_000)?;
+    assert!(rt;
+        once,
+        "the places are 0 to 79,999, each once, and each caller's rise"
+    );
+    Ok(())
+}
+
+// What two callers tell each other while they call.
+#[derive(Drop)]
+struct Flags {
+    begun: AtomicU64,
+    answered: AtomicU64,
+    ran_out: AtomicU64,
+}
+
+// Looks at the flag until it is raised, a hundred million times at most.
+fn is_raised(flag: &AtomicU64) -> bool {
+    for _ in 0..100_000_000u32 {
+        if flag.load(Ordering::SeqCst) == 1 {
+            return true;
+        }
+        thread::yield_now();
+    }
+    false
+}
+
+/// A machine whose `finish` for caller 0 waits until caller 1 is answered.
+#[derive(Drop)]
+struct Signals {
+    flags: Arc<Flags, Global>,
+}
+
+impl Machine for Signals {
+    type Call = ();
+
+    type Lent = (u32, Option<Arc<Flags, Global>>);
+
+    type Reply = u32;
+
+    ghost fits = { λ _. Unit {0} };
+
+    ghost reply = { λ lent. lent.0 };
+
+    ghost lawful = { λ _. Unit {0} };
+
+    ghost leads = { λ _ _. Unit {0} };
+
+    fn begin(&mut self, who: u32, _call: &()) -> (u32, Option<Arc<Flags, Global>>) {
+        if who == 0 {
+            self.flags.begun.store(1, Ordering::SeqCst);
+        }
+        (who, Arc::try_clone(&self.flags).ok())
+    }
+
+    fn finish(lent: (u32, Option<Arc<Flags, Global>>)) -> u32 {
+        let (who, flags) = lent;
+        if let Some(flags) = flags
+            && who == 0
+            && !is_raised(&flags.answered)
+        {
+            flags.ran_out.store(1, Ordering::SeqCst);
+        }
+        who
+    }
+
+    ghost leads_lawful = { λ _ _ _. tt };
+}
+
+// Caller 1 begins once caller 0 has begun, and says when it is answered.
+fn call_second<W: Wait>(
+    rt: &W,
+    shared: &Shared<Signals>,
+    pass: &mut Pass<Signals>,
+    flags: &Flags,
+) -> Option<(bool, u64)>
+    requires { pass.old.table ≡ shared.now.table }
+{
+    let began = is_raised(&flags.begun);
+    let answer = shared.call(rt, pass, ());
+    flags.answered.store(1, Ordering::SeqCst);
+    match answer {
+        Ok(at) => Some((began, at.place)),
+        Err(_) => None,
+    }
+}
+
+#[test]
+fn finish_runs_after_release(rt: HostRuntime) -> Result<(), Fail> {
+    let flags = Arc::new(
+        rt.alloc(),
+        Flags {
+            begun: AtomicU64::new(0),
+            answered: AtomicU64::new(0),
+            ran_out: AtomicU64::new(0),
+        },
+    )?;
+    let watched = Arc::try_clone(&flags)?;
+    let told = &*watched;
+    let (shared, mut first) = Shared::start(rt.alloc(), Signals { flags }, 2, 2)?;
+    let mut second = shared.split(&mut first, 1, 1)?;
+    let (zero, one) = join(
+        &rt,
+        || shared.call(&rt, &mut first, ()).map(|at| at.place),
+        || call_second(&rt, &shared, &mut second, told),
+    );
+    assert_eq!(rt; zero.ok(), Some(0));
+    assert_eq!(rt; one, Some((true, 1)));
+    assert_eq!(rt; told.ran_out.load(Ordering::SeqCst), 0);
+    Ok(())
+}
