@@ -1,0 +1,25 @@
+use Rattle.std.proofs.Common.{◌≡◌, ◌∙◌, ◌-◌, ℕ, List, ap, arith, length, take, drop}
+use Rattle.std.proofs.lemmas.List.{take_at}
+use Rattle.blake2_core.specs.Words.{bytes_of_words}
+use Rattle.argon_kdf.specs.LongDigest.{long_digest}
+use Rattle.argon_kdf.specs.Shapes.{Shape, columns, shape}
+use Rattle.argon_kdf.specs.Argon2id.{argon2id_tag, lanes_xored, tag_of}
+use Rattle.argon_kdf.specs.Filling.{with_passes}
+use Rattle.argon_kdf.proofs.argon2id.Goals as goal
+
+tag_from : (x : Shape) (h0 sum tag : List ℕ) → tag ≡ long_digest 32 (bytes_of_words sum)
+    → sum ≡ lanes_xored (with_passes x h0 x.passes (x.passes - 1)) (columns x - 1) x.lanes → tag ≡ tag_of x h0
+unfolding tag_of
+tag_from x h0 sum tag made summed = made ∙ ap (λ (block : List ℕ). long_digest 32 (bytes_of_words block)) summed
+
+pub returns-clause-tag : goal.returns-clause-tag
+unfolding argon2id_tag
+returns-clause-tag c =
+    let x = shape c.new-layout.result in
+    let table = with_passes x c.first_digest-h0.result c.new-layout.result.passes in
+    let memory = c.fill.new.memory in
+    let long : length memory ≡ c.in_ok-memory.memory.len = omega (arith, c.fill.ensures.whole, c.in_ok-memory.ensures.whole) in
+    let same : c.deref.result.now ≡ memory = c.deref.ensures.value ∙ take_at memory (drop (length memory) c.in_ok-memory.memory.items) c.in_ok-memory.memory.len long in
+    let sum = c.last_column.ensures table (rw same c.fill.ensures) in
+    let tag : c.write_tag.new.tag ≡ tag_of x c.first_digest-h0.result = tag_from x c.first_digest-h0.result _ _ c.write_tag.ensures sum in
+    tag ∙ (λ i. tag_of (c.new-layout.ensures i) (c.first_digest-h0.ensures i))

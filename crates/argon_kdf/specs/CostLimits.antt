@@ -1,0 +1,16 @@
+-- Which costs are accepted.
+use Rattle.std.specs.Prelude.{ℕ, ◌*◌, Result, Ok, Err, if◌then◌else◌}
+use Rattle.std.specs.Int.{is_in_range}
+use Rattle.argon_kdf.specs.declared.costs.Costs.{Costs}
+use Rattle.argon_kdf.specs.declared.costs.CostFault.{CostFault}
+use Rattle.argon_kdf.specs.declared.costs.CostFault.TheVariants.{Passes, Lanes, Kib}
+
+-- 1 to 16 passes, then 1 to 8 lanes, then 8 KiB a lane to 65,536 KiB: the first that is not so is the
+-- fault
+abbrev pub checked_costs : Costs → Result (Unit {0}) CostFault
+checked_costs costs =
+    if is_in_range 1 16 costs.passes then
+    if is_in_range 1 8 costs.lanes then
+    if is_in_range (8 * costs.lanes) 65536 costs.kib then Ok tt else Err Kib
+    else Err Lanes
+    else Err Passes

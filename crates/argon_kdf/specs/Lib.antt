@@ -1,0 +1,10 @@
+pub mod CostLimits
+pub mod Blocks
+pub mod Permutation
+pub mod LongDigest
+pub mod Shapes
+pub mod References
+pub mod Tables
+pub mod Filling
+pub mod Argon2id
+pub mod Memory

@@ -1,0 +1,268 @@
+// Blocks of 1,024 bytes, and the function that makes a block of two (RFC 9106, 3.5 and 3.6).
+
+ghost use Rattle.std.specs.Prelude.{◌≡◌, ℕ, ◌+◌, ◌*◌, ◌/◌, ◌%◌, ◌^◌, ◌<◌, ◌≤◌, length, slice_index, map};
+ghost use Rattle.std.specs.List.{range_with_len};
+ghost use Rattle.blake2_core.specs.Words.{bytes_of_words, word_at};
+ghost use Rattle.argon_kdf.specs.Permutation.{mixed, permuted, product_sum};
+ghost use Rattle.argon_kdf.specs.Blocks.{block_of, joined, row, row_permuted, rows_permuted, transposed, xored};
+
+/// 1,024 bytes, as words.
+pub type Block = [u64; 128];
+
+/// A block has this many words.
+pub const BLOCK_WORDS: usize = 128;
+
+/// The block of zeros.
+pub const ZERO_BLOCK: Block = [0; BLOCK_WORDS];
+
+fn load(bytes: &[u8; 1024], i: usize) -> u64
+    requires { i < 128 }
+    ensures { result ≡ word_at bytes.now i }
+{
+    let at = 8 * i;
+    u64::from_le_bytes([
+        bytes[at],
+        bytes[at + 1],
+        bytes[at + 2],
+        bytes[at + 3],
+        bytes[at + 4],
+        bytes[at + 5],
+        bytes[at + 6],
+        bytes[at + 7],
+    ])
+}
+
+/// The block of these bytes, each word with the low byte first.
+pub fn from_bytes(bytes: &[u8; 1024]) -> Block
+    ensures { result ≡ block_of bytes.now }
+{
+    let mut block = ZERO_BLOCK;
+    'words: for i in 0..BLOCK_WORDS {
+        block[i] = load(bytes, i);
+    }
+    block
+}
+
+/// The bytes of a block.
+pub fn to_bytes(block: &Block) -> [u8; 1024]
+    ensures { result ≡ bytes_of_words block.now }
+{
+    let mut bytes = [0; 1024];
+    'words: for i in 0..BLOCK_WORDS {
+        bytes[8 * i..8 * i + 8].copy_from_slice(&block[i].to_le_bytes());
+    }
+    bytes
+}
+
+fn write_xor(block: &mut Block, x: &Block, y: &Block)
+    ensures { block.new ≡ xored x.now y.now }
+{
+    'words: for i in 0..BLOCK_WORDS {
+        block[i] = x[i] ^ y[i];
+    }
+}
+
+/// Xors a block into another, word by word.
+pub fn xor_into(block: &mut Block, other: &Block)
+    ensures { block.new ≡ xored block.old other.now }
+{
+    'words: for i in 0..BLOCK_WORDS {
+        block[i] = block[i] ^ other[i];
+    }
+}
+
+// The product is added to each of the two by taking its complement away. Where it was doubled as a
+// number, LLVM would double a factor first, and multiply 33 bits by 32: a third slower in vectors.
+#[inline(always)]
+fn multiply_add(a: u64, b: u64) -> u64
+    ensures { result ≡ product_sum a b }
+{
+    let complement = !((a % (1 << 32)) * (b % (1 << 32)));
+    a.wrapping_sub(complement)
+        .wrapping_add(b.wrapping_sub(complement))
+        .wrapping_sub(2)
+}
+
+#[inline(always)]
+fn mix(a: u64, b: u64, c: u64, d: u64) -> [u64; 4]
+    ensures { result ≡ mixed a b c d }
+{
+    let a = multiply_add(a, b);
+    let d = (d ^ a).rotate_right(32);
+    let c = multiply_add(c, d);
+    let b = (b ^ c).rotate_right(24);
+    let a = multiply_add(a, b);
+    let d = (d ^ a).rotate_right(16);
+    let c = multiply_add(c, d);
+    let b = (b ^ c).rotate_right(63);
+    [a, b, c, d]
+}
+
+#[inline(always)]
+fn permute(v: [u64; 16]) -> [u64; 16]
+    ensures { result ≡ permuted v }
+{
+    let [
+        v0,
+        v1,
+        v2,
+        v3,
+        v4,
+        v5,
+        v6,
+        v7,
+        v8,
+        v9,
+        v10,
+        v11,
+        v12,
+        v13,
+        v14,
+        v15,
+    ] = v;
+    let [v0, v4, v8, v12] = mix(v0, v4, v8, v12);
+    let [v1, v5, v9, v13] = mix(v1, v5, v9, v13);
+    let [v2, v6, v10, v14] = mix(v2, v6, v10, v14);
+    let [v3, v7, v11, v15] = mix(v3, v7, v11, v15);
+    let [v0, v5, v10, v15] = mix(v0, v5, v10, v15);
+    let [v1, v6, v11, v12] = mix(v1, v6, v11, v12);
+    let [v2, v7, v8, v13] = mix(v2, v7, v8, v13);
+    let [v3, v4, v9, v14] = mix(v3, v4, v9, v14);
+    [
+        v0, v1, v2, v3, v4, v5, v6, v7, v8, v9, v10, v11, v12, v13, v14, v15,
+    ]
+}
+
+#[inline(always)]
+fn row_of(block: &Block, i: usize) -> [u64; 16]
+    requires { i < 8 }
+    ensures { result ≡ row block.now i }
+{
+    let at = 16 * i;
+    [
+        block[at],
+        block[at + 1],
+        block[at + 2],
+        block[at + 3],
+        block[at + 4],
+        block[at + 5],
+        block[at + 6],
+        block[at + 7],
+        block[at + 8],
+        block[at + 9],
+        block[at + 10],
+        block[at + 11],
+        block[at + 12],
+        block[at + 13],
+        block[at + 14],
+        block[at + 15],
+    ]
+}
+
+// The words of the registers of a column.
+#[inline(always)]
+fn column_of(block: &Block, i: usize) -> [u64; 16]
+    requires { i < 8 }
+    ensures { result ≡ row (transposed block.now) i }
+{
+    let at = 2 * i;
+    [
+        block[at],
+        block[at + 1],
+        block[at + 16],
+        block[at + 17],
+        block[at + 32],
+        block[at + 33],
+        block[at + 48],
+        block[at + 49],
+        block[at + 64],
+        block[at + 65],
+        block[at + 80],
+        block[at + 81],
+        block[at + 96],
+        block[at + 97],
+        block[at + 112],
+        block[at + 113],
+    ]
+}
+
+#[inline(always)]
+fn permute_row(block: &mut Block, i: usize)
+    requires { i < 8 }
+    ensures { block.new ≡ row_permuted block.old i }
+{
+    let at = 16 * i;
+    let v = permute(row_of(block, i));
+    block[at] = v[0];
+    block[at + 1] = v[1];
+    block[at + 2] = v[2];
+    block[at + 3] = v[3];
+    block[at + 4] = v[4];
+    block[at + 5] = v[5];
+    block[at + 6] = v[6];
+    block[at + 7] = v[7];
+    block[at + 8] = v[8];
+    block[at + 9] = v[9];
+    block[at + 10] = v[10];
+    block[at + 11] = v[11];
+    block[at + 12] = v[12];
+    block[at + 13] = v[13];
+    block[at + 14] = v[14];
+    block[at + 15] = v[15];
+}
+
+#[inline(always)]
+fn permute_column(block: &mut Block, i: usize)
+    requires { i < 8 }
+    ensures { transposed block.new ≡ row_permuted (transposed block.old) i }
+{
+    let at = 2 * i;
+    let v = permute(column_of(block, i));
+    block[at] = v[0];
+    block[at + 1] = v[1];
+    block[at + 16] = v[2];
+    block[at + 17] = v[3];
+    block[at + 32] = v[4];
+    block[at + 33] = v[5];
+    block[at + 48] = v[6];
+    block[at + 49] = v[7];
+    block[at + 64] = v[8];
+    block[at + 65] = v[9];
+    block[at + 80] = v[10];
+    block[at + 81] = v[11];
+    block[at + 96] = v[12];
+    block[at + 97] = v[13];
+    block[at + 112] = v[14];
+    block[at + 113] = v[15];
+}
+
+#[inline(always)]
+fn permute_rows(block: &mut Block)
+    ensures { block.new ≡ rows_permuted block.old }
+{
+    'rows: for i in 0..8 {
+        permute_row(block, i);
+    }
+}
+
+#[inline(always)]
+fn permute_columns(block: &mut Block)
+    ensures { block.new ≡ transposed (rows_permuted (transposed block.old)) }
+{
+    'columns: for i in 0..8 {
+        permute_column(block, i);
+    }
+}
+
+/// G: writes the block that two blocks make. It is kept out of line: taken into its callers, the work
+/// on each word is a third slower.
+#[inline(never)]
+pub fn join(block: &mut Block, x: &Block, y: &Block)
+    ensures { block.new ≡ joined x.now y.now }
+{
+    write_xor(block, x, y);
+    let sum = *block;
+    permute_rows(block);
+    permute_columns(block);
+    xor_into(block, &sum);
+}

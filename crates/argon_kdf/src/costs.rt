@@ -1,0 +1,48 @@
+//! What stretching a password is allowed to cost.
+
+ghost use Rattle.std.specs.Prelude.{◌≡◌};
+
+use thiserror::Error;
+
+/// How often Argon2id goes through its memory, how much that is, and in how many lanes.
+#[derive(Clone, Copy, Debug, PartialEq, Eq)]
+pub struct Costs {
+    /// 1 to 16.
+    pub passes: u32,
+    /// KiB of memory, 8 for each lane at least, and at most 65,536.
+    pub kib: u32,
+    /// 1 to 8.
+    pub lanes: u32,
+}
+
+/// Which of the costs is out of its range.
+#[derive(Clone, Copy, Debug, PartialEq, Eq, Error)]
+pub enum CostFault {
+    #[error("passes are 1 to 16")]
+    Passes,
+    #[error("lanes are 1 to 8")]
+    Lanes,
+    #[error("memory is 8 KiB a lane to 65,536 KiB")]
+    Kib,
+}
+
+impl Costs {
+    ghost use Rattle.argon_kdf.specs.CostLimits.{checked_costs};
+
+    /// Whether each cost is in its range. The fault is of the passes, else of the lanes, else of the
+    /// memory.
+    pub fn check(&self) -> Result<(), CostFault>
+        ensures { result ≡ checked_costs self.now }
+    {
+        if !(1..=16).contains(&self.passes) {
+            return Err(CostFault::Passes);
+        }
+        if !(1..=8).contains(&self.lanes) {
+            return Err(CostFault::Lanes);
+        }
+        if !(8 * self.lanes..=65_536).contains(&self.kib) {
+            return Err(CostFault::Kib);
+        }
+        Ok(())
+    }
+}

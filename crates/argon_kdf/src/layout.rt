@@ -1,0 +1,95 @@
+// Where the blocks stand: lanes one after the other in one buffer, each of four segments.
+
+ghost use Rattle.std.specs.Prelude.{◌≡◌, ◌+◌, ◌*◌, ◌<◌, ◌≤◌, Ok};
+ghost use Rattle.argon_kdf.specs.CostLimits.{checked_costs};
+
+use crate::Costs;
+
+/// How often the memory is gone through, in how many lanes, and how many columns a segment has.
+#[derive(Clone, Copy)]
+pub struct Layout {
+    pub passes: usize,
+    pub lanes: usize,
+    pub width: usize,
+    ghost some_pass: { 1 ≤ passes },
+    ghost few_passes: { passes ≤ 16 },
+    ghost some_lane: { 1 ≤ lanes },
+    ghost few_lanes: { lanes ≤ 8 },
+    ghost wide: { 2 ≤ width },
+    ghost narrow: { lanes * (4 * width) ≤ 65536 },
+}
+
+/// The place of a block in the order in which blocks are made: the pass, the slice of the pass, the
+/// lane, and the index in the segment that the slice has in the lane.
+#[derive(Clone, Copy)]
+pub struct Place {
+    pub pass: usize,
+    pub slice: usize,
+    pub lane: usize,
+    pub index: usize,
+}
+
+impl Layout {
+    ghost use Rattle.argon_kdf.specs.Shapes.{block_count, column_before, column_of, columns, shape, shape_of_costs};
+
+    /// As many blocks as the costs allow.
+    pub fn new(costs: &Costs) -> Layout
+        requires { checked_costs costs.now ≡ Ok tt }
+        ensures { shape result ≡ shape_of_costs costs.now }
+    {
+        Layout {
+            passes: costs.passes as usize,
+            lanes: costs.lanes as usize,
+            width: (costs.kib / (4 * costs.lanes)) as usize,
+        }
+    }
+
+    /// How many columns a lane has.
+    pub fn columns(self) -> usize
+        ensures { result ≡ columns (shape self) }
+    {
+        4 * self.width
+    }
+
+    /// How many blocks there are.
+    pub fn block_count(self) -> usize
+        ensures { result ≡ block_count (shape self) }
+    {
+        self.lanes * self.columns()
+    }
+
+    /// Where the buffer has the block of a lane and a column.
+    pub fn offset(self, lane: usize, column: usize) -> usize
+        requires lane { lane < self.lanes }
+        requires column { column < columns (shape self) }
+        ensures value { result ≡ lane * columns (shape self) + column }
+        ensures within { result < block_count (shape self) }
+    {
+        lane * self.columns() + column
+    }
+
+    /// The column of a place.
+    pub fn column_of(self, at: Place) -> usize
+        requires slice { at.slice < 4 }
+        requires index { at.index < self.width }
+        ensures value { result ≡ column_of (shape self) at }
+        ensures within { result < columns (shape self) }
+    {
+        at.slice * self.width + at.index
+    }
+
+    /// The column before that of a place. Before the first column stands the last.
+    pub fn column_before(self, at: Place) -> usize
+        requires slice { at.slice < 4 }
+        requires index { at.index < self.width }
+        ensures value { result ≡ column_before (shape self) at }
+        ensures within { result < columns (shape self) }
+    {
+        let column = self.column_of(at);
+        if column == 0 {
+            self.columns() - 1
+        } else {
+            column - 1
+        }
+    }
+}

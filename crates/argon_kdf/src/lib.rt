@@ -1,0 +1,63 @@
+//! The password hash Argon2id, version 0x13 (RFC 9106).
+#![tactic(auto)]
+
+ghost use Rattle.std.specs.Prelude.{◌≡◌, ℕ, ◌*◌, ◌<◌, ◌≤◌, List, [], length, slice_index_or, IfOk, OnOk, OnErr, Ok};
+ghost use Rattle.argon_kdf.specs.Blocks.{zero_block};
+ghost use Rattle.argon_kdf.specs.CostLimits.{checked_costs};
+ghost use Rattle.argon_kdf.specs.Argon2id.{argon2id_tag};
+
+use block::{Block, ZERO_BLOCK};
+pub use costs::{CostFault, Costs};
+use digest::{first_digest, write_tag};
+use fill::{fill, last_column};
+use layout::Layout;
+use std::alloc::{AllocError, Global};
+
+mod block;
+mod costs;
+mod digest;
+mod fill;
+mod layout;
+mod reference;
+#[cfg(test)]
+mod tests;
+
+// Memory full of zeros.
+fn zero_blocks(alloc: Global, count: usize) -> Result<Vec<Block>, AllocError>
+    requires { count ≤ 65536 }
+    ensures whole { IfOk result (λ memory. length memory.items ≡ count) }
+    ensures zero { IfOk result (λ memory. (n : ℕ) → n < count → slice_index_or memory.items n [] ≡ zero_block) }
+{
+    let memory = vec![in alloc; ZERO_BLOCK; count]?;
+    Ok(memory)
+}
+
+/// Writes the tag of 32 bytes that Argon2id makes of a password, a salt, a secret and further bytes.
+///
+/// The salt has 8 to 1,024 bytes, the other texts at most 1,024. All memory, `kib` KiB, is taken first:
+/// the one error is want of it, and then the tag is as it was.
+pub fn argon2id(
+    alloc: Global,
+    costs: &Costs,
+    password: &[u8],
+    salt: &[u8],
+    secret: &[u8],
+    extra: &[u8],
+    tag: &mut [u8; 32],
+) -> Result<(), AllocError>
+    requires costs { checked_costs costs.now ≡ Ok tt }
+    requires password { length password.now ≤ 1024 }
+    requires salt_least { 8 ≤ length salt.now }
+    requires salt { length salt.now ≤ 1024 }
+    requires secret { length secret.now ≤ 1024 }
+    requires extra { length extra.now ≤ 1024 }
+    ensures tag { OnOk result (tag.new ≡ argon2id_tag costs.now password.now salt.now secret.now extra.now) }
+    ensures kept { OnErr result (tag.new ≡ tag.old) }
+{
+    let layout = Layout::new(costs);
+    let mut memory = zero_blocks(alloc, layout.block_count())?;
+    let h0 = first_digest(costs, password, salt, secret, extra);
+    fill(layout, &h0, &mut memory);
+    write_tag(&last_column(layout, &memory), tag);
+    Ok(())
+}

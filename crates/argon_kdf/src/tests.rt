@@ -1,0 +1,72 @@
+use crate::{CostFault, Costs, argon2id};
+use std::alloc::AllocError;
+
+// RFC 9106, section 5.3.
+#[test]
+fn argon2id_example(rt: HostRuntime) -> Result<(), AllocError> {
+    let want: [u8; 32] = [
+        0x0d, 0x64, 0x0d, 0xf5, 0x8d, 0x78, 0x76, 0x6c, 0x08, 0xc0, 0x37, 0xa3, 0x4a, 0x8b, 0x53,
+        0xc9, 0xd0, 0x1e, 0xf0, 0x45, 0x2d, 0x75, 0xb6, 0x5e, 0xb5, 0x25, 0x20, 0xe9, 0x6b, 0x01,
+        0xe6, 0x59,
+    ];
+    let costs = Costs {
+        passes: 3,
+        kib: 32,
+        lanes: 4,
+    };
+    let mut tag = [0; 32];
+    argon2id(
+        rt.alloc(),
+        &costs,
+        &[1; 32],
+        &[2; 16],
+        &[3; 8],
+        &[4; 12],
+        &mut tag,
+    )?;
+    assert_eq!(rt; tag, want);
+    Ok(())
+}
+
+// Segments of 137 columns, which take two address blocks, and memory that is cut to whole segments. The
+// tag is that of the program argon2 20171227.
+#[test]
+fn segments_of_more_than_128_columns(rt: HostRuntime) -> Result<(), AllocError> {
+    let want: [u8; 32] = [
+        0xf1, 0x70, 0xce, 0xce, 0x94, 0xbd, 0x1c, 0x6c, 0x66, 0x65, 0xf1, 0x1d, 0xd7, 0x55, 0x63,
+        0x42, 0x3d, 0x04, 0x86, 0xa9, 0x38, 0xec, 0x38, 0x91, 0xdf, 0x54, 0xaf, 0x02, 0xe9, 0x6f,
+        0x19, 0xbb,
+    ];
+    let costs = Costs {
+        passes: 2,
+        kib: 1100,
+        lanes: 2,
+    };
+    let mut tag = [0; 32];
+    argon2id(
+        rt.alloc(),
+        &costs,
+        b"password",
+        b"somesaltsomesalt",
+        b"",
+        b"",
+        &mut tag,
+    )?;
+    assert_eq!(rt; tag, want);
+    Ok(())
+}
+
+#[test]
+fn costs_faults_in_order(rt: HostRuntime) {
+    for (passes, kib, lanes, want) in [
+        (0, 0, 0, Err(CostFault::Passes)),
+        (1, 64, 9, Err(CostFault::Lanes)),
+        (1, 15, 2, Err(CostFault::Kib)),
+        (1, 16, 2, Ok(())),
+        (16, 65_536, 8, Ok(())),
+        (17, 65_536, 8, Err(CostFault::Passes)),
+        (16, 65_537, 8, Err(CostFault::Kib)),
+    ] {
+        assert_eq!(rt; Costs { passes, kib, lanes }.check(), want);
+    }
+}
