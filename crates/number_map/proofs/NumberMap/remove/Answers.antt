@@ -1,0 +1,49 @@
+-- The number leaves the index, and its value the slot that was the number's own.
+use Rattle.std.proofs.Common.{◌≡◌, Some, None, sym, ap, ◌∙◌}
+use Rattle.number_map.specs.Numbered as map
+use Rattle.number_map.specs.Slots.{key_at, stored}
+use Rattle.number_map.proofs.NumberTests.{untied}
+use Rattle.number_map.proofs.NumberedLemmas.{remove_same}
+use Rattle.number_map.proofs.SlotLemmas.{get_found, get_missing, Touches, touched_sound, touched_remove, own_found}
+use Rattle.number_map.proofs.NumberMap.remove.Given.{Over}
+use Rattle.number_map.proofs.NumberMap.remove.Goals as goal
+
+found : (g : Over) (c : goal.After-try_remove g) → Some c.in-Some.key ≡ key_at c.self.inside.index.entries c.args.number
+found g c = sym c.in-Some.is ∙ c.remove.ensures.value
+
+touches : (g : Over) (c : goal.After-try_remove g) → Touches c.self.inside.slots c.try_remove.new.self c.self.inside.index.entries c.remove.new.self.entries c.args.number c.in-Some.key
+touches g c =
+    record {
+      own = own_found c.self.inside.slots c.self.inside.index.entries c.args.number c.in-Some.key c.self.invariant (found g c);
+      slots = c.try_remove.ensures.updates.others;
+      numbers = λ other differ. c.remove.ensures.updates.2 other (untied c.args.number other (λ same. differ (sym same)));
+    }
+
+pub invariant_of-self : goal.invariant_of-self
+invariant_of-self g c =
+    touched_sound c.self.inside.slots c.try_remove.new.self c.self.inside.index.entries c.remove.new.self.entries c.args.number c.in-Some.key
+    (touches g c) c.self.invariant
+    (λ k has. let lacks : None ≡ Some k = sym c.remove.ensures.updates.1 ∙ has in absurd (cc))
+
+pub returns-in-Some-clause-value : goal.returns-in-Some-clause-value
+returns-in-Some-clause-value g c =
+    c.try_remove.ensures.value
+    ∙ sym (get_found c.self.inside.slots c.self.inside.index.entries _ c.args.number c.in-Some.key c.self.view_is (found g c))
+
+pub returns-in-Some-clause-removed : goal.returns-in-Some-clause-removed
+returns-in-Some-clause-removed g c =
+    touched_remove c.self.inside.slots c.try_remove.new.self c.self.inside.index.entries c.remove.new.self.entries c.args.number c.in-Some.key
+    (touches g c) (sym c.remove.ensures.updates.1)
+    ∙ ap (λ m. map.remove m c.args.number) c.self.view_is
+
+missing : (g : Over) (c : goal.In-None g) → map.get c.args.self.now c.args.number ≡ None
+missing g c =
+    get_missing c.self.inside.slots c.self.inside.index.entries _ c.args.number c.self.view_is (sym c.in-None.is ∙ c.remove.ensures.value)
+
+pub returns-in-None-clause-value : goal.returns-in-None-clause-value
+returns-in-None-clause-value g c = sym (missing g c)
+
+pub returns-in-None-clause-removed : goal.returns-in-None-clause-removed
+returns-in-None-clause-removed g c =
+    ap (stored c.self.inside.slots) c.in-None.ensures.unchanged ∙ c.self.view_is
+    ∙ sym (remove_same c.args.self.now c.args.number (missing g c))

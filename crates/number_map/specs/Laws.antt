@@ -1,0 +1,39 @@
+-- What the changes leave, and that two maps which agree under a function of the values go on
+-- agreeing.
+use Rattle.std.specs.Prelude.{◌≡◌, ◌≢◌, ℕ, ◌+◌, ◌-◌, Some, None, option_map}
+use Rattle.number_map.specs.Numbered.{Numbered, get, insert, remove, len, changed, AgreesUnder}
+
+-- what a change leaves at its number
+pub record LeavesHere (V : Type 0) : Type 0 where
+  pub inserted : (m : Numbered V) (k : ℕ) (v : V) → get (insert m k v) k ≡ Some v
+  pub removed : (m : Numbered V) (k : ℕ) → get (remove m k) k ≡ None
+  pub changed_value : (m : Numbered V) (k : ℕ) (f : V → V) → get (changed m k f) k ≡ option_map f (get m k)
+
+-- and what at each other
+pub record LeavesOthers (V : Type 0) : Type 0 where
+  pub inserted : (m : Numbered V) (k : ℕ) (v : V) (q : ℕ) → (q ≢ k) → get (insert m k v) q ≡ get m q
+  pub removed : (m : Numbered V) (k q : ℕ) → (q ≢ k) → get (remove m k) q ≡ get m q
+  pub changed_value : (m : Numbered V) (k : ℕ) (f : V → V) (q : ℕ) → (q ≢ k) → get (changed m k f) q ≡ get m q
+
+-- how many numbers have a value
+pub record Counts (V : Type 0) : Type 0 where
+  pub added : (m : Numbered V) (k : ℕ) (v : V) → get m k ≡ None → len (insert m k v) ≡ len m + 1
+  pub replaced : (m : Numbered V) (k : ℕ) (v old : V) → get m k ≡ Some old → len (insert m k v) ≡ len m
+  pub removed : (m : Numbered V) (k : ℕ) (old : V) → get m k ≡ Some old → len (remove m k) ≡ len m - 1
+  pub changed_value : (m : Numbered V) (k : ℕ) (f : V → V) → len (changed m k f) ≡ len m
+
+-- a creation that is taken back leaves nothing, and a change comes before or after one at another number
+pub record Commutes (V : Type 0) : Type 0 where
+  pub taken_back : (m : Numbered V) (k : ℕ) (v : V) → get m k ≡ None → remove (insert m k v) k ≡ m
+  pub with_insert : (m : Numbered V) (k x : ℕ) (v : V) (f : V → V) → (k ≢ x) → changed (insert m x v) k f ≡ insert (changed m k f) x v
+  pub with_remove : (m : Numbered V) (k x : ℕ) (f : V → V) → (k ≢ x) → remove (changed m k f) x ≡ changed (remove m x) k f
+
+-- maps that answer alike are one
+abbrev pub SameMaps : Type 0 → Type 0
+SameMaps V = (m n : Numbered V) → ((q : ℕ) → get m q ≡ get n q) → m ≡ n
+
+-- the same change on both sides keeps the agreement
+pub record KeepsAgreement {V W : Type 0} (f : V → W) : Type 0 where
+  pub inserted : (plain : Numbered V) (stored : Numbered W) (k : ℕ) (v : V) (w : W) → AgreesUnder f plain stored → w ≡ f v → AgreesUnder f (insert plain k v) (insert stored k w)
+  pub changed_value : (plain : Numbered V) (stored : Numbered W) (k : ℕ) (g : V → V) (h : W → W) → AgreesUnder f plain stored → ((v : V) → get plain k ≡ Some v → h (f v) ≡ f (g v)) → AgreesUnder f (changed plain k g) (changed stored k h)
+  pub removed : (plain : Numbered V) (stored : Numbered W) (k : ℕ) → AgreesUnder f plain stored → AgreesUnder f (remove plain k) (remove stored k)

@@ -1,0 +1,17 @@
+//! The laws of maps by number. Neither function does anything: its contract is the law.
+ghost use Rattle.number_map.specs.Laws.{LeavesHere, LeavesOthers, Counts, Commutes, SameMaps, KeepsAgreement};
+
+/// What an insertion, a change and a removal leave, of every map with values of `V`.
+pub fn changes_leave_the_rest<V>()
+    ensures here { LeavesHere V }
+    ensures others { LeavesOthers V }
+    ensures lengths { Counts V }
+    ensures orders { Commutes V }
+    ensures same { SameMaps V }
+{}
+
+/// Two maps, of which one has a function of what the other has, go on agreeing after the same
+/// insertion, change or removal.
+pub fn changes_keep_agreement<V, W>()
+    ensures { (f : V → W) → KeepsAgreement f }
+{}

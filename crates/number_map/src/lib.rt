@@ -1,0 +1,143 @@
+//! Finite maps by number: values of any type, each under a number that the caller picks.
+#![tactic(auto)]
+
+ghost use Rattle.std.specs.Prelude.{◌≡◌, IsSome, OnOk, OnErr, option_copied};
+ghost use Rattle.std.specs.Option.{option_copied_mut};
+ghost use Rattle.std.specs.Borrow.{sem};
+ghost use Rattle.slab.specs.Slab.{get, Updates};
+ghost use Rattle.number_map.specs.Numbered as map;
+
+mod iter;
+mod laws;
+#[cfg(test)]
+mod tests;
+
+pub use iter::Iter;
+pub use laws::{changes_keep_agreement, changes_leave_the_rest};
+use slab::Slab;
+use std::alloc::{AllocError, Global};
+use std::collections::BTreeMap;
+use std::marker::Model;
+
+/// A map from numbers to values, seen as the finite map of its values by number.
+///
+/// A look-up, an insertion and a removal take a time that grows with the logarithm of the length.
+#[derive(Drop)]
+pub struct NumberMap<V> {
+    slots: Slab<V>,
+    // The key of each number's slot.
+    index: BTreeMap<u32, usize>,
+}
+
+impl<V> Model for NumberMap<V> {
+    ghost use Rattle.std.specs.FinMap.{FinMap, code};
+    ghost use Rattle.std.specs.Ordering.{nat_cmp};
+    ghost use Rattle.std.specs.Coded.{coded_ℕ};
+    ghost use Rattle.number_map.specs.Slots.{stored, IsSound};
+
+    ghost Value = { FinMap nat_cmp V };
+
+    ghost coded = { code coded_ℕ V.code };
+
+    ghost view = { λ a. stored a.slots a.index.entries };
+
+    ghost invariant = { λ a. IsSound a.slots a.index.entries };
+}
+
+impl<V: Drop> NumberMap<V> {
+    ghost use Rattle.number_map.specs.Lends.{LendsValue};
+
+    /// An empty map. It takes no memory.
+    pub fn new(alloc: Global) -> Self
+        ensures { result ≡ map.empty }
+    {
+        NumberMap {
+            slots: Slab::new(alloc),
+            index: BTreeMap::new(alloc),
+        }
+    }
+
+    /// The number of numbers that have a value.
+    pub fn len(&self) -> usize
+        ensures { result ≡ map.len self.now }
+    {
+        self.index.len()
+    }
+
+    /// The value at `number`, if there is one.
+    pub fn get(&self, number: u32) -> Option<&V>
+        ensures { option_copied result ≡ map.get self.now number }
+    {
+        match self.index.get(&number) {
+            Some(key) => self.slots.get(*key),
+            None => None,
+        }
+    }
+
+    /// The numbers and their values, by rising number.
+    pub fn iter(&self) -> Iter<'_, V>
+        ensures rest { result ≡ map.entries self.now }
+    {
+        Iter {
+            index: self.index.iter(),
+            slots: &self.slots,
+        }
+    }
+
+    /// The value at `number` for writing, if there is one. Every other number keeps its value.
+    pub fn get_mut(&mut self, number: u32) -> Option<&mut V>
+        ensures* writes_back { sem 𝓛 (LendsValue V.row self.entry number result) }
+        ensures value { option_copied_mut result ≡ map.get self.old number }
+    {
+        let Some(&key) = self.index.get(&number) else {
+            return None;
+        };
+        self.slots.get_mut(key)
+    }
+
+    /// Puts `value` at `number`, in place of the value that is there, if any.
+    ///
+    /// Where there is no memory for one more, the map is as before.
+    pub fn set(&mut self, number: u32, value: V) -> Result<(), AllocError>
+        ensures put { OnOk result (self.new ≡ map.insert self.old number value) }
+        ensures kept { OnErr result (self.new ≡ self.old) }
+        ensures only_new { OnErr result (map.get self.old number ≡ None) }
+    {
+        match self.index.get(&number) {
+            Some(key) => {
+                let key = *key;
+                replace(&mut self.slots, key, value);
+                Ok(())
+            }
+            None => {
+                self.slots.reserve(1)?;
+                let key = self.slots.vacant_key();
+                self.index.insert(number, key)?;
+                self.slots.insert_reserved(value);
+                Ok(())
+            }
+        }
+    }
+
+    /// Takes the value at `number` out, if there is one. It takes no memory.
+    pub fn remove(&mut self, number: u32) -> Option<V>
+        ensures value { result ≡ map.get self.old number }
+        ensures removed { self.new ≡ map.remove self.old number }
+    {
+        match self.index.remove(&number) {
+            Some(key) => self.slots.try_remove(key),
+            None => None,
+        }
+    }
+}
+
+// Writes `value` into the slot under `key`.
+fn replace<V: Drop>(slots: &mut Slab<V>, key: usize, value: V)
+    requires { IsSome (get slots.old key) }
+    ensures { Updates slots.old slots.new key (Some value) }
+{
+    match slots.get_mut(key) {
+        Some(slot) => *slot = value,
+        None => unreachable!(),
+    }
+}
