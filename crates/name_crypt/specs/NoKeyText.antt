@@ -1,0 +1,15 @@
+-- The text by which a stored name is shown and found where its key is absent (Linux, `struct
+-- fscrypt_nokey_name`).
+use Rattle.std.specs.Prelude.{ℕ, List, ◌++◌, length, take, drop, replicate, nat_le, if◌then◌else◌}
+use Rattle.sha2.specs.Sha256.{sha256}
+use Rattle.base64.specs.GeneralPurpose.{encode_of}
+use Rattle.base64.specs.Engines.{url_safe_no_pad}
+
+-- the stored name, up to 149 bytes whole, else its first 149 bytes and the SHA-256 of the others
+abbrev pub shown_bytes : List ℕ → List ℕ
+shown_bytes stored =
+    if nat_le (length stored) 149 then stored else take 149 stored ++ sha256 (drop 149 stored)
+
+-- base64url without padding, of two little-endian words of 32 bits that are 0, and these bytes
+abbrev pub nokey_text_of : List ℕ → List ℕ
+nokey_text_of stored = encode_of url_safe_no_pad (replicate 8 0 ++ shown_bytes stored)

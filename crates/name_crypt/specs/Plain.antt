@@ -1,0 +1,10 @@
+-- Names and targets, as they are read and as they are stored.
+use Rattle.std.specs.Prelude.{ℕ, List, length, ◌≤◌, Contains}
+
+-- a name or a symlink's target: 1 to 255 bytes, none of them NUL
+abbrev pub IsPlain : List ℕ → Type 0
+IsPlain bytes = (1 ≤ length bytes) × (length bytes ≤ 255) × ¬ Contains bytes 0
+
+-- the length of a name or a target after encryption: 16 to 255 bytes
+abbrev pub IsStored : List ℕ → Type 0
+IsStored bytes = (16 ≤ length bytes) × (length bytes ≤ 255)

@@ -1,0 +1,119 @@
+//! From plain names to stored ones and back.
+
+ghost use Rattle.std.specs.Prelude.{◌≡◌, ◌+◌, ◌≤◌, ◌↔◌, [], ◌++◌, length, take, drop, IsErr, IfOk};
+ghost use Rattle.cts_mode.specs.Cts.{cts_decrypted};
+ghost use Rattle.name_crypt.specs.Laws.{NamesComeBack, NamesStayDistinct, StoredNamesFit};
+ghost use Rattle.name_crypt.specs.StoredName.{before_nul, padded_length, plain_name_with, stored_name_with};
+
+use crate::filled::Filled;
+use crate::plain::Plain;
+use crate::steps::Steps;
+use crate::stored::StoredName;
+use aes_core::Aes256;
+use cts_mode::{cts_decrypt, cts_encrypt};
+use policy_ctx::Pad;
+use std::sync::ledger::Ledger;
+use thiserror::Error;
+
+/// What a stored name is deciphered to begins with NUL, so it was not made under this key.
+#[derive(Clone, Copy, Debug, PartialEq, Eq, Error)]
+#[error("the deciphered name is empty")]
+pub struct NotPlain;
+
+/// The stored name of a name or target, under a names key of 32 bytes. `steps` counts one more.
+pub fn encrypt_name<L: Ledger>(
+    key: &[u8; 32],
+    iv: [u8; 16],
+    pad: Pad,
+    name: &Plain,
+    steps: &mut Steps<L>,
+) -> StoredName
+    ensures value { result ≡ stored_name_with key.now iv pad name.now }
+    ensures tick { steps.new ≡ steps.old + 1 }
+{
+    encrypt_name_with(&Aes256::new(key), iv, pad, name, steps)
+}
+
+/// The same with the key's schedule made before, for several names under one key.
+pub fn encrypt_name_with<L: Ledger>(
+    key: &Aes256,
+    iv: [u8; 16],
+    pad: Pad,
+    name: &Plain,
+    steps: &mut Steps<L>,
+) -> StoredName
+    ensures value { result ≡ stored_name_with key.now iv pad name.now }
+    ensures tick { steps.new ≡ steps.old + 1 }
+{
+    steps.tick();
+    let mut text = [0; 255];
+    let len = padded_length(pad, name.bytes().len());
+    fill(&mut text, name.bytes());
+    cts_encrypt(key, iv, &mut text[..len]);
+    StoredName::of(&text[..len])
+}
+
+/// The name or target of a stored one, under a names key of 32 bytes: the deciphered bytes before
+/// the first NUL. There is none exactly where the first of them is NUL.
+pub fn decrypt_name(key: &[u8; 32], iv: [u8; 16], stored: &StoredName) -> Result<Plain, NotPlain>
+    ensures value { IfOk result (λ name. name ≡ plain_name_with key.now iv stored.now) }
+    ensures not_plain { IsErr result ↔ (plain_name_with key.now iv stored.now ≡ []) }
+{
+    decrypt_name_with(&Aes256::new(key), iv, stored)
+}
+
+/// The same with the key's schedule made before, for several names under one key.
+pub fn decrypt_name_with(key: &Aes256, iv: [u8; 16], stored: &StoredName) -> Result<Plain, NotPlain>
+    ensures value { IfOk result (λ name. name ≡ plain_name_with key.now iv stored.now) }
+    ensures not_plain { IsErr result ↔ (plain_name_with key.now iv stored.now ≡ []) }
+{
+    let bytes = deciphered(key, iv, stored);
+    match Plain::read(before_nul(bytes.bytes())) {
+        Ok(name) => Ok(name),
+        Err(_) => Err(NotPlain),
+    }
+}
+
+/// Does nothing. Its contract is that encryption loses nothing of a name, and fits a stored name.
+pub fn names_come_back()
+    ensures back { NamesComeBack }
+    ensures distinct { NamesStayDistinct }
+    ensures fit { StoredNamesFit }
+{
+    cts_mode::decryption_undoes_encryption();
+}
+
+fn deciphered(key: &Aes256, iv: [u8; 16], stored: &StoredName) -> Filled<255>
+    ensures { result ≡ cts_decrypted key.now iv stored.now }
+{
+    let mut text = [0; 255];
+    let len = stored.bytes().len();
+    fill(&mut text, stored.bytes());
+    cts_decrypt(key, iv, &mut text[..len]);
+    Filled::of(&text[..len])
+}
+
+/// The length of the stored name of a name of this length.
+fn padded_length(pad: Pad, len: usize) -> usize
+    requires { len ≤ 255 }
+    ensures { result ≡ padded_length pad len }
+{
+    let size = pad.size();
+    (len.max(16).div_ceil(size) * size).min(255)
+}
+
+/// Writes the bytes over the beginning of the text.
+fn fill(text: &mut [u8; 255], bytes: &[u8])
+    requires { length bytes.now ≤ 255 }
+    ensures { text.new ≡ bytes.now ++ drop (length bytes.now) text.old }
+{
+    text[..bytes.len()].copy_from_slice(bytes);
+}
+
+/// The bytes before the first NUL.
+fn before_nul(bytes: &[u8]) -> &[u8]
+    ensures { result.now ≡ before_nul bytes.now }
+{
+    let end = bytes.iter().position(|b| *b == 0).unwrap_or(bytes.len());
+    &bytes[..end]
+}

@@ -1,0 +1,65 @@
+//! Plain names and targets.
+
+ghost use Rattle.std.specs.Prelude.{◌≡◌, ◌<◌, ◌≤◌, ◌↔◌, ◌⊎◌, ℕ, List, length, Contains, IsOk, IfOk, IsErrOf};
+ghost use Rattle.aes_core.specs.Laws.{AreBytes};
+ghost use Rattle.name_crypt.specs.Plain.{IsPlain};
+
+use crate::filled::Filled;
+use std::marker::Model;
+use thiserror::Error;
+
+/// A name of a directory's entry, or a symlink's target: 1 to 255 bytes, none of them NUL.
+#[derive(Clone, Copy, Debug, PartialEq, Eq, Hash)]
+pub struct Plain {
+    bytes: Filled<255>,
+}
+
+impl Model for Plain {
+    ghost Value = { List ℕ };
+
+    ghost view = { λ name. name.bytes };
+
+    ghost invariant = { λ name. IsPlain name.bytes };
+
+    ghost inverse = { λ bytes. record { bytes = bytes } };
+}
+
+/// Why bytes are no plain name.
+#[derive(Clone, Copy, Debug, PartialEq, Eq, Error)]
+pub enum PlainFault {
+    /// There are none, or more than 255.
+    #[error("a name has 1 to 255 bytes")]
+    Length,
+    /// One of them is NUL.
+    #[error("a name has no NUL")]
+    Nul,
+}
+
+impl Plain {
+    /// The name of these bytes.
+    pub fn read(bytes: &[u8]) -> Result<Plain, PlainFault>
+        ensures value { IfOk result (λ name. name ≡ bytes.now) }
+        ensures plain { IsOk result ↔ IsPlain bytes.now }
+        ensures length { IsErrOf result PlainFault.Length ↔ ((length bytes.now ≡ 0) ⊎ (255 < length bytes.now)) }
+        ensures nul { IsErrOf result PlainFault.Nul ↔ ((1 ≤ length bytes.now) × (length bytes.now ≤ 255) × Contains bytes.now 0) }
+    {
+        if bytes.is_empty() || bytes.len() > 255 {
+            return Err(PlainFault::Length);
+        }
+        if bytes.contains(&0) {
+            return Err(PlainFault::Nul);
+        }
+        Ok(Plain {
+            bytes: Filled::of(bytes),
+        })
+    }
+
+    /// The bytes of the name.
+    pub fn bytes(&self) -> &[u8]
+        ensures value { result.now ≡ self.now }
+        ensures plain { IsPlain result.now }
+        ensures ranged { AreBytes result.now }
+    {
+        self.bytes.bytes()
+    }
+}
