@@ -1,0 +1,7 @@
+//! Bytes that a Linux kernel made, compared with ours. This crate has tests alone.
+#![tactic(auto)]
+
+#[cfg(test)]
+mod tests;
+#[cfg(test)]
+mod vectors;
