@@ -1,0 +1,30 @@
+-- The claims that a history leaves, told from who called with what and which calls were refused.
+use Rattle.std.specs.Prelude.{ℕ, Bool, true, false, [], ◌∷◌, if◌then◌else◌}
+use Rattle.fsc_keys.specs.Keys.{key_id_of}
+use Rattle.fsc_keys.specs.Claims.{ClaimList, with_claim, without_claim}
+use Rattle.mount_model.specs.declared.call.Op.{Op}
+use Rattle.mount_model.specs.declared.call.Op.TheVariants.{AddKey, RemoveKey, KeyStatus}
+use Rattle.mount_model.specs.declared.reply.Reply.{Reply}
+use Rattle.mount_model.specs.declared.reply.Reply.TheVariants.{Refused}
+use Rattle.mount_model.specs.History.{MountEntry, History}
+
+abbrev pub is_refused : Reply → Bool
+is_refused (Refused refusal) = true
+is_refused other = false
+
+-- a user's operation makes a claim, takes one away, or does neither
+abbrev pub claims_made : ClaimList → ℕ → Op → ClaimList
+claims_made claims uid (AddKey raw) = with_claim claims (key_id_of raw) uid
+claims_made claims uid (RemoveKey id) = without_claim claims id uid
+claims_made claims uid (KeyStatus id) = claims
+
+abbrev pub claims_left : ClaimList → MountEntry → ClaimList
+claims_left claims e = if is_refused e.reply then claims else claims_made claims e.call.uid e.call.op
+
+abbrev pub claims_from : ClaimList → History → ClaimList
+claims_from claims [] = claims
+claims_from claims (e ∷ es) = claims_from (claims_left claims e) es
+
+-- the claims that a history leaves
+abbrev pub claims_after : History → ClaimList
+claims_after history = claims_from [] history

@@ -1,0 +1,50 @@
+-- Histories of a mount: who called with what, and what was replied, in order of place from 0.
+use Rattle.std.specs.Prelude.{◌≢◌, ⊤, ℕ, Bool, true, false, List, [], ◌∷◌, All, map, if◌then◌else◌}
+use Rattle.call_history.specs.declared.entry.Entry.{Entry}
+use Rattle.call_history.specs.Entries as entries
+use Rattle.mount_model.specs.declared.call.Call.{Call}
+use Rattle.mount_model.specs.declared.reply.Reply.{Reply}
+use Rattle.mount_model.specs.declared.reply.Reply.TheVariants.{Refused}
+use Rattle.mount_model.specs.declared.reply.Refusal.TheVariants.{NoMemory}
+use Rattle.mount_model.specs.PlainMount.{PlainMount, empty_mount}
+use Rattle.mount_model.specs.Answer.{answer_of}
+use Rattle.mount_model.specs.Step.{IsMountStep}
+pub use Rattle.call_history.specs.Entries.{entries_by}
+
+abbrev pub MountEntry : Type 0
+MountEntry = Entry Call Reply
+
+abbrev pub History : Type 0
+History = entries.History Call Reply
+
+abbrev pub is_want_of_memory : Reply → Bool
+is_want_of_memory (Refused NoMemory) = true
+is_want_of_memory other = false
+
+-- the mount that an entry leaves: the answer's, or the same one where there was no memory
+abbrev pub mount_left : PlainMount → MountEntry → PlainMount
+mount_left m e = if is_want_of_memory e.reply then m else (answer_of m e.who e.call).mount
+
+abbrev pub mount_from : PlainMount → History → PlainMount
+mount_from m [] = m
+mount_from m (e ∷ es) = mount_from (mount_left m e) es
+
+-- the mount that a history leaves
+abbrev pub mount_after : History → PlainMount
+mount_after history = mount_from empty_mount history
+
+-- each entry is a step at the mount that the earlier entries leave
+abbrev pub IsLegalFrom : PlainMount → History → Type 0
+IsLegalFrom m [] = ⊤
+IsLegalFrom m (e ∷ es) = IsMountStep m e.who e.call e.reply (mount_left m e) × IsLegalFrom (mount_left m e) es
+
+abbrev pub IsLegal : History → Type 0
+IsLegal history = IsLegalFrom empty_mount history
+
+-- the calls, each with its caller
+abbrev pub calls_of : History → List (ℕ × Call)
+calls_of history = map (λ e. (e.who, e.call)) history
+
+-- no reply is want of memory
+abbrev pub NeverWantsMemory : History → Type 0
+NeverWantsMemory history = All (λ e. e.reply ≢ Refused NoMemory) history

@@ -1,0 +1,9 @@
+pub mod PlainMount
+pub mod States
+pub mod Answer
+pub mod Step
+pub mod History
+pub mod ClaimHistory
+pub mod WellFormed
+pub mod Fits
+pub mod Numbers

@@ -1,0 +1,29 @@
+-- The replies that a mount may give, and the mount after each.
+use Rattle.std.specs.Prelude.{◌≡◌, ℕ, Bool, true, false, IsTrue, ◌⊎◌}
+use Rattle.mount_model.specs.declared.call.Call.{Call}
+use Rattle.mount_model.specs.declared.call.Op.{Op}
+use Rattle.mount_model.specs.declared.call.Op.TheVariants.{AddKey, RemoveKey, KeyStatus}
+use Rattle.mount_model.specs.declared.reply.Reply.{Reply}
+use Rattle.mount_model.specs.declared.reply.Reply.TheVariants.{Refused}
+use Rattle.mount_model.specs.declared.reply.Refusal.TheVariants.{NoMemory}
+use Rattle.mount_model.specs.PlainMount.{PlainMount}
+use Rattle.mount_model.specs.Answer.{answer_of}
+
+-- whether the operation may take memory; removing a key and asking for its status never do
+abbrev pub takes_memory : Op → Bool
+takes_memory (AddKey raw) = true
+takes_memory (RemoveKey id) = false
+takes_memory (KeyStatus id) = false
+
+-- the mount answers as it has to, and is then as the answer leaves it
+abbrev pub IsAnswered : PlainMount → ℕ → Call → Reply → PlainMount → Type 0
+IsAnswered m caller call reply after =
+    (reply ≡ (answer_of m caller call).reply) × (after ≡ (answer_of m caller call).mount)
+
+-- there was no memory, and nothing changed: this may come in place of any answer
+abbrev pub IsWantOfMemory : PlainMount → Call → Reply → PlainMount → Type 0
+IsWantOfMemory m call reply after = IsTrue (takes_memory call.op) × (reply ≡ Refused NoMemory) × (after ≡ m)
+
+-- a call, and what comes of it
+abbrev pub IsMountStep : PlainMount → ℕ → Call → Reply → PlainMount → Type 0
+IsMountStep m caller call reply after = IsAnswered m caller call reply after ⊎ IsWantOfMemory m call reply after
