@@ -1,0 +1,26 @@
+//! Why a claim isn't made.
+
+ghost use Rattle.std.specs.Prelude.{◌≡◌};
+ghost use Rattle.user_claims.specs.declared.fault.ClaimFault.TheVariants.{NoMemory};
+
+use std::alloc::AllocFailed;
+use thiserror::Error;
+
+/// Why a claim wasn't made. Whichever it is, all claims are as before.
+#[derive(Clone, Copy, Debug, PartialEq, Eq, Error)]
+pub enum ClaimFault {
+    /// The user has 64 claims.
+    #[error("the user has 64 claims")]
+    Quota,
+    /// There was no memory for it.
+    #[error("out of memory")]
+    NoMemory,
+}
+
+impl<T: Drop> From<AllocFailed<T>> for ClaimFault {
+    ghost from_gives = { λ _ fault. fault ≡ NoMemory };
+
+    fn from(_error: AllocFailed<T>) -> ClaimFault {
+        ClaimFault::NoMemory
+    }
+}
