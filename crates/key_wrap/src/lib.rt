@@ -1,0 +1,71 @@
+//! Wrapping: a short secret enciphered and authenticated under a key of 32 bytes, as the fscrypt tool
+//! does for the keys that its protectors hold. Nothing here takes memory.
+#![tactic(auto)]
+
+mod counter;
+mod stretched;
+mod tags;
+#[cfg(test)]
+mod tests;
+
+ghost use Rattle.std.specs.Prelude.{◌≡◌, ◌≤◌, IfErr, IfOk, None, Some, length};
+ghost use Rattle.key_wrap.specs.Laws.{LengthStays, OpensAgain};
+ghost use Rattle.key_wrap.specs.Wrapping.{opened_secret, wrapped_secret};
+
+use crate::counter::xor_keystream;
+use crate::stretched::StretchedKey;
+use crate::tags::is_same_tag;
+use hmac_kdf::hmac256;
+use thiserror::Error;
+
+/// The tag of a wrapped secret is not the one that its key, iv and ciphertext have: the key is
+/// another, or something was changed.
+#[derive(Clone, Copy, Debug, PartialEq, Eq, Error)]
+#[error("the tag differs")]
+pub struct TagDiffers;
+
+/// Wraps a secret of at most 64 bytes: writes its ciphertext into `out`, which has the same length,
+/// and gives the tag of 32 bytes. The same iv under the same key must not wrap two secrets.
+pub fn wrap(key: &[u8; 32], iv: &[u8; 16], secret: &[u8], out: &mut [u8]) -> [u8; 32]
+    requires fits { length secret.now ≤ 64 }
+    requires same_length { length out.old ≡ length secret.now }
+    ensures ciphertext { out.new ≡ (wrapped_secret key.now iv.now secret.now).0 }
+    ensures tag { result ≡ (wrapped_secret key.now iv.now secret.now).1 }
+{
+    let keys = StretchedKey::new(key);
+    out.copy_from_slice(secret);
+    xor_keystream(&keys.cipher, iv, out);
+    hmac256(&keys.tag_key, iv, out)
+}
+
+/// Writes the secret that was wrapped into `out`, which has the same length, at most 64 bytes. Where
+/// the tag differs from that of the iv and the ciphertext, nothing is deciphered and `out` stays as
+/// it is. The tags are compared whole, whichever byte differs first.
+pub fn unwrap(
+    key: &[u8; 32],
+    iv: &[u8; 16],
+    wrapped: &[u8],
+    tag: &[u8; 32],
+    out: &mut [u8],
+) -> Result<(), TagDiffers>
+    requires fits { length wrapped.now ≤ 64 }
+    requires same_length { length out.old ≡ length wrapped.now }
+    ensures opened { IfOk result (λ _. opened_secret key.now iv.now wrapped.now tag.now ≡ Some out.new) }
+    ensures refused { IfErr result (λ _. opened_secret key.now iv.now wrapped.now tag.now ≡ None) }
+    ensures unchanged { IfErr result (λ _. out.new ≡ out.old) }
+{
+    let keys = StretchedKey::new(key);
+    if !is_same_tag(tag, &hmac256(&keys.tag_key, iv, wrapped)) {
+        return Err(TagDiffers);
+    }
+    out.copy_from_slice(wrapped);
+    xor_keystream(&keys.cipher, iv, out);
+    Ok(())
+}
+
+/// Does nothing. Its contract is the law that what was wrapped opens, under the same key and iv, to
+/// the secret, and that the ciphertext has the secret's length.
+pub fn unwrapping_undoes_wrapping()
+    ensures opens { OpensAgain }
+    ensures length { LengthStays }
+{}
