@@ -1,5 +1,5 @@
 -- The chain of digests of H', as it is written into 1,024 bytes.
-use Rattle.std.proofs.Common.{◌≡◌, ℕ, suc, ◌+◌, ◌*◌, ◌≤◌, List, [], ◌++◌, length, take, drop, refl, sym, ap, ◌∙◌, arith, add-one, append_assoc, length-append, length-drop}
+use Rattle.std.proofs.Common.{◌≡◌, ℕ, ◌+◌, ◌*◌, ◌≤◌, List, [], ◌++◌, length, take, drop, refl, sym, ap, ◌∙◌, arith, add-one, append_assoc, length-append, length-drop}
 use Rattle.std.proofs.lemmas.List.{take_at, drop_all, append-nil, length-take-le}
 use Rattle.blake2_core.specs.Digest.{blake2b_digest}
 use Rattle.argon_kdf.specs.LongDigest.{chained_digest, first_halves, long_digest}

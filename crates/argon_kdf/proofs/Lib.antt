@@ -5,3 +5,5 @@ pub mod Ranges
 pub mod Standing
 pub mod Chains
 pub mod Steps
+pub mod Referring
+pub mod Recursion

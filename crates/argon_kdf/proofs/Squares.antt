@@ -1,9 +1,8 @@
 -- A block as a square: a row that is written word by word, a column that is a row of the transposed block.
-use Rattle.std.proofs.Common.{◌≡◌, ℕ, suc, ◌+◌, ◌-◌, ◌*◌, ◌/◌, ◌%◌, ◌<◌, ◌≤◌, List, [], ◌∷◌, ◌++◌, length, take, drop, map, slice_index, slice_index_or, slice_set, inl, inr, refl, sym, ap, ◌∙◌, arith, add-one, length-set, get_or-set_same, get_or-set_other}
-use Rattle.std.specs.List.{range_with_len}
+use Rattle.std.proofs.Common.{◌≡◌, ℕ, ◌+◌, ◌*◌, ◌/◌, ◌%◌, ◌<◌, ◌≤◌, List, [], ◌∷◌, ◌++◌, length, take, drop, slice_index, slice_index_or, slice_set, inl, inr, refl, sym, ap, ◌∙◌, arith, add-one, length-set, get_or-set_same, get_or-set_other}
 use Rattle.std.proofs.lemmas.Bool.{cases_eq}
 use Rattle.std.proofs.lemmas.List.{same_lists, take-append-drop, take_more_set, drop-set-lt, append_assoc, get_or_default}
-use Rattle.std.proofs.lemmas.List.FromFn.{length-map-range_with_len, get_or-map-range_with_len}
+use Rattle.std.proofs.lemmas.List.FromFn.{get_or-map-range_with_len}
 use Rattle.argon_kdf.specs.Blocks.{first_rows_permuted, row_permuted, transposed}
 
 pub first_rows_none : (block : List ℕ) → first_rows_permuted block 0 ≡ block

@@ -1,10 +1,10 @@
 -- How the memory stands for the table from one place to the next.
-use Rattle.std.proofs.Common.{◌≡◌, ℕ, suc, ◌+◌, ◌-◌, ◌*◌, ◌<◌, ◌≤◌, ◌≢◌, ◌==◌, Bool, true, false, nat_lt, if◌then◌else◌, List, [], length, slice_index_or, slice_set, inl, inr, refl, sym, ap, ◌∙◌, arith, length-set, get_or-set_same, get_or-set_other}
+use Rattle.std.proofs.Common.{◌≡◌, ℕ, ◌+◌, ◌-◌, ◌*◌, ◌<◌, ◌≤◌, ◌≢◌, List, [], length, slice_index_or, slice_set, inl, inr, refl, sym, ap, ◌∙◌, arith, length-set, get_or-set_same, get_or-set_other}
 use Rattle.std.proofs.Math.Nat.{mul-le-mul_left}
 use Rattle.std.proofs.lemmas.Bool.{cases_lt, cases_eq}
 use Rattle.std.proofs.lemmas.Bool.Decides.{nat_tests}
 use Rattle.argon_kdf.specs.Blocks.{zero_block}
-use Rattle.argon_kdf.specs.Shapes.{Shape, columns, block_count, place, column_of}
+use Rattle.argon_kdf.specs.Shapes.{Shape, columns, block_count, place}
 use Rattle.argon_kdf.specs.Tables.{Table, empty_table, put, columns_made, latest}
 use Rattle.argon_kdf.specs.Memory.{Stands}
 use Rattle.argon_kdf.specs.declared.layout.Place.{Place}

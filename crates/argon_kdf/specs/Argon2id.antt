@@ -6,7 +6,6 @@ use Rattle.argon_kdf.specs.declared.costs.Costs.{Costs}
 use Rattle.argon_kdf.specs.Blocks.{zero_block, xored}
 use Rattle.argon_kdf.specs.LongDigest.{le32, long_digest}
 use Rattle.argon_kdf.specs.Shapes.{Shape, columns, shape_of_costs}
-use Rattle.argon_kdf.specs.Tables.{Table}
 use Rattle.argon_kdf.specs.Filling.{with_passes}
 
 -- what H_0 is the digest of: lanes, length of the tag, memory, passes, version, type, and the texts

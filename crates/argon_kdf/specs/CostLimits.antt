@@ -1,5 +1,5 @@
 -- Which costs are accepted.
-use Rattle.std.specs.Prelude.{ℕ, ◌*◌, Result, Ok, Err, if◌then◌else◌}
+use Rattle.std.specs.Prelude.{◌*◌, Result, Ok, Err, if◌then◌else◌}
 use Rattle.std.specs.Int.{is_in_range}
 use Rattle.argon_kdf.specs.declared.costs.Costs.{Costs}
 use Rattle.argon_kdf.specs.declared.costs.CostFault.{CostFault}

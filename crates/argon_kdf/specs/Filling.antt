@@ -1,5 +1,5 @@
 -- The blocks in the order in which Argon2 makes them (RFC 9106, 3.2, steps 3 to 6).
-use Rattle.std.specs.Prelude.{ℕ, zero, suc, ◌+◌, ◌/◌, ◌%◌, ◌^◌, ◌==◌, nat_lt, List, ◌++◌, if◌then◌else◌}
+use Rattle.std.specs.Prelude.{ℕ, zero, suc, ◌/◌, ◌%◌, ◌^◌, ◌==◌, nat_lt, List, ◌++◌, if◌then◌else◌}
 use Rattle.argon_kdf.specs.declared.layout.Place.{Place}
 use Rattle.argon_kdf.specs.Blocks.{block_of, joined, xored}
 use Rattle.argon_kdf.specs.LongDigest.{le32, long_digest}

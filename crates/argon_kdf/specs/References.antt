@@ -2,7 +2,7 @@
 use Rattle.std.specs.Prelude.{ℕ, ◌+◌, ◌-◌, ◌*◌, ◌/◌, ◌%◌, ◌^◌, ◌==◌, nat_lt, List, [], ◌∷◌, ◌++◌, slice_index, replicate, if◌then◌else◌}
 use Rattle.argon_kdf.specs.declared.layout.Place.{Place}
 use Rattle.argon_kdf.specs.Blocks.{zero_block, joined}
-use Rattle.argon_kdf.specs.Shapes.{Shape, columns, block_count, column_of}
+use Rattle.argon_kdf.specs.Shapes.{Shape, columns, block_count}
 
 -- the input of an address block: pass, lane, slice, blocks, passes, the type 2, and a counter (3.4.1.2)
 unfoldable pub address_input : Shape → Place → ℕ → List ℕ

@@ -10,6 +10,7 @@ use block::{Block, ZERO_BLOCK};
 pub use costs::{CostFault, Costs};
 use digest::{first_digest, write_tag};
 use fill::{fill, last_column};
+pub use law::table_meets_the_recursion;
 use layout::Layout;
 use std::alloc::{AllocError, Global};
 
@@ -17,6 +18,7 @@ mod block;
 mod costs;
 mod digest;
 mod fill;
+mod law;
 mod layout;
 mod reference;
 #[cfg(test)]

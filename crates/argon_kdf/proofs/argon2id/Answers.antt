@@ -1,4 +1,4 @@
-use Rattle.std.proofs.Common.{◌≡◌, ◌∙◌, ◌-◌, ℕ, List, ap, arith, length, take, drop}
+use Rattle.std.proofs.Common.{◌≡◌, ◌∙◌, ◌-◌, ℕ, List, ap, arith, length, drop}
 use Rattle.std.proofs.lemmas.List.{take_at}
 use Rattle.blake2_core.specs.Words.{bytes_of_words}
 use Rattle.argon_kdf.specs.LongDigest.{long_digest}

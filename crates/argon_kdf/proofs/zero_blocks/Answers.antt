@@ -1,4 +1,4 @@
-use Rattle.std.proofs.Common.{◌≡◌, ◌∙◌, ◌<◌, ℕ, List, [], ap, length, replicate, slice_index_or, refl, arith}
+use Rattle.std.proofs.Common.{◌≡◌, ◌∙◌, ℕ, List, [], ap, replicate, slice_index_or, arith}
 use Rattle.std.specs.Array.{AllZipBelow}
 use Rattle.std.proofs.lemmas.List.{same_lists, get_or-replicate}
 use Rattle.argon_kdf.specs.Blocks.{zero_block}

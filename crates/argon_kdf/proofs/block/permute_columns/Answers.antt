@@ -1,5 +1,5 @@
 use Rattle.std.proofs.Common.{◌≡◌, ◌∙◌, ℕ, List, ap, sym, arith}
-use Rattle.argon_kdf.specs.Blocks.{first_rows_permuted, row_permuted, transposed}
+use Rattle.argon_kdf.specs.Blocks.{row_permuted, transposed}
 use Rattle.argon_kdf.proofs.Squares.{first_rows_none, first_rows_next, transposed-transposed}
 use Rattle.argon_kdf.proofs.block.permute_columns.Goals as goal
 

@@ -1,6 +1,6 @@
 use Rattle.std.proofs.Common.{arith}
 use Rattle.argon_kdf.specs.Permutation.{permuted}
-use Rattle.argon_kdf.specs.Blocks.{row, row_permuted, transposed}
+use Rattle.argon_kdf.specs.Blocks.{row, row_permuted}
 use Rattle.argon_kdf.proofs.Permuting.{permuted_words}
 use Rattle.argon_kdf.proofs.Squares.{row_written}
 use Rattle.argon_kdf.proofs.block.permute_row.Goals as goal

@@ -1,4 +1,4 @@
-use Rattle.std.proofs.Common.{◌≡◌, ℕ, ◌∙◌, refl, arith, bit_xor, slice_index}
+use Rattle.std.proofs.Common.{◌≡◌, ℕ, refl, arith, bit_xor, slice_index}
 use Rattle.argon_kdf.specs.Blocks.{xored}
 use Rattle.argon_kdf.proofs.Loops.{mapped_over_more, mapped_over_all}
 use Rattle.argon_kdf.proofs.block.xor_into.Goals as goal

@@ -1,7 +1,6 @@
-use Rattle.std.proofs.Common.{◌≡◌, ◌∙◌, ◌++◌, ℕ, List, arith, ap, sym, refl, length}
+use Rattle.std.proofs.Common.{◌≡◌, ◌∙◌, arith, ap, sym, refl, length}
 use Rattle.blake2_core.specs.Digest.{blake2b_digest}
 use Rattle.blake2_core.proofs.StandardFacts.{length-blake2b_digest}
-use Rattle.argon_kdf.specs.LongDigest.{chained_digest, first_halves, long_digest}
 use Rattle.argon_kdf.proofs.Chains.{chained_next, first_halves_none, halves_more, halves_whole}
 use Rattle.argon_kdf.proofs.digest.stretched.Goals as goal
 

@@ -1,6 +1,4 @@
-use Rattle.std.proofs.Common.{◌≡◌, arith}
 use Rattle.argon_kdf.specs.Shapes.{shape}
-use Rattle.argon_kdf.specs.Filling.{with_passes}
 use Rattle.argon_kdf.proofs.Standing.{Stands_start}
 use Rattle.argon_kdf.proofs.Steps.{with_passes_none, with_passes_next}
 use Rattle.argon_kdf.proofs.fill.fill.Goals as goal

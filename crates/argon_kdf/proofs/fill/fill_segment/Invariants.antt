@@ -1,4 +1,4 @@
-use Rattle.std.proofs.Common.{◌≡◌, ℕ, ◌+◌, ◌-◌, ◌/◌, ◌<◌}
+use Rattle.std.proofs.Common.{◌≡◌, ◌+◌, ◌-◌, ◌/◌, ◌<◌}
 use Rattle.argon_kdf.specs.Shapes.{place, shape}
 use Rattle.argon_kdf.specs.References.{address_block}
 use Rattle.argon_kdf.specs.Tables.{Table}

@@ -1,7 +1,6 @@
-use Rattle.std.proofs.Common.{◌≡◌, ◌∙◌, ℕ, List, [], ◌-◌, ◌*◌, ◌+◌, ap, sym, arith, slice_index_or}
-use Rattle.argon_kdf.specs.Blocks.{zero_block, xored}
+use Rattle.std.proofs.Common.{◌≡◌, ◌∙◌, ℕ, [], ◌-◌, ◌*◌, ◌+◌, sym, arith, slice_index_or}
+use Rattle.argon_kdf.specs.Blocks.{zero_block}
 use Rattle.argon_kdf.specs.Shapes.{columns, shape}
-use Rattle.argon_kdf.specs.Argon2id.{lanes_xored}
 use Rattle.argon_kdf.proofs.Standing.{Stands_read}
 use Rattle.argon_kdf.proofs.Steps.{lanes_xored_none, lanes_xored_next}
 use Rattle.argon_kdf.proofs.fill.last_column.Goals as goal

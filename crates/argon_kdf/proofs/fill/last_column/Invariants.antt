@@ -1,4 +1,4 @@
-use Rattle.std.proofs.Common.{◌≡◌, ℕ, ◌-◌}
+use Rattle.std.proofs.Common.{◌≡◌, ◌-◌}
 use Rattle.argon_kdf.specs.Shapes.{columns, place, shape}
 use Rattle.argon_kdf.specs.Tables.{Table}
 use Rattle.argon_kdf.specs.Argon2id.{lanes_xored}

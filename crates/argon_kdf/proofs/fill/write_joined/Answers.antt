@@ -1,4 +1,4 @@
-use Rattle.argon_kdf.proofs.Steps.{Reads, joined_from}
+use Rattle.argon_kdf.proofs.Steps.{joined_from}
 use Rattle.argon_kdf.proofs.fill.write_joined.Goals as goal
 
 pub returns : goal.returns

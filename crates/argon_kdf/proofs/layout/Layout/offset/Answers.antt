@@ -1,4 +1,3 @@
-use Rattle.std.proofs.Common.{arith}
 use Rattle.argon_kdf.proofs.Ranges.{offset_within}
 use Rattle.argon_kdf.proofs.layout.Layout.offset.Goals as goal
 
