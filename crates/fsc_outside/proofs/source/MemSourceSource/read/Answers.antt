@@ -1,0 +1,9 @@
+use Rattle.std.proofs.Common.{arith, length}
+use Rattle.fsc_outside.proofs.SourceLemmas.{given}
+use Rattle.fsc_outside.proofs.source.MemSourceSource.read.Goals as goal
+
+pub returns-clause-bytes : goal.returns-clause-bytes
+returns-clause-bytes c =
+    rw (← c.self.view_is)
+    (given c.self.inside.bytes.items c.deref.result.now c.give-count.new.piece c.self.inside.at c.self.inside.piece (length c.args.piece.now) c.give-count.result
+    (omega arith) (omega arith) c.deref.ensures.value c.give-count.ensures.count c.give-count.ensures.front)

@@ -1,0 +1,3 @@
+pub mod Causes
+pub mod Sources
+pub mod Sinks

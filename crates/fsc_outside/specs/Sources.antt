@@ -1,0 +1,27 @@
+-- What the sources in memory do, call by call.
+use Rattle.std.specs.Prelude.{ℕ, min, List, length, drop, Contains}
+use Rattle.fsc_outside.specs.Causes.{one_more}
+
+-- a source in memory: the bytes left, the most that a call gives, the numbers of the calls that fail, how many calls were made, and how many failed
+pub record Feed : Type 0 where
+  pub left : List ℕ
+  pub piece : ℕ
+  pub fails : List ℕ
+  pub calls : ℕ
+  pub faults : ℕ
+
+-- whether the next call is one that fails
+abbrev pub FailsNext : Feed → Type 0
+FailsNext feed = Contains feed.fails feed.calls
+
+-- how many bytes the next call gives into a room of that length
+abbrev pub next_count : Feed → ℕ → ℕ
+next_count feed room = min (min feed.piece room) (length feed.left)
+
+-- after a call that failed
+abbrev pub failed_read : Feed → Feed
+failed_read feed = record feed { calls = one_more feed.calls; faults = one_more feed.faults }
+
+-- after a call that gave n bytes
+abbrev pub after_read : Feed → ℕ → Feed
+after_read feed n = record feed { left = drop n feed.left; calls = one_more feed.calls }

@@ -1,0 +1,36 @@
+//! Where bytes and seeds come from and where bytes go. Each trait keeps a count of faults, so that
+//! a caller that answers a fault can be asked for its cause. Fakes in memory fail where they are told to.
+#![tactic(auto)]
+
+ghost use Rattle.std.specs.Prelude.{◌↔◌, IsTrue, Contains};
+
+use thiserror::Error;
+
+mod seed;
+mod sink;
+mod source;
+mod standard;
+
+use item_list::Items;
+pub use seed::{FixedSeed, SeedSource};
+pub use sink::{MemSink, Sink, SteadySink};
+pub use source::{MemSource, Source, SteadySource};
+pub use standard::{StdSink, StdSource};
+
+/// Numbers of calls, counted from 0.
+pub type CallList = Items<u32>;
+
+/// A call outside failed, and nothing came or went.
+#[derive(Debug, Drop, Error)]
+#[error("a call outside failed")]
+pub struct Failed;
+
+// Whether the call is one of the list.
+fn is_listed(calls: &CallList, call: u64) -> bool
+    ensures { IsTrue result ↔ Contains calls.now call }
+{
+    calls.iter().any(|listed| u64::from(*listed) == call)
+}
+
+#[cfg(test)]
+mod tests;

@@ -1,0 +1,148 @@
+//! Sinks of bytes: the trait, and two sinks in memory.
+
+ghost use Rattle.std.specs.Prelude.{◌≡◌, ℕ, ◌≤◌, ◌<◌, ◌↔◌, List, [], length, take, Option, None, Some, IfOk, IsErr, IsTrue, OnErr, vec_len, vec_capacity};
+ghost use Rattle.std.specs.Io.{WritesAtMost};
+ghost use Rattle.std.specs.Io.KnownBytes.{WriteAppends};
+ghost use Rattle.fsc_outside.specs.Causes.{HasCause};
+ghost use Rattle.fsc_outside.specs.Sinks.{Tank, RefusesNext, next_taken, failed_write, after_write};
+
+use crate::{CallList, Failed, is_listed};
+use std::alloc::{AllocError, Global};
+use std::marker::Model;
+
+/// Where bytes go. Its meaning is the bytes that it got, where it tells them.
+pub trait Sink {
+    /// The bytes got, where they are known.
+    ghost got: { Self → Option (List ℕ) };
+
+    /// How often a call failed. It never falls.
+    ghost faults: { Self → ℕ };
+
+    /// Takes bytes from the front of `piece` and tells how many, of a nonempty piece at least one.
+    fn write(&mut self, piece: &[u8]) -> Result<usize, Failed>
+        ensures bound { WritesAtMost result piece.now }
+        ensures progress { IfOk result (λ count. 0 < length piece.now → 0 < count) }
+        ensures bytes { WriteAppends (got self.old) (got self.new) result piece.now }
+        ensures cause { HasCause (faults self.old) (faults self.new) result };
+}
+
+/// A sink in memory that takes pieces into a room of a given size, and fails at the calls that it
+/// is told. In clauses it is a `Tank`.
+#[derive(Drop)]
+pub struct MemSink {
+    got: Vec<u8>,
+    room: usize,
+    piece: usize,
+    fails: CallList,
+    calls: u64,
+    faults: u64,
+}
+
+impl Model for MemSink {
+    ghost use Rattle.std.specs.Prelude.{◌≤◌, vec_len, vec_capacity};
+    ghost use Rattle.fsc_outside.specs.Sinks.{Tank};
+
+    ghost Value = { Tank };
+
+    ghost view = { λ s. record { got = s.got.items; room = s.room; piece = s.piece; fails = s.fails; calls = s.calls; faults = s.faults } };
+
+    // The room was taken when the sink was made, so that no write needs memory.
+    ghost invariant = { λ s. (1 ≤ s.piece) × (vec_len s.got ≤ s.room) × (s.room ≤ vec_capacity s.got) };
+}
+
+impl MemSink {
+    /// A sink with room for so many bytes that takes at most `piece` of them a call. Calls count
+    /// from 0, and those in `fails` fail. A write of bytes into the full room fails too.
+    pub fn new(
+        alloc: Global,
+        room: usize,
+        piece: usize,
+        fails: CallList,
+    ) -> Result<MemSink, AllocError>
+        requires { 1 ≤ piece }
+        ensures { IfOk result (λ sink. sink ≡ record { got = []; room = room; piece = piece; fails = fails; calls = 0; faults = 0 }) }
+    {
+        let got = Vec::with_capacity(alloc, room)?;
+        Ok(MemSink {
+            got,
+            room,
+            piece,
+            fails,
+            calls: 0,
+            faults: 0,
+        })
+    }
+
+    /// The bytes got so far.
+    pub fn got(&self) -> &[u8]
+        ensures { result.now ≡ self.now.got }
+    {
+        self.got.as_slice()
+    }
+}
+
+impl Sink for MemSink {
+    ghost got = { λ s. Some s.got };
+
+    ghost faults = { λ s. s.faults };
+
+    fn write(&mut self, piece: &[u8]) -> Result<usize, Failed>
+        ensures bound { WritesAtMost result piece.now }
+        ensures progress { IfOk result (λ count. 0 < length piece.now → 0 < count) }
+        ensures bytes { WriteAppends (Some self.old.got) (Some self.new.got) result piece.now }
+        ensures cause { HasCause self.old.faults self.new.faults result }
+        ensures fails { IsErr result ↔ RefusesNext self.old (length piece.now) }
+        ensures failed { OnErr result (self.new ≡ failed_write self.old) }
+        ensures took { IfOk result (λ n. (n ≡ next_taken self.old (length piece.now)) × (self.new ≡ after_write self.old piece.now n)) }
+    {
+        let call = self.calls;
+        self.calls = call.saturating_add(1);
+        let left = self.room - self.got.len();
+        if is_listed(&self.fails, call) || has_no_room(left, piece) {
+            self.faults = self.faults.saturating_add(1);
+            return Err(Failed);
+        }
+        let count = self.piece.min(piece.len()).min(left);
+        if self.got.extend_from_slice(&piece[..count]).is_err() {
+            self.faults = self.faults.saturating_add(1);
+            return Err(Failed);
+        }
+        Ok(count)
+    }
+}
+
+/// A sink that takes each piece whole, keeps no byte and never fails.
+#[derive(Clone, Copy)]
+pub struct SteadySink;
+
+impl SteadySink {
+    /// The sink.
+    pub fn new() -> SteadySink
+        ensures { result ≡ record {} }
+    {
+        SteadySink
+    }
+}
+
+impl Sink for SteadySink {
+    ghost got = { λ _. None };
+
+    ghost faults = { λ _. 0 };
+
+    fn write(&mut self, piece: &[u8]) -> Result<usize, Failed>
+        ensures bound { WritesAtMost result piece.now }
+        ensures progress { IfOk result (λ count. 0 < length piece.now → 0 < count) }
+        ensures bytes { WriteAppends None None result piece.now }
+        ensures cause { HasCause 0 0 result }
+        ensures whole { result ≡ Ok (length piece.now) }
+    {
+        Ok(piece.len())
+    }
+}
+
+// Whether there are bytes and no room for any.
+fn has_no_room(left: usize, piece: &[u8]) -> bool
+    ensures { IsTrue result ↔ ((0 < length piece.now) × (left ≡ 0)) }
+{
+    left == 0 && !piece.is_empty()
+}

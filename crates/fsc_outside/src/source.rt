@@ -1,0 +1,143 @@
+//! Sources of bytes: the trait, and two sources in memory.
+
+ghost use Rattle.std.specs.Prelude.{◌≡◌, ℕ, ◌≤◌, ◌<◌, ◌↔◌, List, [], length, take, drop, Option, Some, IfOk, IsErr, OnErr, min, vec_len};
+ghost use Rattle.std.specs.Io.{ReadsAtMost};
+ghost use Rattle.std.specs.Io.KnownBytes.{ReadConsumes};
+ghost use Rattle.fsc_outside.specs.Causes.{HasCause};
+ghost use Rattle.fsc_outside.specs.Sources.{Feed, FailsNext, next_count, failed_read, after_read};
+
+use crate::{CallList, Failed, is_listed};
+use std::marker::Model;
+
+/// Where bytes come from. Its meaning is the bytes that are left, where it tells them.
+pub trait Source {
+    /// The bytes left, where they are known.
+    ghost left: { Self → Option (List ℕ) };
+
+    /// How often a call failed. It never falls.
+    ghost faults: { Self → ℕ };
+
+    /// Puts the next bytes at the front of `piece` and tells how many. None for a nonempty piece
+    /// means the end.
+    fn read(&mut self, piece: &mut [u8]) -> Result<usize, Failed>
+        ensures bound { ReadsAtMost result piece.new }
+        ensures bytes { ReadConsumes (left self.old) (left self.new) result piece.new }
+        ensures cause { HasCause (faults self.old) (faults self.new) result };
+}
+
+/// A source in memory that gives pieces, and fails at the calls that it is told.
+/// In clauses it is a `Feed`.
+#[derive(Drop)]
+pub struct MemSource {
+    bytes: Vec<u8>,
+    at: usize,
+    piece: usize,
+    fails: CallList,
+    calls: u64,
+    faults: u64,
+}
+
+impl Model for MemSource {
+    ghost use Rattle.std.specs.Prelude.{◌≤◌, drop, vec_len};
+    ghost use Rattle.fsc_outside.specs.Sources.{Feed};
+
+    ghost Value = { Feed };
+
+    ghost view = { λ s. record { left = drop s.at s.bytes.items; piece = s.piece; fails = s.fails; calls = s.calls; faults = s.faults } };
+
+    ghost invariant = { λ s. (1 ≤ s.piece) × (s.at ≤ vec_len s.bytes) };
+}
+
+impl MemSource {
+    /// A source of these bytes that gives at most `piece` of them a call. Calls count from 0, and
+    /// those in `fails` fail.
+    pub fn new(bytes: Vec<u8>, piece: usize, fails: CallList) -> MemSource
+        requires { 1 ≤ piece }
+        ensures { result ≡ record { left = bytes.items; piece = piece; fails = fails; calls = 0; faults = 0 } }
+    {
+        MemSource {
+            bytes,
+            at: 0,
+            piece,
+            fails,
+            calls: 0,
+            faults: 0,
+        }
+    }
+}
+
+impl Source for MemSource {
+    ghost left = { λ s. Some s.left };
+
+    ghost faults = { λ s. s.faults };
+
+    fn read(&mut self, piece: &mut [u8]) -> Result<usize, Failed>
+        ensures bound { ReadsAtMost result piece.new }
+        ensures bytes { ReadConsumes (Some self.old.left) (Some self.new.left) result piece.new }
+        ensures cause { HasCause self.old.faults self.new.faults result }
+        ensures fails { IsErr result ↔ FailsNext self.old }
+        ensures failed { OnErr result (self.new ≡ failed_read self.old) }
+        ensures gave { IfOk result (λ n. (n ≡ next_count self.old (length piece.old)) × (self.new ≡ after_read self.old n)) }
+    {
+        let call = self.calls;
+        self.calls = call.saturating_add(1);
+        if is_listed(&self.fails, call) {
+            self.faults = self.faults.saturating_add(1);
+            return Err(Failed);
+        }
+        let count = give(&self.bytes[self.at..], self.piece, piece);
+        self.at += count;
+        Ok(count)
+    }
+}
+
+/// A source in memory that never fails. In clauses it is the list of the bytes left.
+#[derive(Drop)]
+pub struct SteadySource {
+    bytes: Vec<u8>,
+    at: usize,
+}
+
+impl Model for SteadySource {
+    ghost Value = { List ℕ };
+
+    ghost view = { λ s. drop s.at s.bytes.items };
+
+    ghost invariant = { λ s. s.at ≤ vec_len s.bytes };
+}
+
+impl SteadySource {
+    /// A source of these bytes.
+    pub fn new(bytes: Vec<u8>) -> SteadySource
+        ensures { result ≡ bytes.items }
+    {
+        SteadySource { bytes, at: 0 }
+    }
+}
+
+impl Source for SteadySource {
+    ghost left = { λ s. Some s };
+
+    ghost faults = { λ _. 0 };
+
+    fn read(&mut self, piece: &mut [u8]) -> Result<usize, Failed>
+        ensures bound { ReadsAtMost result piece.new }
+        ensures bytes { ReadConsumes (Some self.old) (Some self.new) result piece.new }
+        ensures cause { HasCause 0 0 result }
+        ensures gave { result ≡ Ok (min (length piece.old) (length self.old)) }
+    {
+        let count = give(&self.bytes[self.at..], usize::MAX, piece);
+        self.at += count;
+        Ok(count)
+    }
+}
+
+// Puts what comes first at the front of `piece`, at most so many bytes, and tells how many.
+fn give(left: &[u8], most: usize, piece: &mut [u8]) -> usize
+    ensures count { result ≡ min (min most (length piece.old)) (length left.now) }
+    ensures front { take result piece.new ≡ take result left.now }
+{
+    let count = most.min(piece.len()).min(left.len());
+    piece[..count].copy_from_slice(&left[..count]);
+    count
+}

@@ -1,0 +1,107 @@
+//! Standard input and output as a source and a sink: the edge of what is proved.
+
+ghost use Rattle.std.specs.Prelude.{◌≡◌, ℕ};
+ghost use Rattle.std.specs.Io.{ReadsAtMost, WritesAtMost};
+ghost use Rattle.std.specs.Io.KnownBytes.{ReadConsumes, WriteAppends};
+ghost use Rattle.fsc_outside.specs.Causes.{HasCause};
+
+use crate::{Failed, Sink, Source};
+use std::io::{Read, Stdin, Stdout, Write};
+use std::marker::Model;
+
+/// A reader as a source, such as standard input. An error of the reader is a fault. In clauses it
+/// is the reader and its count of faults.
+#[derive(Drop)]
+pub struct StdSource<R: Read + Drop> {
+    reader: R,
+    faults: u64,
+}
+
+impl<R: Read + Drop> Model for StdSource<R> {
+    ghost Value = { R × ℕ };
+
+    ghost view = { λ source. (source.reader, source.faults) };
+}
+
+impl<R: Read + Drop> StdSource<R> {
+    /// The reader as a source.
+    pub fn over(reader: R) -> Self
+        ensures { result ≡ (reader, 0) }
+    {
+        StdSource { reader, faults: 0 }
+    }
+}
+
+impl StdSource<Stdin> {
+    /// Standard input.
+    pub fn new(rt: &HostRuntime) -> Self
+        ensures { result.1 ≡ 0 }
+    {
+        StdSource::over(rt.stdin())
+    }
+}
+
+impl<R: Read + Drop> Source for StdSource<R> {
+    ghost left = { λ s. R.remaining s.0 };
+
+    ghost faults = { λ s. s.1 };
+
+    fn read(&mut self, piece: &mut [u8]) -> Result<usize, Failed> {
+        match self.reader.read(piece) {
+            Ok(count) => Ok(count),
+            Err(_) => {
+                self.faults = self.faults.saturating_add(1);
+                Err(Failed)
+            }
+        }
+    }
+}
+
+/// A writer as a sink, such as standard output. An error of the writer is a fault, and so is a
+/// write that takes nothing of a nonempty piece. In clauses it is the writer and its count of
+/// faults.
+#[derive(Drop)]
+pub struct StdSink<W: Write + Drop> {
+    writer: W,
+    faults: u64,
+}
+
+impl<W: Write + Drop> Model for StdSink<W> {
+    ghost Value = { W × ℕ };
+
+    ghost view = { λ sink. (sink.writer, sink.faults) };
+}
+
+impl<W: Write + Drop> StdSink<W> {
+    /// The writer as a sink.
+    pub fn over(writer: W) -> Self
+        ensures { result ≡ (writer, 0) }
+    {
+        StdSink { writer, faults: 0 }
+    }
+}
+
+impl StdSink<Stdout> {
+    /// Standard output.
+    pub fn new(rt: &HostRuntime) -> Self
+        ensures { result.1 ≡ 0 }
+    {
+        StdSink::over(rt.stdout())
+    }
+}
+
+impl<W: Write + Drop> Sink for StdSink<W> {
+    ghost got = { λ s. W.contents s.0 };
+
+    ghost faults = { λ s. s.1 };
+
+    fn write(&mut self, piece: &[u8]) -> Result<usize, Failed> {
+        match self.writer.write(piece) {
+            Ok(count) if count > 0 || piece.is_empty() => Ok(count),
+            _ => {
+                self.faults = self.faults.saturating_add(1);
+                Err(Failed)
+            }
+        }
+    }
+}

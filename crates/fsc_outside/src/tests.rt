@@ -1,0 +1,75 @@
+use crate::{
+    CallList, Failed, FixedSeed, MemSink, MemSource, SeedSource, Sink, Source, StdSink, StdSource,
+    SteadySink, SteadySource,
+};
+use std::alloc::AllocError;
+
+/// What a test can end with besides a false assertion.
+#[derive(Debug, Drop)]
+enum Fault {
+    Memory,
+    Outside,
+}
+
+impl From<AllocError> for Fault {
+    fn from(_: AllocError) -> Fault {
+        Fault::Memory
+    }
+}
+
+impl From<Failed> for Fault {
+    fn from(_: Failed) -> Fault {
+        Fault::Outside
+    }
+}
+
+// Each call that the lists name fails and no other, and what comes before and after arrives.
+#[test]
+fn each_listed_call_fails_alone(rt: HostRuntime) -> Result<(), Fault> {
+    let text = b"one two three four";
+    for listed in 0..4u32 {
+        let mut reads = CallList::new(rt.alloc());
+        reads.push(listed)?;
+        let mut writes = CallList::new(rt.alloc());
+        writes.push(listed)?;
+        let mut source = MemSource::new(Vec::from_slice(rt.alloc(), text)?, 5, reads);
+        let mut sink = MemSink::new(rt.alloc(), text.len(), 5, writes)?;
+        for call in 0..5u32 {
+            let mut piece = [0; 8];
+            let count = match source.read(&mut piece) {
+                Ok(count) => count,
+                Err(_) => {
+                    assert_eq!(rt; call, listed);
+                    0
+                }
+            };
+            if count > 0 {
+                match sink.write(&piece[..count]) {
+                    Ok(taken) => assert_eq!(rt; taken, count),
+                    Err(_) => assert_eq!(rt; sink.write(&piece[..count])?, count),
+                }
+            }
+        }
+        assert_eq!(rt; sink.got(), text.as_slice());
+        assert!(rt; sink.write(b"!").is_err());
+    }
+    Ok(())
+}
+
+#[test]
+fn standard_streams_and_steady_fakes_answer(rt: HostRuntime) -> Result<(), Fault> {
+    let mut piece = [0; 4];
+    let mut reader = StdSource::over(b"some text".as_slice());
+    assert_eq!(rt; reader.read(&mut piece)?, 4);
+    assert_eq!(rt; piece.as_slice(), b"some".as_slice());
+    let mut input = StdSource::new(&rt);
+    assert_eq!(rt; input.read(&mut [])?, 0);
+    let mut output = StdSink::new(&rt);
+    assert_eq!(rt; output.write(b"")?, 0);
+    let mut steady = SteadySource::new(Vec::from_slice(rt.alloc(), b"abc")?);
+    assert_eq!(rt; steady.read(&mut piece)?, 3);
+    assert_eq!(rt; SteadySink::new().write(b"abc")?, 3);
+    assert_eq!(rt; FixedSeed::new([7; 32]).seed()?[31], 7);
+    assert!(rt; FixedSeed::failing().seed().is_err());
+    Ok(())
+}
