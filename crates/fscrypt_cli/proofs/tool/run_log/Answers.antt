@@ -1,0 +1,11 @@
+use Rattle.fscrypt_cli.proofs.SerialLemmas.{runs, serial}
+use Rattle.fscrypt_cli.proofs.tool.run_log.Goals as goal
+
+pub returns : goal.returns
+returns c = record {
+  history = c.in_ok-history.history;
+  runs = runs c.args.script.now c.in_ok-history.history c.in_ok-history.ensures.calls;
+  legal = c.in_ok-history.ensures.legal;
+  log = c.in_ok-log.ensures;
+  serial = serial c.args.script.now c.in_ok-history.history c.in_ok-history.ensures.legal c.in_ok-history.ensures.calls;
+}

@@ -1,0 +1,88 @@
+//! fsc: replays a script over an encrypted directory tree in memory, and prints a log.
+#![tactic(auto)]
+
+mod input;
+mod log;
+mod output;
+mod ring;
+#[cfg(test)]
+mod rows;
+mod run;
+mod script;
+mod status;
+mod tool;
+mod words;
+
+use fsc_outside::{FixedSeed, StdSink, StdSource};
+use status::Status;
+use std::env;
+use std::io::ErrorKind;
+use std::process::ExitCode;
+use tool::tool_serial;
+
+const HELP: &str = "\
+fsc replays a script over an encrypted directory tree in memory, and prints a log.
+
+    fsc replay --serial --seed HEX64    reads a script from standard input
+    fsc --help | --version
+
+A script begins with `caller UID` and has a command a line:
+
+    add-key HEX          1 to 128 bytes
+    remove-key KEYREF    `id:` and 32 digits, or `raw:` and 64 to 128 digits
+    key-status KEYREF
+
+Example, where SEED is 64 hexadecimal digits:
+
+    fsc replay --serial --seed SEED < examples/one-key.fsc
+";
+
+const VERSION: &str = "fsc 0.1.0\n";
+
+fn main(rt: HostRuntime) -> ExitCode {
+    let words = match words_of(&rt) {
+        Ok(words) => words,
+        Err(status) => return end(rt, status),
+    };
+    if words.len() == 1 {
+        match words[0].as_str() {
+            "--help" => return tell(rt, HELP),
+            "--version" => return tell(rt, VERSION),
+            _ => {}
+        }
+    }
+    let mut source = StdSource::new(&rt);
+    let mut sink = StdSink::new(&rt);
+    let mut seeds = FixedSeed::failing();
+    let status = tool_serial(rt.alloc(), &words, &mut source, &mut sink, &mut seeds);
+    end(rt, status)
+}
+
+// The words of the command line without the program's own name. One that isn't text is Usage.
+fn words_of(rt: &HostRuntime) -> Result<Vec<String>, Status> {
+    let words = match env::args(rt) {
+        Ok(words) => words,
+        Err(fault) if fault.kind() == ErrorKind::OutOfMemory => return Err(Status::NoMemory),
+        Err(_) => return Err(Status::Usage),
+    };
+    words
+        .skip(1)
+        .collect(rt.alloc())
+        .map_err(|_| Status::NoMemory)
+}
+
+// Prints a text on standard output.
+fn tell(rt: HostRuntime, text: &str) -> ExitCode {
+    match output::write_all(&mut StdSink::new(&rt), text.as_bytes()) {
+        Ok(()) => ExitCode::from(Status::Done.number()),
+        Err(_) => end(rt, Status::WriteFault),
+    }
+}
+
+// Prints the status on standard error, unless the run is done, and ends with its number.
+fn end(rt: HostRuntime, status: Status) -> ExitCode {
+    if status != Status::Done {
+        let _ = eprintln!(rt; "{status}");
+    }
+    ExitCode::from(status.number())
+}
