@@ -1,0 +1,4 @@
+use Rattle.fsc_speed.proofs.kernel.Kernel.run.Given as goal
+
+abbrev pub ghosts-encrypt_names : goal.ghosts-encrypt_names
+ghosts-encrypt_names g a = record { name = a.blank.name; parts = a.blank.parts }

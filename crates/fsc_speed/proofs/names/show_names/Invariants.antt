@@ -1,0 +1,8 @@
+-- So many runs are done.
+use Rattle.std.proofs.Common.{◌≡◌, replicate}
+use Rattle.std.specs.Fn.{iterate}
+use Rattle.fsc_speed.specs.Runs.{next_stored}
+use Rattle.fsc_speed.proofs.names.show_names.Given as goal
+
+abbrev pub invariant-loop : goal.invariant-loop
+invariant-loop l = l.bytes ≡ iterate next_stored l.counter (replicate 255 165)

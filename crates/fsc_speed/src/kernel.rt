@@ -1,0 +1,71 @@
+//! The kernels by name.
+use crate::lengths::{TextLength, UnitLength};
+use crate::stretching::{ONE_PASS, THREE_PASSES};
+use crate::turns::Callers;
+use crate::{ciphers, hashes, names, stretching, turns};
+use std::alloc::{AllocError, Global};
+use std::marker::Brand;
+use std::sync::Wait;
+use std::sync::ledger::Blank;
+use std::thread::Threads;
+
+/// What is measured.
+#[derive(Clone, Copy)]
+pub(crate) enum Kernel {
+    AesBlock,
+    Xts(UnitLength),
+    Cts(TextLength),
+    Hkdf64,
+    Sha512Of192,
+    FileKey,
+    EncryptName,
+    NoKeyText,
+    Blake2b,
+    Argon2idOnePass,
+    Argon2idThreePasses,
+    Turn(Callers),
+}
+
+impl Kernel {
+    /// The kernel of this name, such as `aes-block`, `cts-255` or `turn-2`.
+    pub(crate) fn named(name: &str) -> Option<Kernel> {
+        match name.split_once('-')? {
+            ("aes", "block") => Some(Kernel::AesBlock),
+            ("xts", length) => Some(Kernel::Xts(UnitLength::read(length)?)),
+            ("cts", length) => Some(Kernel::Cts(TextLength::read(length)?)),
+            ("hkdf", "64") => Some(Kernel::Hkdf64),
+            ("sha512", "192") => Some(Kernel::Sha512Of192),
+            ("file", "key") => Some(Kernel::FileKey),
+            ("encrypt", "name-32") => Some(Kernel::EncryptName),
+            ("nokey", "255") => Some(Kernel::NoKeyText),
+            ("blake2b", "64m") => Some(Kernel::Blake2b),
+            ("argon2id", "1-65536-1") => Some(Kernel::Argon2idOnePass),
+            ("argon2id", "3-65536-4") => Some(Kernel::Argon2idThreePasses),
+            ("turn", callers) => Some(Kernel::Turn(Callers::read(callers)?)),
+            _ => None,
+        }
+    }
+
+    /// Runs the kernel `count` times, and hashes what came out.
+    pub(crate) fn run<R: Threads + Wait + Sync>(
+        self,
+        rt: &R,
+        alloc: Global,
+        count: u32,
+    ) -> Result<[u8; 32], AllocError> {
+        match self {
+            Kernel::AesBlock => Ok(ciphers::aes_block(count)),
+            Kernel::Xts(length) => ciphers::xts(alloc, length.bytes(), count),
+            Kernel::Cts(length) => ciphers::cts(alloc, length.bytes(), count),
+            Kernel::Hkdf64 => Ok(hashes::hkdf_64(count)),
+            Kernel::Sha512Of192 => Ok(hashes::sha512_192(count)),
+            Kernel::FileKey => Ok(names::draw_file_keys(count)),
+            Kernel::EncryptName => Ok(names::encrypt_names::<Brand>(Blank::new(1), count)),
+            Kernel::NoKeyText => Ok(names::show_names(count)),
+            Kernel::Blake2b => stretching::blake2b(alloc, stretching::message_len(), count),
+            Kernel::Argon2idOnePass => stretching::argon2id_tags(alloc, &ONE_PASS, count),
+            Kernel::Argon2idThreePasses => stretching::argon2id_tags(alloc, &THREE_PASSES, count),
+            Kernel::Turn(callers) => turns::add_sevens(rt, alloc, callers, count),
+        }
+    }
+}
