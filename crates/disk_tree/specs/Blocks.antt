@@ -1,0 +1,21 @@
+-- The blocks of a file: each has 4,096 bytes.
+use Rattle.std.specs.Prelude.{ℕ, ◌-◌, List, [], ◌++◌, length, take, drop, replicate, slice_set, slice_index_or}
+
+abbrev pub zero_block : List ℕ
+zero_block = replicate 4096 0
+
+-- blocks of zeros at the end, until there are so many; a list that has as many stays
+abbrev pub grown : ℕ → List (List ℕ) → List (List ℕ)
+grown count blocks = blocks ++ replicate (count - length blocks) zero_block
+
+-- Bytes w are written over the front of a block, as far as both go. A caller that writes through a
+-- slice of the block leaves w of the block's length, and then the block is w.
+abbrev pub written : List ℕ → List ℕ → List ℕ
+written block w = take (length block) (w ++ drop (length w) block)
+
+-- the block at the index
+abbrev pub block_of : List (List ℕ) → ℕ → List ℕ
+block_of blocks index = slice_index_or blocks index []
+
+abbrev pub with_block : ℕ → List ℕ → List (List ℕ) → List (List ℕ)
+with_block index w blocks = slice_set blocks index (written (block_of blocks index) w)

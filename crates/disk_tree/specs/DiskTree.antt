@@ -1,0 +1,60 @@
+-- What lies on the disk: a finite map from numbers to stored nodes, and what each call makes of it.
+use Rattle.std.specs.Prelude.{ℕ, true, false, List, [], Option, Some, None, length}
+use Rattle.std.specs.List.{sum_by}
+use Rattle.number_map.specs.Numbered.{Numbered, empty, get, insert, changed, entries}
+use Rattle.disk_tree.specs.Entries.{Entries, with_entry, without_entry}
+use Rattle.disk_tree.specs.Nodes.{entries_of, blocks_of, with_entries, on_body, named_as, IsDir, IsFile}
+use Rattle.disk_tree.specs.declared.node.StoredNode.{StoredNode}
+use Rattle.disk_tree.specs.declared.node.Body.TheVariants.{Dir}
+
+abbrev pub Disk : Type 0
+Disk = Numbered StoredNode
+
+-- the disk at first: node 0 alone, an empty directory without context, which counts as named
+abbrev pub root : StoredNode
+root = record { context = None; named = true; body = Dir [] }
+
+abbrev pub first_disk : Disk
+first_disk = insert empty 0 root
+
+-- what holds of the node, or this where there is none
+abbrev pub of_node : {A : Type 1} → A → (StoredNode → A) → Option StoredNode → A
+of_node none f None = none
+of_node none f (Some node) = f node
+
+abbrev pub IsDirAt : Disk → ℕ → Type 0
+IsDirAt disk number = of_node ⊥ (λ node. IsDir node.body) (get disk number)
+
+abbrev pub IsFileAt : Disk → ℕ → Type 0
+IsFileAt disk number = of_node ⊥ (λ node. IsFile node.body) (get disk number)
+
+abbrev pub entries_in : Option StoredNode → Entries
+entries_in None = []
+entries_in (Some node) = entries_of node.body
+
+abbrev pub blocks_in : Option StoredNode → List (List ℕ)
+blocks_in None = []
+blocks_in (Some node) = blocks_of node.body
+
+-- the entries of the directory, and the blocks of the file
+abbrev pub children : Disk → ℕ → Entries
+children disk number = entries_in (get disk number)
+
+abbrev pub file_blocks : Disk → ℕ → List (List ℕ)
+file_blocks disk number = blocks_in (get disk number)
+
+-- the blocks of all files
+unfoldable pub block_total : Disk → ℕ
+block_total disk = sum_by (λ e. length (blocks_of e.1.body)) (entries disk)
+
+-- the entry is in the directory, and its node is named
+abbrev pub entered : Disk → ℕ → List ℕ → ℕ → Disk
+entered disk dir name number = changed (changed disk dir (on_body (with_entries (with_entry name number)))) number (named_as true)
+
+-- the entry is gone, and its node has no name
+abbrev pub dropped : Disk → ℕ → List ℕ → ℕ → Disk
+dropped disk dir name number = changed (changed disk dir (on_body (with_entries (without_entry name)))) number (named_as false)
+
+-- the entry is gone from the one directory and stands last in the other, or in the same one
+abbrev pub moved : Disk → ℕ → List ℕ → ℕ → List ℕ → ℕ → Disk
+moved disk dir name to new_name number = changed (changed disk dir (on_body (with_entries (without_entry name)))) to (on_body (with_entries (with_entry new_name number)))

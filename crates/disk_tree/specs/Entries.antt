@@ -1,0 +1,20 @@
+-- The entries of a directory: pairs of a stored name and a node's number, in the order in which they
+-- were made. No two have one name.
+use Rattle.std.specs.Prelude.{ℕ, List, ◌++◌, [], ◌∷◌, Option}
+use Rattle.std.specs.Str.{bytes_eq}
+use Rattle.std.specs.Map.{lookup, remove_entry}
+
+abbrev pub Entries : Type 0
+Entries = List (List ℕ × ℕ)
+
+-- the number under the name
+abbrev pub number_under : List ℕ → Entries → Option ℕ
+number_under name = lookup (bytes_eq name)
+
+-- a new entry stands last
+abbrev pub with_entry : List ℕ → ℕ → Entries → Entries
+with_entry name number es = es ++ (name, number) ∷ []
+
+-- the others keep their order
+abbrev pub without_entry : List ℕ → Entries → Entries
+without_entry name = remove_entry (bytes_eq name)

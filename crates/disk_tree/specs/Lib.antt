@@ -1,0 +1,7 @@
+pub mod Entries
+pub mod Blocks
+pub mod BlockLends
+pub mod Nodes
+pub mod DiskTree
+pub mod TreeLends
+pub mod BodyLends

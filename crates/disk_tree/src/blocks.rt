@@ -1,0 +1,137 @@
+//! Blocks of 4,096 bytes, and the list of a file's blocks.
+ghost use Rattle.std.specs.Prelude.{◌≡◌, ◌<◌, [], ◌∷◌, ◌++◌, length, slice_get, option_copied, IfOk, OnOk, OnErr};
+ghost use Rattle.std.specs.Borrow.{sem};
+ghost use Rattle.disk_tree.specs.Blocks.{zero_block, grown, block_of};
+
+use std::alloc::{AllocError, Global};
+use std::marker::Model;
+
+/// How many bytes a block has.
+pub const BLOCK_SIZE: usize = 4096;
+
+/// A block of 4,096 bytes. In contracts it is the list of its bytes.
+#[derive(Drop)]
+pub struct Block {
+    bytes: Vec<u8>,
+}
+
+impl Model for Block {
+    ghost use Rattle.std.specs.Prelude.{◌≡◌, ℕ, List, length};
+
+    ghost Value = { List ℕ };
+
+    ghost view = { λ b. b.bytes.items };
+
+    ghost invariant = { λ b. length b.bytes.items ≡ 4096 };
+}
+
+impl Block {
+    ghost use Rattle.disk_tree.specs.BlockLends.{LendsBlock};
+
+    pub(crate) fn zeros(alloc: Global) -> Result<Block, AllocError>
+        ensures { IfOk result (λ block. block ≡ zero_block) }
+    {
+        let bytes = vec![in alloc; 0; BLOCK_SIZE]?;
+        Ok(Block { bytes })
+    }
+
+    /// The bytes of the block.
+    pub fn bytes(&self) -> &[u8]
+        ensures value { result.now ≡ self.now }
+        ensures whole { length result.now ≡ 4096 }
+    {
+        self.bytes.as_slice()
+    }
+
+    /// The bytes of the block for writing.
+    pub(crate) fn bytes_mut(&mut self) -> &mut [u8]
+        ensures* writes_back { sem 𝓛 (LendsBlock self.entry result) }
+        ensures value { result.now ≡ self.old }
+        ensures whole { length result.now ≡ 4096 }
+    {
+        self.bytes.as_mut_slice()
+    }
+}
+
+/// The blocks of a file, in order. In contracts it is the list of the blocks.
+#[derive(Drop)]
+pub struct BlockList {
+    items: Vec<Block>,
+}
+
+impl Model for BlockList {
+    ghost use Rattle.std.specs.Prelude.{ℕ, List};
+
+    ghost Value = { List (List ℕ) };
+
+    ghost view = { λ bs. bs.items.items };
+}
+
+impl BlockList {
+    ghost use Rattle.disk_tree.specs.BlockLends.{LendsOne};
+
+    /// No blocks. It takes no memory before the first one.
+    pub fn new(alloc: Global) -> Self
+        ensures { result ≡ [] }
+    {
+        BlockList {
+            items: Vec::new(alloc),
+        }
+    }
+
+    /// How many blocks there are.
+    pub fn len(&self) -> usize
+        ensures { result ≡ length self.now }
+    {
+        self.items.len()
+    }
+
+    /// The block at the index, counted from 0.
+    pub fn get(&self, index: usize) -> Option<&Block>
+        ensures { option_copied result ≡ slice_get self.now index }
+    {
+        self.items.get(index)
+    }
+
+    /// The bytes of the block at the index.
+    pub fn bytes(&self, index: usize) -> &[u8]
+        requires { index < length self.now }
+        ensures value { result.now ≡ block_of self.now index }
+        ensures whole { length result.now ≡ 4096 }
+    {
+        self.items[index].bytes()
+    }
+
+    /// Adds blocks of zeros at the end until there are `count`. After want of memory all is as before.
+    pub(crate) fn grow(&mut self, alloc: Global, count: usize) -> Result<(), AllocError>
+        ensures grown { OnOk result (self.new ≡ grown count self.old) }
+        ensures kept { OnErr result (self.new ≡ self.old) }
+    {
+        let before = self.items.len();
+        for _ in before..count {
+            if push_zeros(alloc, &mut self.items).is_err() {
+                self.items.truncate(before);
+                return Err(AllocError);
+            }
+        }
+        Ok(())
+    }
+
+    /// The bytes of the block at the index for writing.
+    pub(crate) fn bytes_mut(&mut self, index: usize) -> &mut [u8]
+        requires { index < length self.old }
+        ensures* writes_back { sem 𝓛 (LendsOne self.entry index result) }
+        ensures value { result.now ≡ block_of self.old index }
+        ensures whole { length result.now ≡ 4096 }
+    {
+        self.items[index].bytes_mut()
+    }
+}
+
+fn push_zeros(alloc: Global, items: &mut Vec<Block>) -> Result<(), AllocError>
+    ensures put { OnOk result (items.new.items ≡ items.old.items ++ zero_block ∷ []) }
+    ensures kept { OnErr result (items.new.items ≡ items.old.items) }
+{
+    items.push(Block::zeros(alloc)?)?;
+    Ok(())
+}
