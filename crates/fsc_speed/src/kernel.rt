@@ -1,8 +1,9 @@
 //! The kernels by name.
 use crate::lengths::{TextLength, UnitLength};
 use crate::stretching::{ONE_PASS, THREE_PASSES};
+use crate::trees::TreeSize;
 use crate::turns::Callers;
-use crate::{ciphers, hashes, names, stretching, turns};
+use crate::{ciphers, hashes, names, stretching, trees, turns};
 use std::alloc::{AllocError, Global};
 use std::marker::Brand;
 use std::sync::Wait;
@@ -24,6 +25,9 @@ pub(crate) enum Kernel {
     Argon2idOnePass,
     Argon2idThreePasses,
     Turn(Callers),
+    GetNodes(TreeSize),
+    GetEntries(TreeSize),
+    PutEntries(TreeSize),
 }
 
 impl Kernel {
@@ -42,6 +46,20 @@ impl Kernel {
             ("argon2id", "1-65536-1") => Some(Kernel::Argon2idOnePass),
             ("argon2id", "3-65536-4") => Some(Kernel::Argon2idThreePasses),
             ("turn", callers) => Some(Kernel::Turn(Callers::read(callers)?)),
+            ("node", size) => Some(Kernel::GetNodes(TreeSize::read(
+                size.strip_prefix("get-")?,
+                65536,
+            )?)),
+            ("entry", call) => Kernel::of_entries(call),
+            _ => None,
+        }
+    }
+
+    // What is done to a directory, and how many entries it has.
+    fn of_entries(call: &str) -> Option<Kernel> {
+        match call.split_once('-')? {
+            ("get", size) => Some(Kernel::GetEntries(TreeSize::read(size, 4096)?)),
+            ("put", size) => Some(Kernel::PutEntries(TreeSize::read(size, 4096)?)),
             _ => None,
         }
     }
@@ -66,6 +84,9 @@ impl Kernel {
             Kernel::Argon2idOnePass => stretching::argon2id_tags(alloc, &ONE_PASS, count),
             Kernel::Argon2idThreePasses => stretching::argon2id_tags(alloc, &THREE_PASSES, count),
             Kernel::Turn(callers) => turns::add_sevens(rt, alloc, callers, count),
+            Kernel::GetNodes(size) => trees::get_nodes(alloc, size, count),
+            Kernel::GetEntries(size) => trees::get_entries(alloc, size, count),
+            Kernel::PutEntries(size) => trees::put_entries(alloc, size, count),
         }
     }
 }

@@ -8,6 +8,7 @@ mod kernel;
 mod lengths;
 mod names;
 mod stretching;
+mod trees;
 mod turns;
 
 use kernel::Kernel;
@@ -15,7 +16,7 @@ use std::process::ExitCode;
 use std::{env, io};
 
 const USAGE: &str =
-    "fsc_speed NAME COUNT; names: aes-block, xts-LENGTH (whole blocks up to 65536 bytes), cts-LENGTH (16 to 65536 bytes), hkdf-64, sha512-192, file-key, encrypt-name-32, nokey-255, blake2b-64m, argon2id-1-65536-1, argon2id-3-65536-4, turn-1, turn-2, turn-4";
+    "fsc_speed NAME COUNT; names: aes-block, xts-LENGTH (whole blocks up to 65536 bytes), cts-LENGTH (16 to 65536 bytes), hkdf-64, sha512-192, file-key, encrypt-name-32, nokey-255, blake2b-64m, argon2id-1-65536-1, argon2id-3-65536-4, turn-1, turn-2, turn-4, node-get-NODES (to 65536), entry-get-ENTRIES, entry-put-ENTRIES (to 4096)";
 
 fn main(rt: HostRuntime) -> io::Result<ExitCode> {
     let mut words = env::args(&rt)?.skip(1);
