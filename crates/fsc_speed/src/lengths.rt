@@ -23,22 +23,26 @@ impl TextLength {
     }
 }
 
-/// How many bytes a unit of XTS has: whole blocks.
+/// How many bytes a unit of XTS has: whole blocks, and at least one.
 #[derive(Clone, Copy)]
 pub(crate) struct UnitLength {
     bytes: usize,
+    ghost one_block: { 16 ≤ bytes },
     ghost whole_blocks: { bytes % 16 ≡ 0 },
 }
 
 impl UnitLength {
     pub(crate) fn read(digits: &str) -> Option<UnitLength> {
         match digits.parse::<usize>() {
-            Ok(bytes) if bytes % 16 == 0 && bytes <= 65536 => Some(UnitLength { bytes }),
+            Ok(bytes) if bytes >= 16 && bytes % 16 == 0 && bytes <= 65536 => {
+                Some(UnitLength { bytes })
+            }
             _ => None,
         }
     }
 
     pub(crate) fn bytes(self) -> usize
+        ensures one_block { 16 ≤ result }
         ensures whole_blocks { result % 16 ≡ 0 }
     {
         self.bytes
