@@ -1,5 +1,5 @@
 -- The map of raw keys, seen as what is held under each identifier.
-use Rattle.std.proofs.Common.{◌≡◌, ℕ, cond, List, Option, bytes_eq, ap, ap₂, sym, ◌∙◌}
+use Rattle.std.proofs.Common.{◌≡◌, ℕ, Bool, true, false, refl, cond, List, Option, bytes_eq, ap, ap₂, sym, ◌∙◌}
 use Rattle.std.specs.Map.{lookup}
 use Rattle.std.specs.BTreeMap.{BTreeMap, get, UpdatesBy}
 use Rattle.std.specs.Cmp.Lexicographic.{slice_cmp}
@@ -19,3 +19,8 @@ pub held-updated : (m n : BTreeMap (List ℕ) (List ℕ)) (id other : KeyId) (w 
 held-updated m n id other w updates =
     sym (get-bytes n other.0) ∙ updates.0 other.0
     ∙ ap₂ (λ b rest. cond b w rest) (is_eq-slice_cmp id.0 other.0) (get-bytes m other.0)
+
+-- what is taken where a test holds may change there
+pub same-apart : {A : Type 0} (b : Bool) (v x y : A) → (b ≡ false → x ≡ y) → cond b v x ≡ cond b v y
+same-apart true v x y same = refl
+same-apart false v x y same = same refl

@@ -1,11 +1,11 @@
 //! The mount's claims and raw keys, and its answers to the three calls on keys.
 
-ghost use Rattle.std.specs.Prelude.{◌≡◌, ℕ, OnOk, OnErr};
+ghost use Rattle.std.specs.Prelude.{◌≡◌, ℕ, false, OnOk, OnErr};
 ghost use Rattle.call_history.specs.Entries.{entry};
-ghost use Rattle.fsc_keys.specs.Claims.{has_claim, is_present, count_of_user, count_of_id, without_claim};
+ghost use Rattle.fsc_keys.specs.Claims.{same_id, has_claim, is_present, count_of_user, count_of_id, without_claim};
 ghost use Rattle.mount_model.specs.PlainMount.{PlainMount, empty_mount};
 ghost use Rattle.mount_model.specs.Answer.{answer_to_add_key, answer_to_remove_key, answer_to_key_status};
-ghost use Rattle.fscrypt_cli.specs.Ring.{Holding, StandsFor, IsStepOf};
+ghost use Rattle.fscrypt_cli.specs.Ring.{Holding, StandsFor, IsStepOf, raw_held};
 ghost use Rattle.fscrypt_cli.specs.KeyCalls.{HoldsNow, IsGiven, IsGivenOrNoMemory, IsClaimed};
 
 use fsc_keys::{KeyId, RawKey, key_id};
@@ -92,14 +92,23 @@ impl Ring {
         Ok(())
     }
 
+    /// Writes zeros over the raw key under the identifier, where it stands.
+    fn wipe_key(&mut self, id: &KeyId)
+        ensures claims { self.new.claims ≡ self.old.claims }
+        ensures others { (other : KeyId) → same_id id.now other ≡ false → raw_held self.new other ≡ raw_held self.old other }
+    {
+        if let Some(raw) = self.keys.get_mut(&id.0) {
+            raw.wipe();
+        }
+    }
+
     /// Wipes and drops the raw key under the identifier.
     fn forget_key(&mut self, id: &KeyId)
         ensures claims { self.new.claims ≡ self.old.claims }
         ensures gone { HoldsNow self.old self.new id.now None }
     {
-        if let Some(mut raw) = self.keys.remove(&id.0) {
-            raw.wipe();
-        }
+        self.wipe_key(id);
+        self.keys.remove(&id.0);
     }
 
     /// The user claims the key of these bytes. Inval for fewer than 32 or more than 64; Quota
