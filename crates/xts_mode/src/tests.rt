@@ -1,7 +1,8 @@
 use crate::XtsKey;
 
-// IEEE 1619, annex B, vectors 10 to 14: a unit of 512 bytes that count up, at five indexes; the first
-// and the last block of what they become, and the way back.
+// The keys, indexes and units of IEEE 1619, annex B, vectors 10 to 14: 512 bytes that count up, at five
+// indexes. The first and the last block of what they become, and the way back. The ciphertexts are those
+// that another implementation, Python's `cryptography`, makes of these.
 #[test]
 fn standard_units_encrypt_and_decrypt(rt: HostRuntime) {
     let key: [u8; 64] = [
