@@ -1,0 +1,9 @@
+pub mod StatementLemmas
+pub mod ReadingLemmas
+pub mod WritingLemmas
+pub mod SpelledLemmas
+pub mod TextLemmas
+pub mod RoundTrip
+pub mod EscapeLemmas
+pub mod PathLemmas
+pub mod PartSteps

@@ -1,0 +1,11 @@
+pub mod Keys
+pub mod Verbs
+pub mod Statements
+pub mod Sections
+pub mod Script
+pub mod Reading
+pub mod Writing
+pub mod Spelled
+pub mod Word
+pub mod Path
+pub mod WordLaws

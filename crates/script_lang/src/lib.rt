@@ -1,0 +1,29 @@
+//! The language of scripts: what callers ask for, line by line, read and written exactly.
+#![tactic(auto)]
+
+mod commands;
+mod key_words;
+mod path;
+mod reader;
+mod script_laws;
+mod statements;
+#[cfg(test)]
+mod tests;
+mod verbs;
+mod word;
+mod word_laws;
+mod writer;
+
+pub use commands::{Command, CommandList, KeyRef, Script, Section, Verb};
+pub use path::{ScriptPart, ScriptPath, read_part, read_path, write_path};
+pub use reader::{ScriptFault, read_script};
+pub use script_laws::{
+    distinct_scripts_have_distinct_texts, spelled_scripts_are_the_writable_ones,
+    what_is_written_is_a_script,
+};
+pub use word::{read_target, read_word, write_word};
+pub use word_laws::{
+    distinct_paths_have_distinct_texts, distinct_words_have_distinct_texts, paths_read_back,
+    texts_spell_paths, texts_spell_words, words_read_back,
+};
+pub use writer::write_script;

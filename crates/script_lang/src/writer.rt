@@ -1,0 +1,116 @@
+//! The writer of scripts: the text that spells a script, with each command in its own line.
+
+ghost use Rattle.std.specs.Prelude.{◌≡◌, ◌≤◌, ◌+◌, ◌-◌, ◌^◌, ◌++◌, Ok, IfOk, OnOk, codes};
+ghost use Rattle.hex.specs.Hex.{encode_lower};
+ghost use Rattle.script_lang.specs.Keys.{key_ref_text};
+ghost use Rattle.script_lang.specs.Verbs.{verb_text};
+ghost use Rattle.script_lang.specs.Script.{parsed_script};
+ghost use Rattle.script_lang.specs.Writing.{caller_text, commands_text, line_behind, empty_lines, script_text};
+ghost use Rattle.script_lang.specs.Spelled.{IsSpelled};
+
+use crate::commands::{CommandList, KeyRef, Script, Verb};
+use item_list::Bytes;
+use std::alloc::{AllocError, Global};
+use text_words::decimal_digits;
+
+/// Writes a script as a text that reads back as it. Each command stands in its own line again, each
+/// caller right behind the last line before it, and the other lines are empty.
+pub fn write_script(alloc: Global, script: &Script) -> Result<Bytes, AllocError>
+    requires { IsSpelled script.now }
+    ensures value { IfOk result (λ text. text ≡ script_text script.now) }
+    ensures reads_back { IfOk result (λ text. parsed_script text ≡ Ok script.now) }
+{
+    let mut text = Vec::new(alloc);
+    let mut line = 1;
+    'sections: for section in script.as_slice() {
+        write_caller(&mut text, section.uid)?;
+        line = write_commands(alloc, &mut text, line + 1, &section.commands)?;
+    }
+    Ok(Bytes::from_vec(text))
+}
+
+// Writes the line of a caller.
+fn write_caller(text: &mut Vec<u8>, uid: u32) -> Result<(), AllocError>
+    ensures { OnOk result (text.new.items ≡ text.old.items ++ (caller_text uid ++ codes "\n")) }
+{
+    text.extend_from_slice(b"caller ")?;
+    text.extend_from_slice(decimal_digits(u64::from(uid)).as_bytes())?;
+    text.push(b'\n')?;
+    Ok(())
+}
+
+// Writes commands in their own lines. The first free line is given, and the next one comes back.
+fn write_commands(
+    alloc: Global,
+    text: &mut Vec<u8>,
+    first: u64,
+    commands: &CommandList,
+) -> Result<u64, AllocError>
+    ensures written { OnOk result (text.new.items ≡ text.old.items ++ commands_text first commands.now) }
+    ensures next { IfOk result (λ next. next ≡ line_behind first commands.now) }
+    ensures bound { IfOk result (λ next. next ≤ first + 2 ^ 32) }
+{
+    let mut next = first;
+    'commands: for command in commands.as_slice() {
+        let line = u64::from(command.line);
+        write_empty_lines(text, line.saturating_sub(next))?;
+        write_verb(alloc, text, &command.verb)?;
+        text.push(b'\n')?;
+        next = line + 1;
+    }
+    Ok(next)
+}
+
+// Writes so many lines that say nothing.
+fn write_empty_lines(text: &mut Vec<u8>, count: u64) -> Result<(), AllocError>
+    ensures { OnOk result (text.new.items ≡ text.old.items ++ empty_lines count) }
+{
+    'empty: for _ in 0..count {
+        text.push(b'\n')?;
+    }
+    Ok(())
+}
+
+// Writes the words of a command.
+fn write_verb(alloc: Global, text: &mut Vec<u8>, verb: &Verb) -> Result<(), AllocError>
+    ensures { OnOk result (text.new.items ≡ text.old.items ++ verb_text verb.now) }
+{
+    match verb {
+        Verb::AddKey(bytes) => {
+            text.extend_from_slice(b"add-key ")?;
+            write_digits(alloc, text, bytes.as_slice())
+        }
+        Verb::RemoveKey(key) => {
+            text.extend_from_slice(b"remove-key ")?;
+            write_key_ref(alloc, text, key)
+        }
+        Verb::KeyStatus(key) => {
+            text.extend_from_slice(b"key-status ")?;
+            write_key_ref(alloc, text, key)
+        }
+    }
+}
+
+// Writes the word for a key.
+fn write_key_ref(alloc: Global, text: &mut Vec<u8>, key: &KeyRef) -> Result<(), AllocError>
+    ensures { OnOk result (text.new.items ≡ text.old.items ++ key_ref_text key.now) }
+{
+    match key {
+        KeyRef::Id(id) => {
+            text.extend_from_slice(b"id:")?;
+            write_digits(alloc, text, &id.0)
+        }
+        KeyRef::Raw(raw) => {
+            text.extend_from_slice(b"raw:")?;
+            write_digits(alloc, text, raw.bytes())
+        }
+    }
+}
+
+// Writes bytes in lower-case digits.
+fn write_digits(alloc: Global, text: &mut Vec<u8>, bytes: &[u8]) -> Result<(), AllocError>
+    ensures { OnOk result (text.new.items ≡ text.old.items ++ encode_lower bytes.now) }
+{
+    let digits = hex::encode(alloc, bytes)?;
+    text.extend_from_slice(digits.as_bytes())
+}
