@@ -1,3 +1,4 @@
 pub mod Causes
 pub mod Sources
 pub mod Sinks
+pub mod Whole

@@ -6,16 +6,20 @@ ghost use Rattle.std.specs.Prelude.{◌↔◌, IsTrue, Contains};
 
 use thiserror::Error;
 
+mod random;
 mod seed;
 mod sink;
 mod source;
 mod standard;
+mod whole;
 
 use item_list::Items;
+pub use random::RuntimeSeed;
 pub use seed::{FixedSeed, SeedSource};
 pub use sink::{MemSink, Sink, SteadySink};
 pub use source::{MemSource, Source, SteadySource};
 pub use standard::{StdSink, StdSource};
+pub use whole::write_all;
 
 /// Numbers of calls, counted from 0.
 pub type CallList = Items<u32>;

@@ -1,8 +1,10 @@
 use crate::{
-    CallList, Failed, FixedSeed, MemSink, MemSource, SeedSource, Sink, Source, StdSink, StdSource,
-    SteadySink, SteadySource,
+    CallList, Failed, FixedSeed, MemSink, MemSource, RuntimeSeed, SeedSource, Sink, Source,
+    StdSink, StdSource, SteadySink, SteadySource,
 };
 use std::alloc::AllocError;
+use std::io;
+use std::random::RandomSource;
 
 /// What a test can end with besides a false assertion.
 #[derive(Debug, Drop)]
@@ -71,5 +73,25 @@ fn standard_streams_and_steady_fakes_answer(rt: HostRuntime) -> Result<(), Fault
     assert_eq!(rt; SteadySink::new().write(b"abc")?, 3);
     assert_eq!(rt; FixedSeed::new([7; 32]).seed()?[31], 7);
     assert!(rt; FixedSeed::failing().seed().is_err());
+    Ok(())
+}
+
+// A random source that has no entropy.
+struct Broken;
+
+impl RandomSource for Broken {
+    fn fill_bytes(&self, _bytes: &mut [u8]) -> io::Result<()> {
+        Err(io::Error::from_raw_os_error(5))
+    }
+}
+
+#[test]
+fn the_runtime_gives_other_bytes_each_time(rt: HostRuntime) -> Result<(), Fault> {
+    let mut seeds = RuntimeSeed::new(&rt);
+    let first = seeds.seed()?;
+    let second = seeds.seed()?;
+    assert!(rt; first != second);
+    assert!(rt; first.iter().any(|byte| *byte != 0));
+    assert!(rt; RuntimeSeed::new(&Broken).seed().is_err());
     Ok(())
 }
