@@ -1,0 +1,32 @@
+-- What the sections of a script ask of the mount.
+use Rattle.std.specs.Prelude.{ℕ, List, map}
+use Rattle.policy_ctx.specs.declared.policy.KeyId.{KeyId}
+use Rattle.fsc_keys.specs.Keys.{key_id_of}
+use Rattle.mount_model.specs.declared.call.Call.{Call}
+use Rattle.mount_model.specs.declared.call.Op.{Op}
+use Rattle.mount_model.specs.declared.call.Op.TheVariants as op
+use Rattle.script_lang.specs.declared.commands.Section.{Section}
+use Rattle.script_lang.specs.declared.commands.Command.{Command}
+use Rattle.script_lang.specs.declared.commands.Verb.{Verb}
+use Rattle.script_lang.specs.declared.commands.Verb.TheVariants.{AddKey, RemoveKey, KeyStatus}
+use Rattle.script_lang.specs.declared.commands.KeyRef.{KeyRef}
+use Rattle.script_lang.specs.declared.commands.KeyRef.TheVariants.{Id, Raw}
+
+-- the identifier that a key's reference means: raw bytes mean theirs
+abbrev pub id_meant : KeyRef → KeyId
+id_meant (Id id) = id
+id_meant (Raw raw) = key_id_of raw
+
+-- what a command asks for
+abbrev pub op_of : Verb → Op
+op_of (AddKey raw) = op.AddKey raw
+op_of (RemoveKey key) = op.RemoveKey (id_meant key)
+op_of (KeyStatus key) = op.KeyStatus (id_meant key)
+
+-- the call that a user's command makes
+abbrev pub call_of : ℕ → Command → Call
+call_of uid command = record { uid = uid; op = op_of command.verb }
+
+-- the calls of a section, in order
+abbrev pub section_calls : Section → List Call
+section_calls section = map (call_of section.uid) section.commands
