@@ -1,8 +1,7 @@
 pub mod Held
 pub mod LogLemmas
-pub mod OutputLemmas
+pub mod RotationLemmas
 pub mod RunLemmas
-pub mod ScriptLemmas
 pub mod SerialLemmas
 pub mod Stands
 pub mod TopLemmas

@@ -1,78 +1,56 @@
--- A run goes on by one command.
-use Rattle.std.proofs.Common.{◌≡◌, ℕ, ◌+◌, ◌<◌, List, [], ◌∷◌, ◌++◌, length, take, drop, map, get_or, true, false, cond, eqb, ne_eqb, zero, suc, Option, Some, None, refl, ap, ap₂, sym, ◌∙◌, arith}
-use Rattle.std.proofs.lemmas.List.{map-append, take_more}
+-- A run goes on by one caller's call, and by one round.
+use Rattle.std.proofs.Common.{◌≡◌, ℕ, suc, ◌+◌, ◌<◌, List, [], ◌∷◌, ◌++◌, length, drop, get_or, refl, ap, ap₂, sym, ◌∙◌, arith, append-nil, append_assoc, drop_of_length-le, subst}
+use Rattle.std.proofs.Math.Seq.{drop-cons}
+use Rattle.std.proofs.lemmas.List.{map-append}
+use Rattle.byte_words.specs.Blocks.{first_blocks}
 use Rattle.mount_model.specs.declared.call.Call.{Call}
-use Rattle.mount_model.specs.History.{MountEntry, History, calls_of}
-use Rattle.fscrypt_cli.specs.declared.script.Command.{Command}
-use Rattle.call_history.specs.Entries.{PlacedList, by, numbered}
-use Rattle.mount_model.specs.declared.reply.Reply.{Reply}
-use Rattle.fscrypt_cli.specs.declared.script.Section.{Section}
-use Rattle.fscrypt_cli.specs.Session.{call_of, section_calls, rotation, IsRunOf}
+use Rattle.mount_model.specs.PlainMount.{empty_mount}
+use Rattle.mount_model.specs.History.{MountEntry, History, calls_of, mount_after}
+use Rattle.mount_model.proofs.HistoryLemmas.{IsLegal-more, mount_after-more}
+use Rattle.script_lang.specs.declared.commands.Section.{Section}
+use Rattle.fscrypt_cli.specs.Ring.{Holding, StandsFor, IsStepOf}
+use Rattle.fscrypt_cli.specs.Rotation.{nth_call, round_from, round_of}
+use Rattle.fscrypt_cli.specs.Running.{IsRunning}
 
--- the calls of the first commands
-abbrev pub first_calls : ℕ → List Command → ℕ → List (ℕ × Call)
-first_calls uid commands i = map (λ command. (0, call_of uid command)) (take i commands)
+-- a history goes on by an entry, which is a step of the mount that it leaves
+pub IsRunning-more : (h : History) (e : MountEntry) (old new : Holding) → IsRunning old h
+    → (StandsFor old (mount_after h) → IsStepOf (mount_after h) e new) → IsRunning new (h ++ e ∷ [])
+IsRunning-more h e old new running stepped =
+    let step : IsStepOf (mount_after h) e new = stepped running.stands in
+    record {
+      legal = IsLegal-more h e _ running.legal step.0;
+      stands = subst (StandsFor new) (sym (mount_after-more h e _ step.0)) step.1;
+    }
 
-pub first_calls-more : (uid : ℕ) (commands : List Command) (i : ℕ) (command : Command) → i < length commands
-    → command ≡ get_or commands i command → first_calls uid commands (i + 1) ≡ first_calls uid commands i ++ (0, call_of uid command) ∷ []
-first_calls-more uid commands i command below here =
-    ap (map (λ (c : Command). let call : ℕ × Call = (0, call_of uid c) in call)) (take_more commands i command below)
-    ∙ map-append (λ (c : Command). let call : ℕ × Call = (0, call_of uid c) in call) (take i commands) (get_or commands i command ∷ [])
-    ∙ ap (λ c. first_calls uid commands i ++ (0, call_of uid c) ∷ []) (sym here)
+pub calls_of-more : (h : History) (e : MountEntry) → calls_of (h ++ e ∷ []) ≡ calls_of h ++ (e.who, e.call) ∷ []
+calls_of-more h e = map-append (λ (x : MountEntry). let asked : ℕ × Call = (x.who, x.call) in asked) h (e ∷ [])
 
--- the history goes on by the call of the next command
-pub calls_of-more : (uid : ℕ) (commands : List Command) (i : ℕ) (command : Command) (history : History) (e : MountEntry)
-    → i < length commands → command ≡ get_or commands i command
-    → calls_of history ≡ first_calls uid commands i → e.who ≡ 0 → e.call ≡ call_of uid command
-    → calls_of (history ++ e ∷ []) ≡ first_calls uid commands (i + 1)
-calls_of-more uid commands i command history e below here so_far who call =
-    map-append (λ (x : MountEntry). let call : ℕ × Call = (x.who, x.call) in call) history (e ∷ [])
-    ∙ ap (λ calls. calls ++ (e.who, e.call) ∷ []) so_far
-    ∙ ap₂ (λ (n : ℕ) (asked : Call). first_calls uid commands i ++ (n, asked) ∷ []) who call
-    ∙ sym (first_calls-more uid commands i command below here)
+-- what is left of a round after one caller
+pub round-step : (n i : ℕ) (script : List Section) (section : Section) (calls all : List (ℕ × Call))
+    → i < length script → section ≡ get_or script i section
+    → calls ++ round_from n i (drop i script) ≡ all
+    → calls ++ nth_call n i section ++ round_from n (i + 1) (drop (i + 1) script) ≡ all
+unfolding round_from
+round-step n i script section calls all below here so_far =
+    let next : suc i ≡ i + 1 = omega arith in
+    let front : drop i script ≡ section ∷ drop (i + 1) script =
+    drop-cons script i section below ∙ ap₂ (λ (x : Section) (j : ℕ). x ∷ drop j script) (sym here) next in
+    append_assoc calls (nth_call n i section) (round_from n (i + 1) (drop (i + 1) script))
+    ∙ ap (λ (rest : List Section). calls ++ round_from n i rest) (sym front)
+    ∙ so_far
 
--- ---- one caller's entries
+-- nothing is left after the last caller
+pub round-end : (n i : ℕ) (script : List Section) (calls all : List (ℕ × Call)) → i ≡ length script
+    → calls ++ round_from n i (drop i script) ≡ all → calls ≡ all
+unfolding round_from
+round-end n i script calls all end so_far =
+    let none : drop i script ≡ [] = drop_of_length-le script (omega arith) in
+    sym (append-nil calls) ∙ ap (λ (rest : List Section). calls ++ round_from n i rest) (sym none) ∙ so_far
 
-abbrev by_zero : List Call → List (ℕ × Call)
-by_zero calls = map (λ (call : Call). let asked : ℕ × Call = (0, call) in asked) calls
+pub no_rounds : (script : List Section) → [] ≡ first_blocks (round_of script) 0
+unfolding first_blocks
+no_rounds script = refl
 
-first_who : (x : MountEntry) (history : History) (call : Call) (calls : List Call) → calls_of (x ∷ history) ≡ by_zero (call ∷ calls) → x.who ≡ 0
-first_who x history call calls e = ap (λ (l : List (ℕ × Call)). (get_or l 0 (x.who, x.call)).0) e
-
-first_call : (x : MountEntry) (history : History) (call : Call) (calls : List Call) → calls_of (x ∷ history) ≡ by_zero (call ∷ calls) → x.call ≡ call
-first_call x history call calls e = ap (λ (l : List (ℕ × Call)). (get_or l 0 (x.who, x.call)).1) e
-
--- entries that caller 0 made are all by caller 0
-by_first : (k : ℕ) (history : History) (calls : List Call) → calls_of history ≡ by_zero calls
-    → map (λ placed. placed.1.call) (by 0 (numbered k history)) ≡ calls
-by_first k [] [] e = refl
-by_first k [] (call ∷ calls) e = let lengths = ap length e in absurd (omega arith)
-by_first k (x ∷ history) [] e = let lengths = ap length e in absurd (omega arith)
-by_first k (x ∷ history) (call ∷ calls) e =
-    let rest : PlacedList Call Reply = by 0 (numbered (k + 1) history) in
-    let own : eqb x.who 0 ≡ true = ap (λ who. eqb who 0) (first_who x history call calls e) in
-    ap (λ b. map (λ (placed : ℕ × MountEntry). placed.1.call) (cond b ((k, x) ∷ rest) rest)) own
-    ∙ ap₂ (λ (first : Call) (others : List Call). first ∷ others) (first_call x history call calls e)
-    (by_first (k + 1) history calls (ap (drop 1) e))
-
--- and none by another
-by_none : (k caller : ℕ) (history : History) (calls : List Call) → calls_of history ≡ by_zero calls → by (suc caller) (numbered k history) ≡ []
-by_none k caller [] calls e = refl
-by_none k caller (x ∷ history) [] e = let lengths = ap length e in absurd (omega arith)
-by_none k caller (x ∷ history) (call ∷ calls) e =
-    let rest : PlacedList Call Reply = by (suc caller) (numbered (k + 1) history) in
-    let who : x.who ≡ 0 = first_who x history call calls e in
-    let other : eqb x.who (suc caller) ≡ false = ne_eqb x.who (suc caller) (λ same. absurd (omega arith)) in
-    ap (λ b. cond b ((k, x) ∷ rest) rest) other ∙ by_none (k + 1) caller history calls (ap (drop 1) e)
-
-by_zero-calls : (uid : ℕ) (commands : List Command) → by_zero (map (call_of uid) commands) ≡ map (λ command. (0, call_of uid command)) commands
-by_zero-calls uid [] = refl
-by_zero-calls uid (command ∷ commands) = ap (λ (rest : List (ℕ × Call)). (0, call_of uid command) ∷ rest) (by_zero-calls uid commands)
-
--- a history of the script's calls in rotation is a run of the script
-pub IsRunOf-rotation : (script : Option Section) (history : History) → calls_of history ≡ rotation script → IsRunOf script history
-IsRunOf-rotation None history e zero = by_first 0 history [] e
-IsRunOf-rotation None history e (suc caller) = ap (map (λ (placed : ℕ × MountEntry). placed.1.call)) (by_none 0 caller history [] e)
-IsRunOf-rotation (Some section) history e zero = by_first 0 history (section_calls section) (e ∙ sym (by_zero-calls section.uid section.commands))
-IsRunOf-rotation (Some section) history e (suc caller) =
-    ap (map (λ (placed : ℕ × MountEntry). placed.1.call)) (by_none 0 caller history (section_calls section) (e ∙ sym (by_zero-calls section.uid section.commands)))
+-- an empty ring stands for the mount that an empty history leaves
+pub IsRunning-none : (ring : Holding) (h : History) → StandsFor ring empty_mount → h ≡ [] → IsRunning ring h
+IsRunning-none ring h stands none = subst (IsRunning ring) (sym none) (record { legal = tt; stands = stands })

@@ -1,13 +1,12 @@
 pub mod Input
 pub mod KeyCalls
 pub mod Log
-pub mod Output
 pub mod Prepared
 pub mod Ring
-pub mod Script
-pub mod ScriptWords
+pub mod Rotation
+pub mod Running
+pub mod Seed
 pub mod Serial
-pub mod Session
 pub mod Status
 pub mod TopCall
 pub mod Words

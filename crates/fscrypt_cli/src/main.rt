@@ -3,17 +3,16 @@
 
 mod input;
 mod log;
-mod output;
 mod ring;
 #[cfg(test)]
 mod rows;
 mod run;
-mod script;
+mod seed;
 mod status;
 mod tool;
 mod words;
 
-use fsc_outside::{FixedSeed, StdSink, StdSource};
+use fsc_outside::{RuntimeSeed, StdSink, StdSource, write_all};
 use status::Status;
 use std::env;
 use std::io::ErrorKind;
@@ -24,17 +23,23 @@ const HELP: &str = "\
 fsc replays a script over an encrypted directory tree in memory, and prints a log.
 
     fsc replay --serial --seed HEX64    reads a script from standard input
+    fsc replay --serial                 the same, with a seed from the machine
     fsc --help | --version
 
-A script begins with `caller UID` and has a command a line:
+A script has a section for each of up to eight callers, which begins with
+`caller UID`, and in it a command a line:
 
     add-key HEX          1 to 128 bytes
-    remove-key KEYREF    `id:` and 32 digits, or `raw:` and 64 to 128 digits
+    remove-key KEYREF    `id:` and 32 digits, or `raw:` and 64 to 128 of them,
+                         an even number
     key-status KEYREF
+
+The callers take turns: the first command of each section in order, then the
+second of each section that has one, and so on. Callers count from 0.
 
 Example, where SEED is 64 hexadecimal digits:
 
-    fsc replay --serial --seed SEED < examples/one-key.fsc
+    fsc replay --serial --seed SEED < examples/two-callers.fsc
 ";
 
 const VERSION: &str = "fsc 0.1.0\n";
@@ -53,7 +58,7 @@ fn main(rt: HostRuntime) -> ExitCode {
     }
     let mut source = StdSource::new(&rt);
     let mut sink = StdSink::new(&rt);
-    let mut seeds = FixedSeed::failing();
+    let mut seeds = RuntimeSeed::new(&rt);
     let status = tool_serial(rt.alloc(), &words, &mut source, &mut sink, &mut seeds);
     end(rt, status)
 }
@@ -73,7 +78,7 @@ fn words_of(rt: &HostRuntime) -> Result<Vec<String>, Status> {
 
 // Prints a text on standard output.
 fn tell(rt: HostRuntime, text: &str) -> ExitCode {
-    match output::write_all(&mut StdSink::new(&rt), text.as_bytes()) {
+    match write_all(&mut StdSink::new(&rt), text.as_bytes()) {
         Ok(()) => ExitCode::from(Status::Done.number()),
         Err(_) => end(rt, Status::WriteFault),
     }

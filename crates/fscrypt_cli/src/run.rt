@@ -1,74 +1,106 @@
-//! Runs a script on an empty mount: each command makes its call, and each reply goes into the
-//! history.
+//! Runs a script on an empty mount: the callers take turns, each command makes its call, and each
+//! reply goes into the history.
 
-ghost use Rattle.std.specs.Prelude.{◌≡◌, IfOk};
+ghost use Rattle.std.specs.Prelude.{◌≡◌, ◌≤◌, ◌<◌, ◌∷◌, ◌++◌, [], length, OnOk, IfOk};
 ghost use Rattle.mount_model.specs.History.{IsLegal, calls_of};
-ghost use Rattle.fscrypt_cli.specs.Session.{id_meant, call_of, rotation, IsRunOf};
+ghost use Rattle.fsc_session.specs.Session.{call_of};
+ghost use Rattle.fscrypt_cli.specs.Rotation.{IsRunOf, longest, nth_call, rotation, round_of};
+ghost use Rattle.fscrypt_cli.specs.Running.{IsRunning};
 
 use crate::ring::Ring;
-use crate::script::{Command, KeyRef, Section, Verb};
 use call_history::Entry;
-use fsc_keys::{KeyId, key_id};
+use fsc_session::call_of;
 use item_list::Items;
-use mount_model::{Call, Op, Reply};
+use mount_model::{Call, Reply};
+use script_lang::{Command, Script, Section};
 use std::alloc::{AllocError, Global};
 
 /// What was asked and replied, in order of place.
 pub(crate) type EntryList = Items<Entry<Call, Reply>>;
 
-/// The history of the script on an empty mount. Its calls are in order of rotation, which with one
-/// section is the section's order.
-pub(crate) fn run_script(alloc: Global, script: &Option<Section>) -> Result<EntryList, AllocError>
+/// The history of the script on an empty mount. Its calls are in order of rotation: command 0 of
+/// each caller that has one, then command 1, and so on.
+pub(crate) fn run_script(alloc: Global, script: &Script) -> Result<EntryList, AllocError>
+    requires { length script.now ≤ 8 }
     ensures legal { IfOk result (λ history. IsLegal history) }
-    ensures calls { IfOk result (λ history. calls_of history ≡ rotation script.now) }
+    ensures order { IfOk result (λ history. calls_of history ≡ rotation script.now) }
     ensures run { IfOk result (λ history. IsRunOf script.now history) }
-{
-    match script {
-        Some(section) => run_section(alloc, section),
-        None => Ok(EntryList::new(alloc)),
-    }
-}
-
-// The history of the one section, by caller 0.
-fn run_section(alloc: Global, section: &Section) -> Result<EntryList, AllocError>
-    ensures legal { IfOk result (λ history. IsLegal history) }
-    ensures calls { IfOk result (λ history. calls_of history ≡ rotation (Some section.now)) }
 {
     let mut ring = Ring::new(alloc);
     let mut history = EntryList::new(alloc);
-    let commands = section.commands.as_slice();
-    'commands: for command in commands {
-        let call = call_of(alloc, section.uid, command)?;
-        let reply = ring.answer(&call);
-        history.push(Entry {
-            who: 0,
-            call,
-            reply,
-        })?;
+    let sections = script.as_slice();
+    'rounds: for number in 0..longest(sections) {
+        run_round(alloc, sections, number, &mut ring, &mut history)?;
     }
     Ok(history)
 }
 
-// The call that a user's command makes.
-fn call_of(alloc: Global, uid: u32, command: &Command) -> Result<Call, AllocError>
-    ensures { IfOk result (λ call. call ≡ call_of uid command.now) }
+// The number of commands of the longest section.
+fn longest(sections: &[Section]) -> usize
+    ensures { result ≡ longest sections.now }
 {
-    let op = match &command.verb {
-        Verb::AddKey(raw) => Op::AddKey {
-            raw: raw.copy(alloc)?,
-        },
-        Verb::RemoveKey(key) => Op::RemoveKey { id: id_meant(key) },
-        Verb::KeyStatus(key) => Op::KeyStatus { id: id_meant(key) },
-    };
-    Ok(Call { uid, op })
+    sections
+        .iter()
+        .fold(0, |most, section| most.max(section.commands.len()))
 }
 
-// The identifier that a key's reference means.
-fn id_meant(key: &KeyRef) -> KeyId
-    ensures { result ≡ id_meant key.now }
+// Each caller that has a command of this number makes its call.
+fn run_round(
+    alloc: Global,
+    sections: &[Section],
+    number: usize,
+    ring: &mut Ring,
+    history: &mut EntryList,
+) -> Result<(), AllocError>
+    requires few { length sections.now ≤ 8 }
+    requires running { IsRunning ring.old history.old }
+    ensures running { OnOk result (IsRunning ring.new history.new) }
+    ensures order { OnOk result (calls_of history.new ≡ calls_of history.old ++ round_of sections.now number) }
 {
-    match key {
-        KeyRef::Id(id) => *id,
-        KeyRef::Raw(raw) => key_id(raw),
+    'callers: for (caller, section) in sections.iter().enumerate() {
+        run_command(alloc, caller as u32, section, number, ring, history)?;
     }
+    Ok(())
+}
+
+// The caller makes the call of its section's command of this number, if there is one.
+fn run_command(
+    alloc: Global,
+    caller: u32,
+    section: &Section,
+    number: usize,
+    ring: &mut Ring,
+    history: &mut EntryList,
+) -> Result<(), AllocError>
+    requires { IsRunning ring.old history.old }
+    ensures running { OnOk result (IsRunning ring.new history.new) }
+    ensures order { OnOk result (calls_of history.new ≡ calls_of history.old ++ nth_call number caller section.now) }
+{
+    match section.commands.get(number) {
+        Some(command) => make_call(alloc, caller, section.uid, command, ring, history),
+        None => Ok(()),
+    }
+}
+
+// Makes the call of a command, and puts it into the history with what was replied.
+fn make_call(
+    alloc: Global,
+    caller: u32,
+    uid: u32,
+    command: &Command,
+    ring: &mut Ring,
+    history: &mut EntryList,
+) -> Result<(), AllocError>
+    requires { IsRunning ring.old history.old }
+    ensures running { OnOk result (IsRunning ring.new history.new) }
+    ensures order { OnOk result (calls_of history.new ≡ calls_of history.old ++ (caller, call_of uid command.now) ∷ []) }
+{
+    let call = call_of(alloc, uid, command)?;
+    let reply = ring.answer(&call);
+    history.push(Entry {
+        who: caller,
+        call,
+        reply,
+    })?;
+    Ok(())
 }

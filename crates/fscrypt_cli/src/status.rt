@@ -18,6 +18,8 @@ pub enum Status {
     ReadFault,
     /// The output failed, after a beginning of the log.
     WriteFault,
+    /// The seed source failed. Nothing is written.
+    SeedFault,
     /// The input has more than 1,048,576 bytes or 20,000 lines.
     TooLong,
     /// There was no memory.
@@ -35,6 +37,7 @@ impl Status {
             Status::BadLine { .. } => 3,
             Status::ReadFault => 4,
             Status::WriteFault => 5,
+            Status::SeedFault => 6,
             Status::TooLong => 7,
             Status::NoMemory => 8,
         }
@@ -51,6 +54,7 @@ impl fmt::Display for Status {
             Status::BadLine { line } => write!(f, "fsc: bad line {line}"),
             Status::ReadFault => f.write_str("fsc: read fault"),
             Status::WriteFault => f.write_str("fsc: write fault"),
+            Status::SeedFault => f.write_str("fsc: seed fault"),
             Status::TooLong => f.write_str("fsc: input too long"),
             Status::NoMemory => f.write_str("fsc: no memory"),
         }

@@ -11,6 +11,7 @@ returns-clause-usage g c =
       read_faults = g.S.Source.faults c.args.source.now;
       got = g.K.Sink.got c.args.sink.now;
       write_faults = g.K.Sink.faults c.args.sink.now;
+      next_seed = g.E.SeedSource.next_seed c.args.seeds.now;
       seed_faults = g.E.SeedSource.faults c.args.seeds.now;
     } in
     let b : Outside = record {
@@ -18,6 +19,7 @@ returns-clause-usage g c =
       read_faults = g.S.Source.faults c.run_tool.new.source;
       got = g.K.Sink.got c.run_tool.new.sink;
       write_faults = g.K.Sink.faults c.run_tool.new.sink;
+      next_seed = g.E.SeedSource.next_seed c.run_tool.new.seeds;
       seed_faults = g.E.SeedSource.faults c.run_tool.new.seeds;
     } in
     usage_exactly (map string_bytes c.args.words.now.items) a b c.run_tool.result c.run_tool.ensures
@@ -29,6 +31,7 @@ returns-clause-too_long g c =
       read_faults = g.S.Source.faults c.args.source.now;
       got = g.K.Sink.got c.args.sink.now;
       write_faults = g.K.Sink.faults c.args.sink.now;
+      next_seed = g.E.SeedSource.next_seed c.args.seeds.now;
       seed_faults = g.E.SeedSource.faults c.args.seeds.now;
     } in
     let b : Outside = record {
@@ -36,6 +39,7 @@ returns-clause-too_long g c =
       read_faults = g.S.Source.faults c.run_tool.new.source;
       got = g.K.Sink.got c.run_tool.new.sink;
       write_faults = g.K.Sink.faults c.run_tool.new.sink;
+      next_seed = g.E.SeedSource.next_seed c.run_tool.new.seeds;
       seed_faults = g.E.SeedSource.faults c.run_tool.new.seeds;
     } in
     long_ends (map string_bytes c.args.words.now.items) a b c.run_tool.result c.run_tool.ensures
@@ -47,6 +51,7 @@ returns-clause-bad_line g c =
       read_faults = g.S.Source.faults c.args.source.now;
       got = g.K.Sink.got c.args.sink.now;
       write_faults = g.K.Sink.faults c.args.sink.now;
+      next_seed = g.E.SeedSource.next_seed c.args.seeds.now;
       seed_faults = g.E.SeedSource.faults c.args.seeds.now;
     } in
     let b : Outside = record {
@@ -54,6 +59,7 @@ returns-clause-bad_line g c =
       read_faults = g.S.Source.faults c.run_tool.new.source;
       got = g.K.Sink.got c.run_tool.new.sink;
       write_faults = g.K.Sink.faults c.run_tool.new.sink;
+      next_seed = g.E.SeedSource.next_seed c.run_tool.new.seeds;
       seed_faults = g.E.SeedSource.faults c.run_tool.new.seeds;
     } in
     bad_line_ends (map string_bytes c.args.words.now.items) a b c.run_tool.result c.run_tool.ensures
@@ -65,6 +71,7 @@ returns-clause-complete g c =
       read_faults = g.S.Source.faults c.args.source.now;
       got = g.K.Sink.got c.args.sink.now;
       write_faults = g.K.Sink.faults c.args.sink.now;
+      next_seed = g.E.SeedSource.next_seed c.args.seeds.now;
       seed_faults = g.E.SeedSource.faults c.args.seeds.now;
     } in
     let b : Outside = record {
@@ -72,6 +79,7 @@ returns-clause-complete g c =
       read_faults = g.S.Source.faults c.run_tool.new.source;
       got = g.K.Sink.got c.run_tool.new.sink;
       write_faults = g.K.Sink.faults c.run_tool.new.sink;
+      next_seed = g.E.SeedSource.next_seed c.run_tool.new.seeds;
       seed_faults = g.E.SeedSource.faults c.run_tool.new.seeds;
     } in
     script_ends (map string_bytes c.args.words.now.items) a b c.run_tool.result c.run_tool.ensures

@@ -1,7 +1,6 @@
-use Rattle.std.proofs.Common.{◌≡◌, false, Some, IsSome, cond, bytes_eq, refl, ap, subst, sym, ◌∙◌}
+use Rattle.std.proofs.Common.{Some, IsSome, cond, bytes_eq, refl, ap, subst, sym, ◌∙◌}
 use Rattle.std.specs.Option.{option_copied_mut}
 use Rattle.std.specs.Map.{lookup}
-use Rattle.fsc_keys.specs.Claims.{same_id}
 use Rattle.fscrypt_cli.specs.Ring.{raw_held}
 use Rattle.fscrypt_cli.proofs.Held.{held-updated}
 use Rattle.fscrypt_cli.proofs.ring.Ring.wipe_key.Goals as goal
