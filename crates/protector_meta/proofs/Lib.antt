@@ -1,0 +1,14 @@
+pub mod PieceLaws
+pub mod WordLaws
+pub mod CharacterLaws
+pub mod FourWords
+pub mod DigestBytes
+pub mod LineLaws
+pub mod WrapLineLaws
+pub mod WrapsReadingLaws
+pub mod PolicyReadingLaws
+pub mod WrapLemmas
+pub mod KindLaws
+pub mod ProtectorSteps
+pub mod ProtectorFound
+pub mod ProtectorLaws

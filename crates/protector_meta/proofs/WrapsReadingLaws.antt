@@ -1,0 +1,226 @@
+-- Reading the wraps, one line after another.
+use Rattle.std.proofs.Common.{◌≡◌, ℕ, suc, ◌+◌, ◌-◌, ◌<◌, ◌≤◌, ◌==◌, Bool, true, false, ◌&&◌, List, [], ◌∷◌, ◌++◌, length, take, map, Option, Some, None, Result, Ok, Err, refl, sym, ap, ◌∙◌, subst, arith, append_assoc, append-nil, length-append, ◌⊎◌, inl, inr}
+use Rattle.std.specs.Prelude.{nat_lt, nat_le, is_none, is_some, if◌then◌else◌}
+use Rattle.std.specs.List.{filter_map, AllByRecursion}
+use Rattle.std.specs.Option.{ok_or}
+use Rattle.std.proofs.lemmas.Bool.{and_parts, cases_Bool, cond-true, cond-false, eqb-true, lt-ltb, or_parts, or_from, lt-leb, ltb-true, leb-false, ne_eqb}
+use Rattle.std.proofs.lemmas.Cmp.{nat_list_eq_equiv}
+use Rattle.std.proofs.lemmas.List.{nil_from_length}
+use Rattle.std.proofs.lemmas.List.Elements.{filter_map-append}
+use Rattle.std.proofs.lemmas.List.Folds.{list_any-append}
+use Rattle.text_words.specs.Lines.{pieces_of}
+use Rattle.protector_meta.specs.declared.fault.MetaFault.{MetaFault}
+use Rattle.protector_meta.specs.declared.fault.MetaFault.TheVariants.{Bad, NoMemory}
+use Rattle.protector_meta.specs.declared.wraps.Wrap.{Wrap}
+use Rattle.protector_meta.specs.Wraps.{AreDistinct, AreWraps, adding_fault, is_for, is_listed}
+use Rattle.protector_meta.specs.Reading.{◌>>=◌}
+use Rattle.protector_meta.specs.RecordLines.{first_unfit}
+use Rattle.protector_meta.specs.PolicyText.{IsWrap, wrap_line}
+use Rattle.protector_meta.specs.PolicyLines.{policy_line_fits, next_wrap, wrap_value}
+use Rattle.protector_meta.specs.PolicyReading.{GivesInMemory, wraps_from}
+use Rattle.protector_meta.proofs.PieceLaws.{first_piece}
+use Rattle.protector_meta.proofs.WrapLemmas.{AreDistinct-push}
+use Rattle.protector_meta.proofs.WrapLineLaws.{wrap_value_again, wrap_value_found}
+
+-- ---- one step
+
+pub at_line : (number : ℕ) (wraps : List Wrap) (text line rest : List ℕ) → pieces_of text ≡ line ∷ pieces_of rest
+    → wraps_from number wraps (pieces_of text) ≡ (ok_or (next_wrap wraps line) (Bad number) >>= λ wrap. wraps_from (number + 1) (wraps ++ wrap ∷ []) (pieces_of rest))
+unfolding wraps_from
+at_line number wraps text line rest cut =
+    let p = first_piece rest in
+    rw (cut, p.1.1) refl
+
+pub at_wrap : (number next : ℕ) (wraps after : List Wrap) (wrap : Wrap) (text line rest : List ℕ) → pieces_of text ≡ line ∷ pieces_of rest
+    → next_wrap wraps line ≡ Some wrap → after ≡ wraps ++ wrap ∷ [] → next ≡ number + 1
+    → wraps_from number wraps (pieces_of text) ≡ wraps_from next after (pieces_of rest)
+at_wrap number next wraps after wrap text line rest cut is pushed counted =
+    at_line number wraps text line rest cut ∙ rw (is, pushed, counted) refl
+
+pub at_fault : (number : ℕ) (wraps : List Wrap) (text line rest : List ℕ) → pieces_of text ≡ line ∷ pieces_of rest
+    → next_wrap wraps line ≡ None → wraps_from number wraps (pieces_of text) ≡ Err (Bad number)
+at_fault number wraps text line rest cut none = at_line number wraps text line rest cut ∙ rw none refl
+
+-- a text in which no line ends
+pub at_piece : (number : ℕ) (wraps : List Wrap) (text piece : List ℕ) → pieces_of text ≡ piece ∷ []
+    → ((length piece == 0) && nat_lt 0 (length wraps)) ≡ false → wraps_from number wraps (pieces_of text) ≡ Err (Bad number)
+unfolding wraps_from
+at_piece number wraps text piece cut unended =
+    ap (wraps_from number wraps) cut ∙ cond-false ((length piece == 0) && nat_lt 0 (length wraps)) (Ok wraps) (Err (Bad number)) unended
+
+pub at_end : (number : ℕ) (wraps : List Wrap) → 0 < length wraps → wraps_from number wraps ([] ∷ []) ≡ Ok wraps
+unfolding wraps_from
+at_end number wraps some = cond-true (nat_lt 0 (length wraps)) (Ok wraps) (Err (Bad number)) (lt-ltb 0 (length wraps) some)
+
+-- the next wrap is that of the line
+pub of_line : (wraps : List Wrap) (line : List ℕ) (wrap : Wrap) → next_wrap wraps line ≡ Some wrap → wrap_value line ≡ Some wrap
+of_line wraps line wrap h = go (wrap_value line) refl
+  where
+    go : (o : Option Wrap) → wrap_value line ≡ o → wrap_value line ≡ Some wrap
+    go None e = absurd (cc (rw e at h))
+    go (Some w) e =
+        elim (cases_Bool (is_none (adding_fault w.protector wraps))) [
+          | inl fits ↦ e ∙ (sym (cond-true (is_none (adding_fault w.protector wraps)) (Some w) None fits) ∙ (rw e at h))
+          | inr unfit ↦ absurd (cc (sym (cond-false (is_none (adding_fault w.protector wraps)) (Some w) None unfit) ∙ (rw e at h)))
+        ]
+
+-- any wrap can be the first
+pub first_next : (line : List ℕ) → next_wrap [] line ≡ wrap_value line
+first_next line = go (wrap_value line) refl
+  where
+    go : (o : Option Wrap) → wrap_value line ≡ o → next_wrap [] line ≡ wrap_value line
+    go None e = rw e refl
+    go (Some w) e = rw e refl
+
+pub taken : (wraps : List Wrap) (line : List ℕ) (wrap : Wrap) → wrap_value line ≡ Some wrap → is_listed wrap.protector wraps ≡ false → length wraps < 16
+    → next_wrap wraps line ≡ Some wrap
+taken wraps line wrap is new room =
+    let below : nat_le 16 (length wraps) ≡ false = lt-leb 16 (length wraps) room in
+    rw (is, new, below) refl
+
+-- the next wrap finds room
+room_for : (wraps : List Wrap) (line : List ℕ) (wrap : Wrap) → next_wrap wraps line ≡ Some wrap → (is_listed wrap.protector wraps ≡ false) × (length wraps < 16)
+room_for wraps line wrap h = go (is_listed wrap.protector wraps) (nat_le 16 (length wraps)) refl refl
+  where
+    told : (if is_none (adding_fault wrap.protector wraps) then Some wrap else None) ≡ Some wrap
+    told = rw (of_line wraps line wrap h) at h
+
+    go : (listed full : Bool) → is_listed wrap.protector wraps ≡ listed → nat_le 16 (length wraps) ≡ full → (is_listed wrap.protector wraps ≡ false) × (length wraps < 16)
+    go false false e f = (e, leb-false 16 (length wraps) f)
+    go true full e f = absurd (cc (rw e at told))
+    go false true e f = absurd (cc (rw (e, f) at told))
+
+-- ---- what was read stands in the text
+
+pub wraps_found : (number : ℕ) (wraps : List Wrap) (pieces : List (List ℕ)) (all : List Wrap) → wraps_from number wraps pieces ≡ Ok all
+    → (more : List Wrap) × ((all ≡ wraps ++ more) × ((pieces ≡ map wrap_line more ++ [] ∷ []) × AllByRecursion IsWrap more))
+unfolding wraps_from
+wraps_found number wraps [] all h = absurd (cc h)
+wraps_found number wraps (last ∷ []) all h =
+    elim (cases_Bool ((length last == 0) && nat_lt 0 (length wraps))) [
+      | inl ended ↦
+          let same : Ok wraps ≡ Ok all = sym (cond-true ((length last == 0) && nat_lt 0 (length wraps)) (Ok wraps) (Err (Bad number)) ended) ∙ h in
+          let none = nil_from_length last (eqb-true (length last) 0 (and_parts (length last == 0) (nat_lt 0 (length wraps)) ended).0) in
+          ([], (cc (same, append-nil wraps), (ap (λ l. l ∷ []) none, tt)))
+      | inr unended ↦ absurd (cc (sym (cond-false ((length last == 0) && nat_lt 0 (length wraps)) (Ok wraps) (Err (Bad number)) unended) ∙ h))
+    ]
+wraps_found number wraps (line ∷ next ∷ more) all h =
+    go (next_wrap wraps line) refl (λ wrap e. wraps_found (number + 1) (wraps ++ wrap ∷ []) (next ∷ more) all e)
+  where
+    go : (o : Option Wrap) → next_wrap wraps line ≡ o
+        → ((wrap : Wrap) → wraps_from (number + 1) (wraps ++ wrap ∷ []) (next ∷ more) ≡ Ok all
+        → (rest : List Wrap) × ((all ≡ (wraps ++ wrap ∷ []) ++ rest) × ((next ∷ more ≡ map wrap_line rest ++ [] ∷ []) × AllByRecursion IsWrap rest)))
+        → (rest : List Wrap) × ((all ≡ wraps ++ rest) × ((line ∷ next ∷ more ≡ map wrap_line rest ++ [] ∷ []) × AllByRecursion IsWrap rest))
+    go None e later = absurd (cc (rw e at h))
+    go (Some wrap) e later =
+        let found = later wrap (rw e at h) in
+        let told = wrap_value_found line wrap (of_line wraps line wrap e) in (
+          wrap ∷ found.0,
+          (
+            found.1.0 ∙ append_assoc wraps (wrap ∷ []) found.0,
+            (ap (λ l. line ∷ l) found.1.1.0 ∙ ap (λ l. l ∷ (map wrap_line found.0 ++ [] ∷ [])) told.0, (told.1, found.1.1.1)),
+          ),
+        )
+
+-- what was read are 1 to 16 wraps for different protectors
+pub wraps_kept : (number : ℕ) (wraps : List Wrap) (pieces : List (List ℕ)) (all : List Wrap) → AreDistinct wraps → length wraps ≤ 16
+    → wraps_from number wraps pieces ≡ Ok all → AreWraps all
+unfolding wraps_from
+wraps_kept number wraps [] all distinct few h = absurd (cc h)
+wraps_kept number wraps (last ∷ []) all distinct few h =
+    elim (cases_Bool ((length last == 0) && nat_lt 0 (length wraps))) [
+      | inl ended ↦
+          let same : Ok wraps ≡ Ok all = sym (cond-true ((length last == 0) && nat_lt 0 (length wraps)) (Ok wraps) (Err (Bad number)) ended) ∙ h in
+          let is : wraps ≡ all = cc same in
+          let some = ltb-true 0 (length wraps) (and_parts (length last == 0) (nat_lt 0 (length wraps)) ended).1 in
+          subst AreWraps is (record { some = omega arith; few = few; distinct = distinct })
+      | inr unended ↦ absurd (cc (sym (cond-false ((length last == 0) && nat_lt 0 (length wraps)) (Ok wraps) (Err (Bad number)) unended) ∙ h))
+    ]
+wraps_kept number wraps (line ∷ next ∷ more) all distinct few h =
+    go (next_wrap wraps line) refl (λ wrap. wraps_kept (number + 1) (wraps ++ wrap ∷ []) (next ∷ more) all)
+  where
+    go : (o : Option Wrap) → next_wrap wraps line ≡ o
+        → ((wrap : Wrap) → AreDistinct (wraps ++ wrap ∷ []) → length (wraps ++ wrap ∷ []) ≤ 16 → wraps_from (number + 1) (wraps ++ wrap ∷ []) (next ∷ more) ≡ Ok all → AreWraps all)
+        → AreWraps all
+    go None e later = absurd (cc (rw e at h))
+    go (Some wrap) e later =
+        let room = room_for wraps line wrap e in
+        later wrap (AreDistinct-push wraps wrap distinct room.0) (omega (arith, length-append wraps (wrap ∷ []), room.1)) (rw e at h)
+
+-- ---- what stands in the text is read
+
+at_pieces : (number : ℕ) (wraps : List Wrap) (line : List ℕ) (pieces : List (List ℕ)) → 0 < length pieces
+    → wraps_from number wraps (line ∷ pieces) ≡ (ok_or (next_wrap wraps line) (Bad number) >>= λ wrap. wraps_from (number + 1) (wraps ++ wrap ∷ []) pieces)
+unfolding wraps_from
+at_pieces number wraps line [] some = absurd (omega arith)
+at_pieces number wraps line (next ∷ more) some = refl
+
+not_before : (earlier : List Wrap) (w : Wrap) (later : List Wrap) → AreDistinct (earlier ++ w ∷ later) → is_listed w.protector earlier ≡ false
+not_before [] w later distinct = refl
+not_before (x ∷ earlier) w later distinct =
+    let behind = or_parts (is_listed x.protector earlier) (is_listed x.protector (w ∷ later)) (sym (list_any-append (is_for x.protector) earlier (w ∷ later)) ∙ distinct.0) in
+    let apart = or_parts (is_for x.protector w) (is_listed x.protector later) behind.1 in
+    or_from (is_for w.protector x) (is_listed w.protector earlier) (nat_list_eq_equiv.symm x.protector w.protector ∙ apart.0) (not_before earlier w later distinct.1)
+
+pub wraps_again : (number : ℕ) (earlier more : List Wrap) → AreDistinct (earlier ++ more) → length (earlier ++ more) ≤ 16 → 0 < length (earlier ++ more)
+    → AllByRecursion IsWrap more → wraps_from number earlier (map wrap_line more ++ [] ∷ []) ≡ Ok (earlier ++ more)
+wraps_again number earlier [] distinct few some each =
+    at_end number earlier (subst (λ l. 0 < length l) (append-nil earlier) some) ∙ ap Ok (sym (append-nil earlier))
+wraps_again number earlier (w ∷ more) distinct few some each =
+    let assoc : (earlier ++ w ∷ []) ++ more ≡ earlier ++ w ∷ more = append_assoc earlier (w ∷ []) more in
+    let room : length earlier < 16 = omega (arith, length-append earlier (w ∷ more)) in
+    let next = taken earlier (wrap_line w) w (wrap_value_again w each.0) (not_before earlier w more distinct) room in
+    at_pieces number earlier (wrap_line w) (map wrap_line more ++ [] ∷ []) (omega (arith, length-append (map wrap_line more) ([] ∷ [])))
+    ∙ rw next (wraps_again (number + 1) (earlier ++ w ∷ []) more (subst AreDistinct (sym assoc) distinct) (subst (λ l. length l ≤ 16) (sym assoc) few) (subst (λ l. 0 < length l) (sym assoc) some) each.1
+    ∙ ap Ok assoc)
+
+-- ---- the line at fault
+
+module _ (a b c : List ℕ) where
+  at_wrap_place : (number : ℕ) (earlier : List (List ℕ)) (wraps : List Wrap) (line : List ℕ) → 4 ≤ number → filter_map wrap_value earlier ≡ wraps
+      → policy_line_fits number (a ∷ b ∷ c ∷ earlier) line ≡ is_some (next_wrap wraps line)
+  at_wrap_place number earlier wraps line behind_head are =
+      let one : (number == 1) ≡ false = ne_eqb number 1 (λ e. omega arith) in
+      let two : (number == 2) ≡ false = ne_eqb number 2 (λ e. omega arith) in
+      let three : (number == 3) ≡ false = ne_eqb number 3 (λ e. omega arith) in
+      rw (one, two, three, are) refl
+
+  same_bad : (i : ℕ) (fault : MetaFault) → (let r : Result (List Wrap) MetaFault = Err (Bad i) in r ≡ Err fault) → fault ≡ Bad i
+  same_bad i fault h = cc
+
+  pub wraps_bad : (number : ℕ) (earlier : List (List ℕ)) (wraps : List Wrap) (pieces : List (List ℕ)) (fault : MetaFault) → 4 ≤ number → filter_map wrap_value earlier ≡ wraps
+      → wraps_from number wraps pieces ≡ Err fault → fault ≡ Bad (first_unfit policy_line_fits number (a ∷ b ∷ c ∷ earlier) (take (length pieces - 1) pieces))
+  unfolding wraps_from
+  wraps_bad number earlier wraps [] fault behind_head are h = same_bad number fault h
+  wraps_bad number earlier wraps (last ∷ []) fault behind_head are h =
+      elim (cases_Bool ((length last == 0) && nat_lt 0 (length wraps))) [
+        | inl ended ↦ absurd (cc (sym (cond-true ((length last == 0) && nat_lt 0 (length wraps)) (Ok wraps) (Err (Bad number)) ended) ∙ h))
+        | inr unended ↦ same_bad number fault (sym (cond-false ((length last == 0) && nat_lt 0 (length wraps)) (Ok wraps) (Err (Bad number)) unended) ∙ h)
+      ]
+  wraps_bad number earlier wraps (line ∷ next ∷ more) fault behind_head are h =
+      let shorter : length (line ∷ next ∷ more) - 1 ≡ suc (length (next ∷ more) - 1) = omega arith in
+      rw shorter (go (next_wrap wraps line) refl (λ wrap are' h'. wraps_bad (number + 1) (earlier ++ line ∷ []) (wraps ++ wrap ∷ []) (next ∷ more) fault (omega arith) are' h'))
+    where
+      go : (o : Option Wrap) → next_wrap wraps line ≡ o
+          → ((wrap : Wrap) → filter_map wrap_value (earlier ++ line ∷ []) ≡ wraps ++ wrap ∷ [] → wraps_from (number + 1) (wraps ++ wrap ∷ []) (next ∷ more) ≡ Err fault
+          → fault ≡ Bad (first_unfit policy_line_fits (number + 1) (a ∷ b ∷ c ∷ (earlier ++ line ∷ [])) (take (length (next ∷ more) - 1) (next ∷ more))))
+          → fault ≡ Bad (first_unfit policy_line_fits number (a ∷ b ∷ c ∷ earlier) (line ∷ take (length (next ∷ more) - 1) (next ∷ more)))
+      go None e later =
+          let refused : policy_line_fits number (a ∷ b ∷ c ∷ earlier) line ≡ false = at_wrap_place number earlier wraps line behind_head are ∙ ap is_some e in
+          rw refused (same_bad number fault (rw e at h))
+      go (Some wrap) e later =
+          let accepted : policy_line_fits number (a ∷ b ∷ c ∷ earlier) line ≡ true = at_wrap_place number earlier wraps line behind_head are ∙ ap is_some e in
+          let more_are : filter_map wrap_value (earlier ++ line ∷ []) ≡ wraps ++ wrap ∷ [] =
+          filter_map-append wrap_value earlier (line ∷ []) ∙ rw (are, of_line wraps line wrap e) refl in
+          rw accepted (later wrap more_are (rw e at h))
+
+-- ---- as the code sees it
+
+pub refused_by : (fault : MetaFault) (number : ℕ) (read : Result (List Wrap) MetaFault)
+    → (fault ≡ NoMemory) ⊎ ((fault ≡ Bad number) × (read ≡ Err (Bad number))) → GivesInMemory (λ wraps. wraps) (Err fault) read
+refused_by fault number read (inl none) = rw none tt
+refused_by fault number read (inr (bad, is)) = rw bad is
+
+pub at_empty : (number : ℕ) (wraps : List Wrap) (rest : List ℕ) → 0 < length wraps → (length rest == 0) ≡ true → wraps_from number wraps (pieces_of rest) ≡ Ok wraps
+at_empty number wraps rest some none =
+    ap (λ l. wraps_from number wraps (pieces_of l)) (nil_from_length rest (eqb-true (length rest) 0 none)) ∙ at_end number wraps some

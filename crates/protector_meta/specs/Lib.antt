@@ -1,0 +1,13 @@
+pub mod RecordLines
+pub mod LineValues
+pub mod Stretching
+pub mod Reading
+pub mod Descriptor
+pub mod ProtectorText
+pub mod ProtectorLines
+pub mod ProtectorReading
+pub mod Wraps
+pub mod PolicyText
+pub mod PolicyLines
+pub mod PolicyReading
+pub mod Rewrapped

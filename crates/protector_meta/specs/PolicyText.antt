@@ -1,0 +1,38 @@
+-- The text of a policy's record: its lines, words parted by one space.
+use Rattle.std.specs.Prelude.{ℕ, List, [], ◌∷◌, ◌++◌, map, codes}
+use Rattle.std.specs.List.{All}
+use Rattle.hex.specs.Hex.{encode_lower}
+use Rattle.name_crypt.specs.Label.{IsLabel}
+use Rattle.protector_meta.specs.declared.wraps.Wrap.{Wrap}
+use Rattle.protector_meta.specs.declared.policy_file.PolicyFile.{PolicyFile}
+use Rattle.protector_meta.specs.LineValues.{AreBytesOfLength}
+use Rattle.protector_meta.specs.RecordLines.{record_text}
+use Rattle.protector_meta.specs.Wraps.{AreWraps}
+
+-- the line of a wrap: the label of its protector, and the digits of iv, key and tag
+abbrev pub wrap_line : Wrap → List ℕ
+wrap_line wrap =
+    codes "wrap " ++ (wrap.protector ++ (codes " " ++ (encode_lower wrap.iv
+    ++ (codes " " ++ (encode_lower wrap.key ++ (codes " " ++ encode_lower wrap.tag))))))
+
+-- the lines before the wraps
+abbrev pub head_lines : PolicyFile → List (List ℕ)
+head_lines p = codes "fsc-policy 1" ∷ (codes "name " ++ p.name) ∷ (codes "id " ++ encode_lower p.id.0) ∷ []
+
+-- each of the lines is ended by a line feed, those of the wraps too
+abbrev pub policy_text : PolicyFile → List ℕ
+policy_text p = record_text (head_lines p ++ map wrap_line p.wraps)
+
+-- what the types of the fields keep of every wrap: all of what a line can spell
+pub record IsWrap (wrap : Wrap) : Type 0 where
+  pub protector : IsLabel wrap.protector
+  pub iv : AreBytesOfLength 16 wrap.iv
+  pub key : AreBytesOfLength 64 wrap.key
+  pub tag : AreBytesOfLength 32 wrap.tag
+
+-- and of every policy: all of what a record can spell
+pub record IsPolicyFile (p : PolicyFile) : Type 0 where
+  pub name : IsLabel p.name
+  pub id : AreBytesOfLength 16 p.id.0
+  pub wraps : AreWraps p.wraps
+  pub each : All IsWrap p.wraps

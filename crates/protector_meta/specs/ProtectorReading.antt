@@ -1,0 +1,24 @@
+-- How a protector's record is read: the values of its seven lines, and nothing behind them; words of private functions.
+use Rattle.std.specs.Prelude.{ℕ, List, length, ◌==◌, Result, Ok, Err, codes, if◌then◌else◌}
+use Rattle.protector_meta.specs.Reading.{◌>>=◌, value_at}
+use Rattle.protector_meta.specs.ProtectorLines.{head_value, kind_line_value, descriptor_line_value}
+use Rattle.protector_meta.specs.LineValues.{digits_line_value, name_line_value}
+use Rattle.protector_meta.specs.declared.fault.MetaFault.{MetaFault}
+use Rattle.protector_meta.specs.declared.fault.MetaFault.TheVariants.{Bad}
+use Rattle.protector_meta.specs.declared.protector.Protector.{Protector}
+
+-- a record ends here
+abbrev pub nothing_left : ℕ → List ℕ → Protector → Result Protector MetaFault
+nothing_left number text p = if length text == 0 then Ok p else Err (Bad number)
+
+-- the protector of a record
+unfoldable pub protector_read : List ℕ → Result Protector MetaFault
+protector_read text = do
+  head ← value_at head_value 1 text
+  name ← value_at name_line_value 2 head.1
+  kind ← value_at kind_line_value 3 name.1
+  descriptor ← value_at descriptor_line_value 4 kind.1
+  iv ← value_at (digits_line_value (codes "iv ") 16) 5 descriptor.1
+  key ← value_at (digits_line_value (codes "key ") 32) 6 iv.1
+  tag ← value_at (digits_line_value (codes "tag ") 32) 7 key.1
+  nothing_left 8 tag.1 (record { name = name.0; kind = kind.0; descriptor = descriptor.0; iv = iv.0; key = key.0; tag = tag.0 })

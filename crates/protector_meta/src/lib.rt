@@ -1,0 +1,28 @@
+//! The records of protectors and policies: texts that decode to exactly the values that they spell.
+#![tactic(auto)]
+
+mod descriptor;
+mod fault;
+mod lines;
+mod policy_file;
+mod policy_text;
+mod protector;
+mod protector_text;
+mod rewrapping;
+mod wraps;
+
+pub use argon_kdf::{CostFault, Costs};
+pub use descriptor::Descriptor;
+pub use fault::MetaFault;
+pub use fsc_keys::KeyId;
+pub use item_list::Bytes;
+pub use name_crypt::Label;
+pub use policy_file::{PolicyFile, add_protector, drop_protector};
+pub use policy_text::{decode_policy_file, encode_policy_file};
+pub use protector::{Protector, ProtectorKind, Stretching};
+pub use protector_text::{decode_protector, encode_protector};
+pub use rewrapping::rewrap;
+pub use wraps::{Wrap, WrapFault, WrapList};
+
+#[cfg(test)]
+mod tests;

@@ -1,0 +1,101 @@
+//! The lines of records, and the values on them, read and written.
+
+ghost use Rattle.std.specs.Prelude.{◌≡◌, ◌∷◌, [], ◌++◌, OnOk, OnErr};
+ghost use Rattle.std.specs.Option.{option_map};
+ghost use Rattle.hex.specs.Hex.{IsBytes, encode_lower};
+ghost use Rattle.text_words.specs.Digits.{lower_hex_bytes_of_length};
+ghost use Rattle.protector_meta.specs.Reading.{Gives, line_at};
+ghost use Rattle.protector_meta.specs.LineValues as spec;
+
+use crate::fault::MetaFault;
+use name_crypt::Label;
+use std::alloc::{AllocError, Global};
+use text_words::{lower_hex_bytes_into, next_line};
+
+/// The first line, where a line feed ends it, and the text behind the line feed. Else the line of
+/// this number is at fault.
+pub(crate) fn ended_line(text: &[u8], number: u32) -> Result<(&[u8], &[u8]), MetaFault>
+    ensures { Gives (λ x. (x.0.now, x.1.now)) result (line_at number text.now) }
+{
+    let line = next_line(text);
+    if line.ended {
+        Ok((line.bytes, line.rest))
+    } else {
+        Err(MetaFault::Bad { line: number })
+    }
+}
+
+/// What stands behind a word with which the text begins.
+pub(crate) fn behind<'a>(text: &'a [u8], word: &[u8]) -> Option<&'a [u8]>
+    ensures { option_map (λ rest. rest.now) result ≡ spec.behind word.now text.now }
+{
+    text.strip_prefix(word)
+}
+
+/// The label that the text is.
+pub(crate) fn label_value(text: &[u8]) -> Option<Label>
+    ensures { result ≡ spec.label_value text.now }
+{
+    Label::read(text)
+}
+
+/// The bytes that lower-case digits spell, two digits for each byte.
+pub(crate) fn digits_value<const N: usize>(text: &[u8]) -> Option<[u8; N]>
+    ensures { result ≡ lower_hex_bytes_of_length N text.now }
+{
+    let mut bytes = [0; N];
+    if lower_hex_bytes_into(text, &mut bytes) {
+        Some(bytes)
+    } else {
+        None
+    }
+}
+
+/// The label on the line of a name.
+pub(crate) fn name_line_value(line: &[u8]) -> Option<Label>
+    ensures { result ≡ spec.name_line_value line.now }
+{
+    label_value(behind(line, b"name ")?)
+}
+
+/// The bytes that digits spell behind a word with which the line begins.
+pub(crate) fn digits_line_value<const N: usize>(line: &[u8], word: &[u8]) -> Option<[u8; N]>
+    ensures { result ≡ spec.digits_line_value word.now N line.now }
+{
+    digits_value(behind(line, word)?)
+}
+
+/// Writes a line at the end of the text: a word, and what stands behind it.
+pub(crate) fn push_line(text: &mut Vec<u8>, word: &[u8], value: &[u8]) -> Result<(), AllocError>
+    ensures { OnOk result (text.new.items ≡ text.old.items ++ (word.now ++ value.now) ++ 10 ∷ []) }
+{
+    text.extend_from_slice(word)?;
+    text.extend_from_slice(value)?;
+    text.push(b'\n')?;
+    Ok(())
+}
+
+/// Writes the lower-case digits of the bytes at the end of the text.
+pub(crate) fn push_digits(alloc: Global, text: &mut Vec<u8>, bytes: &[u8]) -> Result<(), AllocError>
+    ensures { OnOk result (text.new.items ≡ text.old.items ++ encode_lower bytes.now) }
+{
+    let digits = hex::encode(alloc, bytes)?;
+    text.extend_from_slice(digits.as_bytes())?;
+    Ok(())
+}
+
+/// Writes a line at the end of the text: a word, and the lower-case digits of the bytes.
+pub(crate) fn push_digits_line(
+    alloc: Global,
+    text: &mut Vec<u8>,
+    word: &[u8],
+    bytes: &[u8],
+) -> Result<(), AllocError>
+    ensures line { OnOk result (text.new.items ≡ text.old.items ++ (word.now ++ encode_lower bytes.now) ++ 10 ∷ []) }
+    ensures in_form { OnOk result (IsBytes bytes.now) }
+{
+    text.extend_from_slice(word)?;
+    push_digits(alloc, text, bytes)?;
+    text.push(b'\n')?;
+    Ok(())
+}

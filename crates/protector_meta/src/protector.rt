@@ -1,0 +1,84 @@
+//! Protectors: what their records hold. Each field's type keeps what a record can spell.
+
+ghost use Rattle.std.specs.Prelude.{◌≡◌, ◌↔◌, ℕ, List, IfOk, IfErr, IsOk, Ok, Err};
+ghost use Rattle.argon_kdf.specs.CostLimits.{checked_costs};
+ghost use Rattle.protector_meta.specs.Stretching.{IsStretching};
+ghost use Rattle.protector_meta.specs.LineValues.{AreBytesOfLength};
+ghost use Rattle.argon_kdf.specs.declared.costs.Costs.{Costs};
+
+use crate::descriptor::Descriptor;
+use argon_kdf::{CostFault, Costs};
+use name_crypt::Label;
+use std::marker::Model;
+
+/// How a passphrase is stretched to a wrapping key: what that costs, 1 to 16 passes over 1 to 8 lanes
+/// with at least 8 KiB for each lane and at most 65,536 KiB in all, and a salt of 16 bytes.
+#[derive(Clone, Debug, PartialEq, Eq, Drop)]
+pub struct Stretching {
+    costs: Costs,
+    salt: [u8; 16],
+}
+
+impl Model for Stretching {
+    ghost Value = { Costs × List ℕ };
+
+    ghost view = { λ stretching. (stretching.costs, stretching.salt) };
+
+    ghost invariant = { λ stretching. IsStretching (stretching.costs, stretching.salt) };
+
+    ghost inverse = { λ pair. record { costs = pair.0; salt = pair.1 } };
+}
+
+impl Stretching {
+    /// Takes costs that are in their ranges alone. Else the fault is the one of `Costs::check`.
+    pub fn new(costs: Costs, salt: [u8; 16]) -> Result<Stretching, CostFault>
+        ensures value { IfOk result (λ stretching. stretching ≡ (costs, salt)) }
+        ensures exact { IsOk result ↔ (checked_costs costs ≡ Ok tt) }
+        ensures fault { IfErr result (λ fault. checked_costs costs ≡ Err fault) }
+    {
+        costs.check()?;
+        Ok(Stretching { costs, salt })
+    }
+
+    /// What it costs.
+    pub fn costs(&self) -> Costs
+        ensures value { result ≡ self.now.0 }
+        ensures in_range { checked_costs result ≡ Ok tt }
+    {
+        self.costs
+    }
+
+    /// The 16 bytes of the salt.
+    pub fn salt(&self) -> &[u8; 16]
+        ensures value { result.now ≡ self.now.1 }
+        ensures in_form { AreBytesOfLength 16 result.now }
+    {
+        &self.salt
+    }
+}
+
+/// Where the wrapping key of a protector comes from.
+#[derive(Clone, Debug, PartialEq, Eq, Drop)]
+pub enum ProtectorKind {
+    /// It is a secret of 32 bytes itself.
+    Raw,
+    /// A passphrase is stretched to it.
+    Pass(Stretching),
+}
+
+/// A protector's record. The protector's own key stands in it wrapped.
+#[derive(Clone, Debug, PartialEq, Eq, Drop)]
+pub struct Protector {
+    /// The label by which the protector is named.
+    pub name: Label,
+    /// Where the wrapping key comes from, under which the key is wrapped.
+    pub kind: ProtectorKind,
+    /// The descriptor of the protector's key.
+    pub descriptor: Descriptor,
+    /// What the key was wrapped with, beside the wrapping key.
+    pub iv: [u8; 16],
+    /// The wrapped key.
+    pub key: [u8; 32],
+    /// The tag of the wrapped key.
+    pub tag: [u8; 32],
+}

@@ -1,0 +1,176 @@
+//! The text of a protector's record, written and read.
+
+ghost use Rattle.std.specs.Prelude.{◌≡◌, ◌≢◌, ◌++◌, ◌∷◌, [], IfOk, IfErr, OnOk, Ok, codes};
+ghost use Rattle.text_words.specs.Numbers.{decimal_of};
+ghost use Rattle.protector_meta.specs.ProtectorLines as spec;
+ghost use Rattle.protector_meta.specs.ProtectorLines.{protector_line_fits};
+ghost use Rattle.protector_meta.specs.ProtectorReading.{protector_read};
+ghost use Rattle.protector_meta.specs.ProtectorText.{IsKind, IsProtector, kind_text, protector_text, stretching_text};
+ghost use Rattle.protector_meta.specs.RecordLines.{first_bad_line};
+ghost use Rattle.protector_meta.specs.Stretching.{IsStretching};
+
+use crate::descriptor::Descriptor;
+use crate::fault::MetaFault;
+use crate::lines::{
+    behind, digits_line_value, digits_value, ended_line, name_line_value, push_digits,
+    push_digits_line, push_line,
+};
+use crate::protector::{Protector, ProtectorKind, Stretching};
+use argon_kdf::Costs;
+use item_list::Bytes;
+use std::alloc::{AllocError, Global};
+use text_words::{decimal_digits, decimal_value, nth_word, word_count};
+
+/// The first line of the record.
+const HEAD: &[u8] = b"fsc-protector 1";
+
+/// The text of a protector's record. What the fields' types keep is all that a record asks for, so
+/// each protector has one; the one error is want of memory.
+pub fn encode_protector(alloc: Global, protector: &Protector) -> Result<Bytes, AllocError>
+    ensures text { IfOk result (λ text. text ≡ protector_text protector.now) }
+    ensures in_form { OnOk result (IsProtector protector.now) }
+{
+    let mut text = Vec::new(alloc);
+    push_line(&mut text, HEAD, b"")?;
+    push_line(&mut text, b"name ", protector.name.bytes())?;
+    push_kind(alloc, &mut text, &protector.kind)?;
+    push_line(&mut text, b"descriptor ", protector.descriptor.bytes())?;
+    push_digits_line(alloc, &mut text, b"iv ", &protector.iv)?;
+    push_digits_line(alloc, &mut text, b"key ", &protector.key)?;
+    push_digits_line(alloc, &mut text, b"tag ", &protector.tag)?;
+    Ok(Bytes::from_vec(text))
+}
+
+/// The protector whose record the text is. Else the line at fault: the first that is not as its
+/// place asks, or stands behind the seventh, or has no line feed at its end, or is missing. It takes
+/// no memory, so that the fault is never want of it.
+pub fn decode_protector(text: &[u8]) -> Result<Protector, MetaFault>
+    ensures found { IfOk result (λ p. IsProtector p × (text.now ≡ protector_text p)) }
+    ensures every { (p : Protector) → IsProtector p → text.now ≡ protector_text p → result ≡ Ok p }
+    ensures bad { IfErr result (λ fault. fault ≡ MetaFault.Bad (first_bad_line protector_line_fits text.now)) }
+    ensures none { IfErr result (λ _. (p : Protector) → IsProtector p → text.now ≢ protector_text p) }
+{
+    read_protector(text)
+}
+
+// `kind raw`, or `kind pass` with the costs and the salt.
+fn push_kind(alloc: Global, text: &mut Vec<u8>, kind: &ProtectorKind) -> Result<(), AllocError>
+    ensures line { OnOk result (text.new.items ≡ text.old.items ++ (codes "kind " ++ kind_text kind.now) ++ 10 ∷ []) }
+    ensures in_form { OnOk result (IsKind kind.now) }
+{
+    match kind {
+        ProtectorKind::Raw => push_line(text, b"kind ", b"raw"),
+        ProtectorKind::Pass(stretching) => {
+            text.extend_from_slice(b"kind pass ")?;
+            push_stretching(alloc, text, stretching)?;
+            push_line(text, b"", b"")
+        }
+    }
+}
+
+// The three costs, and the digits of the salt.
+fn push_stretching(
+    alloc: Global,
+    text: &mut Vec<u8>,
+    stretching: &Stretching,
+) -> Result<(), AllocError>
+    ensures text { OnOk result (text.new.items ≡ text.old.items ++ stretching_text stretching.now) }
+    ensures in_form { OnOk result (IsStretching stretching.now) }
+{
+    let costs = stretching.costs();
+    push_number(text, costs.passes)?;
+    push_number(text, costs.kib)?;
+    push_number(text, costs.lanes)?;
+    push_digits(alloc, text, stretching.salt())
+}
+
+// The number, and a space.
+fn push_number(text: &mut Vec<u8>, number: u32) -> Result<(), AllocError>
+    ensures { OnOk result (text.new.items ≡ text.old.items ++ (decimal_of number ++ 32 ∷ [])) }
+{
+    text.extend_from_slice(decimal_digits(u64::from(number)).as_bytes())?;
+    text.push(b' ')?;
+    Ok(())
+}
+
+// Four words: the three costs, and the digits of the salt.
+fn stretching_value(text: &[u8]) -> Option<Stretching>
+    ensures { result ≡ spec.stretching_value text.now }
+{
+    if word_count(text) != 4 {
+        return None;
+    }
+    let passes = number_word(text, 0)?;
+    let kib = number_word(text, 1)?;
+    let lanes = number_word(text, 2)?;
+    let salt = digits_value(nth_word(text, 3)?)?;
+    let costs = Costs { passes, kib, lanes };
+    Stretching::new(costs, salt).ok()
+}
+
+fn number_word(text: &[u8], place: usize) -> Option<u32>
+    ensures { result ≡ spec.number_word place text.now }
+{
+    decimal_value(nth_word(text, place)?)
+}
+
+fn kind_value(text: &[u8]) -> Option<ProtectorKind>
+    ensures { result ≡ spec.kind_value text.now }
+{
+    if text == b"raw".as_slice() {
+        return Some(ProtectorKind::Raw);
+    }
+    let stretching = stretching_value(behind(text, b"pass ")?)?;
+    Some(ProtectorKind::Pass(stretching))
+}
+
+fn kind_line_value(line: &[u8]) -> Option<ProtectorKind>
+    ensures { result ≡ spec.kind_line_value line.now }
+{
+    kind_value(behind(line, b"kind ")?)
+}
+
+fn descriptor_line_value(line: &[u8]) -> Option<Descriptor>
+    ensures { result ≡ spec.descriptor_line_value line.now }
+{
+    Descriptor::read(behind(line, b"descriptor ")?)
+}
+
+// The first line tells nothing but which record it is.
+fn head_value(line: &[u8]) -> Option<()>
+    ensures { result ≡ spec.head_value line.now }
+{
+    if line == HEAD { Some(()) } else { None }
+}
+
+// Line by line: the first line that is missing or has no value is at fault.
+#[tactic(auto, unfolding(crate::specs::ProtectorReading::protector_read))]
+fn read_protector(text: &[u8]) -> Result<Protector, MetaFault>
+    ensures { result ≡ protector_read text.now }
+{
+    let (line, rest) = ended_line(text, 1)?;
+    head_value(line).ok_or(MetaFault::Bad { line: 1 })?;
+    let (line, rest) = ended_line(rest, 2)?;
+    let name = name_line_value(line).ok_or(MetaFault::Bad { line: 2 })?;
+    let (line, rest) = ended_line(rest, 3)?;
+    let kind = kind_line_value(line).ok_or(MetaFault::Bad { line: 3 })?;
+    let (line, rest) = ended_line(rest, 4)?;
+    let descriptor = descriptor_line_value(line).ok_or(MetaFault::Bad { line: 4 })?;
+    let (line, rest) = ended_line(rest, 5)?;
+    let iv = digits_line_value(line, b"iv ").ok_or(MetaFault::Bad { line: 5 })?;
+    let (line, rest) = ended_line(rest, 6)?;
+    let key = digits_line_value(line, b"key ").ok_or(MetaFault::Bad { line: 6 })?;
+    let (line, rest) = ended_line(rest, 7)?;
+    let tag = digits_line_value(line, b"tag ").ok_or(MetaFault::Bad { line: 7 })?;
+    if !rest.is_empty() {
+        return Err(MetaFault::Bad { line: 8 });
+    }
+    Ok(Protector {
+        name,
+        kind,
+        descriptor,
+        iv,
+        key,
+        tag,
+    })
+}

@@ -1,0 +1,30 @@
+//! A protector's key, wrapped anew.
+
+ghost use Rattle.std.specs.Prelude.{◌≡◌, Some};
+ghost use Rattle.key_wrap.specs.Wrapping.{opened_secret};
+ghost use Rattle.protector_meta.specs.Rewrapped.{rewrapped};
+
+use crate::protector::{Protector, ProtectorKind};
+use key_wrap::{unwrapping_undoes_wrapping, wrap};
+
+/// Wraps the protector's key under another wrapping key, as when its passphrase changes. The kind
+/// says where that wrapping key comes from, and the iv must not have served under it before. The
+/// name and the descriptor stay, so the key must be the one that the protector has had.
+pub fn rewrap(
+    protector: &mut Protector,
+    kind: ProtectorKind,
+    key: &[u8; 32],
+    wrapping: &[u8; 32],
+    iv: &[u8; 16],
+)
+    ensures whole { protector.new ≡ rewrapped protector.old kind wrapping.now iv.now key.now }
+    ensures opens { opened_secret wrapping.now protector.new.iv protector.new.key protector.new.tag ≡ Some key.now }
+{
+    let mut wrapped = [0; 32];
+    protector.tag = wrap(wrapping, iv, key, &mut wrapped);
+    protector.key = wrapped;
+    protector.iv = *iv;
+    protector.kind = kind;
+    // This law alone says that the record opens.
+    unwrapping_undoes_wrapping();
+}
