@@ -1,11 +1,8 @@
 -- What holds of AES-256 for every key and block.
 use Rattle.std.specs.Prelude.{◌≡◌, ℕ, ◌<◌, List, length, slice_index}
 use Rattle.aes_core.specs.Aes.{encrypted_block, decrypted_block}
+pub use Rattle.byte_words.specs.Bytes.{AreBytes}
 use Rattle.aes_core.specs.Field.{field_product, field_inverse}
-
--- numbers below 256
-abbrev pub AreBytes : List ℕ → Type 0
-AreBytes xs = (i : ℕ) → slice_index xs i < 256
 
 -- a block: 16 bytes
 pub record IsBlock (xs : List ℕ) : Type 0 where

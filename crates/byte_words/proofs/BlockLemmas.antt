@@ -24,13 +24,18 @@ pub first_blocks_more : {A : Type 0} (f : ℕ → List A) (n : ℕ) → first_bl
 unfolding first_blocks
 first_blocks_more f n = rw add-one refl
 
-pub length-first_blocks : {A : Type 0} (size : ℕ) (f : ℕ → List A) (n : ℕ) → ((j : ℕ) → length (f j) ≡ size) → length (first_blocks f n) ≡ size * n
+-- the blocks below the count have one size: theirs is the sum of the sizes
+pub length-first_blocks_below : {A : Type 0} (size : ℕ) (f : ℕ → List A) (n : ℕ) → ((j : ℕ) → j < n → length (f j) ≡ size) → length (first_blocks f n) ≡ size * n
 unfolding first_blocks
-length-first_blocks size f zero sizes = sym (mul-zero size)
-length-first_blocks size f (suc n) sizes =
-    let before : length (first_blocks f n) ≡ size * n = length-first_blocks size f n sizes in
+length-first_blocks_below size f zero sizes = sym (mul-zero size)
+length-first_blocks_below size f (suc n) sizes =
+    let before : length (first_blocks f n) ≡ size * n = length-first_blocks_below size f n (λ j low. sizes j (omega arith)) in
+    let last : length (f n) ≡ size = sizes n (omega arith) in
     let sum : length (first_blocks f n ++ f n) ≡ length (first_blocks f n) + length (f n) = length-append _ _ in
-    sum ∙ (λ i. before i + sizes n i) ∙ sym (mul-suc size n)
+    sum ∙ (λ i. before i + last i) ∙ sym (mul-suc size n)
+
+pub length-first_blocks : {A : Type 0} (size : ℕ) (f : ℕ → List A) (n : ℕ) → ((j : ℕ) → length (f j) ≡ size) → length (first_blocks f n) ≡ size * n
+length-first_blocks size f n sizes = length-first_blocks_below size f n (λ j low. sizes j)
 
 -- equal blocks make equal lists
 pub first_blocks_same : {A : Type 0} (f g : ℕ → List A) (n : ℕ) → ((j : ℕ) → j < n → f j ≡ g j) → first_blocks f n ≡ first_blocks g n
@@ -40,25 +45,30 @@ first_blocks_same f g (suc n) same =
     let before : first_blocks f n ≡ first_blocks g n = first_blocks_same f g n (λ j low. same j (omega arith)) in
     (λ i. before i ++ same n (omega arith) i)
 
--- block j of the first n blocks is f j
-pub block_at-first_blocks : {A : Type 0} (size : ℕ) (f : ℕ → List A) (n j : ℕ) → ((j : ℕ) → length (f j) ≡ size) → j < n → block_at size (first_blocks f n) j ≡ f j
+-- block j of the first n blocks is f j, where those below n have one size
+pub block_at-first_blocks_below : {A : Type 0} (size : ℕ) (f : ℕ → List A) (n j : ℕ) → ((j : ℕ) → j < n → length (f j) ≡ size) → j < n → block_at size (first_blocks f n) j ≡ f j
 unfolding block_at first_blocks
-block_at-first_blocks size f zero j sizes low = absurd (omega arith)
-block_at-first_blocks size f (suc n) j sizes low =
-    let front : length (first_blocks f n) ≡ size * n = length-first_blocks size f n sizes in
+block_at-first_blocks_below size f zero j sizes low = absurd (omega arith)
+block_at-first_blocks_below size f (suc n) j sizes low =
+    let earlier : (j : ℕ) → j < n → length (f j) ≡ size = λ j low. sizes j (omega arith) in
+    let last : length (f n) ≡ size = sizes n (omega arith) in
+    let front : length (first_blocks f n) ≡ size * n = length-first_blocks_below size f n earlier in
     elim (cases_eq j n) [
       | inl same ↦
           ap (λ k. take size (drop (size * k) (first_blocks f n ++ f n))) same
           ∙ ap (λ ys. take size ys) (drop_at (first_blocks f n) (f n) (size * n) front)
-          ∙ take_all size (f n) (omega (arith, sizes n)) ∙ ap f (sym same)
+          ∙ take_all size (f n) (omega arith) ∙ ap f (sym same)
       | inr other ↦
           let below : j < n = omega arith in
           let fits : size * j + size ≤ size * n = block_end_le size j n below in
           let inner : size ≤ length (drop (size * j) (first_blocks f n)) = rw (length-drop (size * j) (first_blocks f n)) (omega arith) in
           ap (λ ys. take size ys) (drop-append-le (size * j) (first_blocks f n) (f n) (omega arith))
           ∙ take-append-le size (drop (size * j) (first_blocks f n)) (f n) inner
-          ∙ block_at-first_blocks size f n j sizes below
+          ∙ block_at-first_blocks_below size f n j earlier below
     ]
+
+pub block_at-first_blocks : {A : Type 0} (size : ℕ) (f : ℕ → List A) (n j : ℕ) → ((j : ℕ) → length (f j) ≡ size) → j < n → block_at size (first_blocks f n) j ≡ f j
+block_at-first_blocks size f n j sizes low = block_at-first_blocks_below size f n j (λ j low. sizes j) low
 
 -- a block that lies within the list is whole
 pub length-block_at : {A : Type 0} (size : ℕ) (xs : List A) (j : ℕ) → size * j + size ≤ length xs → length (block_at size xs j) ≡ size

@@ -1,5 +1,7 @@
-pub mod InPlace
-pub mod XorLemmas
-pub mod TableLemmas
+pub mod AreBytesLemmas
 pub mod BlockLemmas
+pub mod ContentsLemmas
+pub mod InPlace
 pub mod NumberLemmas
+pub mod TableLemmas
+pub mod XorLemmas

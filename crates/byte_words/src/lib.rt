@@ -1,8 +1,11 @@
 //! What the ciphers and hashes say of bytes: xor of lists, cutting into blocks, filling with zeros,
-//! and numbers written as bytes. The words stand in specs/, what is known of them in proofs/.
+//! numbers written as bytes, and contents that are written and read. The words stand in specs/, what
+//! is known of them in proofs/.
 #![tactic(auto)]
 
 ghost use Rattle.std.specs.Prelude.{◌≡◌, length};
+ghost use Rattle.byte_words.specs.Bytes.{AreBytes};
+ghost use Rattle.byte_words.specs.Laws.{ContentsGrow, OtherBytesStay, WrittenBytesAreRead};
 ghost use Rattle.byte_words.specs.Xor.{xor_bytes};
 
 /// Xors `other` into `target`, byte by byte. Both have the same length, in bytes.
@@ -14,3 +17,18 @@ pub fn xor_into(target: &mut [u8], other: &[u8])
         target[i] ^= *mask;
     }
 }
+
+/// Does nothing. Its contract is that the numbers of a slice are bytes, as the laws of ciphers ask.
+pub fn slice_is_bytes(bytes: &[u8])
+    ensures { AreBytes bytes.now }
+{
+    let _length = bytes.len();
+}
+
+/// Does nothing. Its contract is what it means that bytes are written into contents: they are read
+/// again, all else stays, and the contents grow as far as the last byte that was written.
+pub fn written_bytes_are_read()
+    ensures written { WrittenBytesAreRead }
+    ensures others { OtherBytesStay }
+    ensures grow { ContentsGrow }
+{}

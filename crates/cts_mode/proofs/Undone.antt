@@ -2,14 +2,15 @@
 use Rattle.std.proofs.Common.{◌≡◌, ℕ, zero, suc, ◌+◌, ◌*◌, ◌-◌, ◌/◌, ◌≤◌, ◌<◌, List, ◌++◌, length, take, drop, inl, inr, refl, ap, sym, ◌∙◌, arith, length-append}
 use Rattle.std.proofs.lemmas.List.{append_assoc, take_all, take_at, drop_at, take-append-drop, length-take-le}
 use Rattle.std.proofs.lemmas.Bool.{cases_eq}
-use Rattle.aes_core.specs.Laws.{AreBytes}
+use Rattle.byte_words.specs.Bytes.{AreBytes}
 use Rattle.byte_words.specs.Xor.{xor_bytes, zero_filled}
 use Rattle.byte_words.specs.Blocks.{block_at, first_blocks}
 use Rattle.byte_words.proofs.BlockLemmas.{first_blocks_more, first_blocks_same, length-first_blocks, length-block_at, block_at-first_blocks, first_blocks-whole}
 use Rattle.byte_words.proofs.XorLemmas.{length-xor_bytes, xor_bytes_twice, xor_bytes-lt, length-zero_filled}
 use Rattle.cts_mode.specs.Cbc.{cbc_block, block_before, plain_block}
 use Rattle.cts_mode.specs.CbcStealing.{cs3_encrypted, cs3_decrypted}
-use Rattle.cts_mode.proofs.ByteLemmas.{AreBytes-zero_filled, AreBytes-block_at, AreBytes-take, AreBytes-drop, drop_filled, xor_filled}
+use Rattle.byte_words.proofs.AreBytesLemmas.{AreBytes-zero_filled, AreBytes-block_at, AreBytes-take, AreBytes-drop}
+use Rattle.cts_mode.proofs.ByteLemmas.{drop_filled, xor_filled}
 use Rattle.cts_mode.proofs.CbcLemmas.{cbc_block_suc, length-cbc_block}
 use Rattle.cts_mode.proofs.StealingLemmas.{Pieces, pieces, cs3_encrypted_short, cs3_encrypted_long, cs3_decrypted_short, cs3_decrypted_long, whole_blocks, last_piece, length-whole_blocks, length-last_piece, stealing_is, unstealing_is, completed}
 

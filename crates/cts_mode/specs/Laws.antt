@@ -1,6 +1,7 @@
 -- What holds of AES-256-CBC-CTS for every key, iv and text.
 use Rattle.std.specs.Prelude.{◌≡◌, ℕ, ◌≤◌, List, length}
-use Rattle.aes_core.specs.Laws.{AreBytes, IsBlock}
+use Rattle.byte_words.specs.Bytes.{AreBytes}
+use Rattle.aes_core.specs.Laws.{IsBlock}
 use Rattle.cts_mode.specs.Cts.{cts_encrypted, cts_decrypted}
 
 -- decryption gives back each text of at least 16 bytes that was encrypted

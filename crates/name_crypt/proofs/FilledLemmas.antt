@@ -3,8 +3,8 @@ use Rattle.std.proofs.Common.{◌≡◌, sym, ◌∙◌, ap, subst, arith, ℕ, 
 use Rattle.std.proofs.lemmas.List.{take_at, drop_at, drop-drop, take-append-drop, length-append, length-drop, length-replicate, length-take-le, drop-replicate}
 use Rattle.std.proofs.lemmas.Slice.{take-put_mid, drop-put_mid}
 use borrow.Rule.Slice.PartMut.{put_mid}
-use Rattle.aes_core.specs.Laws.{AreBytes}
-use Rattle.cts_mode.proofs.ByteLemmas.{AreBytes-append, AreBytes-take, AreBytes-drop, AreBytes-zeros}
+use Rattle.byte_words.specs.Bytes.{AreBytes}
+use Rattle.byte_words.proofs.AreBytesLemmas.{AreBytes-append, AreBytes-take, AreBytes-drop, AreBytes-zeros}
 
 -- what the type of such arrays says of its fields, once the bytes are written over zeros
 pub filled : (n len : ℕ) (bytes : List ℕ) → length bytes ≡ len → len ≤ n → AreBytes bytes

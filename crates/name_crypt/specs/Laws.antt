@@ -1,6 +1,7 @@
 -- What holds of stored names for every key, iv, padding and name.
 use Rattle.std.specs.Prelude.{◌≡◌, ℕ, List, length}
-use Rattle.aes_core.specs.Laws.{AreBytes, IsBlock}
+use Rattle.byte_words.specs.Bytes.{AreBytes}
+use Rattle.aes_core.specs.Laws.{IsBlock}
 use Rattle.policy_ctx.specs.declared.policy.Pad.{Pad}
 use Rattle.name_crypt.specs.Plain.{IsPlain, IsStored}
 use Rattle.name_crypt.specs.StoredName.{stored_name_with, plain_name_with}

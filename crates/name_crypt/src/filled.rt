@@ -6,7 +6,7 @@ ghost use Rattle.std.specs.Cmp.Lexicographic.{pointwise, nat_list_eq_equiv};
 ghost use Rattle.std.specs.Cmp.Rules.{hashing};
 ghost use Rattle.std.specs.Hash as fed;
 ghost use Rattle.std.proofs.Common.{rules};
-ghost use Rattle.aes_core.specs.Laws.{AreBytes};
+ghost use Rattle.byte_words.specs.Bytes.{AreBytes};
 
 use std::fmt;
 use std::hash::{Hash, Hasher};
@@ -22,7 +22,7 @@ pub(crate) struct Filled<const N: usize> {
 impl<const N: usize> Model for Filled<N> {
     ghost use Rattle.std.specs.Prelude.{◌≡◌, ℕ, ◌+◌, ◌-◌, ◌≤◌, List, ◌++◌, length, take, replicate};
     ghost use Rattle.std.proofs.Common.{arith, ap, sym, ◌∙◌};
-    ghost use Rattle.aes_core.specs.Laws.{AreBytes};
+    ghost use Rattle.byte_words.specs.Bytes.{AreBytes};
     ghost use Rattle.std.proofs.lemmas.List.{length-take-le};
 
     ghost Value = { List ℕ };

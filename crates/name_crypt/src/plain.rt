@@ -1,7 +1,7 @@
 //! Plain names and targets.
 
 ghost use Rattle.std.specs.Prelude.{◌≡◌, ◌<◌, ◌≤◌, ◌↔◌, ◌⊎◌, ℕ, List, length, Contains, IsOk, IfOk, IsErrOf};
-ghost use Rattle.aes_core.specs.Laws.{AreBytes};
+ghost use Rattle.byte_words.specs.Bytes.{AreBytes};
 ghost use Rattle.name_crypt.specs.Plain.{IsPlain};
 
 use crate::filled::Filled;

@@ -1,7 +1,7 @@
 -- AES-256 is a cipher of blocks that decryption undoes.
 use Rattle.std.proofs.Common.{ℕ, List}
 use Rattle.aes_core.specs.Aes.{encrypted_block, decrypted_block}
-use Rattle.aes_core.specs.Laws.{AreBytes}
+use Rattle.byte_words.specs.Bytes.{AreBytes}
 use Rattle.aes_core.proofs.RoundLemmas.{decrypted-encrypted, encrypted_block-IsBlock, length-encrypted_block, length-decrypted_block}
 use Rattle.cts_mode.specs.Cts.{cts_encrypted, cts_decrypted}
 use Rattle.cts_mode.proofs.Undone.{IsCipher, undone}

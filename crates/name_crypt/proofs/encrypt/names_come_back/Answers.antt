@@ -1,7 +1,7 @@
 use Rattle.std.proofs.Common.{ap, sym, ◌∙◌, arith, length, ◌≤◌}
 use Rattle.byte_words.specs.Xor.{zero_filled}
 use Rattle.byte_words.proofs.XorLemmas.{length-zero_filled}
-use Rattle.cts_mode.proofs.ByteLemmas.{AreBytes-zero_filled}
+use Rattle.byte_words.proofs.AreBytesLemmas.{AreBytes-zero_filled}
 use Rattle.name_crypt.specs.StoredName.{stored_name_with, plain_name_with, padded_length, before_nul}
 use Rattle.name_crypt.proofs.NameLemmas.{padded_fits, before_nul-zero_filled}
 use Rattle.name_crypt.proofs.encrypt.names_come_back.Goals as goal

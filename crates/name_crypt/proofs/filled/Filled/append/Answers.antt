@@ -1,4 +1,4 @@
-use Rattle.aes_core.specs.Laws.{AreBytes}
+use Rattle.byte_words.specs.Bytes.{AreBytes}
 use Rattle.std.proofs.Common.{subst, length, arith, ◌++◌, ◌∙◌, sym, ◌-◌, ◌+◌, ◌≡◌, ap}
 use Rattle.std.proofs.lemmas.List.{length-take-le}
 use Rattle.name_crypt.proofs.FilledLemmas.{appended, appended_front}

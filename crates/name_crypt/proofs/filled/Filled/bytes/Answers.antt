@@ -1,4 +1,4 @@
-use Rattle.cts_mode.proofs.ByteLemmas.{AreBytes-take}
+use Rattle.byte_words.proofs.AreBytesLemmas.{AreBytes-take}
 use Rattle.name_crypt.proofs.filled.Filled.bytes.Goals as goal
 
 pub returns-clause-ranged : goal.returns-clause-ranged

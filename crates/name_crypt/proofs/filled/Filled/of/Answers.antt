@@ -1,5 +1,5 @@
 use Rattle.std.proofs.Common.{length, arith, subst, sym}
-use Rattle.aes_core.specs.Laws.{AreBytes}
+use Rattle.byte_words.specs.Bytes.{AreBytes}
 use Rattle.name_crypt.proofs.FilledLemmas.{filled}
 use Rattle.name_crypt.proofs.filled.Filled.of.Goals as goal
 
