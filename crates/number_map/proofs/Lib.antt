@@ -1,3 +1,4 @@
+pub mod AgreementLemmas
 pub mod NumberTests
 pub mod NumberedLemmas
 pub mod SlotLemmas

@@ -1,6 +1,7 @@
 -- What a `NumberMap` is seen as, from its slots and its index.
-use Rattle.std.proofs.Common.{◌≡◌, ◌≢◌, ℕ, suc, Bool, true, false, cond, List, [], ◌∷◌, length, Option, Some, None, is_some, IsSome, inl, inr, refl, sym, ap, ◌∙◌, arith}
+use Rattle.std.proofs.Common.{◌≡◌, ◌≢◌, ℕ, suc, Bool, true, false, cond, List, [], ◌∷◌, length, Option, Some, None, is_some, IsSome, inl, inr, refl, sym, ap, ◌∙◌, arith, zero, ◌+◌, get_or, set, count_by}
 use Rattle.std.proofs.lemmas.Bool.{cases_eq}
+use Rattle.std.proofs.lemmas.List.Sums.{sum_by-cons}
 use Rattle.std.proofs.lemmas.Map.Keys.{sorted_head, sorted_tail}
 use Rattle.std.specs.List.{AllByRecursion}
 use Rattle.std.specs.List.Sorted.{IsStrictlySortedBy}
@@ -42,6 +43,19 @@ no_entries {V} = nothing (entries {R = nat_cmp} (empty {X = V})) (sym (fin.len-e
     nothing (e ∷ es) none = absurd (omega arith)
 
 module _ {V : Type 0} where
+  -- a slot that has a value is written anew
+  pub count_written : (slots : List (Option V)) (key : ℕ) (w : V) → IsSome (get_or slots key None) → count_by is_some (set slots key (Some w)) ≡ count_by is_some slots
+  count_written [] key w filled = absurd (cc)
+  count_written (x ∷ xs) zero w filled =
+      let one : cond (is_some x) 1 0 ≡ 1 = ap (λ b. cond b 1 0) filled in
+      let old : count_by is_some (x ∷ xs) ≡ cond (is_some x) 1 0 + count_by is_some xs = sum_by-cons (λ o. cond (is_some o) 1 0) x xs in
+      let new : count_by is_some (Some w ∷ xs) ≡ 1 + count_by is_some xs = sum_by-cons (λ o. cond (is_some o) 1 0) (Some w) xs in
+      new ∙ ap (λ n. n + count_by is_some xs) (sym one) ∙ sym old
+  count_written (x ∷ xs) (suc k) w filled =
+      let old : count_by is_some (x ∷ xs) ≡ cond (is_some x) 1 0 + count_by is_some xs = sum_by-cons (λ o. cond (is_some o) 1 0) x xs in
+      let new : count_by is_some (x ∷ set xs k (Some w)) ≡ cond (is_some x) 1 0 + count_by is_some (set xs k (Some w)) = sum_by-cons (λ o. cond (is_some o) 1 0) x (set xs k (Some w)) in
+      new ∙ ap (λ n. cond (is_some x) 1 0 + n) (count_written xs k w filled) ∙ sym old
+
   -- the value in the slot, if there is a slot
   abbrev pub slot_at : Slab V → Option ℕ → Option V
   slot_at slots None = None
@@ -137,8 +151,8 @@ module _ {V : Type 0} where
         ∙ same_slot other (key_at before other) differ refl
         ∙ sym (get-stored old before other)
 
-    pub touched_sound : IsSound old before → ((k : ℕ) → key_at after number ≡ Some k → (k ≡ key) × IsSome (slab.get new k)) → IsSound new after
-    touched_sound sound here =
+    pub touched_sound : IsSound old before → slab.slab_len new ≡ length after → ((k : ℕ) → key_at after number ≡ Some k → (k ≡ key) × IsSome (slab.get new k)) → IsSound new after
+    touched_sound sound counts here =
         let was : (other k : ℕ) → (other ≢ number) → key_at after other ≡ Some k → key_at before other ≡ Some k
         = λ other k differ found. sym (touches.numbers other differ) ∙ found in
         let apart_here : (first second k : ℕ) → first ≡ number → (second ≢ number) → key_at after first ≡ Some k → key_at after second ≡ Some k → ⊥
@@ -150,6 +164,7 @@ module _ {V : Type 0} where
                 let slot : slab.get new k ≡ slab.get old k = touches.slots k (λ same. touches.own other differ (was other k differ found ∙ ap (λ x. Some x) same)) in
                 ap is_some slot ∙ sound.filled other k (was other k differ found)
           ];
+          counted = counts;
           apart = λ first second k one two. elim (cases_eq first number) [
             | inl is ↦ elim (cases_eq second number) [
               | inl also ↦ is ∙ sym also

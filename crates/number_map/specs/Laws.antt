@@ -1,7 +1,7 @@
 -- What the changes leave, and that two maps which agree under a function of the values go on
 -- agreeing.
-use Rattle.std.specs.Prelude.{◌≡◌, ◌≢◌, ℕ, ◌+◌, ◌-◌, Some, None, option_map}
-use Rattle.number_map.specs.Numbered.{Numbered, get, insert, remove, len, changed, AgreesUnder}
+use Rattle.std.specs.Prelude.{◌≡◌, ◌≢◌, ℕ, ◌+◌, ◌-◌, Some, None, map, option_map}
+use Rattle.number_map.specs.Numbered.{Numbered, get, insert, remove, len, entries, changed, AgreesUnder}
 
 -- what a change leaves at its number
 pub record LeavesHere (V : Type 0) : Type 0 where
@@ -37,3 +37,8 @@ pub record KeepsAgreement {V W : Type 0} (f : V → W) : Type 0 where
   pub inserted : (plain : Numbered V) (stored : Numbered W) (k : ℕ) (v : V) (w : W) → AgreesUnder f plain stored → w ≡ f v → AgreesUnder f (insert plain k v) (insert stored k w)
   pub changed_value : (plain : Numbered V) (stored : Numbered W) (k : ℕ) (g : V → V) (h : W → W) → AgreesUnder f plain stored → ((v : V) → get plain k ≡ Some v → h (f v) ≡ f (g v)) → AgreesUnder f (changed plain k g) (changed stored k h)
   pub removed : (plain : Numbered V) (stored : Numbered W) (k : ℕ) → AgreesUnder f plain stored → AgreesUnder f (remove plain k) (remove stored k)
+
+-- the entries of the one map are those of the other with f of each value
+abbrev pub EntriesAgree : {V W : Type 0} → (V → W) → Type 0
+EntriesAgree {V} {W} f = (plain : Numbered V) (stored : Numbered W) → AgreesUnder f plain stored →
+    entries stored ≡ map (λ e. (e.0, f e.1)) (entries plain)

@@ -1,9 +1,9 @@
 -- How a `NumberMap` lies in memory: values in the slots of a slab, and the slot's key by the number.
-use Rattle.std.specs.Prelude.{◌≡◌, ℕ, Option, Some, None, List, [], ◌∷◌, IsSome}
+use Rattle.std.specs.Prelude.{◌≡◌, ℕ, Option, Some, None, List, [], ◌∷◌, length, IsSome}
 use Rattle.std.specs.Ordering.{nat_cmp, eq_by_cmp}
 use Rattle.std.specs.List.{AllByRecursion}
 use Rattle.std.specs.Map.{lookup}
-use Rattle.slab.specs.Slab.{Slab, get}
+use Rattle.slab.specs.Slab.{Slab, get, slab_len}
 use Rattle.number_map.specs.Numbered.{Numbered, empty, insert, remove}
 
 -- the slot's key under the number
@@ -34,7 +34,8 @@ resolved slots (e ∷ index) = with_slot e.0 (get slots e.1) (resolved slots ind
 abbrev pub IsFilled : {V : Type 0} → Slab V → List (ℕ × ℕ) → Type 0
 IsFilled slots = AllByRecursion (λ e. IsSome (get slots e.1))
 
--- each number has a value, and a slot of its own
+-- each number has a value, and a slot of its own, and no other slot has a value
 pub record IsSound {V : Type 0} (slots : Slab V) (index : List (ℕ × ℕ)) : Type 0 where
   pub filled : (number key : ℕ) → key_at index number ≡ Some key → IsSome (get slots key)
+  pub counted : slab_len slots ≡ length index
   pub apart : (first second key : ℕ) → key_at index first ≡ Some key → key_at index second ≡ Some key → first ≡ second

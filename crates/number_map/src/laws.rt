@@ -1,5 +1,5 @@
-//! The laws of maps by number. Neither function does anything: its contract is the law.
-ghost use Rattle.number_map.specs.Laws.{LeavesHere, LeavesOthers, Counts, Commutes, SameMaps, KeepsAgreement};
+//! The laws of maps by number. None of these functions does anything: its contract is the law.
+ghost use Rattle.number_map.specs.Laws.{LeavesHere, LeavesOthers, Counts, Commutes, SameMaps, KeepsAgreement, EntriesAgree};
 
 /// What an insertion, a change and a removal leave, of every map with values of `V`.
 pub fn changes_leave_the_rest<V>()
@@ -14,4 +14,10 @@ pub fn changes_leave_the_rest<V>()
 /// insertion, change or removal.
 pub fn changes_keep_agreement<V, W>()
     ensures { (f : V → W) → KeepsAgreement f }
+{}
+
+/// Where one map has a function of what the other has, its entries are the other's with that
+/// function of each value, by rising number.
+pub fn entries_agree_where_maps_do<V, W>()
+    ensures { (f : V → W) → EntriesAgree f }
 {}

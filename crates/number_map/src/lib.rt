@@ -4,7 +4,7 @@
 ghost use Rattle.std.specs.Prelude.{◌≡◌, IsSome, OnOk, OnErr, option_copied};
 ghost use Rattle.std.specs.Option.{option_copied_mut};
 ghost use Rattle.std.specs.Borrow.{sem};
-ghost use Rattle.slab.specs.Slab.{get, Updates};
+ghost use Rattle.slab.specs.Slab.{get, slab_len, Updates};
 ghost use Rattle.number_map.specs.Numbered as map;
 
 mod iter;
@@ -13,7 +13,7 @@ mod laws;
 mod tests;
 
 pub use iter::Iter;
-pub use laws::{changes_keep_agreement, changes_leave_the_rest};
+pub use laws::{changes_keep_agreement, changes_leave_the_rest, entries_agree_where_maps_do};
 use slab::Slab;
 use std::alloc::{AllocError, Global};
 use std::collections::BTreeMap;
@@ -97,7 +97,7 @@ impl<V: Drop> NumberMap<V> {
 
     /// Puts `value` at `number`, in place of the value that is there, if any.
     ///
-    /// Where there is no memory for one more, the map is as before.
+    /// Where there is no memory for one more, the map is as before, and no slot keeps the value.
     pub fn set(&mut self, number: u32, value: V) -> Result<(), AllocError>
         ensures put { OnOk result (self.new ≡ map.insert self.old number value) }
         ensures kept { OnErr result (self.new ≡ self.old) }
@@ -134,7 +134,8 @@ impl<V: Drop> NumberMap<V> {
 // Writes `value` into the slot under `key`.
 fn replace<V: Drop>(slots: &mut Slab<V>, key: usize, value: V)
     requires { IsSome (get slots.old key) }
-    ensures { Updates slots.old slots.new key (Some value) }
+    ensures updates { Updates slots.old slots.new key (Some value) }
+    ensures counted { slab_len slots.new ≡ slab_len slots.old }
 {
     match slots.get_mut(key) {
         Some(slot) => *slot = value,

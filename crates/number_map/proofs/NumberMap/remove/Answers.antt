@@ -1,5 +1,6 @@
 -- The number leaves the index, and its value the slot that was the number's own.
-use Rattle.std.proofs.Common.{◌≡◌, Some, None, sym, ap, ◌∙◌}
+use Rattle.std.proofs.Common.{◌≡◌, length, ◌+◌, Option, Some, None, is_some, IsSome, OnSome, sym, ap, ◌∙◌, arith}
+use Rattle.slab.specs.Slab.{slab_len}
 use Rattle.number_map.specs.Numbered as map
 use Rattle.number_map.specs.Slots.{key_at, stored}
 use Rattle.number_map.proofs.NumberTests.{untied}
@@ -19,10 +20,23 @@ touches g c =
       numbers = λ other differ. c.remove.ensures.updates.2 other (untied c.args.number other (λ same. differ (sym same)));
     }
 
+on_some : {T : Type 0} (o : Option T) (P : Type 0) → IsSome o → OnSome o P → P
+on_some None P some holds = absurd (cc)
+on_some (Some x) P some holds = holds
+
+less_counted : (g : Over) (c : goal.After-try_remove g) → slab_len c.try_remove.new.self ≡ length c.remove.new.self.entries
+less_counted g c =
+    let filled = c.self.invariant.filled c.args.number c.in-Some.key (sym (found g c)) in
+    let some : IsSome c.try_remove.result = ap is_some c.try_remove.ensures.value ∙ filled in
+    let slots : slab_len c.try_remove.new.self + 1 ≡ slab_len c.self.inside.slots = on_some c.try_remove.result _ some c.try_remove.ensures.len in
+    let index : length c.remove.new.self.entries + 1 ≡ length c.self.inside.index.entries = c.in-Some.ensures.len in
+    let both : slab_len c.self.inside.slots ≡ length c.self.inside.index.entries = c.self.invariant.counted in
+    omega arith
+
 pub invariant_of-self : goal.invariant_of-self
 invariant_of-self g c =
     touched_sound c.self.inside.slots c.try_remove.new.self c.self.inside.index.entries c.remove.new.self.entries c.args.number c.in-Some.key
-    (touches g c) c.self.invariant
+    (touches g c) c.self.invariant (less_counted g c)
     (λ k has. let lacks : None ≡ Some k = sym c.remove.ensures.updates.1 ∙ has in absurd (cc))
 
 pub returns-in-Some-clause-value : goal.returns-in-Some-clause-value

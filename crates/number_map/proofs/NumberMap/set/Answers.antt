@@ -1,6 +1,7 @@
 -- A number that has a value keeps its slot; a new one takes the vacant slot.
-use Rattle.std.proofs.Common.{◌≡◌, Some, None, is_some, sym, ap, ◌∙◌, refl, rules}
+use Rattle.std.proofs.Common.{◌≡◌, ℕ, ◌+◌, length, cond, Option, Some, None, is_some, sym, ap, ◌∙◌, refl, rules, arith}
 use Rattle.slab.specs.Slab.{get}
+use Rattle.slab.specs.Slab.{slab_len}
 use Rattle.number_map.specs.Numbered as map
 use Rattle.number_map.specs.Slots.{key_at}
 use Rattle.number_map.proofs.NumberTests.{untied}
@@ -16,10 +17,10 @@ returns-in-Some-clause-put g c =
     touched_insert c.self.inside.slots c.replace.new.slots c.self.inside.index.entries c.self.inside.index.entries c.args.number c.in-Some.key.now
     (record {
       own = own_found c.self.inside.slots c.self.inside.index.entries c.args.number c.in-Some.key.now c.self.invariant c.in-Some.ensures.value;
-      slots = c.replace.ensures.others;
+      slots = c.replace.ensures.updates.others;
       numbers = λ other differ. refl;
     })
-    c.args.value c.in-Some.ensures.value c.replace.ensures.changed
+    c.args.value c.in-Some.ensures.value c.replace.ensures.updates.changed
     ∙ ap (λ m. map.insert m c.args.number c.args.value) c.self.view_is
 
 pub returns-in_err-reserve-in-None-clause-only_new :
@@ -39,13 +40,23 @@ touches g c =
       numbers = λ other differ. c.in_ok-insert-in-None.ensures.updates.2 other (untied c.args.number other (λ same. differ (sym same)));
     }
 
+more_counted : (g : Over) (c : goal.After-insert_reserved g) → slab_len c.insert_reserved.new.self ≡ length c.insert.new.self.entries
+more_counted g c =
+    let none : c.in_ok-insert-in-None.field-0 ≡ None = c.in_ok-insert-in-None.ensures.old ∙ sym c.in-None.ensures.value in
+    let index : length c.insert.new.self.entries ≡ length c.self.inside.index.entries + 1
+    = c.in_ok-insert-in-None.ensures.len ∙ ap (λ (o : Option ℕ). length c.self.inside.index.entries + cond (is_some o) 0 1) none in
+    let slots : slab_len c.insert_reserved.new.self ≡ slab_len c.self.inside.slots + 1
+    = c.insert_reserved.ensures.len ∙ ap (λ s. slab_len s + 1) c.in_ok-reserve-in-None.ensures.rest_kept in
+    let both : slab_len c.self.inside.slots ≡ length c.self.inside.index.entries = c.self.invariant.counted in
+    omega arith
+
 placed : (g : Over) (c : goal.After-insert_reserved g) → key_at c.insert.new.self.entries c.args.number ≡ Some c.insert_reserved.result
 placed g c = c.in_ok-insert-in-None.ensures.updates.1 ∙ ap (λ k. Some k) (c.vacant_key-key.ensures.value ∙ sym c.insert_reserved.ensures.key)
 
 pub invariant_of-self-in-None : goal.invariant_of-self-in-None
 invariant_of-self-in-None g c =
     touched_sound c.self.inside.slots c.insert_reserved.new.self c.self.inside.index.entries c.insert.new.self.entries c.args.number c.insert_reserved.result
-    (touches g c) c.self.invariant
+    (touches g c) c.self.invariant (more_counted g c)
     (λ k has.
     let one : Some c.insert_reserved.result ≡ Some k = sym (placed g c) ∙ has in
     let same : k ≡ c.insert_reserved.result = cc in

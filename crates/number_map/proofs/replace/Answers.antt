@@ -1,0 +1,7 @@
+-- One slot keeps having a value.
+use Rattle.std.proofs.Common.{sym}
+use Rattle.number_map.proofs.SlotLemmas.{count_written}
+use Rattle.number_map.proofs.replace.Goals as goal
+
+pub returns-clause-counted : goal.returns-clause-counted
+returns-clause-counted g c = count_written c.args.slots.now.slots c.args.key c.args.value c.requires
