@@ -1,2 +1,4 @@
+pub mod KeyIds
 pub mod Policy
+pub mod Settings
 pub mod Context

@@ -1,7 +1,9 @@
 -- The 24 bytes of a policy of version 2, as Linux lays out its `fscrypt_policy_v2`.
-use Rattle.std.specs.Prelude.{ℕ, List, ◌∷◌, length, Option, Some, None, slice_index, ◌==◌, ◌&&◌, nat_lt, not, if◌then◌else◌}
+use Rattle.std.specs.Prelude.{ℕ, ◌+◌, Bool, List, ◌∷◌, length, Option, Some, None, slice_index, ◌==◌, ◌&&◌, ◌||◌, nat_le, not, if◌then◌else◌}
 use Rattle.policy_ctx.specs.declared.policy.Pad.{Pad}
 use Rattle.policy_ctx.specs.declared.policy.Pad.TheVariants.{P4, P8, P16, P32}
+use Rattle.policy_ctx.specs.declared.policy.Unit.{Unit as DataUnit}
+use Rattle.policy_ctx.specs.declared.policy.Unit.TheVariants.{Block, U512, U1024, U2048, U4096}
 use Rattle.policy_ctx.specs.declared.policy.Policy.{Policy}
 use Rattle.policy_ctx.specs.declared.fault.CtxFault.{CtxFault}
 use Rattle.policy_ctx.specs.declared.fault.CtxFault.TheVariants.{Length, Version, Modes, Flags, Unit, Reserved}
@@ -13,25 +15,53 @@ pad_size P8 = 8
 pad_size P16 = 16
 pad_size P32 = 32
 
--- the flags byte: its two low bits tell the padding
-abbrev pub flags_of : Pad → ℕ
-flags_of P4 = 0
-flags_of P8 = 1
-flags_of P16 = 2
-flags_of P32 = 3
+-- the flags that tell a padding
+abbrev pub pad_flags : Pad → ℕ
+pad_flags P4 = 0
+pad_flags P8 = 1
+pad_flags P16 = 2
+pad_flags P32 = 3
 
--- version 2, contents mode 1 (AES-256-XTS), names mode 4 (AES-256-CBC-CTS), the flags, the logarithm
--- to base 2 of the data unit's size (0: a unit is a block), three reserved bytes, the key's identifier
+-- how many bytes of contents are enciphered as one: a block has 4,096
+abbrev pub unit_bytes : DataUnit → ℕ
+unit_bytes Block = 4096
+unit_bytes U512 = 512
+unit_bytes U1024 = 1024
+unit_bytes U2048 = 2048
+unit_bytes U4096 = 4096
+
+-- the byte that tells a unit: the logarithm to base 2 of its size, or 0 where it is a block
+abbrev pub unit_log2 : DataUnit → ℕ
+unit_log2 Block = 0
+unit_log2 U512 = 9
+unit_log2 U1024 = 10
+unit_log2 U2048 = 11
+unit_log2 U4096 = 12
+
+-- the flags byte: its two low bits tell the padding, and flag 8 (IV_INO_LBLK_64) a key for each mode
+abbrev pub flags_of : Pad → Bool → ℕ
+flags_of pad by_mode = pad_flags pad + (if by_mode then 8 else 0)
+
+-- version 2, contents mode 1 (AES-256-XTS), names mode 4 (AES-256-CBC-CTS), the flags, the data
+-- unit, three reserved bytes, the key's identifier
 abbrev pub policy_bytes : Policy → List ℕ
-policy_bytes p = 2 ∷ 1 ∷ 4 ∷ flags_of p.pad ∷ 0 ∷ 0 ∷ 0 ∷ 0 ∷ p.id.0
+policy_bytes p = 2 ∷ 1 ∷ 4 ∷ flags_of p.pad p.by_mode ∷ unit_log2 p.unit ∷ 0 ∷ 0 ∷ 0 ∷ p.id.0
+
+-- a padding, with flag 8 or without it, and no other flag
+abbrev pub are_flags : ℕ → Bool
+are_flags flags = nat_le flags 3 || (nat_le 8 flags && nat_le flags 11)
+
+-- a unit is a block, or has 2^9 to 2^12 bytes
+abbrev pub is_unit_log2 : ℕ → Bool
+is_unit_log2 log = (log == 0) || (nat_le 9 log && nat_le log 12)
 
 -- the first fault of the eight bytes before the identifier
 abbrev pub header_fault : List ℕ → Option CtxFault
 header_fault b =
     if not (slice_index b 0 == 2) then Some Version else
     if not ((slice_index b 1 == 1) && (slice_index b 2 == 4)) then Some Modes else
-    if nat_lt 3 (slice_index b 3) then Some Flags else
-    if not (slice_index b 4 == 0) then Some Unit else
+    if not (are_flags (slice_index b 3)) then Some Flags else
+    if not (is_unit_log2 (slice_index b 4)) then Some Unit else
     if not ((slice_index b 5 == 0) && ((slice_index b 6 == 0) && (slice_index b 7 == 0))) then Some Reserved else
     None
 

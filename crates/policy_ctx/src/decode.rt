@@ -1,17 +1,18 @@
 //! From bytes to policies and contexts, or to the first fault.
 
-ghost use Rattle.std.specs.Prelude.{◌≡◌, ◌≤◌, length, take, None, Some, IsOk, IfOk, IfErr, IfSome, IfNone, IsSome, ◌↔◌};
-ghost use Rattle.policy_ctx.specs.Context.{context_bytes, context_fault};
-ghost use Rattle.policy_ctx.specs.Policy.{flags_of, policy_bytes, policy_fault, header_fault};
+ghost use Rattle.std.specs.Prelude.{◌≡◌, ◌≤◌, length, take, None, Some, IsOk, IfOk, IfErr, IfSome, IfNone, true, false};
+ghost use Rattle.policy_ctx.specs.Context.{HasSizes, context_bytes, context_fault};
+ghost use Rattle.policy_ctx.specs.Policy.{are_flags, flags_of, header_fault, is_unit_log2, policy_bytes, policy_fault, unit_log2};
 
 use super::{
     CONTENTS_MODE, CONTEXT_LEN, Context, CtxFault, KeyId, NAMES_MODE, POLICY_LEN, Pad, Policy,
-    VERSION,
+    Unit, VERSION,
 };
 
 /// The policy whose bytes these are: 24 of them. Where there is none, the first fault.
 pub fn decode_policy(bytes: &[u8]) -> Result<Policy, CtxFault>
     ensures found { IfOk result (λ p. bytes.now ≡ policy_bytes p) }
+    ensures sized { IfOk result (λ p. length p.id.0 ≡ 16) }
     ensures every { (p : Policy) → length p.id.0 ≡ 16 → bytes.now ≡ policy_bytes p → result ≡ Ok p }
     ensures fault { IfErr result (λ f. policy_fault bytes.now ≡ Some f) }
     ensures faultless { IsOk result → policy_fault bytes.now ≡ None }
@@ -25,7 +26,8 @@ pub fn decode_policy(bytes: &[u8]) -> Result<Policy, CtxFault>
 /// The context whose bytes these are: 40 of them. Where there is none, the first fault.
 pub fn decode_context(bytes: &[u8]) -> Result<Context, CtxFault>
     ensures found { IfOk result (λ c. bytes.now ≡ context_bytes c) }
-    ensures every { (c : Context) → length c.policy.id.0 ≡ 16 → length c.nonce ≡ 16 → bytes.now ≡ context_bytes c → result ≡ Ok c }
+    ensures sized { IfOk result HasSizes }
+    ensures every { (c : Context) → HasSizes c → bytes.now ≡ context_bytes c → result ≡ Ok c }
     ensures fault { IfErr result (λ f. context_fault bytes.now ≡ Some f) }
     ensures faultless { IsOk result → context_fault bytes.now ≡ None }
 {
@@ -38,10 +40,11 @@ pub fn decode_context(bytes: &[u8]) -> Result<Context, CtxFault>
     Ok(Context { policy, nonce })
 }
 
-/// The policy whose bytes the first 24 are, or the first fault among these.
+// The policy whose bytes the first 24 are, or the first fault among these.
 fn read_policy(bytes: &[u8]) -> Result<Policy, CtxFault>
     requires { 24 ≤ length bytes.now }
     ensures found { IfOk result (λ p. take 24 bytes.now ≡ policy_bytes p) }
+    ensures sized { IfOk result (λ p. length p.id.0 ≡ 16) }
     ensures fault { IfErr result (λ f. header_fault bytes.now ≡ Some f) }
     ensures faultless { IsOk result → header_fault bytes.now ≡ None }
 {
@@ -51,30 +54,49 @@ fn read_policy(bytes: &[u8]) -> Result<Policy, CtxFault>
     if bytes[1] != CONTENTS_MODE || bytes[2] != NAMES_MODE {
         return Err(CtxFault::Modes);
     }
-    let Some(pad) = pad_of(bytes[3]) else {
+    let Some((pad, by_mode)) = flags_told(bytes[3]) else {
         return Err(CtxFault::Flags);
     };
-    if bytes[4] != 0 {
+    let Some(unit) = unit_told(bytes[4]) else {
         return Err(CtxFault::Unit);
-    }
+    };
     if bytes[5] != 0 || bytes[6] != 0 || bytes[7] != 0 {
         return Err(CtxFault::Reserved);
     }
     let mut id = [0; 16];
     id.copy_from_slice(&bytes[8..POLICY_LEN]);
-    Ok(Policy { pad, id: KeyId(id) })
+    Ok(Policy {
+        pad,
+        unit,
+        by_mode,
+        id: KeyId(id),
+    })
 }
 
-/// The padding that the flags byte tells: one of 0 to 3.
-fn pad_of(flags: u8) -> Option<Pad>
-    ensures found { IfSome result (λ pad. flags_of pad ≡ flags) }
-    ensures told { IsSome result ↔ (flags ≤ 3) }
+// The padding that the flags byte tells, and whether flag 8 stands: a byte of 0 to 3, or of 8 to 11.
+fn flags_told(flags: u8) -> Option<(Pad, bool)>
+    ensures found { IfSome result (λ told. flags_of told.0 told.1 ≡ flags) }
+    ensures fits { IfSome result (λ _. are_flags flags ≡ true) }
+    ensures none { IfNone result (are_flags flags ≡ false) }
 {
     match flags {
-        0 => Some(Pad::P4),
-        1 => Some(Pad::P8),
-        2 => Some(Pad::P16),
-        3 => Some(Pad::P32),
+        0 => Some((Pad::P4, false)),
+        1 => Some((Pad::P8, false)),
+        2 => Some((Pad::P16, false)),
+        3 => Some((Pad::P32, false)),
+        8 => Some((Pad::P4, true)),
+        9 => Some((Pad::P8, true)),
+        10 => Some((Pad::P16, true)),
+        11 => Some((Pad::P32, true)),
         _ => None,
     }
+}
+
+// The unit that the byte tells: a byte of 0, or of 9 to 12.
+fn unit_told(log: u8) -> Option<Unit>
+    ensures found { IfSome result (λ unit. unit_log2 unit ≡ log) }
+    ensures fits { IfSome result (λ _. is_unit_log2 log ≡ true) }
+    ensures none { IfNone result (is_unit_log2 log ≡ false) }
+{
+    Unit::of_log2(u32::from(log))
 }

@@ -14,10 +14,10 @@ pub enum CtxFault {
     /// Bytes 1 and 2 are not 1 (AES-256-XTS) and 4 (AES-256-CBC-CTS).
     #[error("unknown modes")]
     Modes,
-    /// Byte 3 is not a padding, 0 to 3.
+    /// Byte 3 is not a padding, 0 to 3, with or without 8.
     #[error("unknown flags")]
     Flags,
-    /// Byte 4 is not 0.
+    /// Byte 4 is not 0 and not 9 to 12.
     #[error("unknown data unit")]
     Unit,
     /// Bytes 5 to 7 are not 0.

@@ -9,9 +9,9 @@ mod policy;
 mod tests;
 
 pub use decode::{decode_context, decode_policy};
-pub use encode::{encode_context, encode_policy};
+pub use encode::{encode_context, encode_policy, id_in, is_by_mode};
 pub use fault::CtxFault;
-pub use policy::{Context, KeyId, Pad, Policy, same_policy};
+pub use policy::{Context, KeyId, Pad, Policy, Unit, same_policy};
 
 /// How many bytes a policy takes.
 pub const POLICY_LEN: usize = 24;
