@@ -1,6 +1,6 @@
 //! Hexadecimal digits: two for each byte, the high four bits first.
 
-ghost use Rattle.std.specs.Prelude.{◌≡◌, ◌↔◌, ◌*◌, ℕ, List, true, length, IsTrue};
+ghost use Rattle.std.specs.Prelude.{◌≡◌, ◌↔◌, ◌*◌, ℕ, List, true, length, IsTrue, IfSome};
 ghost use Rattle.std.specs.Bool.{OnTrue};
 ghost use Rattle.std.specs.List.{list_all, AllPass};
 ghost use Rattle.hex.specs.Hex.{encode_lower, is_hex_digit, IsBytes};
@@ -23,6 +23,32 @@ pub fn lower_hex_bytes_into(text: &[u8], out: &mut [u8]) -> bool
     ensures every { (bytes : List ℕ) → IsBytes bytes → length bytes ≡ length out.old → text.now ≡ encode_lower bytes → result ≡ true }
 {
     read_lower_digits(text, out)
+}
+
+/// The `N` bytes that digits of either case spell, two digits for each byte. None for another text.
+pub fn hex_bytes<const N: usize>(text: &[u8]) -> Option<[u8; N]>
+    ensures { result ≡ hex_bytes_of_length N text.now }
+{
+    let mut bytes = [0; N];
+    if read_digits(text, &mut bytes) {
+        Some(bytes)
+    } else {
+        None
+    }
+}
+
+/// The `N` bytes that digits spell, where no upper-case letter stands among them. None for another
+/// text.
+pub fn lower_hex_bytes<const N: usize>(text: &[u8]) -> Option<[u8; N]>
+    ensures value { result ≡ lower_hex_bytes_of_length N text.now }
+    ensures written { IfSome result (λ bytes. text.now ≡ encode_lower bytes) }
+{
+    let mut bytes = [0; N];
+    if lower_hex_bytes_into(text, &mut bytes) {
+        Some(bytes)
+    } else {
+        None
+    }
 }
 
 fn read_digits(text: &[u8], out: &mut [u8]) -> bool

@@ -1,13 +1,19 @@
 //! Numbers, hexadecimal digits, lines and words of a text, read and written.
-//! What each reader takes is exactly what `specs/` says of the text; none takes memory.
+//! What each reader takes is exactly what `specs/` says of the text; none takes memory. The writers
+//! put digits at the end of a text, and take memory for these alone.
 #![tactic(auto)]
 
 mod digits;
 mod lines;
 mod numbers;
 mod words;
+mod writing;
 
-pub use digits::{hex_bytes_into, lower_hex_bytes_into};
+pub use digits::{hex_bytes, hex_bytes_into, lower_hex_bytes, lower_hex_bytes_into};
 pub use lines::{Line, line_count, next_line};
 pub use numbers::{DecimalText, decimal_digits, decimal_value, decimal_value_u64};
 pub use words::{nth_word, word_count};
+pub use writing::{push_decimal, push_lower_hex};
+
+#[cfg(test)]
+mod tests;
