@@ -4,3 +4,4 @@ pub mod NodeLemmas
 pub mod TotalLemmas
 pub mod ChangeLemmas
 pub mod DiskLemmas
+pub mod AgreeLemmas

@@ -1,8 +1,9 @@
 -- The blocks of a file: each has 4,096 bytes.
 use Rattle.std.specs.Prelude.{ℕ, ◌-◌, List, [], ◌++◌, length, take, drop, replicate, slice_set, slice_index_or}
+use Rattle.disk_tree.specs.declared.limits.TheConstants.{BLOCK_SIZE}
 
 abbrev pub zero_block : List ℕ
-zero_block = replicate 4096 0
+zero_block = replicate BLOCK_SIZE 0
 
 -- blocks of zeros at the end, until there are so many; a list that has as many stays
 abbrev pub grown : ℕ → List (List ℕ) → List (List ℕ)

@@ -3,7 +3,7 @@ use Rattle.std.specs.Prelude.{ℕ, true, false, List, [], Option, Some, None, le
 use Rattle.std.specs.List.{sum_by}
 use Rattle.number_map.specs.Numbered.{Numbered, empty, get, insert, changed, entries}
 use Rattle.disk_tree.specs.Entries.{Entries, with_entry, without_entry}
-use Rattle.disk_tree.specs.Nodes.{entries_of, blocks_of, with_entries, on_body, named_as, IsDir, IsFile}
+use Rattle.disk_tree.specs.Nodes.{entries_of, blocks_of, size_of, with_entries, on_body, named_as, IsDir, IsFile}
 use Rattle.disk_tree.specs.declared.node.StoredNode.{StoredNode}
 use Rattle.disk_tree.specs.declared.node.Body.TheVariants.{Dir}
 
@@ -36,12 +36,19 @@ abbrev pub blocks_in : Option StoredNode → List (List ℕ)
 blocks_in None = []
 blocks_in (Some node) = blocks_of node.body
 
--- the entries of the directory, and the blocks of the file
+abbrev pub size_in : Option StoredNode → ℕ
+size_in None = 0
+size_in (Some node) = size_of node.body
+
+-- the entries of the directory, the blocks of the file, and how many bytes are its own
 abbrev pub children : Disk → ℕ → Entries
 children disk number = entries_in (get disk number)
 
 abbrev pub file_blocks : Disk → ℕ → List (List ℕ)
 file_blocks disk number = blocks_in (get disk number)
+
+abbrev pub file_size : Disk → ℕ → ℕ
+file_size disk number = size_in (get disk number)
 
 -- the blocks of all files
 unfoldable pub block_total : Disk → ℕ

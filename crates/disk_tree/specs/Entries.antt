@@ -1,5 +1,5 @@
 -- The entries of a directory: pairs of a stored name and a node's number, in the order in which they
--- were made. No two have one name.
+-- were made. Of two with one name, the older is found.
 use Rattle.std.specs.Prelude.{ℕ, List, ◌++◌, [], ◌∷◌, Option}
 use Rattle.std.specs.Str.{bytes_eq}
 use Rattle.std.specs.Map.{lookup, remove_entry}

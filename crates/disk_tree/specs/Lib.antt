@@ -5,3 +5,4 @@ pub mod Nodes
 pub mod DiskTree
 pub mod TreeLends
 pub mod BodyLends
+pub mod Laws

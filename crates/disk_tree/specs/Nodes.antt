@@ -17,6 +17,12 @@ blocks_of (Dir entries) = []
 blocks_of (File blocks size) = blocks
 blocks_of (Link target) = []
 
+-- the bytes of a file; no other body has any
+abbrev pub size_of : Body → ℕ
+size_of (Dir entries) = 0
+size_of (File blocks size) = size
+size_of (Link target) = 0
+
 abbrev pub IsDir : Body → Type 0
 IsDir (Dir entries) = Unit {0}
 IsDir (File blocks size) = ⊥

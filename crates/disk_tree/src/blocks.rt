@@ -1,13 +1,11 @@
 //! Blocks of 4,096 bytes, and the list of a file's blocks.
-ghost use Rattle.std.specs.Prelude.{◌≡◌, ◌<◌, [], ◌∷◌, ◌++◌, length, slice_get, option_copied, IfOk, OnOk, OnErr};
+ghost use Rattle.std.specs.Prelude.{◌≡◌, ◌<◌, ◌≤◌, [], ◌∷◌, ◌++◌, length, slice_get, option_copied, IfOk, IsOk, OnOk, OnErr};
 ghost use Rattle.std.specs.Borrow.{sem};
 ghost use Rattle.disk_tree.specs.Blocks.{zero_block, grown, block_of};
 
+use crate::limits::BLOCK_SIZE;
 use std::alloc::{AllocError, Global};
 use std::marker::Model;
-
-/// How many bytes a block has.
-pub const BLOCK_SIZE: usize = 4096;
 
 /// A block of 4,096 bytes. In contracts it is the list of its bytes.
 #[derive(Drop)]
@@ -17,12 +15,13 @@ pub struct Block {
 
 impl Model for Block {
     ghost use Rattle.std.specs.Prelude.{◌≡◌, ℕ, List, length};
+    ghost use Rattle.disk_tree.specs.declared.limits.TheConstants.{BLOCK_SIZE};
 
     ghost Value = { List ℕ };
 
     ghost view = { λ b. b.bytes.items };
 
-    ghost invariant = { λ b. length b.bytes.items ≡ 4096 };
+    ghost invariant = { λ b. length b.bytes.items ≡ BLOCK_SIZE };
 }
 
 impl Block {
@@ -38,7 +37,7 @@ impl Block {
     /// The bytes of the block.
     pub fn bytes(&self) -> &[u8]
         ensures value { result.now ≡ self.now }
-        ensures whole { length result.now ≡ 4096 }
+        ensures whole { length result.now ≡ BLOCK_SIZE }
     {
         self.bytes.as_slice()
     }
@@ -47,7 +46,7 @@ impl Block {
     pub(crate) fn bytes_mut(&mut self) -> &mut [u8]
         ensures* writes_back { sem 𝓛 (LendsBlock self.entry result) }
         ensures value { result.now ≡ self.old }
-        ensures whole { length result.now ≡ 4096 }
+        ensures whole { length result.now ≡ BLOCK_SIZE }
     {
         self.bytes.as_mut_slice()
     }
@@ -97,15 +96,17 @@ impl BlockList {
     pub fn bytes(&self, index: usize) -> &[u8]
         requires { index < length self.now }
         ensures value { result.now ≡ block_of self.now index }
-        ensures whole { length result.now ≡ 4096 }
+        ensures whole { length result.now ≡ BLOCK_SIZE }
     {
         self.items[index].bytes()
     }
 
-    /// Adds blocks of zeros at the end until there are `count`. After want of memory all is as before.
+    /// Adds blocks of zeros at the end until there are `count`. After want of memory all is as before;
+    /// where none is added, no memory is taken.
     pub(crate) fn grow(&mut self, alloc: Global, count: usize) -> Result<(), AllocError>
         ensures grown { OnOk result (self.new ≡ grown count self.old) }
         ensures kept { OnErr result (self.new ≡ self.old) }
+        ensures enough { count ≤ length self.old → IsOk result }
     {
         let before = self.items.len();
         for _ in before..count {
@@ -122,7 +123,7 @@ impl BlockList {
         requires { index < length self.old }
         ensures* writes_back { sem 𝓛 (LendsOne self.entry index result) }
         ensures value { result.now ≡ block_of self.old index }
-        ensures whole { length result.now ≡ 4096 }
+        ensures whole { length result.now ≡ BLOCK_SIZE }
     {
         self.items[index].bytes_mut()
     }

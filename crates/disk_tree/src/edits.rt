@@ -1,8 +1,8 @@
 //! Changes of one node of the map, which leave all others.
-ghost use Rattle.std.specs.Prelude.{◌≡◌, OnOk, OnErr};
+ghost use Rattle.std.specs.Prelude.{◌≡◌, ◌≤◌, length, IsOk, OnOk, OnErr};
 ghost use Rattle.number_map.specs.Numbered as map;
 ghost use Rattle.disk_tree.specs.Blocks.{grown};
-ghost use Rattle.disk_tree.specs.DiskTree.{IsDirAt, IsFileAt, children};
+ghost use Rattle.disk_tree.specs.DiskTree.{IsDirAt, IsFileAt, children, file_blocks};
 ghost use Rattle.disk_tree.specs.Entries.{number_under, with_entry, without_entry};
 ghost use Rattle.disk_tree.specs.Nodes.{with_entries, with_blocks, with_size, on_body, named_as, with_context};
 
@@ -70,6 +70,7 @@ pub(crate) fn grow(
     requires { IsFileAt nodes.old file }
     ensures grown { OnOk result (nodes.new ≡ map.changed nodes.old file (on_body (with_blocks (grown count)))) }
     ensures kept { OnErr result (nodes.new ≡ nodes.old) }
+    ensures enough { count ≤ length (file_blocks nodes.old file) → IsOk result }
 {
     match nodes.get_mut(file) {
         Some(node) => node.body.grow(alloc, count),

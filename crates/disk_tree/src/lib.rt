@@ -6,6 +6,8 @@ mod blocks;
 mod edits;
 mod entries;
 mod fault;
+mod laws;
+mod limits;
 mod node;
 #[cfg(test)]
 mod tests;
@@ -15,5 +17,7 @@ pub use blocks::{Block, BlockList};
 pub use entries::DirEntries;
 pub use fault::DiskFault;
 pub use item_list::Bytes;
+pub use laws::block_total_is_the_sum_over_nodes;
+pub use limits::{BLOCK_SIZE, MOST_BLOCKS, MOST_ENTRIES, MOST_NODES};
 pub use node::{Body, StoredNode};
 pub use tree::DiskTree;

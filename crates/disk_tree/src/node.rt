@@ -1,12 +1,13 @@
 //! A node as it is stored, and the changes of one node.
-ghost use Rattle.std.specs.Prelude.{◌≡◌, ◌<◌, ◌↔◌, length, IsTrue, OnOk, OnErr};
+ghost use Rattle.std.specs.Prelude.{◌≡◌, ◌<◌, ◌≤◌, ◌↔◌, length, IsOk, IsTrue, OnOk, OnErr};
 ghost use Rattle.std.specs.Borrow.{sem};
 ghost use Rattle.disk_tree.specs.Blocks.{grown, block_of};
 ghost use Rattle.disk_tree.specs.Entries.{number_under, with_entry, without_entry};
-ghost use Rattle.disk_tree.specs.Nodes.{entries_of, blocks_of, with_entries, with_blocks, with_size, IsDir, IsFile};
+ghost use Rattle.disk_tree.specs.Nodes.{entries_of, blocks_of, size_of, with_entries, with_blocks, with_size, IsDir, IsFile};
 
 use crate::blocks::BlockList;
 use crate::entries::DirEntries;
+use crate::limits::BLOCK_SIZE;
 use item_list::Bytes;
 use std::alloc::{AllocError, Global};
 
@@ -55,6 +56,16 @@ impl Body {
     {
         match self {
             Body::File { blocks, .. } => blocks.len(),
+            _ => 0,
+        }
+    }
+
+    /// How many bytes are the file's; a directory and a link have none.
+    pub fn size(&self) -> u32
+        ensures { result ≡ size_of self.now }
+    {
+        match self {
+            Body::File { size, .. } => *size,
             _ => 0,
         }
     }
@@ -109,6 +120,7 @@ impl Body {
         requires { IsFile self.old }
         ensures grown { OnOk result (self.new ≡ with_blocks (grown count) self.old) }
         ensures kept { OnErr result (self.new ≡ self.old) }
+        ensures enough { count ≤ length (blocks_of self.old) → IsOk result }
     {
         match self {
             Body::File { blocks, .. } => blocks.grow(alloc, count),
@@ -128,7 +140,7 @@ impl Body {
     pub fn block(&self, index: usize) -> &[u8]
         requires { index < length (blocks_of self.now) }
         ensures value { result.now ≡ block_of (blocks_of self.now) index }
-        ensures whole { length result.now ≡ 4096 }
+        ensures whole { length result.now ≡ BLOCK_SIZE }
     {
         match self {
             Body::File { blocks, .. } => blocks.bytes(index),
@@ -140,7 +152,7 @@ impl Body {
         requires { index < length (blocks_of self.old) }
         ensures* writes_back { sem 𝓛 (LendsBodyBlock self.entry index result) }
         ensures value { result.now ≡ block_of (blocks_of self.old) index }
-        ensures whole { length result.now ≡ 4096 }
+        ensures whole { length result.now ≡ BLOCK_SIZE }
     {
         match self {
             Body::File { blocks, .. } => blocks.bytes_mut(index),

@@ -1,26 +1,20 @@
 //! The tree of stored nodes: whole changes of it, each within the limits of the disk.
-ghost use Rattle.std.specs.Prelude.{◌≡◌, ◌≢◌, ◌+◌, ◌-◌, ◌<◌, ◌≤◌, ◌↔◌, [], length, IfOk, IfErr, IfSome, IsSome, IsTrue, OnOk, OnErr, option_copied};
+ghost use Rattle.std.specs.Prelude.{◌≡◌, ◌≢◌, ◌+◌, ◌-◌, ◌<◌, ◌≤◌, ◌↔◌, [], length, IfOk, IfErr, IfSome, IsOk, IsSome, IsTrue, OnOk, OnErr, option_copied};
 ghost use Rattle.std.specs.Borrow.{sem};
 ghost use Rattle.number_map.specs.Numbered as map;
 ghost use Rattle.disk_tree.specs.Blocks.{grown, block_of};
-ghost use Rattle.disk_tree.specs.DiskTree.{first_disk, IsDirAt, IsFileAt, children, blocks_in, file_blocks, block_total, entered, dropped, moved};
+ghost use Rattle.disk_tree.specs.DiskTree.{first_disk, IsDirAt, IsFileAt, children, blocks_in, file_blocks, file_size, block_total, entered, dropped, moved};
 ghost use Rattle.disk_tree.specs.Entries.{number_under};
 ghost use Rattle.disk_tree.specs.Nodes.{blocks_of, with_blocks, with_size, on_body, with_context};
 
 use crate::edits;
 use crate::entries::DirEntries;
 use crate::fault::DiskFault;
+use crate::limits::{BLOCK_SIZE, MOST_BLOCKS, MOST_ENTRIES, MOST_NODES};
 use crate::node::{Body, StoredNode};
 use number_map::NumberMap;
 use std::alloc::{AllocError, Global};
 use std::marker::Model;
-
-/// How many nodes the disk may have.
-pub const MOST_NODES: usize = 65536;
-/// How many entries a directory may have.
-pub const MOST_ENTRIES: usize = 4096;
-/// How many blocks all files may have.
-pub const MOST_BLOCKS: usize = 16384;
 
 /// The tree of stored nodes. In contracts it is the finite map from numbers to nodes.
 #[derive(Drop)]
@@ -38,6 +32,7 @@ impl Model for DiskTree {
     ghost use Rattle.disk_tree.specs.contracts.node.StoredNode as stored;
     ghost use Rattle.disk_tree.specs.declared.node.StoredNode.{StoredNode as Stored};
     ghost use Rattle.disk_tree.specs.DiskTree.{block_total};
+    ghost use Rattle.disk_tree.specs.declared.limits.TheConstants.{MOST_BLOCKS};
 
     ghost Value = { FinMap nat_cmp Stored };
 
@@ -45,7 +40,7 @@ impl Model for DiskTree {
 
     ghost view = { λ t. t.nodes };
 
-    ghost invariant = { λ t. (t.blocks ≡ block_total t.nodes) × (t.blocks ≤ 16384) };
+    ghost invariant = { λ t. (t.blocks ≡ block_total t.nodes) × (t.blocks ≤ MOST_BLOCKS) };
 }
 
 impl DiskTree {
@@ -128,6 +123,16 @@ impl DiskTree {
         }
     }
 
+    /// How many bytes are the file's; 0 where the number is no file's.
+    pub fn file_size(&self, file: u32) -> u32
+        ensures { result ≡ file_size self.now file }
+    {
+        match self.nodes.get(file) {
+            Some(node) => node.body.size(),
+            None => 0,
+        }
+    }
+
     /// The number under the name in the directory.
     pub fn entry(&self, dir: u32, name: &[u8]) -> Option<u32>
         ensures { result ≡ number_under name.now (children self.now dir) }
@@ -146,8 +151,8 @@ impl DiskTree {
         requires no_blocks { blocks_of node.body ≡ [] }
         ensures added { OnOk result (self.new ≡ map.insert self.old number node) }
         ensures kept { OnErr result (self.new ≡ self.old) }
-        ensures full { 65536 ≤ map.len self.old → result ≡ Err DiskFault.NoSpace }
-        ensures no_space { IfErr result (λ fault. fault ≡ DiskFault.NoSpace → 65536 ≤ map.len self.old) }
+        ensures full { MOST_NODES ≤ map.len self.old → result ≡ Err DiskFault.NoSpace }
+        ensures no_space { IfErr result (λ fault. fault ≡ DiskFault.NoSpace → MOST_NODES ≤ map.len self.old) }
     {
         if self.nodes.len() >= MOST_NODES {
             return Err(DiskFault::NoSpace);
@@ -186,8 +191,8 @@ impl DiskTree {
         requires { IsDirAt self.old dir }
         ensures put { OnOk result (self.new ≡ entered self.old dir name.now number) }
         ensures kept { OnErr result (self.new ≡ self.old) }
-        ensures full { 4096 ≤ length (children self.old dir) → result ≡ Err DiskFault.NoSpace }
-        ensures no_space { IfErr result (λ fault. fault ≡ DiskFault.NoSpace → 4096 ≤ length (children self.old dir)) }
+        ensures full { MOST_ENTRIES ≤ length (children self.old dir) → result ≡ Err DiskFault.NoSpace }
+        ensures no_space { IfErr result (λ fault. fault ≡ DiskFault.NoSpace → MOST_ENTRIES ≤ length (children self.old dir)) }
     {
         if self.entry_count(dir) >= MOST_ENTRIES {
             return Err(DiskFault::NoSpace);
@@ -233,8 +238,8 @@ impl DiskTree {
         requires there { IsSome (number_under name.now (children self.old dir)) }
         ensures moved { OnOk result (IfSome (number_under name.now (children self.old dir)) (λ number. self.new ≡ moved self.old dir name.now to new_name.now number)) }
         ensures kept { OnErr result (self.new ≡ self.old) }
-        ensures full { to ≢ dir → 4096 ≤ length (children self.old to) → result ≡ Err DiskFault.NoSpace }
-        ensures no_space { IfErr result (λ fault. fault ≡ DiskFault.NoSpace → (to ≢ dir) × (4096 ≤ length (children self.old to))) }
+        ensures full { to ≢ dir → MOST_ENTRIES ≤ length (children self.old to) → result ≡ Err DiskFault.NoSpace }
+        ensures no_space { IfErr result (λ fault. fault ≡ DiskFault.NoSpace → (to ≢ dir) × (MOST_ENTRIES ≤ length (children self.old to))) }
     {
         if to != dir && self.entry_count(to) >= MOST_ENTRIES {
             return Err(DiskFault::NoSpace);
@@ -252,15 +257,16 @@ impl DiskTree {
     }
 
     /// Adds blocks of zeros at the end of the file until it has `blocks`. A file that has as many
-    /// stays as it is.
+    /// stays as it is, and takes no memory.
     ///
     /// NoSpace where more than 16,384 blocks would stand in all. After a fault the tree is as before.
     pub fn grow(&mut self, alloc: Global, file: u32, blocks: u32) -> Result<(), DiskFault>
         requires { IsFileAt self.old file }
         ensures grown { OnOk result (self.new ≡ map.changed self.old file (on_body (with_blocks (grown blocks)))) }
         ensures kept { OnErr result (self.new ≡ self.old) }
-        ensures full { 16384 < block_total self.old + (blocks - length (file_blocks self.old file)) → result ≡ Err DiskFault.NoSpace }
-        ensures no_space { IfErr result (λ fault. fault ≡ DiskFault.NoSpace → 16384 < block_total self.old + (blocks - length (file_blocks self.old file))) }
+        ensures enough { blocks ≤ length (file_blocks self.old file) → IsOk result }
+        ensures full { MOST_BLOCKS < block_total self.old + (blocks - length (file_blocks self.old file)) → result ≡ Err DiskFault.NoSpace }
+        ensures no_space { IfErr result (λ fault. fault ≡ DiskFault.NoSpace → MOST_BLOCKS < block_total self.old + (blocks - length (file_blocks self.old file))) }
     {
         let more = (blocks as usize).saturating_sub(self.block_count(file));
         if self.blocks + more > MOST_BLOCKS {
@@ -279,7 +285,7 @@ impl DiskTree {
     pub fn block(&self, file: u32, index: u32) -> &[u8]
         requires { index < length (file_blocks self.now file) }
         ensures value { result.now ≡ block_of (file_blocks self.now file) index }
-        ensures whole { length result.now ≡ 4096 }
+        ensures whole { length result.now ≡ BLOCK_SIZE }
     {
         match self.nodes.get(file) {
             Some(node) => node.body.block(index as usize),
@@ -292,7 +298,7 @@ impl DiskTree {
         requires { index < length (file_blocks self.old file) }
         ensures* writes_back { sem 𝓛 (LendsFileBlock self.entry file index result) }
         ensures value { result.now ≡ block_of (file_blocks self.old file) index }
-        ensures whole { length result.now ≡ 4096 }
+        ensures whole { length result.now ≡ BLOCK_SIZE }
     {
         match self.nodes.get_mut(file) {
             Some(node) => node.body.block_mut(index as usize),
