@@ -1,0 +1,11 @@
+//! Bytes of bounded number that lie in the value itself, and the labels that are made of them.
+#![tactic(auto)]
+
+mod filled;
+mod label;
+
+pub use filled::Filled;
+pub use label::{Label, MOST_LABEL_BYTES};
+
+#[cfg(test)]
+mod tests;
