@@ -25,6 +25,21 @@ abbrev pub file_key_of : List ℕ → KeyKind → List ℕ → FileKey
 file_key_of raw Contents nonce = key.Contents (derived raw 2 nonce 64)
 file_key_of raw Names nonce = key.Names (derived raw 2 nonce 32)
 
+-- the UUID of the file system: each mount of fsc has this one
+abbrev pub mount_uuid : List ℕ
+mount_uuid = codes "fsc-memory-mount"
+
+-- the key that all files, or all directories and symlinks, of a policy with flag 8 (IV_INO_LBLK_64)
+-- share, in context 4: the number of the mode in policies and the UUID are added
+abbrev pub mode_key_of : List ℕ → KeyKind → FileKey
+mode_key_of raw Contents = key.Contents (derived raw 4 (1 ∷ mount_uuid) 64)
+mode_key_of raw Names = key.Names (derived raw 4 (4 ∷ mount_uuid) 32)
+
+-- the bytes of a file's key
+abbrev pub key_bytes : FileKey → List ℕ
+key_bytes (key.Contents bytes) = bytes
+key_bytes (key.Names bytes) = bytes
+
 -- the first 8 bytes of SHA-512 taken twice, in lower-case digits
 abbrev pub descriptor_of : List ℕ → List ℕ
 descriptor_of bytes = encode_lower (take 8 (sha512 (sha512 bytes)))

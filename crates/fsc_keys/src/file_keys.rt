@@ -1,17 +1,12 @@
-//! What is drawn from a raw key by derivation: its identifier, and the keys of single files.
+//! What is drawn from a raw key once: its identifier, and the keys of files.
 
 ghost use Rattle.std.specs.Prelude.{◌≡◌};
-ghost use Rattle.fsc_keys.specs.Keys.{key_id_of, file_key_of};
+ghost use Rattle.byte_words.specs.Bytes.{AreBytes};
+ghost use Rattle.fsc_keys.specs.Keys.{file_key_of, key_bytes, key_id_of, mode_key_of};
 
+use crate::draws::{draw_file_key, draw_id, draw_mode_key, extract};
 use crate::raw_key::RawKey;
-use hmac_kdf::hkdf512;
 use policy_ctx::KeyId;
-
-/// What names the derivation of identifiers: `fscrypt`, a zero byte, and the context 1.
-const KEY_ID_INFO: [u8; 9] = *b"fscrypt\0\x01";
-
-/// What names the derivation of file keys, before the nonce: the context is 2.
-const FILE_KEY_INFO: [u8; 9] = *b"fscrypt\0\x02";
 
 /// What a file key enciphers.
 #[derive(Clone, Copy, Debug, PartialEq, Eq)]
@@ -22,7 +17,7 @@ pub enum KeyKind {
     Names,
 }
 
-/// The key of one file, directory or symlink.
+/// The key of one file, directory or symlink, or of all that share one.
 #[derive(Clone, Drop)]
 pub enum FileKey {
     /// Two keys of AES-256, as XTS takes them.
@@ -32,33 +27,25 @@ pub enum FileKey {
 }
 
 /// The identifier of a raw key, by which policies and claims name it.
-#[tactic(auto, unfolding(crate::specs::Keys::derived, crate::specs::Keys::key_id_of))]
 pub fn key_id(raw: &RawKey) -> KeyId
     ensures { result ≡ key_id_of raw.now }
 {
-    let mut id = [0; 16];
-    hkdf512(&[], raw.bytes(), &KEY_ID_INFO, &mut id);
-    KeyId(id)
+    draw_id(&extract(raw))
 }
 
-/// The key of the file with this nonce, for its contents or for its names.
-#[tactic(auto, unfolding(crate::specs::Keys::derived))]
+/// The key of the file with this nonce, for its contents or for its names. Who asks more than once
+/// prepares the key (`PreparedKey`), at a quarter of the work.
 pub fn file_key(raw: &RawKey, kind: KeyKind, nonce: &[u8; 16]) -> FileKey
-    ensures { result ≡ file_key_of raw.now kind nonce.now }
+    ensures key { result ≡ file_key_of raw.now kind nonce.now }
+    ensures ranged { AreBytes (key_bytes result) }
 {
-    let mut info = [0; 25];
-    info[..9].copy_from_slice(&FILE_KEY_INFO);
-    info[9..].copy_from_slice(nonce);
-    match kind {
-        KeyKind::Contents => {
-            let mut key = [0; 64];
-            hkdf512(&[], raw.bytes(), &info, &mut key);
-            FileKey::Contents(key)
-        }
-        KeyKind::Names => {
-            let mut key = [0; 32];
-            hkdf512(&[], raw.bytes(), &info, &mut key);
-            FileKey::Names(key)
-        }
-    }
+    draw_file_key(&extract(raw), kind, nonce)
+}
+
+/// The key that all nodes of this kind share under a policy with a key for each mode.
+pub fn mode_key(raw: &RawKey, kind: KeyKind) -> FileKey
+    ensures key { result ≡ mode_key_of raw.now kind }
+    ensures ranged { AreBytes (key_bytes result) }
+{
+    draw_mode_key(&extract(raw), kind)
 }

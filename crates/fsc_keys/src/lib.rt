@@ -1,14 +1,17 @@
-//! Raw master keys, and what is drawn from them: identifiers, file keys, and the descriptors of
-//! protectors' keys.
+//! Raw master keys, and what is drawn from them: identifiers, file keys, the keys of modes, and the
+//! descriptors of protectors' keys.
 #![tactic(auto)]
 
 mod descriptors;
+mod draws;
 mod file_keys;
+mod prepared_key;
 mod raw_key;
 #[cfg(test)]
 mod tests;
 
 pub use descriptors::descriptor;
-pub use file_keys::{FileKey, KeyKind, file_key, key_id};
+pub use file_keys::{FileKey, KeyKind, file_key, key_id, mode_key};
 pub use policy_ctx::KeyId;
+pub use prepared_key::PreparedKey;
 pub use raw_key::{KeySize, RawKey};

@@ -1,4 +1,7 @@
-use crate::{FileKey, KeyKind, RawKey, descriptor, file_key, key_id};
+use crate::{
+    FileKey, KeyKind, KeySize, PreparedKey, RawKey, descriptor, file_key, key_id, mode_key,
+};
+use std::alloc::{AllocError, Global};
 use std::test::Fail;
 
 // Identifiers that Linux 6.1 gave to these raw keys.
@@ -24,8 +27,9 @@ fn identifiers_are_those_of_linux(rt: HostRuntime) -> Result<(), Fail> {
     ];
     for (raw, want) in cases {
         let raw = RawKey::read(&hex::decode(rt.alloc(), raw)?)?;
-        let id = hex::encode(rt.alloc(), key_id(&raw).0)?;
-        assert_eq!(rt; id.as_str(), want);
+        let id = key_id(&raw);
+        assert_eq!(rt; hex::encode(rt.alloc(), id.0)?.as_str(), want);
+        assert_eq!(rt; PreparedKey::new(raw).id(), id);
     }
     Ok(())
 }
@@ -49,24 +53,66 @@ fn file_keys_are_those_of_python(rt: HostRuntime) -> Result<(), Fail> {
             "4512b215533c25be04c7f0f1a77644bf4e9953a123ad626d9f78dd538f2cb6d2",
         ),
     ];
+    for (len, nonce, contents, names) in cases {
+        let raw = counting_key(len)?;
+        let mut bytes = [0; 16];
+        hex::decode_to_slice(nonce, &mut bytes)?;
+        for (kind, want) in [(KeyKind::Contents, contents), (KeyKind::Names, names)] {
+            let digits = digits_of(rt.alloc(), file_key(&raw, kind, &bytes))?;
+            assert_eq!(rt; digits.as_str(), want, "{kind:?} under {nonce}");
+        }
+        let digits = digits_of(
+            rt.alloc(),
+            PreparedKey::new(raw).file_key(KeyKind::Names, &bytes),
+        )?;
+        assert_eq!(rt; digits.as_str(), names, "prepared, under {nonce}");
+    }
+    Ok(())
+}
+
+// The keys of modes that Python's hmac and hashlib draw.
+#[test]
+fn mode_keys_are_those_of_python(rt: HostRuntime) -> Result<(), Fail> {
+    let cases = [
+        (
+            32,
+            "7feed09c426c995d1f1ecf8c91b3b3c92b1db236d52458b081f4acf7b7d2cecd\
+             1fea89f0f806954b5d8f1f86659dd7a619698e08f27f62ce10cee88b1f19bcef",
+            "b5c3330e2f077836e9f6b1410e1d43f9c2ceade5355f8597517926d594262e1a",
+        ),
+        (
+            64,
+            "9c621e403c192295d98e7fc9eedc07eecb1381239e734a752102ce4617295eaf\
+             0cc48e789014e0bae5a67af6097aac1beaa57fcd07cccbfd8247b9e90d2b515b",
+            "614c06b7dc359c57e3e7f5332dbd39660d93411156efa17516fca65d9efda9fa",
+        ),
+    ];
+    for (len, contents, names) in cases {
+        let raw = counting_key(len)?;
+        for (kind, want) in [(KeyKind::Contents, contents), (KeyKind::Names, names)] {
+            let digits = digits_of(rt.alloc(), mode_key(&raw, kind))?;
+            assert_eq!(rt; digits.as_str(), want, "{kind:?} of {len} bytes");
+        }
+        let digits = digits_of(rt.alloc(), PreparedKey::new(raw).mode_key(KeyKind::Names))?;
+        assert_eq!(rt; digits.as_str(), names, "prepared, of {len} bytes");
+    }
+    Ok(())
+}
+
+/// The key 00, 01, 02 and so on, of as many bytes.
+fn counting_key(len: usize) -> Result<RawKey, KeySize> {
     let mut counting = [0; 64];
     for i in 0..64 {
         counting[i] = i as u8;
     }
-    for (len, nonce, contents, names) in cases {
-        assert!(rt; len <= counting.len());
-        let raw = RawKey::read(&counting[..len])?;
-        let mut bytes = [0; 16];
-        hex::decode_to_slice(nonce, &mut bytes)?;
-        for (kind, want) in [(KeyKind::Contents, contents), (KeyKind::Names, names)] {
-            let digits = match file_key(&raw, kind, &bytes) {
-                FileKey::Contents(key) => hex::encode(rt.alloc(), key)?,
-                FileKey::Names(key) => hex::encode(rt.alloc(), key)?,
-            };
-            assert_eq!(rt; digits.as_str(), want, "{kind:?} under {nonce}");
-        }
-    }
-    Ok(())
+    RawKey::read(counting.get(..len).unwrap_or(&[]))
+}
+
+fn digits_of(alloc: Global, key: FileKey) -> Result<String, AllocError> {
+    Ok(match key {
+        FileKey::Contents(key) => hex::encode(alloc, key)?,
+        FileKey::Names(key) => hex::encode(alloc, key)?,
+    })
 }
 
 // Python's hashlib: the first 8 bytes of SHA-512 of SHA-512.
@@ -89,5 +135,9 @@ fn raw_keys_have_32_to_64_bytes(rt: HostRuntime) -> Result<(), Fail> {
     let mut key = RawKey::read(&bytes[..40])?;
     key.wipe();
     assert_eq!(rt; key.bytes(), [0; 40].as_slice());
+    let mut prepared = PreparedKey::new(RawKey::read(&bytes[..40])?);
+    prepared.wipe();
+    assert_eq!(rt; prepared.bytes(), [0; 40].as_slice());
+    assert_eq!(rt; prepared.id(), key_id(&key));
     Ok(())
 }

@@ -107,6 +107,16 @@ block_key-salt h (x ∷ xs) small = refl
 
 -- a key drawn under no salt is that under a salt of zeros
 pub extracted-salt : (h : Hash) (salt ikm : List ℕ) → h.size ≤ h.block → hmac_with h salt ikm ≡ extracted h salt ikm
-unfolding hmac_with
+unfolding hmac_with extracted
 extracted-salt h salt ikm small =
     ap (λ block. h.digest (xor_each 0x5c block ++ h.digest (xor_each 0x36 block ++ ikm))) (block_key-salt h salt small)
+
+-- the same without a second piece of key material
+pub extracted-alone : (h : Hash) (salt ikm : List ℕ) → h.size ≤ h.block → hmac_with h salt (ikm ++ []) ≡ extracted h salt ikm
+extracted-alone h salt ikm small = ap (hmac_with h salt) (append-nil ikm) ∙ extracted-salt h salt ikm small
+
+-- what stands after the first i pieces of n bytes: the last block, and the blocks written over the start
+pub record IsExpanding (h : Hash) (key info start out block : List ℕ) (filled i n : ℕ) : Type 0 where
+  pub last : take filled block ≡ okm_block h key info i
+  pub whole : length (okm_blocks h key info i) ≡ i * n
+  pub written : out ≡ paste start 0 (okm_blocks h key info i) (min (length start) (i * n))

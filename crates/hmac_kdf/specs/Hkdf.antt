@@ -9,7 +9,7 @@ salt_or_zeros h [] = replicate h.size 0
 salt_or_zeros h (s ∷ salt) = s ∷ salt
 
 -- HKDF-Extract: the pseudorandom key (2.2)
-abbrev pub extracted : Hash → List ℕ → List ℕ → List ℕ
+unfoldable pub extracted : Hash → List ℕ → List ℕ → List ℕ
 extracted h salt ikm = hmac_with h (salt_or_zeros h salt) ikm
 
 -- T(i): T(0) is empty, and T(i) is the HMAC of T(i-1), info and the byte i (2.3)
@@ -22,9 +22,14 @@ unfoldable pub okm_blocks : Hash → List ℕ → List ℕ → ℕ → List ℕ
 okm_blocks h prk info zero = []
 okm_blocks h prk info (suc n) = okm_blocks h prk info n ++ okm_block h prk info (suc n)
 
--- the first len bytes of T(1) to T(N), where N is len over the digest's length, rounded up (2.3)
+-- HKDF-Expand: the first len bytes of T(1) to T(N), where N is len over the digest's length, rounded
+-- up (2.3)
+unfoldable pub expanded : Hash → List ℕ → List ℕ → ℕ → List ℕ
+expanded h prk info len = take len (okm_blocks h prk info (div_ceil len h.size))
+
+-- HKDF: extract, then expand
 unfoldable pub hkdf_with : Hash → List ℕ → List ℕ → List ℕ → ℕ → List ℕ
-hkdf_with h salt ikm info len = take len (okm_blocks h (extracted h salt ikm) info (div_ceil len h.size))
+hkdf_with h salt ikm info len = expanded h (extracted h salt ikm) info len
 
 -- HKDF-SHA256
 abbrev pub hkdf_sha256 : List ℕ → List ℕ → List ℕ → ℕ → List ℕ

@@ -1,15 +1,15 @@
 //! HKDF: a short key drawn from the key material, and stretched to any length.
 
 ghost use Rattle.std.specs.Prelude.{◌≡◌, ◌++◌, ◌*◌, ◌<◌, ◌≤◌, ◌^◌, ◌-◌, ◌∷◌, [], ℕ, List, length, take, min};
-ghost use Rattle.std.specs.Int.{div_ceil};
-ghost use Rattle.hmac_kdf.specs.Hmac.{hash_of};
-ghost use Rattle.hmac_kdf.specs.Hkdf.{hkdf_with, okm_blocks};
+ghost use Rattle.hmac_kdf.specs.Hmac.{block_key, hash_of, xor_each};
+ghost use Rattle.hmac_kdf.specs.Hkdf.{expanded, extracted, hkdf_with};
 ghost use lib.Seq.{paste};
 
 use crate::hash::BlockHash;
 use crate::keyed::{Keyed, mac};
 
 /// HKDF: extract, then expand, into the whole of `out`.
+#[tactic(auto, unfolding(crate::specs::Hkdf::hkdf_with))]
 pub(crate) fn derive<H, const B: usize, const N: usize>(
     salt: &[u8],
     ikm: &[u8],
@@ -24,26 +24,44 @@ where
     requires fits { length out.old ≤ 255 * N }
     ensures { out.new ≡ hkdf_with (hash_of H.digest_bytes B N) salt.now ikm.now info.now (length out.old) }
 {
-    let key = mac::<H, B, N>(salt, ikm, &[]);
-    expand::<H, B, N>(&key, info, out);
+    let key: [u8; N] = extract::<H, B, N>(salt, ikm);
+    let keyed: Keyed<H> = Keyed::new::<B, N>(&key);
+    expand::<H, B, N>(&keyed, info, out);
 }
 
-// HKDF-Expand: the blocks T(1), T(2) and so on, the last of them cut where `out` ends.
-fn expand<H, const B: usize, const N: usize>(key: &[u8], info: &[u8], out: &mut [u8])
+/// HKDF-Extract. An empty salt stands for none.
+pub(crate) fn extract<H, const B: usize, const N: usize>(salt: &[u8], ikm: &[u8]) -> [u8; N]
+where
+    H: BlockHash<B, N>,
+    requires digest_in_block { N ≤ B }
+    requires small { B < 2 ^ 63 }
+    ensures { result ≡ extracted (hash_of H.digest_bytes B N) salt.now ikm.now }
+{
+    mac::<H, B, N>(salt, ikm, &[])
+}
+
+/// HKDF-Expand under the key that the two hashers have taken: the blocks T(1), T(2) and so on, the
+/// last of them cut where `out` ends.
+pub(crate) fn expand<H, const B: usize, const N: usize>(
+    keyed: &Keyed<H>,
+    info: &[u8],
+    out: &mut [u8],
+)
 where
     H: BlockHash<B, N>,
     requires digest { 0 < N }
     requires digest_in_block { N ≤ B }
     requires small { B < 2 ^ 63 }
     requires fits { length out.old ≤ 255 * N }
-    ensures { out.new ≡ take (length out.old)
-        (okm_blocks (hash_of H.digest_bytes B N) key.now info.now (div_ceil (length out.old) N)) }
+    ensures { (key : List ℕ)
+        → H.holds keyed.now.inner (xor_each 0x36 (block_key (hash_of H.digest_bytes B N) key))
+        → H.holds keyed.now.outer (xor_each 0x5c (block_key (hash_of H.digest_bytes B N) key))
+        → out.new ≡ expanded (hash_of H.digest_bytes B N) key info.now (length out.old) }
 {
-    let keyed: Keyed<H> = Keyed::new::<B, N>(key);
     let mut block = [0; N];
     let mut filled = 0;
     'pieces: for i in 0..out.len().div_ceil(N) {
-        block = next_block::<H, B, N>(&keyed, &block[..filled], info, i as u8 + 1);
+        block = next_block::<H, B, N>(keyed, &block[..filled], info, i as u8 + 1);
         filled = N;
         write_at(out, i * N, &block);
     }

@@ -7,11 +7,13 @@ ghost use Rattle.hmac_kdf.specs.Hkdf.{hkdf_sha256, hkdf_sha512};
 
 use derivation::derive;
 use keyed::mac;
+pub use prepared::Prk512;
 use sha2::{Sha256, Sha512};
 
 mod derivation;
 mod hash;
 mod keyed;
+mod prepared;
 #[cfg(test)]
 mod tests;
 

@@ -1,4 +1,4 @@
-use crate::{hkdf256, hkdf512, hmac256, hmac512};
+use crate::{Prk512, hkdf256, hkdf512, hmac256, hmac512};
 
 // The test vectors of RFC 4231, cases 1 to 4, 6 and 7: key, message, and both HMACs. Case 5 cuts its
 // HMAC short, which nothing here does.
@@ -152,5 +152,8 @@ fn keys_with_sha_512_are_those_of_python(rt: HostRuntime) {
           \x6e\xb1\x79\xdc\x20\x4c\x03\x42\x5c\x97\x0e\x3b\x16\x4b\xf9\x0f\
           \xff\x22\xd0\x48\x36\xd0\xe2\x34\x3b\xac"
     );
+    let mut again = [0; 42];
+    Prk512::extract(b"", &[0x0b; 22]).expand(b"", &mut again);
+    assert_eq!(rt; again, short);
     hkdf512(b"", b"", b"", &mut []);
 }

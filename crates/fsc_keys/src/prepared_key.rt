@@ -1,0 +1,82 @@
+//! A raw key from which HKDF's first step is kept, for whoever draws many keys from it.
+
+ghost use Rattle.std.specs.Prelude.{◌≡◌, ◌≤◌, ℕ, List, [], length, replicate};
+ghost use Rattle.byte_words.specs.Bytes.{AreBytes};
+ghost use Rattle.hmac_kdf.specs.Hmac.{hash_sha512};
+ghost use Rattle.hmac_kdf.specs.Hkdf.{extracted};
+
+use crate::draws::{draw_file_key, draw_id, draw_mode_key, extract};
+use crate::file_keys::{FileKey, KeyKind};
+use crate::raw_key::RawKey;
+use hmac_kdf::Prk512;
+use policy_ctx::KeyId;
+use std::marker::Model;
+
+/// A raw key with its pseudorandom key, as Linux keeps it once a key is added. It is as secret as the
+/// raw key: it can be wiped, and is never printed.
+#[derive(Drop)]
+pub struct PreparedKey {
+    raw: RawKey,
+    prk: Prk512,
+}
+
+impl Model for PreparedKey {
+    ghost Value = { List ℕ };
+
+    ghost view = { λ key. key.raw };
+
+    ghost invariant = { λ key. key.prk ≡ extracted hash_sha512 [] key.raw };
+}
+
+impl PreparedKey {
+    ghost use Rattle.fsc_keys.specs.Keys.{file_key_of, key_bytes, key_id_of, mode_key_of};
+
+    /// Prepares the key.
+    pub fn new(raw: RawKey) -> PreparedKey
+        ensures { result ≡ raw }
+    {
+        let prk = extract(&raw);
+        PreparedKey { raw, prk }
+    }
+
+    /// The bytes of the raw key: 32 to 64.
+    pub fn bytes(&self) -> &[u8]
+        ensures value { result.now ≡ self.now }
+        ensures not_short { 32 ≤ length result.now }
+        ensures not_long { length result.now ≤ 64 }
+    {
+        self.raw.bytes()
+    }
+
+    /// The identifier of the key, by which policies and claims name it.
+    pub fn id(&self) -> KeyId
+        ensures { result ≡ key_id_of self.now }
+    {
+        draw_id(&self.prk)
+    }
+
+    /// The key of the file with this nonce, for its contents or for its names.
+    pub fn file_key(&self, kind: KeyKind, nonce: &[u8; 16]) -> FileKey
+        ensures key { result ≡ file_key_of self.now kind nonce.now }
+        ensures ranged { AreBytes (key_bytes result) }
+    {
+        draw_file_key(&self.prk, kind, nonce)
+    }
+
+    /// The key that all nodes of this kind share under a policy with a key for each mode.
+    pub fn mode_key(&self, kind: KeyKind) -> FileKey
+        ensures key { result ≡ mode_key_of self.now kind }
+        ensures ranged { AreBytes (key_bytes result) }
+    {
+        draw_mode_key(&self.prk, kind)
+    }
+
+    /// Writes zeros over the key, and what comes of them over what was prepared. It is then the key of
+    /// as many zeros.
+    pub fn wipe(&mut self)
+        ensures { self.new ≡ replicate (length self.old) 0 }
+    {
+        self.raw.wipe();
+        self.prk = extract(&self.raw);
+    }
+}
