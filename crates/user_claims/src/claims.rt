@@ -1,63 +1,98 @@
 //! The set of claims. Only making one takes memory.
 
-ghost use Rattle.std.specs.Prelude.{◌≡◌, ◌≤◌, [], IsTrue, IsFalse, IsErrOf, IsOk, OnOk, OnErr, ◌↔◌};
-ghost use Rattle.fsc_keys.specs.Claims.{ClaimList, IsWithoutRepeats, same_claim, has_claim, count_of_user, count_of_id, with_claim, without_claim, without_key};
+ghost use Rattle.std.specs.Prelude.{◌≡◌, ◌+◌, ◌<◌, ◌^◌, ℕ, true, false, IsTrue, ◌↔◌};
+ghost use Rattle.std.specs.Prelude.{IsOk, IsErrOf, IfErr, IfSome, IfNone, OnOk, OnErr};
+ghost use Rattle.user_claims.specs.Claims.{IsOverQuota, no_claims, has_claim, count_of_user, count_of_id};
+ghost use Rattle.user_claims.specs.Claims.{with_claim, without_claim, without_id};
 
 use super::{ClaimFault, KeyId};
+use key_counts as counts;
 use std::alloc::Global;
+use std::collections::{BTreeMap, BTreeSet};
 use std::marker::Model;
 
 /// The most claims that a user may have.
-const QUOTA: u32 = 64;
+pub const MOST_CLAIMS: u32 = 64;
 
-/// The claims of all users. In clauses it is the list of (identifier, user), without repeats, in
-/// the order in which the claims were made.
+/// The claims of all users, seen as the finite set of (identifier, user).
+///
+/// Finding, making and taking a claim, and each count, take a time that grows with the logarithm
+/// of how many there are.
 #[derive(Drop)]
 pub struct Claims {
-    claims: Vec<(KeyId, u32)>,
+    claims: BTreeSet<(KeyId, u32)>,
+    by_user: BTreeMap<u32, u32>,
+    by_id: BTreeMap<KeyId, u32>,
 }
 
 impl Model for Claims {
-    ghost use Rattle.std.specs.Prelude.{◌<◌, ◌^◌, ℕ, List, length};
-    ghost use Rattle.policy_ctx.specs.declared.policy.KeyId.{KeyId};
-    ghost use Rattle.fsc_keys.specs.Claims.{IsWithoutRepeats};
+    ghost use Rattle.std.specs.Coded.{coded_ℕ, coded×};
+    ghost use Rattle.std.specs.FinSet.{code};
+    ghost use Rattle.policy_ctx.specs.contracts.policy.KeyId as key;
+    ghost use Rattle.user_claims.specs.Claims.{ClaimSet};
+    ghost use Rattle.user_claims.specs.Counted.{set_of, IsCounted};
 
-    ghost Value = { List (KeyId × ℕ) };
+    ghost Value = { ClaimSet };
 
-    ghost view = { λ c. c.claims.items };
+    ghost coded = { code (coded× key.the_row.coded coded_ℕ) };
 
-    ghost invariant = { λ c. (length c.claims.items < 2 ^ 32) × IsWithoutRepeats c.claims.items };
+    ghost view = { λ c. set_of c.claims.keys };
+
+    ghost invariant = { λ c. IsCounted (set_of c.claims.keys) c.by_user c.by_id };
 }
 
 impl Claims {
     /// No claims. It takes no memory before the first one is made.
     pub fn new(alloc: Global) -> Claims
-        ensures { result ≡ [] }
+        ensures { result ≡ no_claims }
     {
         Claims {
-            claims: Vec::new(alloc),
+            claims: BTreeSet::new(alloc),
+            by_user: BTreeMap::new(alloc),
+            by_id: BTreeMap::new(alloc),
         }
     }
 
     /// Makes the user's claim on the key. A claim that is held already stays, also where the user
-    /// has 64; a new one is refused there, to user 0 too.
+    /// has 64 of them, and takes no memory; a new one is refused there, to user 0 too. After a
+    /// refusal all claims are as before.
     pub fn claim(&mut self, id: &KeyId, uid: u32) -> Result<(), ClaimFault>
         ensures made { OnOk result (self.new ≡ with_claim self.old id.now uid) }
         ensures kept { OnErr result (self.new ≡ self.old) }
         ensures held { IsTrue (has_claim self.old id.now uid) → IsOk result }
-        ensures quota { IsErrOf result ClaimFault.Quota ↔ (IsFalse (has_claim self.old id.now uid) × (64 ≤ count_of_user self.old uid)) }
+        ensures quota { IsErrOf result ClaimFault.Quota ↔ IsOverQuota self.old id.now uid }
     {
         if self.has(id, uid) {
             return Ok(());
         }
-        if self.count_of_uid(uid) >= QUOTA {
+        if self.count_of_uid(uid) >= MOST_CLAIMS {
             return Err(ClaimFault::Quota);
         }
-        // So that each count fits 32 bits; a list of that length isn't met in practice.
-        if self.claims.len() >= u32::MAX as usize {
+        // So that each count fits 32 bits; so many users aren't met in practice.
+        if self.count_of_id(id) == u32::MAX {
             return Err(ClaimFault::NoMemory);
         }
-        self.claims.push((*id, uid))?;
+        self.insert(id, uid)
+    }
+
+    // Puts a new claim beside the others, with its counts.
+    fn insert(&mut self, id: &KeyId, uid: u32) -> Result<(), ClaimFault>
+        requires new { has_claim self.old id.now uid ≡ false }
+        requires of_user { count_of_user self.old uid + 1 < 2 ^ 32 }
+        requires on_id { count_of_id self.old id.now + 1 < 2 ^ 32 }
+        ensures made { OnOk result (self.new ≡ with_claim self.old id.now uid) }
+        ensures kept { IfErr result (λ fault. (fault ≡ ClaimFault.NoMemory) × (self.new ≡ self.old)) }
+    {
+        counts::one_more(&mut self.by_user, uid)?;
+        if counts::one_more(&mut self.by_id, *id).is_err() {
+            counts::one_less(&mut self.by_user, &uid);
+            return Err(ClaimFault::NoMemory);
+        }
+        if self.claims.insert((*id, uid)).is_err() {
+            counts::one_less(&mut self.by_user, &uid);
+            counts::one_less(&mut self.by_id, id);
+            return Err(ClaimFault::NoMemory);
+        }
         Ok(())
     }
 
@@ -66,44 +101,52 @@ impl Claims {
         ensures held { result ≡ has_claim self.old id.now uid }
         ensures gone { self.new ≡ without_claim self.old id.now uid }
     {
-        let held = self.has(id, uid);
-        self.claims.retain(|claim| !is_claim(claim, id, uid));
+        let held = self.claims.remove(&(*id, uid));
+        if held {
+            counts::one_less(&mut self.by_user, &uid);
+            counts::one_less(&mut self.by_id, id);
+        }
         held
     }
 
-    /// Takes away every claim on the key.
+    /// Takes away every claim on the key, one after another.
     pub fn clear(&mut self, id: &KeyId)
-        ensures { self.new ≡ without_key self.old id.now }
+        ensures { self.new ≡ without_id self.old id.now }
     {
-        self.claims.retain(|claim| claim.0 != *id);
+        while let Some(uid) = self.holder_of(id) {
+            self.unclaim(id, uid);
+        }
+    }
+
+    // The first user with a claim on the key, if there is one.
+    fn holder_of(&self, id: &KeyId) -> Option<u32>
+        ensures some { IfSome result (λ uid. has_claim self.now id.now uid ≡ true) }
+        ensures none { IfNone result ((uid : ℕ) → has_claim self.now id.now uid ≡ false) }
+    {
+        match self.claims.range((*id, 0)..).next() {
+            Some(claim) if claim.0 == *id => Some(claim.1),
+            _ => None,
+        }
     }
 
     /// Whether the user has a claim on the key.
     pub fn has(&self, id: &KeyId, uid: u32) -> bool
-        ensures held { result ≡ has_claim self.now id.now uid }
-        ensures once { IsWithoutRepeats self.now }
+        ensures { result ≡ has_claim self.now id.now uid }
     {
-        self.claims.iter().any(|claim| is_claim(claim, id, uid))
+        self.claims.contains(&(*id, uid))
     }
 
     /// How many claims the user has.
     pub fn count_of_uid(&self, uid: u32) -> u32
         ensures { result ≡ count_of_user self.now uid }
     {
-        self.claims.iter().filter(|claim| claim.1 == uid).count() as u32
+        counts::count_of(&self.by_user, &uid)
     }
 
     /// How many users have a claim on the key.
     pub fn count_of_id(&self, id: &KeyId) -> u32
         ensures { result ≡ count_of_id self.now id.now }
     {
-        self.claims.iter().filter(|claim| claim.0 == *id).count() as u32
+        counts::count_of(&self.by_id, id)
     }
-}
-
-/// Whether this is the user's claim on the key.
-fn is_claim(claim: &(KeyId, u32), id: &KeyId, uid: u32) -> bool
-    ensures { result ≡ same_claim claim.now (id.now, uid) }
-{
-    claim.0 == *id && claim.1 == uid
 }

@@ -3,13 +3,13 @@
 ghost use Rattle.std.specs.Prelude.{◌≡◌};
 ghost use Rattle.user_claims.specs.declared.fault.ClaimFault.TheVariants.{NoMemory};
 
-use std::alloc::AllocFailed;
+use std::alloc::AllocError;
 use thiserror::Error;
 
 /// Why a claim wasn't made. Whichever it is, all claims are as before.
 #[derive(Clone, Copy, Debug, PartialEq, Eq, Error)]
 pub enum ClaimFault {
-    /// The user has 64 claims.
+    /// The user has `MOST_CLAIMS` claims.
     #[error("the user has 64 claims")]
     Quota,
     /// There was no memory for it.
@@ -17,10 +17,10 @@ pub enum ClaimFault {
     NoMemory,
 }
 
-impl<T: Drop> From<AllocFailed<T>> for ClaimFault {
+impl From<AllocError> for ClaimFault {
     ghost from_gives = { λ _ fault. fault ≡ NoMemory };
 
-    fn from(_error: AllocFailed<T>) -> ClaimFault {
+    fn from(_error: AllocError) -> ClaimFault {
         ClaimFault::NoMemory
     }
 }

@@ -1,4 +1,4 @@
-//! The claims of users on keys: a set of pairs, in the order in which the claims were made.
+//! The claims of users on keys: a finite set of pairs.
 #![tactic(auto)]
 
 mod claims;
@@ -6,6 +6,6 @@ mod fault;
 #[cfg(test)]
 mod tests;
 
-pub use claims::Claims;
+pub use claims::{Claims, MOST_CLAIMS};
 pub use fault::ClaimFault;
-pub use fsc_keys::KeyId;
+pub use policy_ctx::KeyId;

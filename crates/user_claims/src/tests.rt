@@ -35,8 +35,10 @@ fn each_user_claims_for_itself(rt: HostRuntime) -> Result<(), Fail> {
     assert!(rt; !claims.has(&key(1), 1000));
     assert!(rt; claims.has(&key(1), 1001) && claims.has(&key(2), 1000));
 
+    claims.claim(&key(1), 0)?;
     claims.clear(&key(1));
     assert!(rt; claims.count_of_id(&key(1)) == 0);
     assert!(rt; claims.count_of_uid(1000) == 1);
+    assert!(rt; claims.count_of_uid(0) == 0 && claims.count_of_uid(1001) == 0);
     Ok(())
 }

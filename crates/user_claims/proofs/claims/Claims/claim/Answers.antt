@@ -1,9 +1,6 @@
-use Rattle.std.proofs.Common.{rules, sym, ap, ◌∙◌}
-use Rattle.fsc_keys.specs.Claims.{has_claim}
-use Rattle.user_claims.proofs.SetLemmas.{IsSet-push}
+use Rattle.std.proofs.Common.{sym, ◌∙◌}
+use Rattle.user_claims.proofs.ClaimLemmas.{with_claim-held}
 use Rattle.user_claims.proofs.claims.Claims.claim.Goals as goal
 
--- src/claims.rt:45:5
-pub invariant_of-self-2 : goal.invariant_of-self-2
-invariant_of-self-2 c = IsSet-push c.self.inside.claims.items c.push.new.self.items c.args.id.now c.args.uid c.self.invariant
-    (ap (λ cs. has_claim cs c.args.id.now c.args.uid) c.self.view_is ∙ sym c.if-has.ensures.held) (search rules) c.in_ok-push.ensures.items
+pub returns-then-has-clause-made : goal.returns-then-has-clause-made
+returns-then-has-clause-made c = sym (with_claim-held c.args.self.now c.args.id.now c.args.uid (sym c.has.ensures ∙ c.if-has.true))

@@ -1,18 +1,15 @@
-use Rattle.std.proofs.Common.{rules, ◌≡◌, not, ap, ◌∙◌}
-use Rattle.std.proofs.lemmas.Fn.{filter_same}
-use Rattle.fsc_keys.specs.Claims.{same_id, without_key}
-use Rattle.fsc_keys.proofs.ClaimLemmas.{IsWithoutRepeats-without_key}
-use Rattle.user_claims.proofs.SetLemmas.{IsSet-filter}
+use Rattle.std.proofs.Common.{◌<◌, sym, ap, ◌∙◌, subst}
+use Rattle.user_claims.specs.Claims.{without_id, count_of_id}
+use Rattle.user_claims.proofs.ClaimLemmas.{without_id-without_claim, without_id-none, count_of_id-fewer}
 use Rattle.user_claims.proofs.claims.Claims.clear.Goals as goal
 
-others : (c : goal.After-retain) → c.retain.new.self.items ≡ without_key c.self.inside.claims.items c.args.id.now
-others c = filter_same _ (λ claim. not (same_id claim.0 c.args.id.now)) _ (λ x b f' k. search rules) _ _ c.retain.ensures.filtered
+pub loop-uid-smaller : goal.loop-uid-smaller
+loop-uid-smaller c = subst (λ cs. count_of_id cs c.args.id.now < count_of_id c.loop-uid.self c.args.id.now) (sym c.unclaim.ensures.gone)
+    (count_of_id-fewer c.loop-uid.self c.args.id.now c.in-Some.uid c.in-Some.ensures.some)
 
--- src/claims.rt:76:5
-pub invariant_of-self : goal.invariant_of-self
-invariant_of-self c = IsSet-filter (λ claim. not (same_id claim.0 c.args.id.now)) c.self.inside.claims.items c.retain.new.self.items (others c) c.self.invariant
-    (IsWithoutRepeats-without_key c.self.inside.claims.items c.args.id.now c.self.invariant.1)
+pub loop-uid-preserved : goal.loop-uid-preserved
+loop-uid-preserved c = ap (λ cs. without_id cs c.args.id.now) c.unclaim.ensures.gone
+    ∙ (without_id-without_claim c.loop-uid.self c.args.id.now c.in-Some.uid ∙ c.loop-uid.invariant)
 
--- src/claims.rt:76:5
 pub returns : goal.returns
-returns c = others c ∙ ap (λ cs. without_key cs c.args.id.now) c.self.view_is
+returns c = sym (without_id-none c.loop-uid.self c.args.id.now c.in_default.ensures.none) ∙ c.loop-uid.invariant
