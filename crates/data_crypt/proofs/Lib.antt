@@ -1,1 +1,5 @@
+pub mod UnitLemmas
 pub mod ContentsLemmas
+pub mod WriteLemmas
+pub mod ChainLemmas
+pub mod ReadLemmas

@@ -1,32 +1,65 @@
--- What holds of sealed blocks and of files for every key and contents.
-use Rattle.std.specs.Prelude.{◌≡◌, ℕ, ◌<◌, List, length, Option, None, Some, slice_index}
-use Rattle.aes_core.specs.Laws.{AreBytes}
-use Rattle.data_crypt.specs.Blocks.{sealed_block, opened_block, stored_blocks, read_contents}
+-- What holds of sealed blocks and of files for every key, unit and contents.
+use Rattle.std.specs.Prelude.{◌≡◌, ℕ, ◌+◌, ◌-◌, ◌*◌, ◌<◌, ◌≤◌, List, ◌++◌, length, replicate, Option, None, Some}
+use Rattle.byte_words.specs.Bytes.{AreBytes}
+use Rattle.byte_words.specs.Contents.{with_bytes, bytes_from}
+use Rattle.policy_ctx.specs.declared.policy.Unit.{Unit as DataUnit}
+use Rattle.data_crypt.specs.Units.{sealed_block, opened_block}
+use Rattle.data_crypt.specs.Blocks.{Seal, block_count, plain_block, stored_block, read_block, stored_blocks, read_contents}
+use Rattle.data_crypt.specs.Parts.{block_with, edited, rewritten, blocks_joined, content_of}
 
 -- a block of contents: 4,096 bytes
 pub record IsContentsBlock (block : List ℕ) : Type 0 where
   pub size : length block ≡ 4096
-  pub bytes : (i : ℕ) → slice_index block i < 256
+  pub bytes : AreBytes block
 
 -- opening gives back each block that was sealed
 abbrev pub OpeningUndoes : Type 0
-OpeningUndoes = (key : List ℕ) (index : ℕ) (block : List ℕ) → AreBytes key → IsContentsBlock block → opened_block key index (sealed_block key index block) ≡ block
+OpeningUndoes = (key : List ℕ) (unit : DataUnit) (first : ℕ) (block : List ℕ) → AreBytes key → IsContentsBlock block →
+    opened_block key unit first (sealed_block key unit first block) ≡ block
 
 -- sealing gives back each block that was opened
 abbrev pub SealingUndoes : Type 0
-SealingUndoes = (key : List ℕ) (index : ℕ) (block : List ℕ) → AreBytes key → IsContentsBlock block → sealed_block key index (opened_block key index block) ≡ block
+SealingUndoes = (key : List ℕ) (unit : DataUnit) (first : ℕ) (block : List ℕ) → AreBytes key → IsContentsBlock block →
+    sealed_block key unit first (opened_block key unit first block) ≡ block
 
 -- both make blocks of blocks
 abbrev pub MakesBlocks : Type 0
-MakesBlocks = (key : List ℕ) (index : ℕ) (block : List ℕ) → AreBytes key → IsContentsBlock block →
-    IsContentsBlock (sealed_block key index block) × IsContentsBlock (opened_block key index block)
+MakesBlocks = (key : List ℕ) (unit : DataUnit) (first : ℕ) (block : List ℕ) → AreBytes key → IsContentsBlock block →
+    IsContentsBlock (sealed_block key unit first block) × IsContentsBlock (opened_block key unit first block)
 
 -- the key, where there is one, is bytes
-abbrev pub IsKeyOfBytes : Option (List ℕ) → Type 0
+abbrev pub IsKeyOfBytes : Option Seal → Type 0
 IsKeyOfBytes None = Unit {0}
-IsKeyOfBytes (Some key) = AreBytes key
+IsKeyOfBytes (Some seal) = AreBytes seal.key
 
 -- the contents come back from what is stored of them
 abbrev pub ContentsComeBack : Type 0
-ContentsComeBack = (key : Option (List ℕ)) (contents : List ℕ) → IsKeyOfBytes key → AreBytes contents →
-    read_contents key (length contents) (stored_blocks key contents) ≡ contents
+ContentsComeBack = (seal : Option Seal) (contents : List ℕ) → IsKeyOfBytes seal → AreBytes contents →
+    read_contents seal (length contents) (stored_blocks seal contents) ≡ contents
+
+-- each block of contents into which bytes were written is the block before with its part of them,
+-- also where there was none before
+abbrev pub PiecesFallIntoBlocks : Type 0
+PiecesFallIntoBlocks = (at : ℕ) (bytes contents : List ℕ) (j : ℕ) →
+    plain_block (with_bytes at bytes contents) j ≡ block_with at bytes j (plain_block contents j)
+
+-- these blocks are enough for a piece: they begin where it does or before, with no gap behind those
+-- that are there, and end where it ends
+pub record Covers (first end at count had : ℕ) : Type 0 where
+  pub begins : 4096 * first ≤ at
+  pub joins : first ≤ had
+  pub reaches : at + count ≤ 4096 * end
+  pub ends : 4096 * end < at + count + 4096
+
+-- the stored blocks after a piece was written: those that it covers are stored anew
+abbrev pub WritesBlocks : Type 0
+WritesBlocks = (seal : Option Seal) (at : ℕ) (bytes contents : List ℕ) (first end : ℕ) → IsKeyOfBytes seal → AreBytes contents →
+    0 < length bytes → Covers first end at (length bytes) (block_count contents) →
+    edited (rewritten (stored_block seal) (read_block seal) (block_count contents) at bytes) first end (stored_blocks seal contents ++ replicate (end - block_count contents) (replicate 4096 0))
+    ≡ stored_blocks seal (with_bytes at bytes contents)
+
+-- a part of some stored blocks, opened, is that part of the contents
+abbrev pub ReadsParts : Type 0
+ReadsParts = (seal : Option Seal) (contents : List ℕ) (from count skip part : ℕ) → IsKeyOfBytes seal → AreBytes contents →
+    from + count ≤ block_count contents → 4096 * from + skip + part ≤ length contents → skip + part ≤ 4096 * count →
+    content_of seal from (blocks_joined (stored_blocks seal contents) from count) skip part ≡ bytes_from (4096 * from + skip) part contents

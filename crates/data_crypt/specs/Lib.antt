@@ -1,2 +1,4 @@
+pub mod Units
 pub mod Blocks
+pub mod Parts
 pub mod Laws

@@ -1,51 +1,69 @@
 //! Blocks of file contents: sealed and opened under a file's key, and changed in a part.
 #![tactic(auto)]
 
+mod laws;
 #[cfg(test)]
 mod tests;
+#[cfg(test)]
+mod vectors;
 
-ghost use Rattle.std.specs.Prelude.{◌≡◌, ◌+◌, ◌≤◌, length};
-ghost use Rattle.data_crypt.specs.Blocks.{opened_block, sealed_block, spliced};
-ghost use Rattle.data_crypt.specs.Laws.{ContentsComeBack, MakesBlocks, OpeningUndoes, SealingUndoes};
+ghost use Rattle.std.specs.Prelude.{◌≡◌, ◌+◌, ◌-◌, ◌≤◌, ◌^◌, length};
+ghost use Rattle.byte_words.specs.Contents.{spliced};
+ghost use Rattle.data_crypt.specs.Parts.{block_with};
+ghost use Rattle.data_crypt.specs.Units.{opened_block, sealed_block};
 
+pub use laws::{contents_come_back, opening_undoes_sealing, parts_are_read, pieces_are_written};
+use policy_ctx::Unit;
 use xts_mode::XtsKey;
 
-/// Encrypts a block of 4,096 bytes in place, by XTS-AES-256. `index` is its place in the file.
-#[tactic(auto, unfolding(crate::specs::Blocks::sealed_block))]
-pub fn seal_block(key: &XtsKey, index: u64, block: &mut [u8])
-    requires block_size { length block.old ≡ 4096 }
-    ensures { block.new ≡ sealed_block key.now index block.old }
+/// How many bytes a block of contents has.
+pub const BLOCK_SIZE: usize = 4096;
+
+/// Encrypts a block of 4,096 bytes in place, by XTS-AES-256, in data units. Unit i of the block has
+/// the index `first` + i; `first` is at most 2^64 - 8.
+pub fn seal_block(key: &XtsKey, unit: Unit, first: u64, block: &mut [u8])
+    requires block_size { length block.old ≡ BLOCK_SIZE }
+    requires room { first ≤ 2 ^ 64 - 8 }
+    ensures { block.new ≡ sealed_block key.now unit first block.old }
 {
-    key.encrypt_unit(index, block);
+    let size = unit.size();
+    'units: for i in 0..BLOCK_SIZE / size {
+        key.encrypt_unit(first + i as u64, &mut block[size * i..size * i + size]);
+    }
 }
 
-/// Decrypts a block of 4,096 bytes in place, by XTS-AES-256. `index` is its place in the file.
-#[tactic(auto, unfolding(crate::specs::Blocks::opened_block))]
-pub fn open_block(key: &XtsKey, index: u64, block: &mut [u8])
-    requires block_size { length block.old ≡ 4096 }
-    ensures { block.new ≡ opened_block key.now index block.old }
+/// Decrypts a block of 4,096 bytes in place, by XTS-AES-256, in data units. Unit i of the block has
+/// the index `first` + i; `first` is at most 2^64 - 8.
+pub fn open_block(key: &XtsKey, unit: Unit, first: u64, block: &mut [u8])
+    requires block_size { length block.old ≡ BLOCK_SIZE }
+    requires room { first ≤ 2 ^ 64 - 8 }
+    ensures { block.new ≡ opened_block key.now unit first block.old }
 {
-    key.decrypt_unit(index, block);
+    let size = unit.size();
+    'units: for i in 0..BLOCK_SIZE / size {
+        key.decrypt_unit(first + i as u64, &mut block[size * i..size * i + size]);
+    }
 }
 
 /// Puts `piece` at byte `at` of a plain block of 4,096 bytes. All else stays.
 pub fn splice(block: &mut [u8], at: usize, piece: &[u8])
-    requires block_size { length block.old ≡ 4096 }
-    requires fits { at + length piece.now ≤ 4096 }
+    requires block_size { length block.old ≡ BLOCK_SIZE }
+    requires fits { at + length piece.now ≤ BLOCK_SIZE }
     ensures { block.new ≡ spliced block.old at piece.now }
 {
     block[at..at + piece.len()].copy_from_slice(piece);
 }
 
-/// Does nothing. Its contract is the law that opening and sealing undo one another, for every key,
-/// index and block.
-pub fn opening_undoes_sealing()
-    ensures opened { OpeningUndoes }
-    ensures sealed { SealingUndoes }
-    ensures blocks { MakesBlocks }
-{}
-
-/// Does nothing. Its contract is the law that a file's contents come back from its stored blocks.
-pub fn contents_come_back()
-    ensures { ContentsComeBack }
-{}
+/// Puts that part of `bytes` into the plain block which falls into it: `bytes` are written from byte
+/// `offset` of the file on, and the block is its block `index`. All else stays.
+#[tactic(auto, unfolding(crate::specs::Parts::block_with))]
+pub fn put_part(block: &mut [u8], index: u32, offset: u32, bytes: &[u8])
+    requires block_size { length block.old ≡ BLOCK_SIZE }
+    ensures { block.new ≡ block_with offset bytes.now index block.old }
+{
+    let begin = BLOCK_SIZE as u64 * index as u64;
+    let place = (offset as u64).saturating_sub(begin).min(BLOCK_SIZE as u64) as usize;
+    let passed = begin.saturating_sub(offset as u64).min(bytes.len() as u64) as usize;
+    let count = (BLOCK_SIZE - place).min(bytes.len() - passed);
+    splice(block, place, &bytes[passed..passed + count]);
+}

@@ -1,92 +1,55 @@
-use crate::{open_block, seal_block, splice};
+use crate::vectors::STORED;
+use crate::{open_block, put_part, seal_block, splice};
+use policy_ctx::Unit;
 use sha2::{Digest, Sha256};
+use std::test::Fail;
 use xts_mode::XtsKey;
 
-// Blocks of two files that Linux 6.1 stored, with the SHA-256 of each stored block. The keys are the
-// files' contents keys, which HKDF-SHA512 makes of the master key 00 to 3f and the files' nonces
-// ab01d93dec201643a492a2ae0ff2f281 and 7b9f8d7296695fbcacd4340a064835d9. Byte q of a file is
-// (131 q + 29 (q / 256) + seed) modulo 256.
-#[test]
-fn blocks_are_those_that_linux_stored(rt: HostRuntime) {
-    let short_key: [u8; 64] = [
-        0x11, 0x2a, 0x5e, 0x0e, 0x2c, 0x60, 0x7e, 0xdb, 0x93, 0x26, 0x5f, 0xa0, 0xe2, 0xc9, 0x6c,
-        0x29, 0xe6, 0x72, 0x08, 0x97, 0x42, 0xdd, 0x5b, 0x49, 0xbe, 0x90, 0xa5, 0xd8, 0x0a, 0xfe,
-        0x9f, 0x39, 0x3c, 0xea, 0xdc, 0xf0, 0x45, 0x67, 0xd1, 0x14, 0x18, 0x33, 0x94, 0xf0, 0xae,
-        0x16, 0x4f, 0xb1, 0xc4, 0x32, 0xbe, 0x78, 0x40, 0x7e, 0x3a, 0x56, 0x75, 0x08, 0x08, 0x44,
-        0x8b, 0x7d, 0xe8, 0x3b,
-    ];
-    let long_key: [u8; 64] = [
-        0x06, 0x76, 0x3e, 0xa3, 0x39, 0xa3, 0x1c, 0xb9, 0x06, 0x0a, 0x72, 0x83, 0xdb, 0xce, 0xf9,
-        0x39, 0x73, 0xd0, 0x76, 0xfd, 0x0f, 0x9b, 0x77, 0xbd, 0x55, 0x12, 0x07, 0xa5, 0x73, 0x68,
-        0x27, 0x11, 0x2a, 0x69, 0x71, 0x45, 0x53, 0x41, 0x54, 0xc7, 0x68, 0x4a, 0x64, 0x72, 0x0d,
-        0xbc, 0xff, 0xfb, 0xdd, 0x31, 0x89, 0x9a, 0xdc, 0xc0, 0xde, 0xc9, 0x15, 0x0c, 0x64, 0xb0,
-        0x9d, 0x40, 0xbe, 0xd6,
-    ];
-    let stored: [(&[u8; 64], u64, u8, u8, [u8; 32]); 4] = [
-        (
-            &short_key,
-            4096,
-            3,
-            0,
-            [
-                0xc8, 0x94, 0x40, 0x46, 0x5c, 0x1d, 0x9c, 0x92, 0x4a, 0xb1, 0x25, 0xf3, 0x24, 0xd2,
-                0xc7, 0x5a, 0x00, 0xf1, 0xf0, 0x3b, 0x51, 0xca, 0x18, 0xa0, 0xc5, 0x1b, 0x8e, 0x44,
-                0xde, 0x3d, 0x9d, 0x3f,
-            ],
-        ),
-        (
-            &long_key,
-            9192,
-            1,
-            0,
-            [
-                0x0c, 0xfa, 0xec, 0xe6, 0x8d, 0x4a, 0x08, 0x7e, 0x75, 0xfc, 0xc8, 0x47, 0x4d, 0xfb,
-                0x78, 0x2b, 0x0d, 0xaa, 0xfb, 0x57, 0x4f, 0x0f, 0xce, 0x35, 0x2f, 0x7d, 0x09, 0x5e,
-                0x74, 0x19, 0x11, 0x24,
-            ],
-        ),
-        (
-            &long_key,
-            9192,
-            1,
-            1,
-            [
-                0x41, 0x7b, 0x8e, 0x57, 0xc0, 0x0a, 0x64, 0x0d, 0xda, 0x46, 0x26, 0x39, 0xf7, 0x95,
-                0xef, 0xf4, 0xc3, 0xda, 0xef, 0x3d, 0x3f, 0x9c, 0x29, 0x5f, 0x0d, 0x09, 0x65, 0xd2,
-                0x28, 0x34, 0xd4, 0x6d,
-            ],
-        ),
-        (
-            &long_key,
-            9192,
-            1,
-            2,
-            [
-                0xf9, 0x80, 0x6d, 0xe1, 0xa4, 0x79, 0xe9, 0xb2, 0x1a, 0x9d, 0x4e, 0x8d, 0x72, 0xd3,
-                0x02, 0x5b, 0x98, 0x97, 0xbe, 0x3d, 0x01, 0x64, 0x0b, 0xfb, 0x4b, 0xc9, 0x88, 0xae,
-                0x81, 0x9a, 0xf6, 0xf4,
-            ],
-        ),
-    ];
-    for (key, size, seed, index, want) in stored {
-        let mut plain = [0u8; 4096];
-        for i in 0..4096 {
-            let place = 4096 * index as u64 + i as u64;
-            if place < size {
-                plain[i] = ((131 * place + 29 * (place / 256) + seed as u64) % 256) as u8;
-            }
+// Block `index` of a file of this size, as the vectors fill it.
+fn plain_block(size: u64, seed: u64, index: u64) -> [u8; 4096] {
+    let mut plain = [0u8; 4096];
+    for (i, byte) in plain.iter_mut().enumerate() {
+        let place = index.wrapping_mul(4096).wrapping_add(i as u64);
+        if place < size {
+            let sum = place.wrapping_mul(131).wrapping_add(place / 256 * 29);
+            *byte = (sum.wrapping_add(seed) % 256) as u8;
         }
-        let key = XtsKey::new(key);
-        let mut block = plain;
-        seal_block(&key, index as u64, &mut block);
-        assert_eq!(rt;
-            Sha256::digest(&block).as_slice(),
-            want.as_slice(),
-            "block {index}"
-        );
-        open_block(&key, index as u64, &mut block);
-        assert_eq!(rt; block.as_slice(), plain.as_slice(), "block {index} opened");
     }
+    plain
+}
+
+#[test]
+fn blocks_are_those_that_linux_stored(rt: HostRuntime) -> Result<(), Fail> {
+    for known in &STORED {
+        let mut key = [0; 64];
+        hex::decode_to_slice(known.key, &mut key)?;
+        let key = XtsKey::new(&key);
+        let units = (4096 / known.unit.size()) as u64;
+        let first = ((known.inode as u64) << 32).wrapping_add(known.block.wrapping_mul(units));
+        assert!(rt; first < 1 << 63);
+        let plain = plain_block(known.size, known.seed, known.block);
+        let mut block = plain;
+        seal_block(&key, known.unit, first, &mut block);
+        assert_eq!(rt;
+            hex::encode(rt.alloc(), Sha256::digest(&block).as_slice())?.as_str(),
+            known.sha256
+        );
+        open_block(&key, known.unit, first, &mut block);
+        assert_eq!(rt; block.as_slice(), plain.as_slice());
+    }
+    Ok(())
+}
+
+#[test]
+fn unit_3_of_block_1_has_index_11_where_units_have_512_bytes(rt: HostRuntime) {
+    let key = XtsKey::new(&[7; 64]);
+    let plain = plain_block(8192, 1, 1);
+    let mut block = plain;
+    seal_block(&key, Unit::U512, 8, &mut block);
+    let mut unit = [0; 512];
+    unit.copy_from_slice(&plain[1536..2048]);
+    key.encrypt_unit(11, &mut unit);
+    assert_eq!(rt; &block[1536..2048], unit.as_slice());
 }
 
 #[test]
@@ -96,4 +59,13 @@ fn splice_changes_last_byte_alone(rt: HostRuntime) {
     want[4095] = 0xaa;
     splice(&mut block, 4095, &[0xaa]);
     assert_eq!(rt; block.as_slice(), want.as_slice());
+}
+
+#[test]
+fn a_piece_over_a_border_falls_into_both_blocks(rt: HostRuntime) {
+    let (mut first, mut second) = ([0u8; 4096], [0u8; 4096]);
+    put_part(&mut first, 0, 4094, b"abcde");
+    put_part(&mut second, 1, 4094, b"abcde");
+    assert_eq!(rt; &first[4093..], [0, b'a', b'b'].as_slice());
+    assert_eq!(rt; &second[..4], b"cde\0".as_slice());
 }

@@ -1,7 +1,7 @@
 -- The piece stands between what was before it and what was after it.
 use Rattle.std.proofs.Common.{◌≡◌, ◌+◌, ◌-◌, ◌++◌, take, drop, length, ap, ◌∙◌, arith}
 use Rattle.std.proofs.lemmas.List.{drop-drop}
-use Rattle.data_crypt.specs.Blocks.{spliced}
+use Rattle.byte_words.specs.Contents.{spliced}
 use Rattle.data_crypt.proofs.splice.Goals as goal
 
 pub returns : goal.returns

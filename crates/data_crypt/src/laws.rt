@@ -1,0 +1,26 @@
+//! The laws of sealed blocks and of files. No function here does anything: its contract is the law.
+ghost use Rattle.data_crypt.specs.Laws.{ContentsComeBack, MakesBlocks, OpeningUndoes, PiecesFallIntoBlocks, ReadsParts, SealingUndoes, WritesBlocks};
+
+/// Opening and sealing undo one another, for every key, unit, index and block.
+pub fn opening_undoes_sealing()
+    ensures opened { OpeningUndoes }
+    ensures sealed { SealingUndoes }
+    ensures blocks { MakesBlocks }
+{}
+
+/// A file's contents come back from its stored blocks.
+pub fn contents_come_back()
+    ensures { ContentsComeBack }
+{}
+
+/// Bytes that are written into contents change each block by their part in it, and the stored blocks
+/// where they fall.
+pub fn pieces_are_written()
+    ensures plain { PiecesFallIntoBlocks }
+    ensures stored { WritesBlocks }
+{}
+
+/// A part of some stored blocks, opened, is that part of the contents.
+pub fn parts_are_read()
+    ensures { ReadsParts }
+{}
