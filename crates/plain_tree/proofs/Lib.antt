@@ -1,0 +1,15 @@
+pub mod ChildLemmas
+pub mod ReadLemmas
+pub mod EditLemmas
+pub mod ReachedLemmas
+pub mod MadeLemmas
+pub mod EditedLemmas
+pub mod DroppedLemmas
+pub mod GoneLemmas
+pub mod MovedLemmas
+pub mod FirstLemmas
+pub mod SealLemmas
+pub mod SealedLemmas
+pub mod FoundLemmas
+pub mod FactLemmas
+pub mod AgreeLemmas

@@ -1,0 +1,68 @@
+-- The laws of seals: each kind of change of a sealed tree leaves it sealed, and a text leads where its
+-- name leads.
+use Rattle.std.specs.Prelude.{◌≡◌, ℕ, false, List, [], Some, None, option_map}
+use Rattle.policy_ctx.specs.declared.policy.Context.{Context}
+use Rattle.plain_tree.specs.Nodes.{Name, Node, Nodes, children, context_at, policy_at, is_named, entry}
+use Rattle.plain_tree.specs.Changes.{made, dropped, gone, moved, written, encrypted}
+use Rattle.plain_tree.specs.Tree.{IsTree}
+use Rattle.plain_tree.specs.Laws.{IsNew, CanBeMade, CanBeMoved}
+use Rattle.plain_tree.specs.Seals.{Texts, has_text, entry_by_text, IsSealed}
+
+-- under a policy the new node has that policy, and no name has the new one's text
+pub record FitsInto (texts : Texts) (nodes : Nodes) (d : ℕ) (name : Name) (v : Node) : Type 0 where
+  pub inherits : (context : Context) → context_at nodes d ≡ Some context
+      → option_map (λ c. c.policy) v.context ≡ Some context.policy
+  pub apart : (context : Context) → context_at nodes d ≡ Some context
+      → has_text texts nodes d context (texts d context name) ≡ false
+
+-- the same of a node that is moved; a name that is to go counts among those that are there
+pub record MovesInto (texts : Texts) (nodes : Nodes) (to : ℕ) (new_name : Name) (x : ℕ) : Type 0 where
+  pub inherits : (context : Context) → context_at nodes to ≡ Some context
+      → policy_at nodes x ≡ Some context.policy
+  pub apart : (context : Context) → context_at nodes to ≡ Some context
+      → has_text texts nodes to context (texts to context new_name) ≡ false
+
+abbrev pub MakingKeepsSeals : Type 0
+MakingKeepsSeals = (texts : Texts) (nodes : Nodes) (next d : ℕ) (name : Name) (v : Node)
+    → IsTree nodes next → CanBeMade nodes d name → IsNew v
+    → IsSealed texts nodes → FitsInto texts nodes d name v → IsSealed texts (made nodes d name next v)
+
+abbrev pub DroppingKeepsSeals : Type 0
+DroppingKeepsSeals = (texts : Texts) (nodes : Nodes) (next d : ℕ) (name : Name) (x : ℕ)
+    → IsTree nodes next → entry nodes d name ≡ Some x → children nodes x ≡ []
+    → IsSealed texts nodes → IsSealed texts (dropped nodes d name x)
+
+abbrev pub GoingKeepsSeals : Type 0
+GoingKeepsSeals = (texts : Texts) (nodes : Nodes) (next x : ℕ) → IsTree nodes next
+    → is_named nodes x ≡ false
+    → IsSealed texts nodes → IsSealed texts (gone nodes x)
+
+abbrev pub MovingKeepsSeals : Type 0
+MovingKeepsSeals = (texts : Texts) (nodes : Nodes) (next d : ℕ) (name : Name) (to : ℕ) (new_name : Name) (x : ℕ)
+    → IsTree nodes next → CanBeMoved nodes d name to new_name x
+    → IsSealed texts nodes → MovesInto texts nodes to new_name x
+    → IsSealed texts (moved nodes d name to new_name x)
+
+abbrev pub WritingKeepsSeals : Type 0
+WritingKeepsSeals = (texts : Texts) (nodes : Nodes) (x : ℕ) (f : List ℕ → List ℕ) → IsSealed texts nodes
+    → IsSealed texts (written nodes x f)
+
+-- an empty directory without policy gets one
+abbrev pub EncryptingKeepsSeals : Type 0
+EncryptingKeepsSeals = (texts : Texts) (nodes : Nodes) (x : ℕ) (context : Context)
+    → context_at nodes x ≡ None → children nodes x ≡ []
+    → IsSealed texts nodes → IsSealed texts (encrypted nodes x context)
+
+-- where a key comes that no text rested on, the texts are as before
+abbrev pub SameTextsKeepSeals : Type 0
+SameTextsKeepSeals = (texts others : Texts) (nodes : Nodes) → IsSealed texts nodes
+    → ((d : ℕ) (context : Context) (name : Name) → context_at nodes d ≡ Some context
+    → others d context name ≡ texts d context name)
+    → IsSealed others nodes
+
+-- the text of a name leads to the node to which the name leads
+abbrev pub TextsLead : Type 0
+TextsLead = (texts : Texts) (nodes : Nodes) (d : ℕ) (context : Context) (name : Name) (x : ℕ)
+    → IsSealed texts nodes
+    → context_at nodes d ≡ Some context → entry nodes d name ≡ Some x
+    → entry_by_text texts nodes d context (texts d context name) ≡ Some x
