@@ -6,6 +6,7 @@ ghost use Rattle.std.specs.Prelude.{◌↔◌, IsTrue, Contains};
 
 use thiserror::Error;
 
+mod input;
 mod random;
 mod seed;
 mod sink;
@@ -13,6 +14,7 @@ mod source;
 mod standard;
 mod whole;
 
+pub use input::{InputFault, InputLimits, read_all};
 use item_list::Items;
 pub use random::RuntimeSeed;
 pub use seed::{FixedSeed, SeedSource};

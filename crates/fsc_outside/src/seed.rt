@@ -1,74 +1,78 @@
 //! Sources of seeds: the trait, and a source with one seed.
 
-ghost use Rattle.std.specs.Prelude.{◌≡◌, ℕ, List, Option, is_some, if◌then◌else◌};
+ghost use Rattle.std.specs.Prelude.{◌≡◌, ℕ, List, Option, Some, None, is_some, if◌then◌else◌};
 ghost use Rattle.std.specs.Result.{result_ok};
 ghost use Rattle.fsc_outside.specs.Causes.{GivesSeed, HasCause, one_more};
+ghost use Rattle.fsc_outside.specs.States.{SeedState};
 
 use crate::Failed;
 use std::marker::Model;
 
 /// Where seeds come from. Its meaning is the seed that its next successful call gives, where it
-/// tells it.
+/// tells it, and how often it was asked and failed.
 pub trait SeedSource {
-    /// The seed that comes next, where it is known.
-    ghost next_seed: { Self → Option (List ℕ) };
+    /// What is known of it now. Its counts never fall.
+    ghost state: { Self → SeedState };
 
-    /// How often a call failed. It never falls.
-    ghost faults: { Self → ℕ };
-
-    /// Gives a seed.
+    /// Gives a seed. Each call counts as one that asked.
     fn seed(&mut self) -> Result<[u8; 32], Failed>
-        ensures value { GivesSeed (next_seed self.old) result }
-        ensures cause { HasCause (faults self.old) (faults self.new) result };
+        ensures value { GivesSeed (state self.old).next result }
+        ensures asked { (state self.new).asked ≡ one_more (state self.old).asked }
+        ensures cause { HasCause (state self.old).faults (state self.new).faults result };
 }
 
-/// A source of one seed, which it gives at each call, or of none. In clauses it is its seed, and how
-/// often a call failed.
+/// A source of one seed, which it gives at each call, or of none. In clauses it is a `SeedState`.
 #[derive(Drop)]
 pub struct FixedSeed {
     seed: Option<[u8; 32]>,
+    asked: u64,
     faults: u64,
 }
 
 impl Model for FixedSeed {
-    ghost Value = { Option (List ℕ) × ℕ };
+    ghost use Rattle.fsc_outside.specs.States.{SeedState};
 
-    ghost view = { λ s. (s.seed, s.faults) };
+    ghost Value = { SeedState };
+
+    ghost view = { λ s. record { next = s.seed; asked = s.asked; faults = s.faults } };
 }
 
 impl FixedSeed {
     /// A source that gives this seed at each call.
     pub fn new(seed: [u8; 32]) -> FixedSeed
-        ensures { result ≡ (Some seed, 0) }
+        ensures { result ≡ record { next = Some seed; asked = 0; faults = 0 } }
     {
         FixedSeed {
             seed: Some(seed),
+            asked: 0,
             faults: 0,
         }
     }
 
     /// A source that fails at each call.
     pub fn failing() -> FixedSeed
-        ensures { result ≡ (None, 0) }
+        ensures { result ≡ record { next = None; asked = 0; faults = 0 } }
     {
         FixedSeed {
             seed: None,
+            asked: 0,
             faults: 0,
         }
     }
 }
 
 impl SeedSource for FixedSeed {
-    ghost next_seed = { λ s. s.0 };
-
-    ghost faults = { λ s. s.1 };
+    ghost state = { λ s. s };
 
     fn seed(&mut self) -> Result<[u8; 32], Failed>
-        ensures value { GivesSeed self.old.0 result }
-        ensures cause { HasCause self.old.1 self.new.1 result }
-        ensures given { result_ok result ≡ self.old.0 }
-        ensures counted { self.new ≡ (self.old.0, if is_some self.old.0 then self.old.1 else one_more self.old.1) }
+        ensures value { GivesSeed self.old.next result }
+        ensures asked { self.new.asked ≡ one_more self.old.asked }
+        ensures cause { HasCause self.old.faults self.new.faults result }
+        ensures given { result_ok result ≡ self.old.next }
+        ensures kept { self.new.next ≡ self.old.next }
+        ensures counted { self.new.faults ≡ (if is_some self.old.next then self.old.faults else one_more self.old.faults) }
     {
+        self.asked = self.asked.saturating_add(1);
         match self.seed {
             Some(seed) => Ok(seed),
             None => {

@@ -4,26 +4,25 @@ ghost use Rattle.std.specs.Prelude.{◌≡◌, ℕ, ◌≤◌, ◌<◌, ◌↔�
 ghost use Rattle.std.specs.Io.{WritesAtMost};
 ghost use Rattle.std.specs.Io.KnownBytes.{WriteAppends};
 ghost use Rattle.fsc_outside.specs.Causes.{HasCause};
+ghost use Rattle.fsc_outside.specs.States.{SinkState};
 ghost use Rattle.fsc_outside.specs.Sinks.{Tank, RefusesNext, next_taken, failed_write, after_write};
 
 use crate::{CallList, Failed, is_listed};
 use std::alloc::{AllocError, Global};
 use std::marker::Model;
 
-/// Where bytes go. Its meaning is the bytes that it got, where it tells them.
+/// Where bytes go. Its meaning is the bytes that it got, where it tells them, and how often a call
+/// failed.
 pub trait Sink {
-    /// The bytes got, where they are known.
-    ghost got: { Self → Option (List ℕ) };
-
-    /// How often a call failed. It never falls.
-    ghost faults: { Self → ℕ };
+    /// What is known of it now. Its count never falls.
+    ghost state: { Self → SinkState };
 
     /// Takes bytes from the front of `piece` and tells how many, of a nonempty piece at least one.
     fn write(&mut self, piece: &[u8]) -> Result<usize, Failed>
         ensures bound { WritesAtMost result piece.now }
         ensures progress { IfOk result (λ count. 0 < length piece.now → 0 < count) }
-        ensures bytes { WriteAppends (got self.old) (got self.new) result piece.now }
-        ensures cause { HasCause (faults self.old) (faults self.new) result };
+        ensures bytes { WriteAppends (state self.old).got (state self.new).got result piece.now }
+        ensures cause { HasCause (state self.old).faults (state self.new).faults result };
 }
 
 /// A sink in memory that takes pieces into a room of a given size, and fails at the calls that it
@@ -82,9 +81,7 @@ impl MemSink {
 }
 
 impl Sink for MemSink {
-    ghost got = { λ s. Some s.got };
-
-    ghost faults = { λ s. s.faults };
+    ghost state = { λ s. record { got = Some s.got; faults = s.faults } };
 
     fn write(&mut self, piece: &[u8]) -> Result<usize, Failed>
         ensures bound { WritesAtMost result piece.now }
@@ -125,9 +122,7 @@ impl SteadySink {
 }
 
 impl Sink for SteadySink {
-    ghost got = { λ _. None };
-
-    ghost faults = { λ _. 0 };
+    ghost state = { λ _. record { got = None; faults = 0 } };
 
     fn write(&mut self, piece: &[u8]) -> Result<usize, Failed>
         ensures bound { WritesAtMost result piece.now }

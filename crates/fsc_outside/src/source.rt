@@ -4,25 +4,24 @@ ghost use Rattle.std.specs.Prelude.{◌≡◌, ℕ, ◌≤◌, ◌<◌, ◌↔�
 ghost use Rattle.std.specs.Io.{ReadsAtMost};
 ghost use Rattle.std.specs.Io.KnownBytes.{ReadConsumes};
 ghost use Rattle.fsc_outside.specs.Causes.{HasCause};
+ghost use Rattle.fsc_outside.specs.States.{SourceState};
 ghost use Rattle.fsc_outside.specs.Sources.{Feed, FailsNext, next_count, failed_read, after_read};
 
 use crate::{CallList, Failed, is_listed};
 use std::marker::Model;
 
-/// Where bytes come from. Its meaning is the bytes that are left, where it tells them.
+/// Where bytes come from. Its meaning is the bytes that are left, where it tells them, and how often
+/// a call failed.
 pub trait Source {
-    /// The bytes left, where they are known.
-    ghost left: { Self → Option (List ℕ) };
-
-    /// How often a call failed. It never falls.
-    ghost faults: { Self → ℕ };
+    /// What is known of it now. Its count never falls.
+    ghost state: { Self → SourceState };
 
     /// Puts the next bytes at the front of `piece` and tells how many. None for a nonempty piece
     /// means the end.
     fn read(&mut self, piece: &mut [u8]) -> Result<usize, Failed>
         ensures bound { ReadsAtMost result piece.new }
-        ensures bytes { ReadConsumes (left self.old) (left self.new) result piece.new }
-        ensures cause { HasCause (faults self.old) (faults self.new) result };
+        ensures bytes { ReadConsumes (state self.old).left (state self.new).left result piece.new }
+        ensures cause { HasCause (state self.old).faults (state self.new).faults result };
 }
 
 /// A source in memory that gives pieces, and fails at the calls that it is told.
@@ -67,9 +66,7 @@ impl MemSource {
 }
 
 impl Source for MemSource {
-    ghost left = { λ s. Some s.left };
-
-    ghost faults = { λ s. s.faults };
+    ghost state = { λ s. record { left = Some s.left; faults = s.faults } };
 
     fn read(&mut self, piece: &mut [u8]) -> Result<usize, Failed>
         ensures bound { ReadsAtMost result piece.new }
@@ -116,9 +113,7 @@ impl SteadySource {
 }
 
 impl Source for SteadySource {
-    ghost left = { λ s. Some s };
-
-    ghost faults = { λ _. 0 };
+    ghost state = { λ s. record { left = Some s; faults = 0 } };
 
     fn read(&mut self, piece: &mut [u8]) -> Result<usize, Failed>
         ensures bound { ReadsAtMost result piece.new }

@@ -4,6 +4,7 @@ ghost use Rattle.std.specs.Prelude.{◌≡◌, ℕ};
 ghost use Rattle.std.specs.Io.{ReadsAtMost, WritesAtMost};
 ghost use Rattle.std.specs.Io.KnownBytes.{ReadConsumes, WriteAppends};
 ghost use Rattle.fsc_outside.specs.Causes.{HasCause};
+ghost use Rattle.fsc_outside.specs.States.{SourceState, SinkState};
 
 use crate::{Failed, Sink, Source};
 use std::io::{Read, Stdin, Stdout, Write};
@@ -42,9 +43,7 @@ impl StdSource<Stdin> {
 }
 
 impl<R: Read + Drop> Source for StdSource<R> {
-    ghost left = { λ s. R.remaining s.0 };
-
-    ghost faults = { λ s. s.1 };
+    ghost state = { λ s. record { left = R.remaining s.0; faults = s.1 } };
 
     fn read(&mut self, piece: &mut [u8]) -> Result<usize, Failed> {
         match self.reader.read(piece) {
@@ -91,9 +90,7 @@ impl StdSink<Stdout> {
 }
 
 impl<W: Write + Drop> Sink for StdSink<W> {
-    ghost got = { λ s. W.contents s.0 };
-
-    ghost faults = { λ s. s.1 };
+    ghost state = { λ s. record { got = W.contents s.0; faults = s.1 } };
 
     fn write(&mut self, piece: &[u8]) -> Result<usize, Failed> {
         match self.writer.write(piece) {

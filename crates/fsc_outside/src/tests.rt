@@ -1,6 +1,6 @@
 use crate::{
-    CallList, Failed, FixedSeed, MemSink, MemSource, RuntimeSeed, SeedSource, Sink, Source,
-    StdSink, StdSource, SteadySink, SteadySource,
+    CallList, Failed, FixedSeed, InputFault, InputLimits, MemSink, MemSource, RuntimeSeed,
+    SeedSource, Sink, Source, StdSink, StdSource, SteadySink, SteadySource, read_all,
 };
 use std::alloc::AllocError;
 use std::io;
@@ -85,13 +85,50 @@ impl RandomSource for Broken {
     }
 }
 
+// Of 16 seeds, no two are alike and no byte is the same in all.
 #[test]
 fn the_runtime_gives_other_bytes_each_time(rt: HostRuntime) -> Result<(), Fault> {
     let mut seeds = RuntimeSeed::new(&rt);
-    let first = seeds.seed()?;
-    let second = seeds.seed()?;
-    assert!(rt; first != second);
-    assert!(rt; first.iter().any(|byte| *byte != 0));
+    let mut given = [[0; 32]; 16];
+    for i in 0..16 {
+        given[i] = seeds.seed()?;
+    }
+    for i in 0..16 {
+        for j in 0..i {
+            assert!(rt; given[i] != given[j], "seeds {j} and {i}");
+        }
+    }
+    for place in 0..32 {
+        let first = given[0][place];
+        assert!(rt;
+            given.iter().any(|seed| seed[place] != first),
+            "byte {place}"
+        );
+    }
     assert!(rt; RuntimeSeed::new(&Broken).seed().is_err());
+    Ok(())
+}
+
+// A text at a limit is read, and one line or byte more is too long. Nothing behind the first byte that
+// is too many is read.
+#[test]
+fn inputs_are_read_within_their_limits(rt: HostRuntime) -> Result<(), Fault> {
+    let limits = InputLimits { bytes: 6, lines: 2 };
+    for (text, wanted, left) in [
+        ("", Ok(""), 0),
+        ("a\nb\n", Ok("a\nb\n"), 0),
+        ("a\nb\nc", Err(InputFault::TooLong), 0),
+        ("abcdef", Ok("abcdef"), 0),
+        ("abcdefgh", Err(InputFault::TooLong), 1),
+    ] {
+        let mut source = SteadySource::new(Vec::from_slice(rt.alloc(), text.as_bytes())?);
+        let read = read_all(rt.alloc(), &mut source, limits);
+        match (read, wanted) {
+            (Ok(text), Ok(wanted)) => assert_eq!(rt; text.as_slice(), wanted.as_bytes()),
+            (Err(fault), Err(wanted)) => assert_eq!(rt; fault, wanted),
+            _ => assert!(rt; false, "of {text:?}"),
+        }
+        assert_eq!(rt; source.read(&mut [0; 8])?, left);
+    }
     Ok(())
 }

@@ -8,7 +8,7 @@ use crate::{Failed, Sink};
 /// Writes the whole text, in as many pieces as the sink takes it in. An empty text makes no call, and the
 /// first failure ends the writing.
 pub fn write_all<K: Sink>(sink: &mut K, text: &[u8]) -> Result<(), Failed>
-    ensures { EndsWriting (K.got sink.old) (K.got sink.new) (K.faults sink.old) (K.faults sink.new) text.now result }
+    ensures { EndsWriting (K.state sink.old) (K.state sink.new) text.now result }
 {
     let mut written = 0;
     'writing: while written < text.len() {

@@ -1,5 +1,5 @@
 -- What the sections of a script ask of the mount.
-use Rattle.std.specs.Prelude.{ℕ, List, map}
+use Rattle.std.specs.Prelude.{ℕ, Bool, true, false, List, All, map}
 use Rattle.policy_ctx.specs.declared.policy.KeyId.{KeyId}
 use Rattle.fsc_keys.specs.Keys.{key_id_of}
 use Rattle.mount_model.specs.declared.call.Call.{Call}
@@ -11,6 +11,7 @@ use Rattle.script_lang.specs.declared.commands.Verb.{Verb}
 use Rattle.script_lang.specs.declared.commands.Verb.TheVariants.{AddKey, RemoveKey, KeyStatus}
 use Rattle.script_lang.specs.declared.commands.KeyRef.{KeyRef}
 use Rattle.script_lang.specs.declared.commands.KeyRef.TheVariants.{Id, Raw}
+use Rattle.script_lang.specs.Spelled.{IsAskable}
 
 -- the identifier that a key's reference means: raw bytes mean theirs
 abbrev pub id_meant : KeyRef → KeyId
@@ -26,6 +27,16 @@ op_of (KeyStatus key) = op.KeyStatus (id_meant key)
 -- the call that a user's command makes
 abbrev pub call_of : ℕ → Command → Call
 call_of uid command = record { uid = uid; op = op_of command.verb }
+
+-- whether the call of a command holds bytes of its own
+abbrev pub holds_bytes : Verb → Bool
+holds_bytes (AddKey raw) = true
+holds_bytes (RemoveKey key) = false
+holds_bytes (KeyStatus key) = false
+
+-- each command of the section is one that words can ask for
+abbrev pub AsksRightly : Section → Type 0
+AsksRightly section = All (λ command. IsAskable command.verb) section.commands
 
 -- the calls of a section, in order
 abbrev pub section_calls : Section → List Call

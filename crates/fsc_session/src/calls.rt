@@ -1,16 +1,23 @@
 //! The calls that the commands of a script make.
 
-ghost use Rattle.std.specs.Prelude.{◌≡◌, IfOk};
-ghost use Rattle.fsc_session.specs.Session.{call_of, id_meant};
+ghost use Rattle.std.specs.Prelude.{◌≡◌, IfOk, OnErr, IsTrue};
+ghost use Rattle.mount_model.specs.Fits.{Fits};
+ghost use Rattle.script_lang.specs.Spelled.{IsAskable};
+ghost use Rattle.fsc_session.specs.Session.{call_of, holds_bytes, id_meant};
 
 use fsc_keys::{KeyId, key_id};
 use mount_model::{Call, Op};
 use script_lang::{Command, KeyRef, Verb};
 use std::alloc::{AllocError, Global};
 
-/// The call that a user's command makes. It holds its own copy of the bytes of a key that is added.
+/// The call that a user's command makes: one that a mount may be asked, where words can ask for the
+/// command, as for each of a script that was read. It holds its own copy of the bytes of a key that is
+/// added; no other command takes memory.
 pub fn call_of(alloc: Global, uid: u32, command: &Command) -> Result<Call, AllocError>
-    ensures { IfOk result (λ call. call ≡ call_of uid command.now) }
+    requires { IsAskable command.now.verb }
+    ensures value { IfOk result (λ call. call ≡ call_of uid command.now) }
+    ensures fits { IfOk result Fits }
+    ensures memory { OnErr result (IsTrue (holds_bytes command.now.verb)) }
 {
     let op = match &command.verb {
         Verb::AddKey(raw) => Op::AddKey {

@@ -1,23 +1,12 @@
 //! fsc: replays a script over an encrypted directory tree in memory, and prints a log.
 #![tactic(auto)]
 
-mod input;
-mod log;
-mod ring;
-#[cfg(test)]
-mod rows;
-mod run;
-mod seed;
-mod status;
-mod tool;
-mod words;
-
 use fsc_outside::{RuntimeSeed, StdSink, StdSource, write_all};
-use status::Status;
+use fsc_tool::tool_serial;
+use reply_text::Status;
 use std::env;
 use std::io::ErrorKind;
 use std::process::ExitCode;
-use tool::tool_serial;
 
 const HELP: &str = "\
 fsc replays a script over an encrypted directory tree in memory, and prints a log.

@@ -4,8 +4,8 @@ use Rattle.fsc_outside.proofs.whole.write_all.Given as goal
 
 abbrev pub invariant-writing : goal.invariant-writing
 invariant-writing g l = record {
-  taken : Appends (g.K.Sink.got l.initial.sink) (g.K.Sink.got l.sink) (take l.written l.text);
-  quiet : g.K.Sink.faults l.sink ≡ g.K.Sink.faults l.initial.sink;
+  taken : Appends (g.K.Sink.state l.initial.sink).got (g.K.Sink.state l.sink).got (take l.written l.text);
+  quiet : (g.K.Sink.state l.sink).faults ≡ (g.K.Sink.state l.initial.sink).faults;
   within : l.written ≤ length l.text;
 }
 

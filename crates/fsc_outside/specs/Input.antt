@@ -1,0 +1,60 @@
+-- What reading a source to its end does, within limits.
+use Rattle.std.specs.Prelude.{ℕ, ◌≡◌, ◌+◌, ◌<◌, ◌≤◌, ◌⊎◌, List, length, Result, Ok, Err}
+use Rattle.std.specs.Io.KnownBytes.{Consumes, IsAtEnd}
+use Rattle.text_words.specs.Lines.{line_count}
+use Rattle.fsc_outside.specs.Causes.{Rose}
+use Rattle.fsc_outside.specs.States.{SourceState}
+use Rattle.fsc_outside.specs.declared.input.InputLimits.{InputLimits}
+use Rattle.fsc_outside.specs.declared.input.InputFault.{InputFault}
+use Rattle.fsc_outside.specs.declared.input.InputFault.TheVariants.{ReadFault, TooLong, NoMemory}
+
+-- a source gave these bytes, and ended
+pub record GaveWhole (old new : SourceState) (bytes : List ℕ) : Type 0 where
+  pub given : Consumes old.left new.left bytes
+  pub ended : IsAtEnd new.left
+
+-- a text within the limits
+pub record IsWithin (limits : InputLimits) (text : List ℕ) : Type 0 where
+  pub bytes : length text ≤ limits.bytes
+  pub lines : line_count text ≤ limits.lines
+
+-- a source gave just one byte beyond the limit, and was asked for no more
+pub record GaveByteMore (limits : InputLimits) (old new : SourceState) (bytes : List ℕ) : Type 0 where
+  pub given : Consumes old.left new.left bytes
+  pub size : length bytes ≡ limits.bytes + 1
+
+-- a source gave a whole text of no more bytes, and of too many lines
+pub record GaveLinesMore (limits : InputLimits) (old new : SourceState) (bytes : List ℕ) : Type 0 where
+  pub gave : GaveWhole old new bytes
+  pub size : length bytes ≤ limits.bytes
+  pub lines : limits.lines < line_count bytes
+
+-- what is too long, and how much of it is read
+abbrev pub GaveTooMuch : InputLimits → SourceState → SourceState → List ℕ → Type 0
+GaveTooMuch limits old new bytes = GaveByteMore limits old new bytes ⊎ GaveLinesMore limits old new bytes
+
+-- the text was read whole
+pub record ReadWhole (limits : InputLimits) (old new : SourceState) (text : List ℕ) : Type 0 where
+  pub gave : GaveWhole old new text
+  pub within : IsWithin limits text
+  pub quiet : new.faults ≡ old.faults
+
+-- a text beyond a limit was begun
+pub record ReadTooMuch (limits : InputLimits) (old new : SourceState) : Type 0 where
+  pub bytes : List ℕ
+  pub gave : GaveTooMuch limits old new bytes
+  pub quiet : new.faults ≡ old.faults
+
+-- how reading to the end ends
+abbrev pub EndsReading : InputLimits → SourceState → SourceState → Result (List ℕ) InputFault → Type 0
+EndsReading limits old new (Ok text) = ReadWhole limits old new text
+EndsReading limits old new (Err ReadFault) = Rose old.faults new.faults
+EndsReading limits old new (Err TooLong) = ReadTooMuch limits old new
+EndsReading limits old new (Err NoMemory) = new.faults ≡ old.faults
+
+-- a text with too many lines is refused, and any other is handed over
+abbrev pub LimitsLines : ℕ → List ℕ → Result (List ℕ) InputFault → Type 0
+LimitsLines most text (Ok same) = (same ≡ text) × (line_count text ≤ most)
+LimitsLines most text (Err TooLong) = most < line_count text
+LimitsLines most text (Err ReadFault) = ⊥
+LimitsLines most text (Err NoMemory) = ⊥

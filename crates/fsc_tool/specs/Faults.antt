@@ -1,0 +1,18 @@
+-- How a run ends that has no script.
+use Rattle.fsc_outside.specs.declared.input.InputFault.{InputFault}
+use Rattle.fsc_outside.specs.declared.input.InputFault.TheVariants as input
+use Rattle.script_lang.specs.declared.reader.ScriptFault.{ScriptFault}
+use Rattle.script_lang.specs.declared.reader.ScriptFault.TheVariants as script
+use Rattle.reply_text.specs.declared.status.Status.{Status}
+use Rattle.reply_text.specs.declared.status.Status.TheVariants.{BadLine, ReadFault, TooLong, NoMemory}
+
+-- each fault of reading has a status of its own
+abbrev pub input_status : InputFault → Status
+input_status input.ReadFault = ReadFault
+input_status input.TooLong = TooLong
+input_status input.NoMemory = NoMemory
+
+-- and each fault of the script
+abbrev pub script_status : ScriptFault → Status
+script_status (script.BadLine line) = BadLine line
+script_status script.NoMemory = NoMemory

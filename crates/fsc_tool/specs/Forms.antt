@@ -1,0 +1,24 @@
+-- The words of the command line: `replay --serial`, and `replay --serial --seed HEX64`.
+use Rattle.std.specs.Prelude.{ℕ, List, [], ◌∷◌, ◌&&◌, Bool, codes, Option, Some, None, if◌then◌else◌}
+use Rattle.std.specs.Option.{option_map}
+use Rattle.std.specs.Str.{bytes_eq}
+use Rattle.text_words.specs.Digits.{hex_bytes_of_length}
+use Rattle.fsc_tool.specs.declared.form.Form.{Form}
+use Rattle.fsc_tool.specs.declared.form.Form.TheVariants.{Seeded, Unseeded}
+
+-- whether two words ask for a serial replay
+abbrev pub is_serial_replay : List ℕ → List ℕ → Bool
+is_serial_replay verb serial = bytes_eq verb (codes "replay") && bytes_eq serial (codes "--serial")
+
+-- the form that the words behind those two make: without a seed, or with 32 bytes in 64 digits of
+-- either case
+abbrev pub form_behind : List (List ℕ) → Option Form
+form_behind [] = Some Unseeded
+form_behind (name ∷ digits ∷ []) =
+    if bytes_eq name (codes "--seed") then option_map Seeded (hex_bytes_of_length 32 digits) else None
+form_behind _ = None
+
+-- the form that the words are, where they are one
+abbrev pub form_of : List (List ℕ) → Option Form
+form_of (verb ∷ serial ∷ words) = if is_serial_replay verb serial then form_behind words else None
+form_of _ = None

@@ -1,0 +1,12 @@
+-- The limits of an input.
+use Rattle.std.specs.Prelude.{◌<◌, ◌⊎◌, ℕ, List, length}
+use Rattle.text_words.specs.Lines.{line_count}
+use Rattle.fsc_outside.specs.declared.input.InputLimits.{InputLimits}
+use Rattle.fsc_tool.specs.declared.limits.TheConstants.{MOST_INPUT_BYTES, MOST_INPUT_LINES}
+
+abbrev pub input_limits : InputLimits
+input_limits = record { bytes = MOST_INPUT_BYTES; lines = MOST_INPUT_LINES }
+
+-- a text beyond a limit
+abbrev pub IsLong : List ℕ → Type 0
+IsLong text = (MOST_INPUT_BYTES < length text) ⊎ (MOST_INPUT_LINES < line_count text)

@@ -1,0 +1,43 @@
+-- The theorem of the tool: what holds of each run, from what it met outside to what it leaves.
+use Rattle.std.specs.Prelude.{◌≡◌, ◌↔◌, ◌⊎◌, ℕ, List, Some, None, IsSome, Err}
+use Rattle.script_lang.specs.Script.{parsed_script}
+use Rattle.fsc_outside.specs.Causes.{Rose}
+use Rattle.fsc_outside.specs.Input.{IsWithin}
+use Rattle.reply_text.specs.declared.status.Status.{Status}
+use Rattle.reply_text.specs.declared.status.Status.TheVariants.{Done, Usage, BadLine, TooLong, NoMemory}
+use Rattle.fsc_tool.specs.declared.form.Form.TheVariants.{Seeded}
+use Rattle.fsc_tool.specs.Forms.{form_of}
+use Rattle.fsc_tool.specs.Limits.{input_limits, IsLong}
+use Rattle.fsc_tool.specs.Outside.{Outside}
+use Rattle.fsc_tool.specs.Ends.{Ends, IsScript}
+
+-- the words are a form, the source told this input beforehand, and no read failed
+pub record Told (words : List (List ℕ)) (a b : Outside) (input : List ℕ) : Type 0 where
+  pub form : IsSome (form_of words)
+  pub left : a.source.left ≡ Some input
+  pub read : ¬ Rose a.source.faults b.source.faults
+
+-- a told input within the limits that is a script, and no fault at all
+pub record IsReplayable (words : List (List ℕ)) (a b : Outside) (input : List ℕ) : Type 0 where
+  pub told : Told words a b input
+  pub within : IsWithin input_limits input
+  pub script : IsScript input
+  pub written : ¬ Rose a.sink.faults b.sink.faults
+  pub seeded : ¬ Rose a.seeds.faults b.seeds.faults
+
+-- this status, or else want of memory
+abbrev pub IsOrNoMemory : Status → Status → Type 0
+IsOrNoMemory wanted status = (status ≡ wanted) ⊎ (status ≡ NoMemory)
+
+pub record IsSerialReplay (words : List (List ℕ)) (a b : Outside) (status : Status) : Type 0 where
+  -- what the status means, with its cause
+  pub ends : Ends words a b status
+  -- Usage comes exactly where the words are no form
+  pub usage : (status ≡ Usage) ↔ (form_of words ≡ None)
+  -- the seed source isn't asked where the words give a seed
+  pub own_seed : (seed : List ℕ) → form_of words ≡ Some (Seeded seed) → b.seeds ≡ a.seeds
+  -- what a source that tells its bytes makes of the other statuses
+  pub too_long : (input : List ℕ) → Told words a b input → IsLong input → IsOrNoMemory TooLong status
+  pub bad_line : (input : List ℕ) (line : ℕ) → Told words a b input → IsWithin input_limits input
+      → parsed_script input ≡ Err line → IsOrNoMemory (BadLine line) status
+  pub complete : (input : List ℕ) → IsReplayable words a b input → IsOrNoMemory Done status

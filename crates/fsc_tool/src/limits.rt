@@ -1,0 +1,14 @@
+//! The limits of an input.
+
+use fsc_outside::InputLimits;
+
+/// The most bytes that an input may have.
+pub const MOST_INPUT_BYTES: usize = 1_048_576;
+
+/// The most lines that an input may have. A last piece without a line feed counts as one.
+pub const MOST_INPUT_LINES: usize = 20_000;
+
+pub(crate) const INPUT_LIMITS: InputLimits = InputLimits {
+    bytes: MOST_INPUT_BYTES,
+    lines: MOST_INPUT_LINES,
+};
