@@ -2,9 +2,11 @@
 
 ghost use Rattle.std.specs.Prelude.{◌≡◌, ℕ, ◌+◌, ◌*◌, ◌/◌, ◌%◌, ◌^◌, ◌<◌, ◌≤◌, length, slice_index, map};
 ghost use Rattle.std.specs.List.{range_with_len};
-ghost use Rattle.blake2_core.specs.Words.{bytes_of_words, word_at};
+ghost use Rattle.byte_words.specs.Words.{bytes_of_words};
 ghost use Rattle.argon_kdf.specs.Permutation.{mixed, permuted, product_sum};
 ghost use Rattle.argon_kdf.specs.Blocks.{block_of, joined, row, row_permuted, rows_permuted, transposed, xored};
+
+use byte_words::{read_word, write_words};
 
 /// 1,024 bytes, as words.
 pub type Block = [u64; 128];
@@ -15,30 +17,13 @@ pub const BLOCK_WORDS: usize = 128;
 /// The block of zeros.
 pub const ZERO_BLOCK: Block = [0; BLOCK_WORDS];
 
-fn load(bytes: &[u8; 1024], i: usize) -> u64
-    requires { i < 128 }
-    ensures { result ≡ word_at bytes.now i }
-{
-    let at = 8 * i;
-    u64::from_le_bytes([
-        bytes[at],
-        bytes[at + 1],
-        bytes[at + 2],
-        bytes[at + 3],
-        bytes[at + 4],
-        bytes[at + 5],
-        bytes[at + 6],
-        bytes[at + 7],
-    ])
-}
-
 /// The block of these bytes, each word with the low byte first.
 pub fn from_bytes(bytes: &[u8; 1024]) -> Block
     ensures { result ≡ block_of bytes.now }
 {
     let mut block = ZERO_BLOCK;
     'words: for i in 0..BLOCK_WORDS {
-        block[i] = load(bytes, i);
+        block[i] = read_word(bytes, i);
     }
     block
 }
@@ -48,9 +33,7 @@ pub fn to_bytes(block: &Block) -> [u8; 1024]
     ensures { result ≡ bytes_of_words block.now }
 {
     let mut bytes = [0; 1024];
-    'words: for i in 0..BLOCK_WORDS {
-        bytes[8 * i..8 * i + 8].copy_from_slice(&block[i].to_le_bytes());
-    }
+    write_words(block, &mut bytes);
     bytes
 }
 

@@ -1,5 +1,7 @@
 -- The BLAKE2b digest of a message, without a key (RFC 7693, 3.3).
-use Rattle.std.specs.Prelude.{ℕ, zero, suc, ◌-◌, ◌*◌, ◌/◌, true, false, List, ◌++◌, bit_xor, slice_index, slice_set, length, take, drop, replicate}
+use Rattle.std.specs.Prelude.{ℕ, zero, suc, ◌-◌, ◌*◌, ◌/◌, true, false, List, bit_xor, slice_index, slice_set, length, take}
+use Rattle.byte_words.specs.Blocks.{block_at}
+use Rattle.byte_words.specs.Xor.{zero_filled}
 use Rattle.blake2_core.specs.Words.{bytes_of_words}
 use Rattle.blake2_core.specs.Constants.{initial_vector}
 use Rattle.blake2_core.specs.Compression.{compressed}
@@ -13,18 +15,14 @@ initial_state size = slice_set initial_vector 0 (bit_xor (bit_xor (slice_index i
 unfoldable pub state_after : ℕ → List ℕ → ℕ → List ℕ
 state_after size message zero = initial_state size
 state_after size message (suc n) =
-    compressed (state_after size message n) (take 128 (drop (128 * n) message)) (128 * suc n) false
+    compressed (state_after size message n) (block_at 128 message n) (128 * suc n) false
 
 -- the number of the last block, counted from 0; the empty message has one block
 abbrev pub last_block : List ℕ → ℕ
 last_block message = (length message - 1) / 128
 
--- a block that zeros fill up
-abbrev pub zero_filled : List ℕ → List ℕ
-zero_filled block = block ++ replicate (128 - length block) 0
-
--- the digest: the first `size` bytes of the state after the last block
+-- the digest: the first `size` bytes of the state after the last block, which zeros fill up
 unfoldable pub blake2b_digest : ℕ → List ℕ → List ℕ
 blake2b_digest size message =
     let n = last_block message in
-    take size (bytes_of_words (compressed (state_after size message n) (zero_filled (drop (128 * n) message)) (length message) true))
+    take size (bytes_of_words (compressed (state_after size message n) (zero_filled 128 (block_at 128 message n)) (length message) true))

@@ -2,9 +2,11 @@
 
 ghost use Rattle.std.specs.Prelude.{◌≡◌, ℕ, ◌+◌, ◌*◌, ◌/◌, ◌%◌, ◌^◌, ◌<◌, ◌≤◌, List, length, slice_index, if◌then◌else◌};
 ghost use Rattle.std.specs.Int.{w64, bit_not};
-ghost use Rattle.blake2_core.specs.Words.{word_at, block_words};
+ghost use Rattle.blake2_core.specs.Words.{block_words};
 ghost use Rattle.blake2_core.specs.Constants.{initial_vector, word_number};
 ghost use Rattle.blake2_core.specs.Compression.{compressed, folded, mixed, mixed_round, rounds, work_vector};
+
+use byte_words::read_word;
 
 /// The initialization vector (RFC 7693, 2.6).
 pub const INITIAL_VECTOR: [u64; 8] = [
@@ -32,44 +34,27 @@ const SIGMA: [[usize; 16]; 10] = [
     [10, 2, 8, 4, 7, 6, 1, 5, 15, 11, 9, 14, 3, 12, 13, 0],
 ];
 
-fn load(block: &[u8], i: usize) -> u64
-    requires { 8 * i + 8 ≤ length block.now }
-    ensures { result ≡ word_at block.now i }
-{
-    let at = 8 * i;
-    u64::from_le_bytes([
-        block[at],
-        block[at + 1],
-        block[at + 2],
-        block[at + 3],
-        block[at + 4],
-        block[at + 5],
-        block[at + 6],
-        block[at + 7],
-    ])
-}
-
 fn words_of(block: &[u8]) -> [u64; 16]
     requires { length block.now ≡ 128 }
     ensures { result ≡ block_words block.now }
 {
     [
-        load(block, 0),
-        load(block, 1),
-        load(block, 2),
-        load(block, 3),
-        load(block, 4),
-        load(block, 5),
-        load(block, 6),
-        load(block, 7),
-        load(block, 8),
-        load(block, 9),
-        load(block, 10),
-        load(block, 11),
-        load(block, 12),
-        load(block, 13),
-        load(block, 14),
-        load(block, 15),
+        read_word(block, 0),
+        read_word(block, 1),
+        read_word(block, 2),
+        read_word(block, 3),
+        read_word(block, 4),
+        read_word(block, 5),
+        read_word(block, 6),
+        read_word(block, 7),
+        read_word(block, 8),
+        read_word(block, 9),
+        read_word(block, 10),
+        read_word(block, 11),
+        read_word(block, 12),
+        read_word(block, 13),
+        read_word(block, 14),
+        read_word(block, 15),
     ]
 }
 

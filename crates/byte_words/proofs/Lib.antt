@@ -4,4 +4,5 @@ pub mod ContentsLemmas
 pub mod InPlace
 pub mod NumberLemmas
 pub mod TableLemmas
+pub mod WordLemmas
 pub mod XorLemmas

@@ -4,4 +4,5 @@ pub mod Contents
 pub mod Laws
 pub mod Numbers
 pub mod Tables
+pub mod Words
 pub mod Xor

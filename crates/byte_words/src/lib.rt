@@ -3,10 +3,14 @@
 //! is known of them in proofs/.
 #![tactic(auto)]
 
+mod words;
+
 ghost use Rattle.std.specs.Prelude.{◌≡◌, length};
 ghost use Rattle.byte_words.specs.Bytes.{AreBytes};
 ghost use Rattle.byte_words.specs.Laws.{ContentsGrow, OtherBytesStay, WrittenBytesAreRead};
 ghost use Rattle.byte_words.specs.Xor.{xor_bytes};
+
+pub use words::{read_word, write_words};
 
 /// Xors `other` into `target`, byte by byte. Both have the same length, in bytes.
 pub fn xor_into(target: &mut [u8], other: &[u8])

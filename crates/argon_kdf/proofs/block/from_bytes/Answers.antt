@@ -8,7 +8,7 @@ use Rattle.argon_kdf.proofs.block.from_bytes.Goals as goal
 pub words-preserved : goal.words-preserved
 words-preserved c = record {
   long = length-set _ _ _ ∙ c.words.invariant.long;
-  written = mapped_more (word_at c.args.bytes.now) c.words.block c.words.i _ (omega arith) c.words.invariant.written c.load.ensures;
+  written = mapped_more (word_at c.args.bytes.now) c.words.block c.words.i _ (omega arith) c.words.invariant.written c.read_word.ensures;
 }
 
 pub returns : goal.returns

@@ -12,4 +12,4 @@ returns c = λ m held.
     let filled = put_mid-zeros c.args.self m c.fill.new.self n (128 - c.args.self.used) f (omega arith) (omega arith) refl zeros in
     let state = (rw filled at c.compress.ensures) ∙ compressed_last c.args.self m _ n f (omega arith) in
     let size : length c.args.out.now ≡ c.args.self.size = omega arith in
-    c.copy_from_slice.ensures.after ∙ rw (size, c.bytes_of-digest.ensures, state) refl
+    c.copy_from_slice.ensures.after ∙ rw (size, c.write_words.ensures, state) refl
