@@ -1,4 +1,4 @@
--- Texts of four words: the words are cut apart, and joined again.
+-- Texts of four words: the words are cut apart, and joined again. Lists of two and of four items.
 use Rattle.std.proofs.Common.{◌≡◌, ℕ, true, List, [], ◌∷◌, ◌++◌, length, Some, sym, ap, ◌∙◌, arith}
 use Rattle.std.specs.List.{join_with_byte, slice_get}
 use Rattle.std.proofs.lemmas.List.Splits.{join_with_byte-slice_split}
@@ -26,3 +26,10 @@ four (p ∷ q ∷ []) a b c d len w x y z = absurd (omega arith)
 four (p ∷ q ∷ r ∷ []) a b c d len w x y z = absurd (omega arith)
 four (p ∷ q ∷ r ∷ s ∷ []) a b c d len w x y z = cc
 four (p ∷ q ∷ r ∷ s ∷ t ∷ more) a b c d len w x y z = absurd (omega arith)
+
+-- a list of two is its two items
+pub two : (words : List (List ℕ)) (a b : List ℕ) → length words ≡ 2 → slice_get words 0 ≡ Some a → slice_get words 1 ≡ Some b → words ≡ a ∷ b ∷ []
+two [] a b len w x = absurd (omega arith)
+two (p ∷ []) a b len w x = absurd (omega arith)
+two (p ∷ q ∷ []) a b len w x = cc
+two (p ∷ q ∷ r ∷ more) a b len w x = absurd (omega arith)

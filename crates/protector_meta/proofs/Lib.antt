@@ -6,6 +6,7 @@ pub mod DigestBytes
 pub mod LineLaws
 pub mod WrapLineLaws
 pub mod WrapsReadingLaws
+pub mod OptionsLaws
 pub mod PolicyReadingLaws
 pub mod WrapLemmas
 pub mod KindLaws

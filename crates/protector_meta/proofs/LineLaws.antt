@@ -104,7 +104,7 @@ ended_none text outside =
 -- where each fault of what follows the line is that of the first line that does not fit, so is each fault from this line on
 pub value_fault : {A B : Type 0} (fits : LineTest) (number : ℕ) (earlier : List (List ℕ)) (value : List ℕ → Option A) (text : List ℕ) (next : A → List ℕ → Result B MetaFault) (e : MetaFault)
     → ((line : List ℕ) → fits number earlier line ≡ is_some (value line))
-    → ((line rest : List ℕ) (x : A) → next x rest ≡ Err e → e ≡ Bad (first_unfit fits (number + 1) (earlier ++ line ∷ []) (ended_lines rest)))
+    → ((line rest : List ℕ) (x : A) → value line ≡ Some x → next x rest ≡ Err e → e ≡ Bad (first_unfit fits (number + 1) (earlier ++ line ∷ []) (ended_lines rest)))
     → (value_at value number text >>= λ x. next x.0 x.1) ≡ Err e → e ≡ Bad (first_unfit fits number earlier (ended_lines text))
 value_fault {A = A} fits number earlier value text next e test after h =
     elim (cases_lt (position_or_len is_line_feed text) (length text)) [
@@ -119,7 +119,7 @@ value_fault {A = A} fits number earlier value text next e test after h =
     valued : (line rest : List ℕ) (o : Option A) → value line ≡ o → (required o number rest >>= λ x. next x.0 x.1) ≡ Err e
         → e ≡ Bad (first_unfit fits number earlier (line ∷ ended_lines rest))
     valued line rest None is h = rw (test line ∙ ap is_some is) (cc h)
-    valued line rest (Some x) is h = rw (test line ∙ ap is_some is) (after line rest x h)
+    valued line rest (Some x) is h = rw (test line ∙ ap is_some is) (after line rest x is h)
 
 -- ---- writing
 

@@ -70,13 +70,13 @@ nothing_left_fault earlier text p e h = of (length text == 0) h ∙ ap Bad (sym 
 pub protector_fault : (text : List ℕ) (e : MetaFault) → protector_read text ≡ Err e → e ≡ Bad (first_bad_line protector_line_fits text)
 unfolding protector_read
 protector_fault text e =
-    value_fault protector_line_fits 1 [] head_value text from_name e (λ line. refl) (λ l1 r1 head.
-    value_fault protector_line_fits 2 (l1 ∷ []) name_line_value r1 from_kind e (λ line. refl) (λ l2 r2 name.
-    value_fault protector_line_fits 3 (l1 ∷ l2 ∷ []) kind_line_value r2 (from_descriptor name) e (λ line. refl) (λ l3 r3 kind.
-    value_fault protector_line_fits 4 (l1 ∷ l2 ∷ l3 ∷ []) descriptor_line_value r3 (from_iv name kind) e (λ line. refl) (λ l4 r4 descriptor.
-    value_fault protector_line_fits 5 (l1 ∷ l2 ∷ l3 ∷ l4 ∷ []) (digits_line_value (codes "iv ") 16) r4 (from_key name kind descriptor) e (λ line. refl) (λ l5 r5 iv.
-    value_fault protector_line_fits 6 (l1 ∷ l2 ∷ l3 ∷ l4 ∷ l5 ∷ []) (digits_line_value (codes "key ") 32) r5 (from_tag name kind descriptor iv) e (λ line. refl) (λ l6 r6 key.
-    value_fault protector_line_fits 7 (l1 ∷ l2 ∷ l3 ∷ l4 ∷ l5 ∷ l6 ∷ []) (digits_line_value (codes "tag ") 32) r6 (from_end name kind descriptor iv key) e (λ line. refl) (λ l7 r7 tag.
+    value_fault protector_line_fits 1 [] head_value text from_name e (λ line. refl) (λ l1 r1 head _.
+    value_fault protector_line_fits 2 (l1 ∷ []) name_line_value r1 from_kind e (λ line. refl) (λ l2 r2 name _.
+    value_fault protector_line_fits 3 (l1 ∷ l2 ∷ []) kind_line_value r2 (from_descriptor name) e (λ line. refl) (λ l3 r3 kind _.
+    value_fault protector_line_fits 4 (l1 ∷ l2 ∷ l3 ∷ []) descriptor_line_value r3 (from_iv name kind) e (λ line. refl) (λ l4 r4 descriptor _.
+    value_fault protector_line_fits 5 (l1 ∷ l2 ∷ l3 ∷ l4 ∷ []) (digits_line_value (codes "iv ") 16) r4 (from_key name kind descriptor) e (λ line. refl) (λ l5 r5 iv _.
+    value_fault protector_line_fits 6 (l1 ∷ l2 ∷ l3 ∷ l4 ∷ l5 ∷ []) (digits_line_value (codes "key ") 32) r5 (from_tag name kind descriptor iv) e (λ line. refl) (λ l6 r6 key _.
+    value_fault protector_line_fits 7 (l1 ∷ l2 ∷ l3 ∷ l4 ∷ l5 ∷ l6 ∷ []) (digits_line_value (codes "tag ") 32) r6 (from_end name kind descriptor iv key) e (λ line. refl) (λ l7 r7 tag _.
     nothing_left_fault (l1 ∷ l2 ∷ l3 ∷ l4 ∷ l5 ∷ l6 ∷ l7 ∷ []) r7 (record { name = name; kind = kind; descriptor = descriptor; iv = iv; key = key; tag = tag }) e)))))))
 
 pub IfErr-bad : (text : List ℕ) (r : Result Protector MetaFault) → r ≡ protector_read text → IfErr r (λ fault. fault ≡ Bad (first_bad_line protector_line_fits text))

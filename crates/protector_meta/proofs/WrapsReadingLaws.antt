@@ -1,6 +1,7 @@
 -- Reading the wraps, one line after another.
 use Rattle.std.proofs.Common.{◌≡◌, ℕ, suc, ◌+◌, ◌-◌, ◌<◌, ◌≤◌, ◌==◌, Bool, true, false, ◌&&◌, List, [], ◌∷◌, ◌++◌, length, take, map, Option, Some, None, Result, Ok, Err, refl, sym, ap, ◌∙◌, subst, arith, append_assoc, append-nil, length-append, ◌⊎◌, inl, inr}
-use Rattle.std.specs.Prelude.{nat_lt, nat_le, is_none, is_some, if◌then◌else◌}
+use Rattle.std.specs.Prelude.{codes, nat_lt, nat_le, is_none, is_some, if◌then◌else◌}
+use Rattle.std.specs.Str.{bytes_eq}
 use Rattle.std.specs.List.{filter_map, AllByRecursion}
 use Rattle.std.specs.Option.{ok_or}
 use Rattle.std.proofs.lemmas.Bool.{and_parts, cases_Bool, cond-true, cond-false, eqb-true, lt-ltb, or_parts, or_from, lt-leb, ltb-true, leb-false, ne_eqb}
@@ -176,19 +177,20 @@ wraps_again number earlier (w ∷ more) distinct few some each =
 
 -- ---- the line at fault
 
-module _ (a b c : List ℕ) where
-  at_wrap_place : (number : ℕ) (earlier : List (List ℕ)) (wraps : List Wrap) (line : List ℕ) → 4 ≤ number → filter_map wrap_value earlier ≡ wraps
+-- from the first line on that has the place of a wrap
+module _ (a b c : List ℕ) (first : ℕ) (late : 4 ≤ first) (placed : (n : ℕ) → first ≤ n → ((n == 4) && bytes_eq a (codes "fsc-policy 2")) ≡ false) where
+  at_wrap_place : (number : ℕ) (earlier : List (List ℕ)) (wraps : List Wrap) (line : List ℕ) → first ≤ number → filter_map wrap_value earlier ≡ wraps
       → policy_line_fits number (a ∷ b ∷ c ∷ earlier) line ≡ is_some (next_wrap wraps line)
   at_wrap_place number earlier wraps line behind_head are =
       let one : (number == 1) ≡ false = ne_eqb number 1 (λ e. omega arith) in
       let two : (number == 2) ≡ false = ne_eqb number 2 (λ e. omega arith) in
       let three : (number == 3) ≡ false = ne_eqb number 3 (λ e. omega arith) in
-      rw (one, two, three, are) refl
+      rw (one, two, three, placed number behind_head, are) refl
 
   same_bad : (i : ℕ) (fault : MetaFault) → (let r : Result (List Wrap) MetaFault = Err (Bad i) in r ≡ Err fault) → fault ≡ Bad i
   same_bad i fault h = cc
 
-  pub wraps_bad : (number : ℕ) (earlier : List (List ℕ)) (wraps : List Wrap) (pieces : List (List ℕ)) (fault : MetaFault) → 4 ≤ number → filter_map wrap_value earlier ≡ wraps
+  pub wraps_bad : (number : ℕ) (earlier : List (List ℕ)) (wraps : List Wrap) (pieces : List (List ℕ)) (fault : MetaFault) → first ≤ number → filter_map wrap_value earlier ≡ wraps
       → wraps_from number wraps pieces ≡ Err fault → fault ≡ Bad (first_unfit policy_line_fits number (a ∷ b ∷ c ∷ earlier) (take (length pieces - 1) pieces))
   unfolding wraps_from
   wraps_bad number earlier wraps [] fault behind_head are h = same_bad number fault h

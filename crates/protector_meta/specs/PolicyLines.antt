@@ -1,13 +1,23 @@
 -- Which lines stand in a policy's record, place by place, and the values on them.
-use Rattle.std.specs.Prelude.{ℕ, ◌==◌, is_none, is_some, List, [], ◌∷◌, drop, codes, Option, Some, None, if◌then◌else◌}
+use Rattle.std.specs.Prelude.{ℕ, ◌==◌, ◌&&◌, ◌^◌, Bool, true, false, is_none, is_some, List, [], ◌∷◌, drop, codes, Option, Some, None, if◌then◌else◌}
 use Rattle.std.specs.List.{filter_map}
 use Rattle.std.specs.Str.{bytes_eq}
 use Rattle.text_words.specs.Digits.{lower_hex_bytes_of_length}
+use Rattle.text_words.specs.Numbers.{number_below}
 use Rattle.text_words.specs.Words.{words_of}
+use Rattle.policy_ctx.specs.Settings.{pad_of_size, unit_of_log2}
+use Rattle.protector_meta.specs.declared.policy_file.Options.{Options}
 use Rattle.protector_meta.specs.declared.wraps.Wrap.{Wrap}
 use Rattle.protector_meta.specs.RecordLines.{LineTest}
 use Rattle.protector_meta.specs.LineValues.{digits_line_value, label_value, name_line_value, word_value}
 use Rattle.protector_meta.specs.Wraps.{adding_fault}
+
+-- whether a line of options has its place, which the first line tells by its version
+abbrev pub head_value : List ℕ → Option Bool
+head_value line =
+    if bytes_eq line (codes "fsc-policy 1") then Some false else
+    if bytes_eq line (codes "fsc-policy 2") then Some true else
+    None
 
 -- the 16 bytes whose digits stand behind `id `
 abbrev pub id_value : List ℕ → Option (List ℕ)
@@ -18,6 +28,20 @@ infixl 10 ◌>>=◌
 abbrev pub ◌>>=◌ : {A B : Type 0} → Option A → (A → Option B) → Option B
 None >>= f = None
 (Some x) >>= f = f x
+
+-- the options of which two words tell: the padding in bytes, and the number of the unit
+abbrev pub options_of_words : List (List ℕ) → Option Options
+options_of_words (size ∷ log ∷ []) = do
+  size ← number_below (2 ^ 32) size
+  log ← number_below (2 ^ 32) log
+  pad ← pad_of_size size
+  unit ← unit_of_log2 log
+  let options : Options = record { pad = pad; unit = unit } in Some options
+options_of_words _ = None
+
+-- the options of which a line tells
+unfoldable pub options_value : List ℕ → Option Options
+options_value line = word_value (codes "options ") (λ text. options_of_words (words_of text)) line
 
 -- the wrap of which four words tell
 abbrev pub wrap_of_words : List (List ℕ) → Option Wrap
@@ -39,10 +63,17 @@ next_wrap wraps line = do
   wrap ← wrap_value line
   if is_none (adding_fault wrap.protector wraps) then Some wrap else None
 
--- three lines of their own, and then each line tells of a wrap that can be added behind the earlier ones
+-- whether the first of these lines is that of a record with options
+abbrev pub has_options : List (List ℕ) → Bool
+has_options [] = false
+has_options (first ∷ lines) = bytes_eq first (codes "fsc-policy 2")
+
+-- three lines of their own, one of options in version 2, and then each line tells of a wrap that can be added
+-- behind those of the earlier lines
 abbrev pub policy_line_fits : LineTest
 policy_line_fits place earlier line =
-    if place == 1 then bytes_eq line (codes "fsc-policy 1") else
+    if place == 1 then is_some (head_value line) else
     if place == 2 then is_some (name_line_value line) else
     if place == 3 then is_some (id_value line) else
+    if (place == 4) && has_options earlier then is_some (options_value line) else
     is_some (next_wrap (filter_map wrap_value (drop 3 earlier)) line)

@@ -1,4 +1,4 @@
--- How a protector's record is read: the values of its seven lines, and nothing behind them; words of private functions.
+-- How a protector's record is read: the values of its seven lines, and nothing behind them.
 use Rattle.std.specs.Prelude.{ℕ, List, length, ◌==◌, Result, Ok, Err, codes, if◌then◌else◌}
 use Rattle.protector_meta.specs.Reading.{◌>>=◌, value_at}
 use Rattle.protector_meta.specs.ProtectorLines.{head_value, kind_line_value, descriptor_line_value}
@@ -11,7 +11,7 @@ use Rattle.protector_meta.specs.declared.protector.Protector.{Protector}
 abbrev pub nothing_left : ℕ → List ℕ → Protector → Result Protector MetaFault
 nothing_left number text p = if length text == 0 then Ok p else Err (Bad number)
 
--- the protector of a record
+-- the protector whose record the text is, or the line at fault
 unfoldable pub protector_read : List ℕ → Result Protector MetaFault
 protector_read text = do
   head ← value_at head_value 1 text

@@ -1,4 +1,5 @@
-//! The record of a policy: its name, the identifier of its key, and the wraps of that key.
+//! The record of a policy: its name, the identifier of its key, its options, and the wraps of that
+//! key.
 
 ghost use Rattle.std.specs.Prelude.{◌≡◌, [], ◌∷◌, ◌++◌, IfSome, IfNone, IsOk, IsOkUnless, OnOk, OnErr};
 ghost use Rattle.protector_meta.specs.Wraps.{adding_fault, dropping_fault, wraps_without};
@@ -6,6 +7,16 @@ ghost use Rattle.protector_meta.specs.Wraps.{adding_fault, dropping_fault, wraps
 use crate::wraps::{Wrap, WrapFault, WrapList};
 use fsc_keys::KeyId;
 use name_crypt::Label;
+use policy_ctx::{Pad, Unit};
+
+/// What a directory gets whose policy is set by a record, unless its caller says otherwise.
+#[derive(Clone, Copy, Debug, PartialEq, Eq)]
+pub struct Options {
+    /// What stored names are padded to.
+    pub pad: Pad,
+    /// What contents are cut into.
+    pub unit: Unit,
+}
 
 /// What the record of a policy tells.
 #[derive(Drop)]
@@ -14,6 +25,8 @@ pub struct PolicyFile {
     pub name: Label,
     /// The identifier of the policy's key.
     pub id: KeyId,
+    /// The options of a record of version 2; one of version 1 has none.
+    pub options: Option<Options>,
     /// The policy's key, wrapped once for each protector that opens it.
     pub wraps: WrapList,
 }

@@ -45,6 +45,7 @@ pub fn encode_protector(alloc: Global, protector: &Protector) -> Result<Bytes, A
 /// place asks, or stands behind the seventh, or has no line feed at its end, or is missing. It takes
 /// no memory, so that the fault is never want of it.
 pub fn decode_protector(text: &[u8]) -> Result<Protector, MetaFault>
+    ensures read { result ≡ protector_read text.now }
     ensures found { IfOk result (λ p. IsProtector p × (text.now ≡ protector_text p)) }
     ensures every { (p : Protector) → IsProtector p → text.now ≡ protector_text p → result ≡ Ok p }
     ensures bad { IfErr result (λ fault. fault ≡ MetaFault.Bad (first_bad_line protector_line_fits text.now)) }

@@ -1,4 +1,5 @@
 //! Records that were made outside, and texts that are none.
 
+mod options;
 mod policy;
 mod protector;

@@ -9,7 +9,7 @@ use std::alloc::{AllocError, Global};
 use std::test::Fail;
 
 /// A policy of the protectors LOGIN and BACKUP, made outside.
-const DOCS: [&[u8]; 5] = [
+pub(super) const DOCS: [&[u8]; 5] = [
     b"fsc-policy 1",
     b"name docs",
     b"id 8a25df4cd4f408b30828b727c5177ce5",
@@ -24,7 +24,7 @@ const DOCS: [&[u8]; 5] = [
 ];
 
 /// What stands behind the label in a wrap line.
-const WRAPPED: &[u8] = b" 374e522006d06f2545e9e210c82db0d4 \
+pub(super) const WRAPPED: &[u8] = b" 374e522006d06f2545e9e210c82db0d4 \
       7a12fde15e57c88d43239254c453e4d32509cab2b2ab0632bc979e1e38aabb62\
       ebcd679fcc667a8e220405b40d47aedb12f30ead31df925aaf44501fb92f2d76 \
       12cd0dbaceaed77d974f585734602d5c7dbb0fa8756bc636eca3469b0e8fce8b\n";
@@ -40,7 +40,7 @@ fn record_for(alloc: Global, labels: &[u8]) -> Result<Vec<u8>, AllocError> {
     Ok(text)
 }
 
-fn policy_for(alloc: Global, labels: &[u8]) -> Result<PolicyFile, Fail> {
+pub(super) fn policy_for(alloc: Global, labels: &[u8]) -> Result<PolicyFile, Fail> {
     let text = record_for(alloc, labels)?;
     Ok(decode_policy_file(alloc, &text)?)
 }
@@ -134,7 +134,7 @@ fn wraps_that_are_missing_or_too_many_are_at_fault(rt: HostRuntime) -> Result<()
 fn a_line_that_is_not_as_its_place_asks_is_at_fault(rt: HostRuntime) -> Result<(), Fail> {
     let cases: [(u32, &[u8]); 16] = [
         (1, b""),
-        (1, b"fsc-policy 2"),
+        (1, b"fsc-policy 3"),
         (1, b"fsc-protector 1"),
         (2, b"name "),
         (2, b"name Docs"),

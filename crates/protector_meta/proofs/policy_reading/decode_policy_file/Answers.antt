@@ -1,5 +1,5 @@
 use Rattle.protector_meta.proofs.PolicyReadingLaws.{seen_found, seen_every, seen_bad, seen_none}
-use Rattle.protector_meta.proofs.policy_text.decode_policy_file.Goals as goal
+use Rattle.protector_meta.proofs.policy_reading.decode_policy_file.Goals as goal
 
 pub returns-clause-found : goal.returns-clause-found
 returns-clause-found c = seen_found c.args.text.now c.read_policy.result c.read_policy.ensures

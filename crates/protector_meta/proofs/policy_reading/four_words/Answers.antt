@@ -1,7 +1,7 @@
 use Rattle.std.proofs.Common.{◌∙◌, sym, ap}
 use Rattle.std.specs.Option.{option_map}
 use Rattle.protector_meta.proofs.FourWords.{four}
-use Rattle.protector_meta.proofs.policy_text.four_words.Goals as goal
+use Rattle.protector_meta.proofs.policy_reading.four_words.Goals as goal
 
 pub returns : goal.returns
 returns c =

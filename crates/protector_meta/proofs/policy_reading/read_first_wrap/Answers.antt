@@ -1,7 +1,7 @@
 use Rattle.std.proofs.Common.{[], ◌+◌, ◌==◌, false, length, refl, inr, sym, ◌∙◌}
 use Rattle.std.proofs.lemmas.Bool.{and_right}
 use Rattle.protector_meta.proofs.WrapsReadingLaws.{at_piece, at_fault, at_wrap, first_next}
-use Rattle.protector_meta.proofs.policy_text.read_first_wrap.Goals as goal
+use Rattle.protector_meta.proofs.policy_reading.read_first_wrap.Goals as goal
 
 pub returns-then-not-line-clause-refused : goal.returns-then-not-line-clause-refused
 returns-then-not-line-clause-refused c =

@@ -4,7 +4,7 @@ use Rattle.std.proofs.lemmas.Bool.{and_left}
 use Rattle.std.proofs.lemmas.Result.{err_from_is_err_and}
 use Rattle.protector_meta.specs.declared.fault.MetaFault.TheVariants.{Bad}
 use Rattle.protector_meta.proofs.WrapsReadingLaws.{at_piece, at_fault, at_wrap, at_empty, refused_by}
-use Rattle.protector_meta.proofs.policy_text.read_wraps.Goals as goal
+use Rattle.protector_meta.proofs.policy_reading.read_wraps.Goals as goal
 
 pub returns-then-not-line : goal.returns-then-not-line
 returns-then-not-line c =

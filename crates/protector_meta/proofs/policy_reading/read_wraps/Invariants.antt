@@ -1,7 +1,7 @@
 use Rattle.std.proofs.Common.{◌≡◌, ◌<◌, ◌+◌, [], length}
 use Rattle.text_words.specs.Lines.{pieces_of}
 use Rattle.protector_meta.specs.PolicyReading.{wraps_from}
-use Rattle.protector_meta.proofs.policy_text.read_wraps.Given as goal
+use Rattle.protector_meta.proofs.policy_reading.read_wraps.Given as goal
 
 abbrev pub invariant-lines : goal.invariant-lines
 invariant-lines l = record {

@@ -1,0 +1,209 @@
+//! The text of a policy's record, read.
+
+ghost use Rattle.std.specs.Prelude.{◌≡◌, ◌≢◌, ◌<◌, ◌^◌, ◌+◌, ◌++◌, ◌∷◌, ◌⊎◌, [], Err, IfErr, IfOk, MatchOption, None, Ok, OnOk, Some, length, ℕ};
+ghost use Rattle.std.specs.Option.{option_map};
+ghost use Rattle.text_words.specs.Lines.{pieces_of};
+ghost use Rattle.text_words.specs.Words.{words_of};
+ghost use Rattle.protector_meta.specs.declared.fault.MetaFault.TheVariants.{Bad, NoMemory};
+ghost use Rattle.protector_meta.specs.declared.wraps.Wrap.{Wrap};
+ghost use Rattle.protector_meta.specs.declared.policy_file.PolicyFile.{PolicyFile};
+ghost use Rattle.protector_meta.specs.RecordLines.{first_bad_line};
+ghost use Rattle.protector_meta.specs.PolicyText.{IsPolicyFile, policy_text};
+ghost use Rattle.protector_meta.specs.PolicyLines as spec;
+ghost use Rattle.protector_meta.specs.PolicyLines.{id_value, next_wrap, policy_line_fits, wrap_of_words, wrap_value};
+ghost use Rattle.protector_meta.specs.PolicyReading.{GivesInMemory, policy_read, wraps_from};
+
+use crate::fault::MetaFault;
+use crate::lines::{
+    behind, digits_line_value, digits_value, ended_line, label_value, name_line_value,
+};
+use crate::policy_file::{Options, PolicyFile};
+use crate::policy_text::{HEAD, HEAD_WITH_OPTIONS};
+use crate::wraps::{Wrap, WrapFault, WrapList};
+use fsc_keys::KeyId;
+use policy_ctx::{Pad, Unit};
+use std::alloc::Global;
+use text_words::{decimal_value, next_line, nth_word, word_count};
+
+/// The number of the first line behind the identifier: of the options, or else of the first wrap.
+const FOURTH_LINE: u32 = 4;
+
+/// The policy whose record the text is. Else the line at fault: the first that is not as its place
+/// asks, tells of a protector seen before or of a seventeenth one, is missing, or has no line feed at
+/// its end; or there was no memory.
+pub fn decode_policy_file(alloc: Global, text: &[u8]) -> Result<PolicyFile, MetaFault>
+    ensures read { GivesInMemory (λ p. p) result (policy_read text.now) }
+    ensures found { IfOk result (λ p. IsPolicyFile p × (text.now ≡ policy_text p)) }
+    ensures every { (p : PolicyFile) → IsPolicyFile p → text.now ≡ policy_text p → (result ≡ Ok p) ⊎ (result ≡ Err NoMemory) }
+    ensures bad { IfErr result (λ fault. (fault ≡ NoMemory) ⊎ (fault ≡ Bad (first_bad_line policy_line_fits text.now))) }
+    ensures none { (line : ℕ) (p : PolicyFile) → result ≡ Err (Bad line) → IsPolicyFile p → text.now ≡ policy_text p → ⊥ }
+{
+    read_policy(alloc, text)
+}
+
+// The policy of a record.
+#[tactic(auto, unfolding(crate::specs::PolicyReading::policy_read))]
+fn read_policy(alloc: Global, text: &[u8]) -> Result<PolicyFile, MetaFault>
+    ensures { GivesInMemory (λ p. p) result (policy_read text.now) }
+{
+    let (line, rest) = ended_line(text, 1)?;
+    let has_options = head_value(line).ok_or(MetaFault::Bad { line: 1 })?;
+    let (line, rest) = ended_line(rest, 2)?;
+    let name = name_line_value(line).ok_or(MetaFault::Bad { line: 2 })?;
+    let (line, rest) = ended_line(rest, 3)?;
+    let id = read_id(line).ok_or(MetaFault::Bad { line: 3 })?;
+    if !has_options {
+        let wraps = read_wraps(alloc, rest, FOURTH_LINE)?;
+        return Ok(PolicyFile {
+            name,
+            id,
+            options: None,
+            wraps,
+        });
+    }
+    let (line, rest) = ended_line(rest, FOURTH_LINE)?;
+    let options = options_value(line).ok_or(MetaFault::Bad { line: FOURTH_LINE })?;
+    let wraps = read_wraps(alloc, rest, FOURTH_LINE + 1)?;
+    Ok(PolicyFile {
+        name,
+        id,
+        options: Some(options),
+        wraps,
+    })
+}
+
+// Whether a line of options has its place, which the first line tells by its version.
+fn head_value(line: &[u8]) -> Option<bool>
+    ensures { result ≡ spec.head_value line.now }
+{
+    if line == HEAD {
+        Some(false)
+    } else if line == HEAD_WITH_OPTIONS {
+        Some(true)
+    } else {
+        None
+    }
+}
+
+// The options of which a line tells.
+#[tactic(auto, unfolding(crate::specs::PolicyLines::options_value))]
+fn options_value(line: &[u8]) -> Option<Options>
+    ensures { result ≡ spec.options_value line.now }
+{
+    options_of_words(behind(line, b"options ")?)
+}
+
+// The options of which two words tell.
+fn options_of_words(text: &[u8]) -> Option<Options>
+    ensures { result ≡ spec.options_of_words (words_of text.now) }
+{
+    let (size, log) = two_words(text)?;
+    let size = decimal_value(size)?;
+    let log = decimal_value(log)?;
+    Some(Options {
+        pad: Pad::of_size(size)?,
+        unit: Unit::of_log2(log)?,
+    })
+}
+
+// The words of a text, if they are two.
+fn two_words(text: &[u8]) -> Option<(&[u8], &[u8])>
+    ensures { MatchOption result (length (words_of text.now) ≢ 2) (λ x. words_of text.now ≡ x.0.now ∷ x.1.now ∷ []) }
+{
+    if word_count(text) != 2 {
+        return None;
+    }
+    Some((nth_word(text, 0)?, nth_word(text, 1)?))
+}
+
+fn read_id(line: &[u8]) -> Option<KeyId>
+    ensures { option_map (λ id. id.0) result ≡ id_value line.now }
+{
+    digits_line_value(line, b"id ").map(KeyId)
+}
+
+// The wraps of the last lines, of which there is at least one. The first has this number.
+fn read_wraps(alloc: Global, text: &[u8], first_line: u32) -> Result<WrapList, MetaFault>
+    requires { first_line < 2 ^ 31 }
+    ensures { GivesInMemory (λ wraps. wraps) result (wraps_from first_line [] (pieces_of text.now)) }
+{
+    let (mut wraps, mut rest) = read_first_wrap(alloc, text, first_line)?;
+    'lines: while !rest.is_empty() {
+        let number = first_line + wraps.len() as u32;
+        let line = next_line(rest);
+        if !line.ended {
+            return Err(MetaFault::Bad { line: number });
+        }
+        add_line(&mut wraps, line.bytes, number)?;
+        rest = line.rest;
+    }
+    Ok(wraps)
+}
+
+// The list of the wrap of the first line, which has this number, and the text behind the line.
+fn read_first_wrap(alloc: Global, text: &[u8], number: u32) -> Result<(WrapList, &[u8]), MetaFault>
+    ensures one { IfOk result (λ x. length x.0 ≡ 1) }
+    ensures first { IfOk result (λ x. wraps_from number [] (pieces_of text.now) ≡ wraps_from (number + 1) x.0 (pieces_of x.1.now)) }
+    ensures refused { IfErr result (λ fault. (fault ≡ NoMemory) ⊎ ((fault ≡ Bad number) × (wraps_from number [] (pieces_of text.now) ≡ Err (Bad number)))) }
+{
+    let line = next_line(text);
+    if !line.ended {
+        return Err(MetaFault::Bad { line: number });
+    }
+    let Some(first) = read_wrap(line.bytes) else {
+        return Err(MetaFault::Bad { line: number });
+    };
+    let wraps = WrapList::of(alloc, first)?;
+    Ok((wraps, line.rest))
+}
+
+// Adds the wrap of a line.
+fn add_line(wraps: &mut WrapList, line: &[u8], number: u32) -> Result<(), MetaFault>
+    ensures added { OnOk result ((wrap : Wrap) × ((next_wrap wraps.old line.now ≡ Some wrap) × (wraps.new ≡ wraps.old ++ wrap ∷ []))) }
+    ensures refused { IfErr result (λ fault. (fault ≡ NoMemory) ⊎ ((fault ≡ Bad number) × (next_wrap wraps.old line.now ≡ None))) }
+{
+    let Some(wrap) = read_wrap(line) else {
+        return Err(MetaFault::Bad { line: number });
+    };
+    match wraps.add(wrap) {
+        Ok(()) => Ok(()),
+        Err(WrapFault::NoMemory) => Err(MetaFault::NoMemory),
+        Err(_) => Err(MetaFault::Bad { line: number }),
+    }
+}
+
+// The wrap of which a line tells.
+#[tactic(auto, unfolding(crate::specs::PolicyLines::wrap_value))]
+fn read_wrap(line: &[u8]) -> Option<Wrap>
+    ensures { result ≡ wrap_value line.now }
+{
+    wrap_of_words(behind(line, b"wrap ")?)
+}
+
+// The wrap of which four words tell.
+fn wrap_of_words(text: &[u8]) -> Option<Wrap>
+    ensures { result ≡ wrap_of_words (words_of text.now) }
+{
+    let (label, iv, key, tag) = four_words(text)?;
+    Some(Wrap {
+        protector: label_value(label)?,
+        iv: digits_value(iv)?,
+        key: digits_value(key)?,
+        tag: digits_value(tag)?,
+    })
+}
+
+// The words of a text, if they are four.
+fn four_words(text: &[u8]) -> Option<(&[u8], &[u8], &[u8], &[u8])>
+    ensures { MatchOption result (length (words_of text.now) ≢ 4) (λ x. words_of text.now ≡ x.0.now ∷ x.1.now ∷ x.2.now ∷ x.3.now ∷ []) }
+{
+    if word_count(text) != 4 {
+        return None;
+    }
+    Some((
+        nth_word(text, 0)?,
+        nth_word(text, 1)?,
+        nth_word(text, 2)?,
+        nth_word(text, 3)?,
+    ))
+}
