@@ -4,7 +4,7 @@ use Rattle.mount_model.specs.declared.call.Call.{Call}
 use Rattle.mount_model.specs.declared.reply.Reply.TheVariants.{Refused}
 use Rattle.mount_model.specs.declared.reply.Refusal.TheVariants.{NoMemory}
 use Rattle.std.proofs.lemmas.List.Elements.{All-head, All-tail}
-use Rattle.fsc_keys.specs.Claims.{ClaimList}
+use Rattle.user_claims.specs.Claims.{ClaimSet, no_claims}
 use Rattle.mount_model.specs.PlainMount.{PlainMount, empty_mount}
 use Rattle.mount_model.specs.Answer.{answer_of}
 use Rattle.mount_model.specs.Step.{IsMountStep, takes_memory}
@@ -64,9 +64,9 @@ IsLegal-more h e after legal step = IsLegalFrom-append empty_mount h (e ∷ []) 
     (subst (IsMountStep (mount_after h) e.who e.call e.reply) (mount_left-step (mount_after h) e after step) step, tt)
 
 pub claims_after-more : (h : History) (e : MountEntry) → claims_after (h ++ e ∷ []) ≡ claims_left (claims_after h) e
-claims_after-more h e = go [] h
+claims_after-more h e = go no_claims h
   where
-    go : (cs : ClaimList) (g : History) → claims_from cs (g ++ e ∷ []) ≡ claims_left (claims_from cs g) e
+    go : (cs : ClaimSet) (g : History) → claims_from cs (g ++ e ∷ []) ≡ claims_left (claims_from cs g) e
     go cs [] = refl
     go cs (x ∷ g) = go (claims_left cs x) g
 

@@ -1,3 +1,9 @@
+pub mod CaseLemmas
+pub mod NameCases
+pub mod FileCases
 pub mod StepLemmas
 pub mod HistoryLemmas
-pub mod WellFormedLemmas
+pub mod KeyLemmas
+pub mod KeySteps
+pub mod RecordLemmas
+pub mod RecordSteps

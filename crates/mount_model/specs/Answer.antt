@@ -1,59 +1,46 @@
--- What the mount answers to each call, and the mount that it leaves. The refusals are tried in the
--- order in which they stand; a refused call leaves the mount as it is.
-use Rattle.std.specs.Prelude.{ℕ, List, ◌∷◌, length, not, ◌&&◌, nat_le, false, if◌then◌else◌}
-use Rattle.policy_ctx.specs.declared.policy.KeyId.{KeyId}
-use Rattle.fsc_keys.specs.Keys.{key_id_of}
-use Rattle.fsc_keys.specs.Claims.{has_claim, is_present, count_of_user, count_of_id, with_claim, without_claim}
+-- What the mount answers to each call, and the mount that it leaves: one page of definitions for each
+-- group of calls, brought together here.
+use Rattle.std.specs.Prelude.{ℕ, []}
 use Rattle.mount_model.specs.declared.call.Call.{Call}
 use Rattle.mount_model.specs.declared.call.Op.{Op}
-use Rattle.mount_model.specs.declared.call.Op.TheVariants.{AddKey, RemoveKey, KeyStatus}
-use Rattle.mount_model.specs.declared.reply.Reply.{Reply}
-use Rattle.mount_model.specs.declared.reply.Reply.TheVariants.{Added, Removed, Status, Refused}
-use Rattle.mount_model.specs.declared.reply.Refusal.{Refusal}
-use Rattle.mount_model.specs.declared.reply.Refusal.TheVariants.{NoKey, Quota, Inval}
+use Rattle.mount_model.specs.declared.call.Op.TheVariants as op
+use Rattle.plain_tree.specs.Nodes.{Dir, File, Link}
 use Rattle.mount_model.specs.PlainMount.{PlainMount}
-use Rattle.mount_model.specs.States.{key_state_of}
+use Rattle.mount_model.specs.Answered.{done}
+use Rattle.mount_model.specs.LookAnswers.{answer_to_read_link, answer_to_list, answer_to_stat}
+pub use Rattle.mount_model.specs.Answered.{Answer, refused}
+pub use Rattle.mount_model.specs.KeyAnswers.{with_key, answer_to_add_key, answer_to_remove_key, answer_to_remove_key_all, answer_to_key_status}
+use Rattle.mount_model.specs.PolicyAnswers.{answer_to_set_policy, answer_to_get_policy}
+use Rattle.mount_model.specs.NameAnswers.{answer_to_make, answer_to_unlink, answer_to_rmdir}
+use Rattle.mount_model.specs.RenameAnswer.{answer_to_rename}
+use Rattle.mount_model.specs.FileAnswers.{answer_to_open, answer_to_read, answer_to_write, answer_to_close}
+use Rattle.mount_model.specs.RecordAnswers.{answer_to_meta_load, answer_to_meta_store}
 
-pub record Answer : Type 0 where
-  pub reply : Reply
-  pub mount : PlainMount
+-- the answer to what a caller asks as a user
+abbrev pub answer_to : PlainMount → ℕ → ℕ → Op → Answer
+answer_to m caller uid (op.AddKey raw) = answer_to_add_key m uid raw
+answer_to m caller uid (op.RemoveKey id) = answer_to_remove_key m uid id
+answer_to m caller uid (op.RemoveKeyAll id) = answer_to_remove_key_all m uid id
+answer_to m caller uid (op.KeyStatus id) = answer_to_key_status m uid id
+answer_to m caller uid (op.SetPolicy path policy nonce) = answer_to_set_policy m uid path policy nonce
+answer_to m caller uid (op.GetPolicy path) = answer_to_get_policy m path
+answer_to m caller uid (op.Mkdir path nonce) = answer_to_make m path nonce (Dir [])
+answer_to m caller uid (op.Create path nonce) = answer_to_make m path nonce (File [])
+answer_to m caller uid (op.Symlink path target nonce) = answer_to_make m path nonce (Link target)
+answer_to m caller uid (op.ReadLink path) = answer_to_read_link m path
+answer_to m caller uid (op.Unlink path) = answer_to_unlink m path
+answer_to m caller uid (op.Rmdir path) = answer_to_rmdir m path
+answer_to m caller uid (op.Rename old_path new_path) = answer_to_rename m old_path new_path
+answer_to m caller uid (op.List path start) = answer_to_list m path start
+answer_to m caller uid (op.Stat path) = answer_to_stat m path
+answer_to m caller uid (op.OpenNode path) = answer_to_open m caller path
+answer_to m caller uid (op.Read handle offset len) = answer_to_read m caller handle offset len
+answer_to m caller uid (op.Write handle offset bytes) = answer_to_write m caller handle offset bytes
+answer_to m caller uid (op.Close handle) = answer_to_close m caller handle
+answer_to m caller uid op.DropCaches = done m
+answer_to m caller uid (op.MetaLoad name) = answer_to_meta_load m name
+answer_to m caller uid (op.MetaStore name expected bytes) = answer_to_meta_store m name expected bytes
 
-abbrev pub refused : PlainMount → Refusal → Answer
-refused m refusal = record { reply = Refused refusal; mount = m }
-
--- the mount in which the user holds this raw key
-abbrev pub with_key : PlainMount → ℕ → List ℕ → PlainMount
-with_key m uid raw = record { claims = with_claim m.claims (key_id_of raw) uid; raws = (key_id_of raw, raw) ∷ m.raws }
-
--- Inval for fewer than 32 or more than 64 bytes; Quota for a new claim of a user who has 64
-abbrev pub answer_to_add_key : PlainMount → ℕ → List ℕ → Answer
-answer_to_add_key m uid raw =
-    if not (nat_le 32 (length raw) && nat_le (length raw) 64) then refused m Inval else
-    if not (has_claim m.claims (key_id_of raw) uid) && nat_le 64 (count_of_user m.claims uid) then refused m Quota else
-    record { reply = Added (key_id_of raw); mount = with_key m uid raw }
-
--- NoKey where the key isn't there, and where it is there without a claim of the user; others tells
--- whether a claim is left on it
-abbrev pub answer_to_remove_key : PlainMount → ℕ → KeyId → Answer
-answer_to_remove_key m uid id =
-    if not (is_present m.claims id) then refused m NoKey else
-    if not (has_claim m.claims id uid) then refused m NoKey else
-    record {
-      reply = Removed (is_present (without_claim m.claims id uid) id) false;
-      mount = record m { claims = without_claim m.claims id uid };
-    }
-
--- never refused; nothing changes
-abbrev pub answer_to_key_status : PlainMount → ℕ → KeyId → Answer
-answer_to_key_status m uid id =
-    record { reply = Status (key_state_of m id) (has_claim m.claims id uid) (count_of_id m.claims id); mount = m }
-
--- the answer to a user's operation
-abbrev pub answer_to : PlainMount → ℕ → Op → Answer
-answer_to m uid (AddKey raw) = answer_to_add_key m uid raw
-answer_to m uid (RemoveKey id) = answer_to_remove_key m uid id
-answer_to m uid (KeyStatus id) = answer_to_key_status m uid id
-
--- the answer to a call, whichever caller makes it
+-- the answer to a caller's call
 abbrev pub answer_of : PlainMount → ℕ → Call → Answer
-answer_of m caller call = answer_to m call.uid call.op
+answer_of m caller call = answer_to m caller call.uid call.op

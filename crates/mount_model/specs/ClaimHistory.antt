@@ -1,9 +1,9 @@
 -- The claims that a history leaves, told from who called with what and which calls were refused.
 use Rattle.std.specs.Prelude.{ℕ, Bool, true, false, [], ◌∷◌, if◌then◌else◌}
 use Rattle.fsc_keys.specs.Keys.{key_id_of}
-use Rattle.fsc_keys.specs.Claims.{ClaimList, with_claim, without_claim}
+use Rattle.user_claims.specs.Claims.{ClaimSet, no_claims, with_claim, without_claim, without_id}
 use Rattle.mount_model.specs.declared.call.Op.{Op}
-use Rattle.mount_model.specs.declared.call.Op.TheVariants.{AddKey, RemoveKey, KeyStatus}
+use Rattle.mount_model.specs.declared.call.Op.TheVariants.{AddKey, RemoveKey, RemoveKeyAll}
 use Rattle.mount_model.specs.declared.reply.Reply.{Reply}
 use Rattle.mount_model.specs.declared.reply.Reply.TheVariants.{Refused}
 use Rattle.mount_model.specs.History.{MountEntry, History}
@@ -12,19 +12,20 @@ abbrev pub is_refused : Reply → Bool
 is_refused (Refused refusal) = true
 is_refused other = false
 
--- a user's operation makes a claim, takes one away, or does neither
-abbrev pub claims_made : ClaimList → ℕ → Op → ClaimList
+-- a user's operation makes a claim, takes one away, takes all on a key away, or does nothing to claims
+abbrev pub claims_made : ClaimSet → ℕ → Op → ClaimSet
 claims_made claims uid (AddKey raw) = with_claim claims (key_id_of raw) uid
 claims_made claims uid (RemoveKey id) = without_claim claims id uid
-claims_made claims uid (KeyStatus id) = claims
+claims_made claims uid (RemoveKeyAll id) = without_id claims id
+claims_made claims uid other = claims
 
-abbrev pub claims_left : ClaimList → MountEntry → ClaimList
+abbrev pub claims_left : ClaimSet → MountEntry → ClaimSet
 claims_left claims e = if is_refused e.reply then claims else claims_made claims e.call.uid e.call.op
 
-abbrev pub claims_from : ClaimList → History → ClaimList
+abbrev pub claims_from : ClaimSet → History → ClaimSet
 claims_from claims [] = claims
 claims_from claims (e ∷ es) = claims_from (claims_left claims e) es
 
 -- the claims that a history leaves
-abbrev pub claims_after : History → ClaimList
-claims_after history = claims_from [] history
+abbrev pub claims_after : History → ClaimSet
+claims_after history = claims_from no_claims history

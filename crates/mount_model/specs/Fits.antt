@@ -1,14 +1,43 @@
 -- Which calls a mount may be asked.
-use Rattle.std.specs.Prelude.{◌≤◌, ⊤, length}
+use Rattle.std.specs.Prelude.{◌≤◌, ⊤, Bool, true, false, length, IsTrue}
 use Rattle.mount_model.specs.declared.call.Call.{Call}
 use Rattle.mount_model.specs.declared.call.Op.{Op}
-use Rattle.mount_model.specs.declared.call.Op.TheVariants.{AddKey, RemoveKey, KeyStatus}
+use Rattle.mount_model.specs.declared.call.Op.TheVariants.{AddKey, RemoveKey, KeyStatus, SetPolicy, GetPolicy, Mkdir, Create, Symlink, ReadLink, Unlink, Rmdir, Rename, OpenNode, Write, MetaLoad, MetaStore}
+use Rattle.mount_model.specs.declared.call.Op.TheVariants as op
+use Rattle.mount_model.specs.declared.limits.TheConstants.{MOST_RAW_BYTES, MOST_WRITE_BYTES, MOST_RECORD_NAME_BYTES, MOST_CARRIED_BYTES}
+use Rattle.mount_model.specs.Carried.{HasLength, IsPath, IsTarget, AreFewBytes}
 
--- a raw key has 1 to 128 bytes
+-- a raw key has 1 to 128 bytes, a write at most 65,536; a record's name has 1 to 64, its bytes are at
+-- most 9,000
 abbrev pub OpFits : Op → Type 0
-OpFits (AddKey raw) = (1 ≤ length raw) × (length raw ≤ 128)
-OpFits (RemoveKey id) = ⊤
-OpFits (KeyStatus id) = ⊤
+OpFits (AddKey raw) = HasLength raw MOST_RAW_BYTES
+OpFits (SetPolicy path policy nonce) = IsPath path
+OpFits (GetPolicy path) = IsPath path
+OpFits (Mkdir path nonce) = IsPath path
+OpFits (Create path nonce) = IsPath path
+OpFits (Symlink path target nonce) = IsPath path × IsTarget target
+OpFits (ReadLink path) = IsPath path
+OpFits (Unlink path) = IsPath path
+OpFits (Rmdir path) = IsPath path
+OpFits (Rename old_path new_path) = IsPath old_path × IsPath new_path
+OpFits (op.List path start) = IsPath path
+OpFits (op.Stat path) = IsPath path
+OpFits (OpenNode path) = IsPath path
+OpFits (Write handle offset bytes) = AreFewBytes bytes MOST_WRITE_BYTES
+OpFits (MetaLoad name) = HasLength name MOST_RECORD_NAME_BYTES
+OpFits (MetaStore name expected bytes) = HasLength name MOST_RECORD_NAME_BYTES × (length bytes ≤ MOST_CARRIED_BYTES)
+OpFits other = ⊤
 
 abbrev pub Fits : Call → Type 0
 Fits call = OpFits call.op
+
+-- the calls that stand behind a mount already: the three on single keys
+abbrev pub is_built : Op → Bool
+is_built (AddKey raw) = true
+is_built (RemoveKey id) = true
+is_built (KeyStatus id) = true
+is_built other = false
+
+-- a call that fits, and that the mount can answer already
+abbrev pub CanBeAsked : Call → Type 0
+CanBeAsked call = Fits call × IsTrue (is_built call.op)

@@ -1,19 +1,78 @@
--- The one-thread mount as plain data.
-use Rattle.std.specs.Prelude.{ℕ, List, [], Option}
-use Rattle.std.specs.Map.{lookup}
+-- The one-thread mount as plain data: nodes, claims with the raw keys, open handles, records. Nothing
+-- of what is stored, cached or enciphered stands in it.
+use Rattle.std.specs.Prelude.{ℕ, ◌+◌, Bool, List, [], ◌∷◌, ◌++◌, Option, ◌==◌, ◌&&◌, not, filter}
+use Rattle.std.specs.Option.{option_map, unwrap_or}
+use Rattle.std.specs.List.{find, list_any}
+use Rattle.std.specs.Ordering.{nat_cmp}
+use Rattle.std.specs.Cmp.Lexicographic.{slice_cmp}
+use Rattle.std.specs.FinMap as map
 use Rattle.policy_ctx.specs.declared.policy.KeyId.{KeyId}
-use Rattle.fsc_keys.specs.Claims.{ClaimList, same_id}
+use Rattle.user_claims.specs.Claims.{ClaimSet, no_claims}
+use Rattle.number_map.specs.Numbered.{Numbered}
+use Rattle.plain_tree.specs.Nodes.{Nodes}
+use Rattle.plain_tree.specs.Changes.{first_nodes}
+use Rattle.meta_files.specs.Records.{RecordList}
+use Rattle.mount_model.specs.declared.handle.Handle.{Handle}
 
--- claims stands without repeats, in the order of their making; raws has the raw keys that were
--- ever added, each under its identifier and the last one first, and nothing is taken out of it
+-- raw keys, each under the bytes of its identifier
+abbrev pub Raws : Type 0
+Raws = map.FinMap (slice_cmp nat_cmp) (List ℕ)
+
+-- handles in the order of their opening
+abbrev pub HandleList : Type 0
+HandleList = List Handle
+
 pub record PlainMount : Type 0 where
-  pub claims : ClaimList
-  pub raws : List (KeyId × List ℕ)
+  -- the nodes by number, and the number of the next one
+  pub nodes : Nodes
+  pub next : ℕ
+  -- who holds which keys, and the raw key that was last added under each identifier; none is taken out
+  pub claims : ClaimSet
+  pub raws : Raws
+  -- what is open, and how many handles each caller ever opened
+  pub handles : HandleList
+  pub opened : Numbered ℕ
+  -- the records in the order in which they were first stored
+  pub records : RecordList
 
--- the mount before any call
+-- the mount before any call: the root alone, an empty directory without policy
 abbrev pub empty_mount : PlainMount
-empty_mount = record { claims = []; raws = [] }
+empty_mount = record {
+  nodes = first_nodes;
+  next = 1;
+  claims = no_claims;
+  raws = map.empty;
+  handles = [];
+  opened = map.empty;
+  records = [];
+}
+
+-- ---- raw keys
 
 -- the raw key last added under the identifier
-abbrev pub raw_of : PlainMount → KeyId → Option (List ℕ)
-raw_of m id = lookup (λ key. same_id key id) m.raws
+abbrev pub raw_in : Raws → KeyId → Option (List ℕ)
+raw_in raws id = map.get raws id.0
+
+-- the raw keys once this one was added
+abbrev pub with_raw : Raws → KeyId → List ℕ → Raws
+with_raw raws id raw = map.insert raws id.0 raw
+
+-- ---- handles
+
+abbrev pub is_handle : ℕ → ℕ → Handle → Bool
+is_handle caller number h = (h.caller == caller) && (h.number == number)
+
+-- the node on which the caller has the handle of that number
+abbrev pub node_of : HandleList → ℕ → ℕ → Option ℕ
+node_of handles caller number = option_map (λ h. h.node) (find (is_handle caller number) handles)
+
+-- some handle is on the node
+abbrev pub has_handle : HandleList → ℕ → Bool
+has_handle handles n = list_any (λ h. h.node == n) handles
+
+abbrev pub without_handle : ℕ → ℕ → HandleList → HandleList
+without_handle caller number handles = filter (λ h. not (is_handle caller number h)) handles
+
+-- how many handles the caller ever opened
+abbrev pub opens_of : Numbered ℕ → ℕ → ℕ
+opens_of opened caller = unwrap_or (map.get opened caller) 0

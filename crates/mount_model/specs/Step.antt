@@ -2,18 +2,22 @@
 use Rattle.std.specs.Prelude.{◌≡◌, ℕ, Bool, true, false, IsTrue, ◌⊎◌}
 use Rattle.mount_model.specs.declared.call.Call.{Call}
 use Rattle.mount_model.specs.declared.call.Op.{Op}
-use Rattle.mount_model.specs.declared.call.Op.TheVariants.{AddKey, RemoveKey, KeyStatus}
+use Rattle.mount_model.specs.declared.call.Op.TheVariants.{RemoveKey, RemoveKeyAll, KeyStatus, Close, DropCaches}
 use Rattle.mount_model.specs.declared.reply.Reply.{Reply}
 use Rattle.mount_model.specs.declared.reply.Reply.TheVariants.{Refused}
 use Rattle.mount_model.specs.declared.reply.Refusal.TheVariants.{NoMemory}
 use Rattle.mount_model.specs.PlainMount.{PlainMount}
 use Rattle.mount_model.specs.Answer.{answer_of}
 
--- whether the operation may take memory; removing a key and asking for its status never do
+-- whether the operation may take memory: removing keys, asking for a status, closing and dropping
+-- caches never do
 abbrev pub takes_memory : Op → Bool
-takes_memory (AddKey raw) = true
 takes_memory (RemoveKey id) = false
+takes_memory (RemoveKeyAll id) = false
 takes_memory (KeyStatus id) = false
+takes_memory (Close handle) = false
+takes_memory DropCaches = false
+takes_memory other = true
 
 -- the mount answers as it has to, and is then as the answer leaves it
 abbrev pub IsAnswered : PlainMount → ℕ → Call → Reply → PlainMount → Type 0

@@ -1,15 +1,108 @@
--- What holds of every mount that a history leaves.
-use Rattle.std.specs.Prelude.{◌≡◌, ℕ, ◌≤◌, length, All, is_some, IsTrue}
+-- What holds of every mount that a history leaves, part by part.
+use Rattle.std.specs.Prelude.{◌≡◌, ⊤, ℕ, ◌<◌, ◌≤◌, Bool, true, false, List, length, Option, Some, None, is_some, not, ◌==◌, ◌&&◌}
+use Rattle.std.specs.List.{list_any, IsDistinct}
+use Rattle.std.specs.Map.{keys_of}
+use Rattle.std.specs.Str.{bytes_eq}
+use Rattle.std.specs.FinMap as map
+use Rattle.policy_ctx.specs.declared.policy.KeyId.{KeyId}
+use Rattle.policy_ctx.specs.declared.policy.Context.{Context}
 use Rattle.fsc_keys.specs.Keys.{key_id_of}
-use Rattle.fsc_keys.specs.Claims.{IsWithoutRepeats, count_of_user}
-use Rattle.mount_model.specs.PlainMount.{PlainMount, raw_of}
+use Rattle.user_claims.specs.Claims.{ClaimSet, has_claim, count_of_user}
+use Rattle.user_claims.specs.declared.claims.TheConstants.{MOST_CLAIMS}
+use Rattle.number_map.specs.Numbered.{Numbered, get}
+use Rattle.plain_tree.specs.Nodes.{Name, Body, Dir, File, Link, Node, Nodes, is_named}
+use Rattle.plain_tree.specs.Facts.{EachNode, EachName}
+use Rattle.plain_tree.specs.Tree.{IsTree}
+use Rattle.plain_tree.specs.Seals.{IsSealed}
+use Rattle.meta_files.specs.Records.{RecordList, record_of}
+use Rattle.mount_model.specs.declared.handle.Handle.{Handle}
+use Rattle.mount_model.specs.declared.limits.TheConstants.{LAST_NODE, MOST_NAME_BYTES, MOST_FILE_BYTES, MOST_BLOCKS, MOST_HANDLES, MOST_OPENS, MOST_RECORDS, MOST_RECORD_BYTES, LAST_VERSION}
+use Rattle.mount_model.specs.PlainMount.{PlainMount, Raws, HandleList, raw_in, is_handle, has_handle, opens_of}
+use Rattle.mount_model.specs.Sealed.{texts}
+use Rattle.mount_model.specs.KeyAnswers.{is_raw_key}
+use Rattle.mount_model.specs.Carried.{IsPart, IsTarget, AreFewBytes}
+use Rattle.mount_model.specs.FileAnswers.{block_total, is_link_at}
+
+-- ---- claims and raw keys
+
+pub record HasKeys (claims : ClaimSet) (raws : Raws) : Type 0 where
+  -- a user has at most 64 claims
+  pub quota : (uid : ℕ) → count_of_user claims uid ≤ MOST_CLAIMS
+  -- each claim is on a key that was added
+  pub added : (id : KeyId) (uid : ℕ) → has_claim claims id uid ≡ true → is_some (raw_in raws id) ≡ true
+  -- each raw key has 32 to 64 bytes
+  pub sizes : (id : KeyId) (raw : List ℕ) → raw_in raws id ≡ Some raw → is_raw_key raw ≡ true
+  -- and stands under its own identifier
+  pub filed : (id : KeyId) (raw : List ℕ) → raw_in raws id ≡ Some raw → key_id_of raw ≡ id
+
+-- ---- nodes
+
+-- a part of at most 255 bytes
+abbrev pub IsName : Name → Type 0
+IsName name = IsPart name × (length name ≤ MOST_NAME_BYTES)
+
+-- a file has at most 1,048,576 bytes, a target at most 255
+abbrev pub IsBody : Body → Type 0
+IsBody (Dir entries) = ⊤
+IsBody (File contents) = AreFewBytes contents MOST_FILE_BYTES
+IsBody (Link target) = IsTarget target × (length target ≤ MOST_NAME_BYTES)
+
+-- an identifier has 16 bytes, and its raw key was added
+abbrev pub HasRaw : Raws → Option Context → Type 0
+HasRaw raws None = ⊤
+HasRaw raws (Some c) = (length c.policy.id.0 ≡ 16) × (is_some (raw_in raws c.policy.id) ≡ true)
+
+pub record HasNodes (raws : Raws) (nodes : Nodes) (next : ℕ) : Type 0 where
+  pub tree : IsTree nodes next
+  pub sealed : IsSealed (texts raws) nodes
+  pub names : EachName IsName nodes
+  pub bodies : EachNode (λ n v. IsBody v.body) nodes
+  pub policies : EachNode (λ n v. HasRaw raws v.context) nodes
+  pub numbers : next ≤ LAST_NODE
+  pub blocks : block_total nodes ≤ MOST_BLOCKS
+
+-- ---- handles
+
+-- a directory or a file that is there
+abbrev pub is_openable : Nodes → ℕ → Bool
+is_openable nodes n = is_some (get nodes n) && not (is_link_at nodes n)
+
+-- the caller has the handle of that number
+abbrev pub is_live : HandleList → ℕ → ℕ → Bool
+is_live handles caller number = list_any (is_handle caller number) handles
+
+abbrev pub is_same_handle : Handle → Handle → Bool
+is_same_handle g h = is_handle g.caller g.number h
+
+pub record HasHandles (nodes : Nodes) (handles : HandleList) (opened : Numbered ℕ) : Type 0 where
+  -- a handle is on a directory or a file
+  pub on : (n : ℕ) → has_handle handles n ≡ true → is_openable nodes n ≡ true
+  -- a node without name has one
+  pub nameless : (n : ℕ) → is_some (get nodes n) ≡ true → is_named nodes n ≡ false → has_handle handles n ≡ true
+  -- its number lies below the count of its caller
+  pub numbered : (caller number : ℕ) → is_live handles caller number ≡ true → number < opens_of opened caller
+  -- no two of a caller have one number
+  pub distinct : IsDistinct is_same_handle handles
+  pub few : length handles ≤ MOST_HANDLES
+  pub few_opens : (caller : ℕ) → opens_of opened caller ≤ MOST_OPENS
+
+-- ---- records
+
+-- a version above 0, and at most 8,192 bytes
+pub record IsRecord (kept : ℕ × List ℕ) : Type 0 where
+  pub stored : 1 ≤ kept.0
+  pub last : kept.0 ≤ LAST_VERSION
+  pub size : length kept.1 ≤ MOST_RECORD_BYTES
+
+pub record HasRecords (records : RecordList) : Type 0 where
+  pub few : length records ≤ MOST_RECORDS
+  pub distinct : IsDistinct bytes_eq (keys_of records)
+  pub each : (name : List ℕ) (kept : ℕ × List ℕ) → record_of records name ≡ Some kept → IsRecord kept
+
+-- ---- the whole
 
 pub record IsWellFormed (m : PlainMount) : Type 0 where
-  -- no claim stands twice
-  pub distinct : IsWithoutRepeats m.claims
-  -- a user has at most 64 claims
-  pub quota : (uid : ℕ) → count_of_user m.claims uid ≤ 64
-  -- each claim is on a key that was added
-  pub keys : All (λ claim. IsTrue (is_some (raw_of m claim.0))) m.claims
-  -- each raw key has 32 to 64 bytes, and stands under its own identifier
-  pub raws : All (λ key. (32 ≤ length key.1) × (length key.1 ≤ 64) × (key.0 ≡ key_id_of key.1)) m.raws
+  pub keys : HasKeys m.claims m.raws
+  pub nodes : HasNodes m.raws m.nodes m.next
+  pub handles : HasHandles m.nodes m.handles m.opened
+  pub records : HasRecords m.records

@@ -1,0 +1,152 @@
+-- Each answer, case by case: what holds of every refusal and of every reply that changes nothing, and of
+-- what the call makes of the mount where it is done, holds of the answer.
+use Rattle.std.proofs.Common.{nat_lt, ◌≡◌, ℕ, Bool, true, false, cond, not, ◌&&◌, ◌||◌, List, [], ◌∷◌, length, eqb, Option, Some, None, is_some, Result, Ok, Err, refl, sym, ap, ◌∙◌}
+use Rattle.std.specs.Map.{lookup_entry}
+use Rattle.std.proofs.lemmas.Bool.{cond_both, or_parts, not_from_false}
+use Rattle.number_map.specs.Numbered.{get}
+use Rattle.policy_ctx.specs.declared.policy.KeyId.{KeyId}
+use Rattle.policy_ctx.specs.declared.policy.Context.{Context}
+use Rattle.policy_ctx.specs.Policy.{policy_fault}
+use Rattle.plain_tree.specs.Nodes.{Name, Body, Dir, File, Link, Node, Nodes, children, context_at, is_dir_at, entry}
+use Rattle.plain_tree.specs.Changes.{encrypted, written}
+use Rattle.user_claims.specs.Claims.{has_claim, is_present}
+use Rattle.meta_files.specs.Records.{record_of}
+use Rattle.byte_words.specs.Contents.{with_bytes}
+use Rattle.mount_model.specs.declared.reply.Reply.{Reply}
+use Rattle.mount_model.specs.declared.reply.Reply.TheVariants.{Done, Opened, Refused}
+use Rattle.mount_model.specs.declared.limits.TheConstants.{MOST_NAME_BYTES}
+use Rattle.mount_model.specs.declared.reply.Refusal.{Refusal}
+use Rattle.mount_model.specs.declared.reply.Refusal.TheVariants.{NoKey, Access, Quota, Inval, Exists, NotFound, NotDir, IsDir, NotEmpty, XDev, NoData, BadHandle, NameTooLong, TooBig, NoSpace, NoKeyClash, Changed}
+use Rattle.mount_model.specs.PlainMount.{PlainMount, node_of}
+use Rattle.mount_model.specs.States.{is_keyed}
+use Rattle.mount_model.specs.Answered.{Answer, refused, told, done, at_node, at_entry}
+use Rattle.mount_model.specs.Walk.{PathParts, Walked, found, led, looked_in, stepped, walked_on, walked_from, walked, is_root, parent, parent_parts, last_part, is_at_or_above}
+use Rattle.mount_model.specs.KeyAnswers.{is_raw_key, is_over_quota, is_absent, added, removed, all_removed, answer_to_add_key, answer_to_remove_key, answer_to_remove_key_all}
+use Rattle.mount_model.specs.PolicyAnswers.{policy_in, may_use, answer_to_encrypt, answer_to_set_policy, policy_told, answer_to_get_policy, is_same_policy}
+use Rattle.mount_model.specs.NameAnswers.{lacks_key, clashes, is_full, is_long_target, new_node, with_node, without_name, answer_to_make_in, answer_to_make, answer_to_unlink, answer_to_rmdir}
+use Rattle.mount_model.specs.RenameAnswer.{may_hold, is_full_elsewhere, with_moved, answer_to_move, answer_to_rename}
+use Rattle.mount_model.specs.LookAnswers.{target_told, answer_to_read_link, page_of, answer_to_list, node_told, answer_to_stat}
+use Rattle.mount_model.specs.FileAnswers.{with_handle, is_out_of_handles, is_link_at, answer_to_open, at_handle, contents_at, content_of, answer_to_read, lacks_blocks, answer_to_write, with_closed, answer_to_close}
+use Rattle.mount_model.specs.RecordAnswers.{record_told, answer_to_meta_load, is_out_of_records, stored, answer_to_meta_store}
+use Rattle.mount_model.specs.History.{is_want_of_memory}
+use Rattle.mount_model.specs.ClaimHistory.{is_refused}
+
+-- ---- what is asked of a property of answers
+
+pub is_so : (b : Bool) → not b ≡ false → b ≡ true
+is_so true e = refl
+is_so false e = sym e
+
+abbrev pub CoversRefusals : (Answer → Type 0) → PlainMount → Type 0
+CoversRefusals R m = (r : Refusal) → is_want_of_memory (Refused r) ≡ false → R (refused m r)
+
+pub record Covers (R : Answer → Type 0) (m : PlainMount) : Type 0 where
+  pub of_refusals : CoversRefusals R m
+  pub of_replies : (reply : Reply) → is_refused reply ≡ false → R (told m reply)
+
+pub when : (R : Answer → Type 0) {b : Bool} {x y : Answer} → (b ≡ true → R x) → (b ≡ false → R y) → R (cond b x y)
+when R {b} {x} {y} yes_case no_case = cond_both b x y R yes_case no_case
+
+-- ---- walks end in refusals that are due
+
+abbrev pub IsDueWalk : Walked → Type 0
+IsDueWalk (Err r) = is_want_of_memory (Refused r) ≡ false
+IsDueWalk (Ok n) = Unit {0}
+
+pub looked_in_due : (m : PlainMount) (d : ℕ) (part : Name) → IsDueWalk (looked_in m d part)
+looked_in_due m d part = cond_both (not (is_dir_at m.nodes d)) (Err NotDir) (cond (nat_lt MOST_NAME_BYTES (length part)) (Err NameTooLong) (Ok d)) IsDueWalk
+    (λ _. refl)
+    (λ _. cond_both (nat_lt MOST_NAME_BYTES (length part)) (Err NameTooLong) (Ok d) IsDueWalk (λ _. refl) (λ _. tt))
+
+walked_on_due : (f : ℕ → Walked) (w : Walked) → IsDueWalk w → ((n : ℕ) → IsDueWalk (f n)) → IsDueWalk (walked_on f w)
+walked_on_due f (Err r) due rest = due
+walked_on_due f (Ok n) due rest = rest n
+
+led_due : (o : Option (Name × ℕ)) → IsDueWalk (led o)
+led_due None = refl
+led_due (Some e) = tt
+
+pub stepped_due : (m : PlainMount) (d : ℕ) (part : Name) → IsDueWalk (stepped m d part)
+stepped_due m d part = walked_on_due (λ _. led (found m d part)) (looked_in m d part) (looked_in_due m d part) (λ _. led_due (found m d part))
+
+pub walked_from_due : (m : PlainMount) (n : ℕ) (path : PathParts) → IsDueWalk (walked_from m n path)
+walked_from_due m n [] = tt
+walked_from_due m n (part ∷ parts) = walked_on_due (λ x. walked_from m x parts) (stepped m n part) (stepped_due m n part) (λ x. walked_from_due m x parts)
+
+pub parent_due : (m : PlainMount) (path : PathParts) → IsDueWalk (parent m path)
+parent_due m path = walked_on_due (λ d. looked_in m d (last_part path)) (walked m (parent_parts path)) (walked_from_due m 0 (parent_parts path)) (λ d. looked_in_due m d (last_part path))
+
+pub at_walk : (R : Answer → Type 0) (m : PlainMount) (f : ℕ → Answer) (w : Walked) → Covers R m → IsDueWalk w → ((n : ℕ) → w ≡ Ok n → R (f n)) → R (at_node m f w)
+at_walk R m f (Err r) covers due ok = covers.of_refusals r due
+at_walk R m f (Ok n) covers due ok = ok n refl
+
+pub at_found : (R : Answer → Type 0) (m : PlainMount) (f : Name → ℕ → Answer) (o : Option (Name × ℕ)) → Covers R m → ((e : Name × ℕ) → o ≡ Some e → R (f e.0 e.1)) → R (at_entry m f o)
+at_found R m f None covers ok = covers.of_refusals NotFound refl
+at_found R m f (Some e) covers ok = ok e refl
+
+pub at_open : (R : Answer → Type 0) (m : PlainMount) (f : ℕ → Answer) (o : Option ℕ) → Covers R m → ((n : ℕ) → o ≡ Some n → R (f n)) → R (at_handle m f o)
+at_open R m f None covers ok = covers.of_refusals BadHandle refl
+at_open R m f (Some n) covers ok = ok n refl
+
+-- ---- keys
+
+pub at_add_key : (R : Answer → Type 0) (m : PlainMount) (uid : ℕ) (raw : List ℕ) → CoversRefusals R m
+    → (is_raw_key raw ≡ true → is_over_quota m uid raw ≡ false → R (added m uid raw)) → R (answer_to_add_key m uid raw)
+at_add_key R m uid raw covers ok =
+    when R (λ _. covers Inval refl) (λ fits.
+    when R (λ _. covers Quota refl) (λ within.
+    ok (is_so (is_raw_key raw) fits) within))
+
+pub at_remove_key : (R : Answer → Type 0) (m : PlainMount) (uid : ℕ) (id : KeyId) → CoversRefusals R m → R (removed m uid id) → R (answer_to_remove_key m uid id)
+at_remove_key R m uid id covers ok =
+    when R (λ _. covers NoKey refl) (λ (_ : is_absent m id ≡ false).
+    when R (λ _. covers NoKey refl) (λ (_ : (is_present m.claims id && not (has_claim m.claims id uid)) ≡ false). ok))
+
+pub at_remove_key_all : (R : Answer → Type 0) (m : PlainMount) (uid : ℕ) (id : KeyId) → CoversRefusals R m → R (all_removed m id) → R (answer_to_remove_key_all m uid id)
+at_remove_key_all R m uid id covers ok =
+    when R (λ _. covers Access refl) (λ (_ : not (eqb uid 0) ≡ false).
+    when R (λ _. covers NoKey refl) (λ (_ : is_absent m id ≡ false). ok))
+
+-- ---- policies
+
+-- a directory that gets its policy: it has none, and no entries
+pub record CanEncrypt (m : PlainMount) (uid : ℕ) (policy : List ℕ) (d : ℕ) : Type 0 where
+  pub dir : is_dir_at m.nodes d ≡ true
+  pub not_root : eqb d 0 ≡ false
+  pub spelled : is_some (policy_fault policy) ≡ false
+  pub plain : context_at m.nodes d ≡ None
+  pub empty : eqb (length (children m.nodes d)) 0 ≡ true
+  pub held : may_use m uid (policy_in policy).id ≡ true
+
+abbrev pub encrypted_at : PlainMount → ℕ → Context → PlainMount
+encrypted_at m d c = record m { nodes = encrypted m.nodes d c }
+
+at_encrypt : (R : Answer → Type 0) (m : PlainMount) (uid d : ℕ) (new : Context) (o : Option Context) → Covers R m
+    → (o ≡ None → eqb (length (children m.nodes d)) 0 ≡ true → may_use m uid new.policy.id ≡ true → R (done (encrypted_at m d new))) → R (answer_to_encrypt m uid d new o)
+at_encrypt R m uid d new (Some old) covers ok = when R (λ _. covers.of_replies Done refl) (λ _. covers.of_refusals Exists refl)
+at_encrypt R m uid d new None covers ok =
+    when R (λ _. covers.of_refusals NotEmpty refl) (λ empty.
+    when R (λ _. covers.of_refusals NoKey refl) (λ held.
+    ok refl (is_so _ empty) (is_so _ held)))
+
+pub at_set_policy : (R : Answer → Type 0) (m : PlainMount) (uid : ℕ) (path : PathParts) (policy nonce : List ℕ) → Covers R m
+    → ((d : ℕ) → CanEncrypt m uid policy d → R (done (encrypted_at m d (record { policy = policy_in policy; nonce = nonce })))) → R (answer_to_set_policy m uid path policy nonce)
+at_set_policy R m uid path policy nonce covers ok = at_walk R m _ (walked m path) covers (walked_from_due m 0 path) (λ d _.
+    when R (λ _. covers.of_refusals NotDir refl) (λ dir.
+    when R (λ _. covers.of_refusals Inval refl) (λ not_root.
+    when R (λ _. covers.of_refusals Inval refl) (λ spelled.
+    at_encrypt R m uid d (record { policy = policy_in policy; nonce = nonce }) (context_at m.nodes d) covers (λ plain empty held. ok d (record {
+      dir = is_so _ dir;
+      not_root = not_root;
+      spelled = spelled;
+      plain = plain;
+      empty = empty;
+      held = held;
+    }))))))
+
+at_policy : (R : Answer → Type 0) (m : PlainMount) (o : Option Context) → Covers R m → R (policy_told m o)
+at_policy R m None covers = covers.of_refusals NoData refl
+at_policy R m (Some c) covers = covers.of_replies _ refl
+
+pub at_get_policy : (R : Answer → Type 0) (m : PlainMount) (path : PathParts) → Covers R m → R (answer_to_get_policy m path)
+at_get_policy R m path covers = at_walk R m _ (walked m path) covers (walked_from_due m 0 path) (λ n _. at_policy R m (context_at m.nodes n) covers)

@@ -1,0 +1,113 @@
+-- The answers to the calls that look at nodes, open them, read and write, and to those on records, case
+-- by case.
+use Rattle.std.proofs.Common.{nat_lt, ◌≡◌, ◌+◌, ℕ, Bool, true, false, cond, not, ◌&&◌, ◌||◌, List, [], ◌∷◌, length, eqb, Option, Some, None, is_some, Result, Ok, Err, refl, sym, ap, ◌∙◌}
+use Rattle.std.specs.Map.{lookup_entry}
+use Rattle.std.proofs.lemmas.Bool.{cond_both, or_parts, not_from_false}
+use Rattle.number_map.specs.Numbered.{get}
+use Rattle.policy_ctx.specs.declared.policy.KeyId.{KeyId}
+use Rattle.policy_ctx.specs.declared.policy.Context.{Context}
+use Rattle.policy_ctx.specs.Policy.{policy_fault}
+use Rattle.plain_tree.specs.Nodes.{Name, Body, Dir, File, Link, Node, Nodes, children, context_at, is_dir_at, entry}
+use Rattle.plain_tree.specs.Changes.{encrypted, written}
+use Rattle.user_claims.specs.Claims.{has_claim, is_present}
+use Rattle.meta_files.specs.Records.{record_of}
+use Rattle.byte_words.specs.Contents.{with_bytes}
+use Rattle.mount_model.specs.declared.reply.Reply.{Reply}
+use Rattle.mount_model.specs.declared.reply.Reply.TheVariants.{Done, Opened, Refused}
+use Rattle.mount_model.specs.declared.limits.TheConstants.{MOST_NAME_BYTES, MOST_FILE_BYTES, MOST_READ_BYTES, MOST_RECORD_BYTES}
+use Rattle.mount_model.specs.declared.reply.Refusal.{Refusal}
+use Rattle.mount_model.specs.declared.reply.Refusal.TheVariants.{NoKey, Access, Quota, Inval, Exists, NotFound, NotDir, IsDir, NotEmpty, XDev, NoData, BadHandle, NameTooLong, TooBig, NoSpace, NoKeyClash, Changed}
+use Rattle.mount_model.specs.PlainMount.{PlainMount, node_of}
+use Rattle.mount_model.specs.States.{is_keyed}
+use Rattle.mount_model.specs.Answered.{Answer, refused, told, done, at_node, at_entry}
+use Rattle.mount_model.specs.Walk.{PathParts, Walked, found, led, looked_in, stepped, walked_on, walked_from, walked, is_root, parent, parent_parts, last_part, is_at_or_above}
+use Rattle.mount_model.specs.KeyAnswers.{is_raw_key, is_over_quota, is_absent, added, removed, all_removed, answer_to_add_key, answer_to_remove_key, answer_to_remove_key_all}
+use Rattle.mount_model.specs.PolicyAnswers.{policy_in, may_use, answer_to_encrypt, answer_to_set_policy, policy_told, answer_to_get_policy, is_same_policy}
+use Rattle.mount_model.specs.NameAnswers.{lacks_key, clashes, is_full, is_long_target, new_node, with_node, without_name, answer_to_make_in, answer_to_make, answer_to_unlink, answer_to_rmdir}
+use Rattle.mount_model.specs.RenameAnswer.{may_hold, is_full_elsewhere, with_moved, answer_to_move, answer_to_rename}
+use Rattle.mount_model.specs.LookAnswers.{target_told, answer_to_read_link, page_of, answer_to_list, node_told, answer_to_stat}
+use Rattle.mount_model.specs.FileAnswers.{with_handle, opened_on, is_out_of_handles, is_link_at, answer_to_open, at_handle, contents_at, content_of, answer_to_read, lacks_blocks, answer_to_write, with_closed, answer_to_close}
+use Rattle.mount_model.specs.RecordAnswers.{record_told, answer_to_meta_load, is_out_of_records, stored, answer_to_meta_store}
+use Rattle.mount_model.specs.History.{is_want_of_memory}
+use Rattle.mount_model.proofs.CaseLemmas.{is_so, Covers, when, walked_from_due, parent_due, at_walk, at_found, at_open}
+use Rattle.mount_model.specs.ClaimHistory.{is_refused}
+
+-- ---- looking
+
+at_target : (R : Answer → Type 0) (m : PlainMount) (n : ℕ) (o : Option Node) → Covers R m → R (target_told m n o)
+at_target R m n None covers = covers.of_refusals NotFound refl
+at_target R m n (Some v) covers = by v.body
+  where
+    by : (b : Body) → R (target_told m n (Some (record { named = v.named; context = v.context; body = b })))
+    by (Dir entries) = covers.of_refusals Inval refl
+    by (File contents) = covers.of_refusals Inval refl
+    by (Link target) = covers.of_replies _ refl
+
+pub at_read_link : (R : Answer → Type 0) (m : PlainMount) (path : PathParts) → Covers R m → R (answer_to_read_link m path)
+at_read_link R m path covers = at_walk R m _ (walked m path) covers (walked_from_due m 0 path) (λ n _. at_target R m n (get m.nodes n) covers)
+
+pub at_list : (R : Answer → Type 0) (m : PlainMount) (path : PathParts) (start : ℕ) → Covers R m → R (answer_to_list m path start)
+at_list R m path start covers = at_walk R m _ (walked m path) covers (walked_from_due m 0 path) (λ n _.
+    when R (λ _. covers.of_refusals NotDir refl) (λ (_ : not (is_dir_at m.nodes n) ≡ false). covers.of_replies (page_of m n start) refl))
+
+at_told : (R : Answer → Type 0) (m : PlainMount) (n : ℕ) (o : Option Node) → Covers R m → R (node_told m n o)
+at_told R m n None covers = covers.of_refusals NotFound refl
+at_told R m n (Some v) covers = covers.of_replies _ refl
+
+pub at_stat : (R : Answer → Type 0) (m : PlainMount) (path : PathParts) → Covers R m → R (answer_to_stat m path)
+at_stat R m path covers = at_walk R m _ (walked m path) covers (walked_from_due m 0 path) (λ n _. at_told R m n (get m.nodes n) covers)
+
+-- ---- handles
+
+-- a node that is opened
+pub record CanOpen (m : PlainMount) (caller : ℕ) (path : PathParts) (n : ℕ) : Type 0 where
+  pub led : walked m path ≡ Ok n
+  pub no_link : is_link_at m.nodes n ≡ false
+  pub room : is_out_of_handles m caller ≡ false
+
+pub at_open_node : (R : Answer → Type 0) (m : PlainMount) (caller : ℕ) (path : PathParts) → Covers R m
+    → ((n : ℕ) → CanOpen m caller path n → R (opened_on m caller n)) → R (answer_to_open m caller path)
+at_open_node R m caller path covers ok = at_walk R m _ (walked m path) covers (walked_from_due m 0 path) (λ n led.
+    when R (λ _. covers.of_refusals Inval refl) (λ no_link.
+    when R (λ _. covers.of_refusals NoKey refl) (λ _.
+    when R (λ _. covers.of_refusals NoSpace refl) (λ room.
+    ok n (record { led = led; no_link = no_link; room = room })))))
+
+pub at_read : (R : Answer → Type 0) (m : PlainMount) (caller handle offset len : ℕ) → Covers R m → R (answer_to_read m caller handle offset len)
+at_read R m caller handle offset len covers = at_open R m _ (node_of m.handles caller handle) covers (λ n _.
+    when R (λ _. covers.of_refusals IsDir refl) (λ (_ : is_dir_at m.nodes n ≡ false).
+    when R (λ _. covers.of_refusals TooBig refl) (λ (_ : nat_lt MOST_READ_BYTES len ≡ false). covers.of_replies (content_of m n offset len) refl)))
+
+-- contents that are written
+pub record CanWrite (m : PlainMount) (caller handle offset : ℕ) (bytes : List ℕ) (n : ℕ) : Type 0 where
+  pub open_on : node_of m.handles caller handle ≡ Some n
+  pub small : nat_lt MOST_FILE_BYTES (offset + length bytes) ≡ false
+  pub room : lacks_blocks m (contents_at m.nodes n) (with_bytes offset bytes (contents_at m.nodes n)) ≡ false
+
+pub at_write : (R : Answer → Type 0) (m : PlainMount) (caller handle offset : ℕ) (bytes : List ℕ) → Covers R m
+    → ((n : ℕ) → CanWrite m caller handle offset bytes n → R (done (record m { nodes = written m.nodes n (with_bytes offset bytes) }))) → R (answer_to_write m caller handle offset bytes)
+at_write R m caller handle offset bytes covers ok = at_open R m _ (node_of m.handles caller handle) covers (λ n is.
+    when R (λ _. covers.of_refusals IsDir refl) (λ _.
+    when R (λ _. covers.of_refusals TooBig refl) (λ small.
+    when R (λ _. covers.of_refusals NoSpace refl) (λ room.
+    ok n (record { open_on = is; small = small; room = room })))))
+
+pub at_close : (R : Answer → Type 0) (m : PlainMount) (caller handle : ℕ) → Covers R m
+    → ((n : ℕ) → node_of m.handles caller handle ≡ Some n → R (done (with_closed m caller handle n))) → R (answer_to_close m caller handle)
+at_close R m caller handle covers ok = at_open R m _ (node_of m.handles caller handle) covers ok
+
+-- ---- records
+
+at_record : (R : Answer → Type 0) (m : PlainMount) (o : Option (ℕ × List ℕ)) → Covers R m → R (record_told m o)
+at_record R m None covers = covers.of_refusals NotFound refl
+at_record R m (Some kept) covers = covers.of_replies _ refl
+
+pub at_meta_load : (R : Answer → Type 0) (m : PlainMount) (name : List ℕ) → Covers R m → R (answer_to_meta_load m name)
+at_meta_load R m name covers = at_record R m (record_of m.records name) covers
+
+pub at_meta_store : (R : Answer → Type 0) (m : PlainMount) (name : List ℕ) (expected : ℕ) (bytes : List ℕ) → Covers R m
+    → (nat_lt MOST_RECORD_BYTES (length bytes) ≡ false → is_out_of_records m name ≡ false → R (stored m name bytes)) → R (answer_to_meta_store m name expected bytes)
+at_meta_store R m name expected bytes covers ok =
+    when R (λ _. covers.of_refusals TooBig refl) (λ small.
+    when R (λ _. covers.of_refusals (Changed _) refl) (λ _.
+    when R (λ _. covers.of_refusals NoSpace refl) (λ room. ok small room)))

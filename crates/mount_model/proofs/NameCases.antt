@@ -1,0 +1,122 @@
+-- The answers to the calls that make, move and take away names, case by case.
+use Rattle.std.proofs.Common.{nat_lt, ◌≡◌, ℕ, Bool, true, false, cond, not, ◌&&◌, ◌||◌, List, [], ◌∷◌, length, eqb, Option, Some, None, is_some, inl, inr, ◌⊎◌, Result, Ok, Err, refl, sym, ap, ◌∙◌}
+use Rattle.std.specs.Map.{lookup_entry}
+use Rattle.std.proofs.lemmas.Bool.{cond_both, or_parts, not_from_false}
+use Rattle.number_map.specs.Numbered.{get}
+use Rattle.policy_ctx.specs.declared.policy.KeyId.{KeyId}
+use Rattle.policy_ctx.specs.declared.policy.Context.{Context}
+use Rattle.policy_ctx.specs.Policy.{policy_fault}
+use Rattle.plain_tree.specs.Nodes.{Name, Body, Dir, File, Link, Node, Nodes, children, context_at, is_dir_at, entry}
+use Rattle.plain_tree.specs.Changes.{encrypted, written}
+use Rattle.user_claims.specs.Claims.{has_claim, is_present}
+use Rattle.meta_files.specs.Records.{record_of}
+use Rattle.byte_words.specs.Contents.{with_bytes}
+use Rattle.mount_model.specs.declared.reply.Reply.{Reply}
+use Rattle.mount_model.specs.declared.reply.Reply.TheVariants.{Done, Opened, Refused}
+use Rattle.mount_model.specs.declared.limits.TheConstants.{MOST_NAME_BYTES}
+use Rattle.mount_model.specs.declared.reply.Refusal.{Refusal}
+use Rattle.mount_model.specs.declared.reply.Refusal.TheVariants.{NoKey, Access, Quota, Inval, Exists, NotFound, NotDir, IsDir, NotEmpty, XDev, NoData, BadHandle, NameTooLong, TooBig, NoSpace, NoKeyClash, Changed}
+use Rattle.mount_model.specs.PlainMount.{PlainMount, node_of}
+use Rattle.mount_model.specs.States.{is_keyed}
+use Rattle.mount_model.specs.Answered.{Answer, refused, told, done, at_node, at_entry}
+use Rattle.mount_model.specs.Walk.{PathParts, Walked, found, led, looked_in, stepped, walked_on, walked_from, walked, is_root, parent, parent_parts, last_part, is_at_or_above}
+use Rattle.mount_model.specs.KeyAnswers.{is_raw_key, is_over_quota, is_absent, added, removed, all_removed, answer_to_add_key, answer_to_remove_key, answer_to_remove_key_all}
+use Rattle.mount_model.specs.PolicyAnswers.{policy_in, may_use, answer_to_encrypt, answer_to_set_policy, policy_told, answer_to_get_policy, is_same_policy}
+use Rattle.mount_model.specs.NameAnswers.{lacks_key, clashes, is_full, is_long_target, new_node, with_node, without_name, answer_to_make_in, answer_to_make, unlinked, answer_to_unlink_in, answer_to_unlink, unlinked_dir, answer_to_rmdir_in, answer_to_rmdir}
+use Rattle.mount_model.specs.RenameAnswer.{may_hold, is_full_elsewhere, with_moved, answer_to_move, answer_to_move_from, answer_to_rename_in, answer_to_rename}
+use Rattle.mount_model.specs.LookAnswers.{target_told, answer_to_read_link, answer_to_list, node_told, answer_to_stat}
+use Rattle.mount_model.specs.FileAnswers.{with_handle, is_out_of_handles, is_link_at, answer_to_open, at_handle, contents_at, answer_to_read, lacks_blocks, answer_to_write, with_closed, answer_to_close}
+use Rattle.mount_model.specs.RecordAnswers.{record_told, answer_to_meta_load, is_out_of_records, stored, answer_to_meta_store}
+use Rattle.mount_model.specs.History.{is_want_of_memory}
+use Rattle.mount_model.proofs.CaseLemmas.{is_so, Covers, when, walked_from_due, parent_due, at_walk, at_found, at_open}
+use Rattle.mount_model.specs.ClaimHistory.{is_refused}
+
+-- ---- Mkdir, Create, Symlink
+
+-- a directory that gets a new name
+pub record CanMake (m : PlainMount) (path : PathParts) (body : Body) (d : ℕ) : Type 0 where
+  pub named : is_root path ≡ false
+  pub led : parent m path ≡ Ok d
+  pub keyed : lacks_key m (context_at m.nodes d) ≡ false
+  pub free : is_some (entry m.nodes d (last_part path)) ≡ false
+  pub target : is_long_target body ≡ false
+  pub apart : clashes m d (last_part path) ≡ false
+  pub room : is_full m d ≡ false
+
+pub at_make : (R : Answer → Type 0) (m : PlainMount) (path : PathParts) (nonce : List ℕ) (body : Body) → Covers R m
+    → ((d : ℕ) → CanMake m path body d → R (done (with_node m d (last_part path) (new_node m d nonce body)))) → R (answer_to_make m path nonce body)
+at_make R m path nonce body covers ok =
+    when R (λ _. covers.of_refusals Exists refl) (λ (named : is_root path ≡ false).
+    at_walk R m (answer_to_make_in m (last_part path) nonce body) (parent m path) covers (parent_due m path) (λ d led.
+    when R (λ _. covers.of_refusals NoKey refl) (λ keyed.
+    when R (λ _. covers.of_refusals Exists refl) (λ free.
+    when R (λ _. covers.of_refusals NameTooLong refl) (λ target.
+    when R (λ _. covers.of_refusals NoKeyClash refl) (λ apart.
+    when R (λ _. covers.of_refusals NoSpace refl) (λ room.
+    ok d (record { named = named; led = led; keyed = keyed; free = free; target = target; apart = apart; room = room }))))))))
+
+-- ---- Unlink and Rmdir
+
+-- an entry that goes: what it leads to is no directory, or an empty one
+pub record CanGo (m : PlainMount) (d : ℕ) (part : Name) (e : Name × ℕ) : Type 0 where
+  pub entry_found : found m d part ≡ Some e
+  pub empty : (is_dir_at m.nodes e.1 ≡ false) ⊎ (eqb (length (children m.nodes e.1)) 0 ≡ true)
+
+pub at_unlink : (R : Answer → Type 0) (m : PlainMount) (path : PathParts) → Covers R m
+    → ((d : ℕ) (e : Name × ℕ) → CanGo m d (last_part path) e → R (done (without_name m d e.0 e.1))) → R (answer_to_unlink m path)
+at_unlink R m path covers ok =
+    when R (λ _. covers.of_refusals IsDir refl) (λ (_ : is_root path ≡ false).
+    at_walk R m (answer_to_unlink_in m (last_part path)) (parent m path) covers (parent_due m path) (λ d _.
+    at_found R m (unlinked m d) (found m d (last_part path)) covers (λ e is.
+    when R (λ _. covers.of_refusals IsDir refl) (λ no_dir.
+    ok d e (record { entry_found = is; empty = inl no_dir })))))
+
+pub at_rmdir : (R : Answer → Type 0) (m : PlainMount) (path : PathParts) → Covers R m
+    → ((d : ℕ) (e : Name × ℕ) → CanGo m d (last_part path) e → R (done (without_name m d e.0 e.1))) → R (answer_to_rmdir m path)
+at_rmdir R m path covers ok =
+    when R (λ _. covers.of_refusals Inval refl) (λ (_ : is_root path ≡ false).
+    at_walk R m (answer_to_rmdir_in m (last_part path)) (parent m path) covers (parent_due m path) (λ d _.
+    at_found R m (unlinked_dir m d) (found m d (last_part path)) covers (λ e is.
+    when R (λ _. covers.of_refusals NotDir refl) (λ (_ : not (is_dir_at m.nodes e.1) ≡ false).
+    when R (λ _. covers.of_refusals NotEmpty refl) (λ empty.
+    ok d e (record { entry_found = is; empty = inr (is_so _ empty) }))))))
+
+-- ---- Rename
+
+-- a name that moves to another, in another directory or in the same one
+pub record CanMove (m : PlainMount) (d : ℕ) (part : Name) (e : Name × ℕ) (path : PathParts) (to : ℕ) : Type 0 where
+  pub named : is_root path ≡ false
+  pub entry_found : found m d part ≡ Some e
+  pub led : parent m path ≡ Ok to
+  pub keyed : is_keyed m to ≡ true
+  pub free : is_some (entry m.nodes to (last_part path)) ≡ false
+  pub outside : is_at_or_above m e.1 path ≡ false
+  pub alike : may_hold (context_at m.nodes to) (context_at m.nodes e.1) ≡ true
+  pub apart : clashes m to (last_part path) ≡ false
+  pub room : is_full_elsewhere m d to ≡ false
+
+pub at_rename : (R : Answer → Type 0) (m : PlainMount) (old_path new_path : PathParts) → Covers R m
+    → ((d : ℕ) (e : Name × ℕ) (to : ℕ) → CanMove m d (last_part old_path) e new_path to → R (done (with_moved m d e.0 to (last_part new_path) e.1))) → R (answer_to_rename m old_path new_path)
+at_rename R m old_path new_path covers ok =
+    when R (λ _. covers.of_refusals Inval refl) (λ (named : (is_root old_path || is_root new_path) ≡ false).
+    at_walk R m (answer_to_rename_in m (last_part old_path) new_path) (parent m old_path) covers (parent_due m old_path) (λ d _.
+    when R (λ _. covers.of_refusals NoKey refl) (λ (_ : not (is_keyed m d) ≡ false).
+    at_found R m (answer_to_move_from m new_path d) (found m d (last_part old_path)) covers (λ e is.
+    at_walk R m (answer_to_move m d e.0 e.1 new_path) (parent m new_path) covers (parent_due m new_path) (λ to led.
+    when R (λ _. covers.of_refusals NoKey refl) (λ keyed.
+    when R (λ _. covers.of_refusals Exists refl) (λ free.
+    when R (λ _. covers.of_refusals Inval refl) (λ outside.
+    when R (λ _. covers.of_refusals XDev refl) (λ alike.
+    when R (λ _. covers.of_refusals NoKeyClash refl) (λ apart.
+    when R (λ _. covers.of_refusals NoSpace refl) (λ room.
+    ok d e to (record {
+      named = (or_parts (is_root old_path) (is_root new_path) named).1;
+      entry_found = is;
+      led = led;
+      keyed = is_so _ keyed;
+      free = free;
+      outside = outside;
+      alike = is_so _ alike;
+      apart = apart;
+      room = room;
+    }))))))))))))

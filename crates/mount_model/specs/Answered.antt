@@ -1,0 +1,34 @@
+-- The shapes of answers: a reply and the mount that is left.
+use Rattle.std.specs.Prelude.{ℕ, Result, Ok, Err, Option, Some, None}
+use Rattle.plain_tree.specs.Nodes.{Name}
+use Rattle.mount_model.specs.declared.reply.Reply.{Reply}
+use Rattle.mount_model.specs.declared.reply.Reply.TheVariants.{Done, Refused}
+use Rattle.mount_model.specs.declared.reply.Refusal.{Refusal}
+use Rattle.mount_model.specs.declared.reply.Refusal.TheVariants.{NotFound}
+use Rattle.mount_model.specs.PlainMount.{PlainMount}
+
+pub record Answer : Type 0 where
+  pub reply : Reply
+  pub mount : PlainMount
+
+-- refused: the mount stays as it is
+abbrev pub refused : PlainMount → Refusal → Answer
+refused m refusal = record { reply = Refused refusal; mount = m }
+
+-- told: this is the reply, and the mount stays as it is
+abbrev pub told : PlainMount → Reply → Answer
+told m reply = record { reply = reply; mount = m }
+
+-- done: this is the mount now
+abbrev pub done : PlainMount → Answer
+done m = record { reply = Done; mount = m }
+
+-- what is answered at the node that was reached; where none was, its refusal
+abbrev pub at_node : PlainMount → (ℕ → Answer) → Result ℕ Refusal → Answer
+at_node m f (Err refusal) = refused m refusal
+at_node m f (Ok n) = f n
+
+-- what is answered at the entry that was found; NotFound where there is none
+abbrev pub at_entry : PlainMount → (Name → ℕ → Answer) → Option (Name × ℕ) → Answer
+at_entry m f None = refused m NotFound
+at_entry m f (Some e) = f e.0 e.1

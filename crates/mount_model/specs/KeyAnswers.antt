@@ -1,0 +1,76 @@
+-- The calls on keys: what each answers, its refusals in the order in which they are tried, and the
+-- mount that it leaves.
+use Rattle.std.specs.Prelude.{ℕ, Bool, false, List, length, not, ◌==◌, ◌&&◌, nat_le, if◌then◌else◌}
+use Rattle.policy_ctx.specs.declared.policy.KeyId.{KeyId}
+use Rattle.fsc_keys.specs.Keys.{key_id_of}
+use Rattle.user_claims.specs.Claims.{has_claim, is_present, count_of_user, count_of_id, with_claim, without_claim, without_id}
+use Rattle.mount_model.specs.declared.limits.TheConstants.{LEAST_KEY_BYTES, MOST_KEY_BYTES}
+use Rattle.user_claims.specs.declared.claims.TheConstants.{MOST_CLAIMS}
+use Rattle.mount_model.specs.declared.reply.Reply.{Reply}
+use Rattle.mount_model.specs.declared.reply.Reply.TheVariants.{Added, Removed, Status}
+use Rattle.mount_model.specs.declared.reply.Refusal.TheVariants.{NoKey, Access, Quota, Inval}
+use Rattle.mount_model.specs.PlainMount.{PlainMount, with_raw}
+use Rattle.mount_model.specs.States.{is_busy, key_state_of}
+use Rattle.mount_model.specs.Answered.{Answer, refused, told}
+
+-- ---- AddKey
+
+-- 32 to 64 bytes
+abbrev pub is_raw_key : List ℕ → Bool
+is_raw_key raw = nat_le LEAST_KEY_BYTES (length raw) && nat_le (length raw) MOST_KEY_BYTES
+
+-- the claim is new, and the user has 64
+abbrev pub is_over_quota : PlainMount → ℕ → List ℕ → Bool
+is_over_quota m uid raw = not (has_claim m.claims (key_id_of raw) uid) && nat_le MOST_CLAIMS (count_of_user m.claims uid)
+
+-- the mount in which the user holds this raw key
+abbrev pub with_key : PlainMount → ℕ → List ℕ → PlainMount
+with_key m uid raw = record m {
+  claims = with_claim m.claims (key_id_of raw) uid;
+  raws = with_raw m.raws (key_id_of raw) raw;
+}
+
+abbrev pub added : PlainMount → ℕ → List ℕ → Answer
+added m uid raw = record { reply = Added (key_id_of raw); mount = with_key m uid raw }
+
+abbrev pub answer_to_add_key : PlainMount → ℕ → List ℕ → Answer
+answer_to_add_key m uid raw =
+    if not (is_raw_key raw) then refused m Inval else
+    if is_over_quota m uid raw then refused m Quota else
+    added m uid raw
+
+-- ---- RemoveKey and RemoveKeyAll
+
+-- neither a claim stands on the key nor anything open needs it
+abbrev pub is_absent : PlainMount → KeyId → Bool
+is_absent m id = not (is_present m.claims id) && not (is_busy m id)
+
+-- others tells whether a claim is left; busy, where none is, whether something open needs the key
+abbrev pub removed : PlainMount → ℕ → KeyId → Answer
+removed m uid id = record {
+  reply = Removed (is_present (without_claim m.claims id uid) id) (not (is_present (without_claim m.claims id uid) id) && is_busy m id);
+  mount = record m { claims = without_claim m.claims id uid };
+}
+
+abbrev pub answer_to_remove_key : PlainMount → ℕ → KeyId → Answer
+answer_to_remove_key m uid id =
+    if is_absent m id then refused m NoKey else
+    if is_present m.claims id && not (has_claim m.claims id uid) then refused m NoKey else
+    removed m uid id
+
+abbrev pub all_removed : PlainMount → KeyId → Answer
+all_removed m id = record { reply = Removed false (is_busy m id); mount = record m { claims = without_id m.claims id } }
+
+abbrev pub answer_to_remove_key_all : PlainMount → ℕ → KeyId → Answer
+answer_to_remove_key_all m uid id =
+    if not (uid == 0) then refused m Access else
+    if is_absent m id then refused m NoKey else
+    all_removed m id
+
+-- ---- KeyStatus
+
+abbrev pub status_of : PlainMount → ℕ → KeyId → Reply
+status_of m uid id = Status (key_state_of m id) (has_claim m.claims id uid) (count_of_id m.claims id)
+
+abbrev pub answer_to_key_status : PlainMount → ℕ → KeyId → Answer
+answer_to_key_status m uid id = told m (status_of m uid id)

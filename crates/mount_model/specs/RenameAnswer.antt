@@ -1,0 +1,56 @@
+-- Rename: what it answers, its refusals in the order in which they are tried, and the mount that it
+-- leaves.
+use Rattle.std.specs.Prelude.{ℕ, Bool, true, false, length, Option, Some, None, is_some, not, ◌==◌, ◌&&◌, ◌||◌, nat_le, if◌then◌else◌}
+use Rattle.policy_ctx.specs.declared.policy.Policy.{Policy}
+use Rattle.policy_ctx.specs.declared.policy.Context.{Context}
+use Rattle.plain_tree.specs.Nodes.{Name, children, context_at, entry}
+use Rattle.plain_tree.specs.Changes.{moved}
+use Rattle.plain_tree.specs.declared.TheConstants.{MOST_CHILDREN}
+use Rattle.mount_model.specs.declared.reply.Refusal.TheVariants.{NoKey, Inval, Exists, XDev, NoSpace, NoKeyClash}
+use Rattle.mount_model.specs.PlainMount.{PlainMount}
+use Rattle.mount_model.specs.States.{is_keyed}
+use Rattle.mount_model.specs.Walk.{PathParts, found, is_root, last_part, parent, is_at_or_above}
+use Rattle.mount_model.specs.PolicyAnswers.{is_same_policy}
+use Rattle.mount_model.specs.NameAnswers.{clashes}
+use Rattle.mount_model.specs.Answered.{Answer, refused, done, at_node, at_entry}
+
+abbrev pub has_policy : Policy → Option Context → Bool
+has_policy policy None = false
+has_policy policy (Some c) = is_same_policy c.policy policy
+
+-- a directory of the one context may hold a node of the other: it has no policy, or the node has it too
+abbrev pub may_hold : Option Context → Option Context → Bool
+may_hold None held = true
+may_hold (Some c) held = has_policy c.policy held
+
+-- it is another directory, and is full
+abbrev pub is_full_elsewhere : PlainMount → ℕ → ℕ → Bool
+is_full_elsewhere m d to = not (to == d) && nat_le MOST_CHILDREN (length (children m.nodes to))
+
+-- the node keeps its policy, nonce and contents
+abbrev pub with_moved : PlainMount → ℕ → Name → ℕ → Name → ℕ → PlainMount
+with_moved m d name to new_name x = record m { nodes = moved m.nodes d name to new_name x }
+
+-- the name of x in d is to lead to x as the last part of the path in the directory `to`
+abbrev pub answer_to_move : PlainMount → ℕ → Name → ℕ → PathParts → ℕ → Answer
+answer_to_move m d name x path to =
+    if not (is_keyed m to) then refused m NoKey else
+    if is_some (entry m.nodes to (last_part path)) then refused m Exists else
+    if is_at_or_above m x path then refused m Inval else
+    if not (may_hold (context_at m.nodes to) (context_at m.nodes x)) then refused m XDev else
+    if clashes m to (last_part path) then refused m NoKeyClash else
+    if is_full_elsewhere m d to then refused m NoSpace else
+    done (with_moved m d name to (last_part path) x)
+
+abbrev pub answer_to_move_from : PlainMount → PathParts → ℕ → Name → ℕ → Answer
+answer_to_move_from m path d name x = at_node m (answer_to_move m d name x path) (parent m path)
+
+abbrev pub answer_to_rename_in : PlainMount → Name → PathParts → ℕ → Answer
+answer_to_rename_in m part new_path d =
+    if not (is_keyed m d) then refused m NoKey else
+    at_entry m (answer_to_move_from m new_path d) (found m d part)
+
+abbrev pub answer_to_rename : PlainMount → PathParts → PathParts → Answer
+answer_to_rename m old_path new_path =
+    if is_root old_path || is_root new_path then refused m Inval else
+    at_node m (answer_to_rename_in m (last_part old_path) new_path) (parent m old_path)

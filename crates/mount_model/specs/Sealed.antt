@@ -1,0 +1,37 @@
+-- What keys do to names: under which key and from which start a node's names are stored, and by which
+-- text a name is shown where the key is absent.
+use Rattle.std.specs.Prelude.{ℕ, ◌*◌, ◌^◌, List, [], ◌++◌, replicate, Option, Some, None, if◌then◌else◌}
+use Rattle.std.specs.Option.{unwrap_or}
+use Rattle.byte_words.specs.Numbers.{little_endian_bytes}
+use Rattle.policy_ctx.specs.declared.policy.Context.{Context}
+use Rattle.fsc_keys.specs.declared.file_keys.KeyKind.{KeyKind}
+use Rattle.fsc_keys.specs.declared.file_keys.KeyKind.TheVariants.{Contents, Names}
+use Rattle.fsc_keys.specs.declared.file_keys.FileKey.{FileKey}
+use Rattle.fsc_keys.specs.Keys.{file_key_of, mode_key_of, key_bytes}
+use Rattle.name_crypt.specs.StoredName.{stored_name_with}
+use Rattle.name_crypt.specs.NoKeyText.{nokey_text_of}
+use Rattle.plain_tree.specs.Nodes.{Name}
+use Rattle.plain_tree.specs.Seals.{Texts}
+use Rattle.mount_model.specs.PlainMount.{Raws, raw_in}
+
+-- the raw key that a node's own keys are drawn from; empty where it was never added
+abbrev pub raw_for : Raws → Context → List ℕ
+raw_for raws c = unwrap_or (raw_in raws c.policy.id) []
+
+-- the key of a node of this context: by its nonce, or under flag 8 the one of all nodes of its policy
+abbrev pub node_key : Raws → Context → KeyKind → FileKey
+node_key raws c kind =
+    if c.policy.by_mode then mode_key_of (raw_for raws c) kind else file_key_of (raw_for raws c) kind c.nonce
+
+-- where node n counts its units from: under flag 8 the upper half of an index is the node's number
+abbrev pub node_start : ℕ → Context → ℕ
+node_start n c = if c.policy.by_mode then n * 2 ^ 32 else 0
+
+-- a name of the directory n, or the target of the symlink n, as it is stored
+unfoldable pub sealed_name : Raws → ℕ → Context → Name → List ℕ
+sealed_name raws n c name =
+    stored_name_with (key_bytes (node_key raws c Names)) (little_endian_bytes 8 (node_start n c) ++ replicate 8 0) c.policy.pad name
+
+-- the text that stands for it where the key is absent
+unfoldable pub texts : Raws → Texts
+texts raws n c name = nokey_text_of (sealed_name raws n c name)

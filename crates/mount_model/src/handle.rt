@@ -1,0 +1,9 @@
+//! What is open.
+
+/// A handle: the caller who opened it, its number among that caller's, and the node that it is on.
+#[derive(Clone, Copy, Debug, PartialEq, Eq)]
+pub struct Handle {
+    pub caller: u32,
+    pub number: u32,
+    pub node: u32,
+}

@@ -1,0 +1,130 @@
+//! Paths, and the parts that they are lists of.
+
+ghost use Rattle.std.specs.Prelude.{◌≡◌, ◌↔◌, ℕ, List, [], ◌∷◌, ◌++◌, All, IsTrue, IfOk, OnOk, OnErr, ◌≤◌, length, option_copied, slice_get};
+ghost use Rattle.mount_model.specs.Carried.{IsPart, IsPath};
+
+use super::Bytes;
+use super::limits::{MOST_PART_BYTES, MOST_PARTS};
+use item_list::Items;
+use std::alloc::{AllocError, Global};
+use std::marker::Model;
+
+/// One part of a path: a name, or in a directory whose key is absent the text of a name. In
+/// clauses it is its bytes.
+#[derive(Drop)]
+pub struct Part {
+    bytes: Bytes,
+}
+
+impl Model for Part {
+    ghost Value = { List ℕ };
+
+    ghost view = { λ part. part.bytes };
+}
+
+impl Part {
+    /// The part of these bytes. Whether a call may carry it is `Call::fits`' to say.
+    pub fn new(bytes: Bytes) -> Part
+        ensures { result ≡ bytes }
+    {
+        Part { bytes }
+    }
+
+    /// The bytes of the part.
+    pub fn bytes(&self) -> &[u8]
+        ensures { result.now ≡ self.now }
+    {
+        self.bytes.as_slice()
+    }
+
+    /// A part of the same bytes, in memory of its own.
+    pub fn copy(&self, alloc: Global) -> Result<Part, AllocError>
+        ensures { IfOk result (λ copy. copy ≡ self.now) }
+    {
+        let bytes = self.bytes.copy(alloc)?;
+        Ok(Part { bytes })
+    }
+
+    // Whether a call may carry the part.
+    pub(crate) fn fits(&self) -> bool
+        ensures { IsTrue result ↔ IsPart self.now }
+    {
+        let bytes = self.bytes.as_slice();
+        bytes.len() <= MOST_PART_BYTES
+            && bytes != b"".as_slice()
+            && bytes != b".".as_slice()
+            && bytes != b"..".as_slice()
+            && bytes.iter().all(|byte| *byte != b'/' && *byte != 0)
+    }
+}
+
+/// A path from the root of the mount: its parts in order, none for the root itself. In clauses
+/// it is the list of their bytes.
+#[derive(Drop)]
+pub struct Path {
+    parts: Items<Part>,
+}
+
+impl Model for Path {
+    ghost Value = { List (List ℕ) };
+
+    ghost view = { λ path. path.parts };
+}
+
+impl Path {
+    /// The path of the root, which has no part. It takes no memory.
+    pub fn root(alloc: Global) -> Path
+        ensures { result ≡ [] }
+    {
+        Path {
+            parts: Items::new(alloc),
+        }
+    }
+
+    /// Puts a part behind the others. After want of memory the path is as before.
+    pub fn push(&mut self, part: Part) -> Result<(), AllocError>
+        ensures appended { OnOk result (self.new ≡ self.old ++ part ∷ []) }
+        ensures kept { OnErr result (self.new ≡ self.old) }
+    {
+        self.parts.push(part)
+    }
+
+    /// The part at the index, counted from 0; `None` from the number of parts on.
+    pub fn part(&self, index: usize) -> Option<&Part>
+        ensures { option_copied result ≡ slice_get self.now index }
+    {
+        self.parts.get(index)
+    }
+
+    /// How many parts the path has.
+    pub fn len(&self) -> usize
+        ensures { result ≡ length self.now }
+    {
+        self.parts.len()
+    }
+
+    /// Whether the path has no part, and so leads to the root.
+    pub fn is_empty(&self) -> bool
+        ensures { IsTrue result ↔ (self.now ≡ []) }
+    {
+        self.parts.is_empty()
+    }
+
+    /// A path of the same parts, in memory of its own.
+    pub fn copy(&self, alloc: Global) -> Result<Path, AllocError>
+        ensures { IfOk result (λ copy. copy ≡ self.now) }
+    {
+        let mut copy = Path::root(alloc);
+        'parts: for part in self.parts.as_slice() {
+            copy.push(part.copy(alloc)?)?;
+        }
+        Ok(copy)
+    }
+
+    // Whether a call may carry the path.
+    pub(crate) fn fits(&self) -> bool
+        ensures { IsTrue result ↔ IsPath self.now }
+    {
+        self.parts.len() <= MOST_PARTS && self.parts.iter().all(|part| part.fits())
+    }
+}
