@@ -16,7 +16,7 @@ use Rattle.disk_tree.specs.declared.node.Body.{Body}
 use Rattle.disk_tree.specs.declared.node.Body.TheVariants.{Dir, File, Link}
 use Rattle.disk_tree.proofs.EntryLemmas.{removal_absent, removal_front}
 use Rattle.disk_tree.proofs.ChangeLemmas.{changed_fixed, changed_alike, changed_twice, changed_apart}
-use Rattle.disk_tree.proofs.TotalLemmas.{total_added, total_empty, total_removed, total_changed_to, total_changed}
+use Rattle.number_map.proofs.TotalLemmas.{total_added, total_empty, total_removed, total_changed_to, total_changed}
 
 abbrev pub count_of : StoredNode → ℕ
 count_of node = length (blocks_of node.body)

@@ -1,7 +1,6 @@
 pub mod EntryLemmas
 pub mod ResultLemmas
 pub mod NodeLemmas
-pub mod TotalLemmas
 pub mod ChangeLemmas
 pub mod DiskLemmas
 pub mod AgreeLemmas

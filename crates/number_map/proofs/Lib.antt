@@ -2,3 +2,4 @@ pub mod AgreementLemmas
 pub mod NumberTests
 pub mod NumberedLemmas
 pub mod SlotLemmas
+pub mod TotalLemmas
