@@ -2,7 +2,8 @@
 -- of bytes, are computed.
 use Rattle.std.proofs.Common.{◌≡◌, ℕ, ◌<◌, refl, arith}
 use Rattle.std.proofs.lemmas.Bool.{eqb-true, ltb-true}
-use Rattle.std.specs.Prelude.{true, bit_xor, nat_eq, nat_lt}
+use Rattle.std.specs.Prelude.{true, cond, ◌+◌, ◌%◌, ◌^◌, bit_xor, nat_eq, nat_lt, nat_le}
+use lib.Lanes.{top}
 use Rattle.byte_words.specs.Tables.{all_from}
 use Rattle.byte_words.proofs.TableLemmas.{all_from-at}
 use Rattle.aes_core.specs.Field.{times_x, sum_with_product, field_product, product_of_squares, field_inverse}
@@ -107,3 +108,38 @@ mix_part_3_right = refl
 
 pub mix-part_3 : (b : ℕ) → b < 256 → bit_xor (bit_xor (bit_xor (field_product 2 (field_product 9 b)) (field_product 3 (field_product 13 b))) (field_product 1 (field_product 11 b))) (field_product 1 (field_product 14 b)) ≡ 0
 mix-part_3 b low = eqb-true _ _ (all_from-at (λ k. nat_eq (bit_xor (bit_xor (bit_xor (field_product 2 (field_product 9 k)) (field_product 3 (field_product 13 k))) (field_product 1 (field_product 11 k))) (field_product 1 (field_product 14 k))) 0) 0 256 b mix_part_3_right (omega arith) (omega arith))
+
+spread_by_14_right : all_from (λ b. nat_eq (bit_xor (field_product 2 b) (bit_xor (field_product 2 (times_x (times_x b))) (field_product 1 (times_x (times_x b))))) (field_product 14 b)) 0 256 ≡ true
+unfolding all_from times_x sum_with_product field_product
+spread_by_14_right = refl
+
+pub spread_by_14 : (b : ℕ) → b < 256 → bit_xor (field_product 2 b) (bit_xor (field_product 2 (times_x (times_x b))) (field_product 1 (times_x (times_x b)))) ≡ field_product 14 b
+spread_by_14 b low = eqb-true _ _ (all_from-at (λ k. nat_eq (bit_xor (field_product 2 k) (bit_xor (field_product 2 (times_x (times_x k))) (field_product 1 (times_x (times_x k))))) (field_product 14 k)) 0 256 b spread_by_14_right (omega arith) (omega arith))
+
+spread_by_11_right : all_from (λ b. nat_eq (bit_xor (field_product 3 b) (bit_xor (field_product 3 (times_x (times_x b))) (field_product 1 (times_x (times_x b))))) (field_product 11 b)) 0 256 ≡ true
+unfolding all_from times_x sum_with_product field_product
+spread_by_11_right = refl
+
+pub spread_by_11 : (b : ℕ) → b < 256 → bit_xor (field_product 3 b) (bit_xor (field_product 3 (times_x (times_x b))) (field_product 1 (times_x (times_x b)))) ≡ field_product 11 b
+spread_by_11 b low = eqb-true _ _ (all_from-at (λ k. nat_eq (bit_xor (field_product 3 k) (bit_xor (field_product 3 (times_x (times_x k))) (field_product 1 (times_x (times_x k))))) (field_product 11 k)) 0 256 b spread_by_11_right (omega arith) (omega arith))
+
+spread_by_13_right : all_from (λ b. nat_eq (bit_xor (field_product 1 b) (bit_xor (field_product 1 (times_x (times_x b))) (field_product 2 (times_x (times_x b))))) (field_product 13 b)) 0 256 ≡ true
+unfolding all_from times_x sum_with_product field_product
+spread_by_13_right = refl
+
+pub spread_by_13 : (b : ℕ) → b < 256 → bit_xor (field_product 1 b) (bit_xor (field_product 1 (times_x (times_x b))) (field_product 2 (times_x (times_x b)))) ≡ field_product 13 b
+spread_by_13 b low = eqb-true _ _ (all_from-at (λ k. nat_eq (bit_xor (field_product 1 k) (bit_xor (field_product 1 (times_x (times_x k))) (field_product 2 (times_x (times_x k))))) (field_product 13 k)) 0 256 b spread_by_13_right (omega arith) (omega arith))
+
+spread_by_9_right : all_from (λ b. nat_eq (bit_xor (field_product 1 b) (bit_xor (field_product 1 (times_x (times_x b))) (field_product 3 (times_x (times_x b))))) (field_product 9 b)) 0 256 ≡ true
+unfolding all_from times_x sum_with_product field_product
+spread_by_9_right = refl
+
+pub spread_by_9 : (b : ℕ) → b < 256 → bit_xor (field_product 1 b) (bit_xor (field_product 1 (times_x (times_x b))) (field_product 3 (times_x (times_x b)))) ≡ field_product 9 b
+spread_by_9 b low = eqb-true _ _ (all_from-at (λ k. nat_eq (bit_xor (field_product 1 k) (bit_xor (field_product 1 (times_x (times_x k))) (field_product 3 (times_x (times_x k))))) (field_product 9 k)) 0 256 b spread_by_9_right (omega arith) (omega arith))
+
+times_x_lane_right : all_from (λ b. nat_eq (bit_xor ((b + b) % 2 ^ 8) (cond (top 7 (cond (nat_le 128 b) 255 0)) 27 0)) (times_x b)) 0 256 ≡ true
+unfolding all_from times_x
+times_x_lane_right = refl
+
+pub times_x_lane : (b : ℕ) → b < 256 → bit_xor ((b + b) % 2 ^ 8) (cond (top 7 (cond (nat_le 128 b) 255 0)) 27 0) ≡ times_x b
+times_x_lane b low = eqb-true _ _ (all_from-at (λ k. nat_eq (bit_xor ((k + k) % 2 ^ 8) (cond (top 7 (cond (nat_le 128 k) 255 0)) 27 0)) (times_x k)) 0 256 b times_x_lane_right (omega arith) (omega arith))

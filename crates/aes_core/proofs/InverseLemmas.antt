@@ -2,7 +2,8 @@
 use Rattle.std.proofs.Common.{◌≡◌, ℕ, ◌+◌, ◌-◌, ◌*◌, List, [], ◌∷◌, get_or, ◌∙◌}
 use Rattle.std.proofs.lemmas.Nat.{xor_of_8}
 use Rattle.std.specs.Prelude.{bit_xor}
-use Rattle.aes_core.specs.Laws.{AreBytes, IsBlock}
+use Rattle.byte_words.specs.Bytes.{AreBytes}
+use Rattle.aes_core.specs.Laws.{IsBlock}
 use Rattle.aes_core.specs.Steps.{cell, substitute_bytes, shift_rows, mix_columns, inverse_substitute_bytes, inverse_shift_rows, inverse_mix_columns, add_round_key}
 use Rattle.aes_core.specs.Substitution.{substitute_byte, inverse_substitute_byte}
 use Rattle.aes_core.proofs.ByteTables.{inverse_substitute-substitute, substitute-inverse_substitute, substitute_byte-lt, inverse_substitute_byte-lt, unmix-part_0, unmix-part_1, unmix-part_2, unmix-part_3, mix-part_0, mix-part_1, mix-part_2, mix-part_3}

@@ -5,3 +5,12 @@ pub mod RoundLemmas
 pub mod ScheduleLemmas
 pub mod StateLemmas
 pub mod Tables
+pub mod ShuffleLemmas
+pub mod LaneLemmas
+pub mod ColumnLemmas
+pub mod BitLemmas
+pub mod CircuitTables
+pub mod PlaneLemmas
+pub mod PlaneSteps
+pub mod SquareLemmas
+pub mod UndoneLemmas

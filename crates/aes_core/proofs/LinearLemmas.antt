@@ -10,7 +10,7 @@ use Rattle.aes_core.proofs.ByteTables.{times_x-lt, times_x-xor}
 pub xor_twice : (a k : ℕ) → bit_xor (bit_xor a k) k ≡ a
 xor_twice a k = xor_assoc a k k ∙ ap (λ z. bit_xor a z) (xor_self k) ∙ xor_zero_r a
 
-xor_swap : (a b c d : ℕ) → bit_xor (bit_xor a b) (bit_xor c d) ≡ bit_xor (bit_xor a c) (bit_xor b d)
+pub xor_swap : (a b c d : ℕ) → bit_xor (bit_xor a b) (bit_xor c d) ≡ bit_xor (bit_xor a c) (bit_xor b d)
 xor_swap a b c d =
     xor_assoc a b (bit_xor c d) ∙ ap (λ z. bit_xor a z) (sym (xor_assoc b c d) ∙ ap (λ z. bit_xor z d) (xor_comm b c) ∙ xor_assoc c b d)
     ∙ sym (xor_assoc a c (bit_xor b d))
@@ -23,11 +23,11 @@ sum4-lt : (a b c d : ℕ) → a < 256 → b < 256 → c < 256 → d < 256 → su
 sum4-lt a b c d p q r s = xor_of_8 (bit_xor (bit_xor a b) c) d (xor_of_8 (bit_xor a b) c (xor_of_8 a b p q) r) s
 
 -- the last may stand first
-sum4_turned : (a b c d : ℕ) → sum4 b c d a ≡ sum4 a b c d
+pub sum4_turned : (a b c d : ℕ) → sum4 b c d a ≡ sum4 a b c d
 sum4_turned a b c d =
     xor_comm (bit_xor (bit_xor b c) d) a ∙ sym (xor_assoc a (bit_xor b c) d) ∙ ap (λ z. bit_xor z d) (sym (xor_assoc a b c))
 
-sum4-xor : (a b c d e f g h : ℕ) → bit_xor (sum4 a b c d) (sum4 e f g h) ≡ sum4 (bit_xor a e) (bit_xor b f) (bit_xor c g) (bit_xor d h)
+pub sum4-xor : (a b c d e f g h : ℕ) → bit_xor (sum4 a b c d) (sum4 e f g h) ≡ sum4 (bit_xor a e) (bit_xor b f) (bit_xor c g) (bit_xor d h)
 sum4-xor a b c d e f g h =
     xor_swap (bit_xor (bit_xor a b) c) d (bit_xor (bit_xor e f) g) h
     ∙ ap (λ z. bit_xor z (bit_xor d h)) (xor_swap (bit_xor a b) c (bit_xor e f) g ∙ ap (λ z. bit_xor z (bit_xor c g)) (xor_swap a b e f))
@@ -55,7 +55,7 @@ sum_with_product-xor (suc n) k a b s t small low =
     (times_x-lt a small) (times_x-lt b low)
 
 -- the product of a sum is the sum of the products
-product-xor : (k a b : ℕ) → a < 256 → b < 256 → field_product k (bit_xor a b) ≡ bit_xor (field_product k a) (field_product k b)
+pub product-xor : (k a b : ℕ) → a < 256 → b < 256 → field_product k (bit_xor a b) ≡ bit_xor (field_product k a) (field_product k b)
 unfolding field_product
 product-xor k a b small low = sum_with_product-xor 8 k a b 0 0 small low
 

@@ -3,7 +3,8 @@ use Rattle.std.proofs.Common.{◌≡◌, ℕ, zero, suc, ◌+◌, ◌-◌, ◌/�
 use Rattle.std.proofs.lemmas.Nat.{xor_of_8}
 use Rattle.std.specs.Prelude.{bit_xor, nat_eq, if◌then◌else◌}
 use Rattle.aes_core.specs.Aes.{state_after, encrypted_with, rounds_undone, decrypted_with, encrypted_block, decrypted_block}
-use Rattle.aes_core.specs.Laws.{AreBytes, IsBlock}
+use Rattle.byte_words.specs.Bytes.{AreBytes}
+use Rattle.aes_core.specs.Laws.{IsBlock}
 use Rattle.aes_core.specs.RoundKeys.{word_of, word_byte, power_of_x, round_constant, changed_word, next_word, key_schedule, round_keys}
 use Rattle.aes_core.specs.Steps.{substitute_bytes, shift_rows, mix_columns, inverse_substitute_bytes, inverse_shift_rows, inverse_mix_columns, add_round_key}
 use Rattle.aes_core.specs.Substitution.{substitute_byte}
@@ -67,19 +68,19 @@ round_keys-AreBytes key bytes = key_schedule-AreBytes key 52 bytes
 
 -- ---- blocks stay blocks
 
-moved-IsBlock : (s : List ℕ) → IsBlock s → IsBlock (shift_rows (substitute_bytes s))
+pub moved-IsBlock : (s : List ℕ) → IsBlock s → IsBlock (shift_rows (substitute_bytes s))
 moved-IsBlock s block = shift_rows-IsBlock (substitute_bytes s) (substitute_bytes-IsBlock s block)
 
-moved_back-IsBlock : (s : List ℕ) → IsBlock s → IsBlock (inverse_substitute_bytes (inverse_shift_rows s))
+pub moved_back-IsBlock : (s : List ℕ) → IsBlock s → IsBlock (inverse_substitute_bytes (inverse_shift_rows s))
 moved_back-IsBlock s block = inverse_substitute_bytes-IsBlock (inverse_shift_rows s) (inverse_shift_rows-IsBlock s block)
 
-state_after-IsBlock : (w block : List ℕ) (n : ℕ) → AreBytes w → IsBlock block → IsBlock (state_after w block n)
+pub state_after-IsBlock : (w block : List ℕ) (n : ℕ) → AreBytes w → IsBlock block → IsBlock (state_after w block n)
 unfolding state_after
 state_after-IsBlock w block zero keys is = add_round_key-IsBlock w 0 block keys is
 state_after-IsBlock w block (suc n) keys is = add_round_key-IsBlock w (suc n) (mix_columns (shift_rows (substitute_bytes (state_after w block n)))) keys
     (mix_columns-IsBlock (shift_rows (substitute_bytes (state_after w block n))) (moved-IsBlock (state_after w block n) (state_after-IsBlock w block n keys is)))
 
-rounds_undone-IsBlock : (w s : List ℕ) (n : ℕ) → AreBytes w → IsBlock s → IsBlock (rounds_undone w s n)
+pub rounds_undone-IsBlock : (w s : List ℕ) (n : ℕ) → AreBytes w → IsBlock s → IsBlock (rounds_undone w s n)
 unfolding rounds_undone
 rounds_undone-IsBlock w s zero keys is = add_round_key-IsBlock w 0 (inverse_substitute_bytes (inverse_shift_rows s)) keys (moved_back-IsBlock s is)
 rounds_undone-IsBlock w s (suc n) keys is = rounds_undone-IsBlock w (inverse_mix_columns (add_round_key w (suc n) (inverse_substitute_bytes (inverse_shift_rows s)))) n keys

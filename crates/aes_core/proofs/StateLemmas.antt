@@ -15,7 +15,8 @@ pub state_of-cell : (s : List ℕ) → length s ≡ 16 → state_of (cell s) ≡
 state_of-cell s size =
     sym (fill_by_all (λ i. cell s (i % 4) (i / 4)) s 16 0 size (λ k low. ap (λ i. get_or s i 0) (same_place k low)))
 
-bytes_from : (f : ℕ → ℕ) (n : ℕ) → ((k : ℕ) → f k < 256) → (i : ℕ) → get_or (map f (range_with_len 0 n)) i 0 < 256
+-- what a function makes at each place, where it makes bytes
+pub bytes_from : (f : ℕ → ℕ) (n : ℕ) → ((k : ℕ) → f k < 256) → (i : ℕ) → get_or (map f (range_with_len 0 n)) i 0 < 256
 bytes_from f n small i = elim (cases_lt i n) [
   | inl low ↦ rw (get_or-map-range_with_len f 0 n i i 0 low (omega arith)) (small i)
   | inr past ↦ rw (get_or_past (map f (range_with_len 0 n)) i 0 (rw (length-map-range_with_len f 0 n) past)) (omega arith)

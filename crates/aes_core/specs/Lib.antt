@@ -1,6 +1,9 @@
 pub mod Aes
 pub mod Field
+pub mod Lanes
 pub mod Laws
+pub mod Planes
 pub mod RoundKeys
+pub mod Shuffles
 pub mod Steps
 pub mod Substitution

@@ -1,11 +1,13 @@
 //! The key schedule of AES-256 (FIPS 197, 5.2): 60 words of four bytes.
 
-ghost use Rattle.std.specs.Prelude.{◌≡◌, ◌*◌, ◌+◌, ◌-◌, ◌<◌, ◌≤◌, ◌++◌, drop};
+ghost use Rattle.std.specs.Prelude.{◌≡◌, ◌*◌, ◌+◌, ◌-◌, ◌<◌, ◌≤◌, ◌++◌, drop, slice_index};
 ghost use borrow.Rule.Slice.PartMut.{put_mid};
-ghost use Rattle.aes_core.specs.RoundKeys.{changed_word, next_word, power_of_x, round_keys};
+ghost use Rattle.aes_core.specs.RoundKeys.{changed_word, next_word, power_of_x, round_keys, word_of};
+ghost use Rattle.aes_core.specs.Substitution.{substitute_byte};
 
 use crate::rounds::RoundKeys;
-use crate::substitution::substitute_byte;
+use crate::shuffles::substitute;
+use std::simd::prelude::*;
 
 const KEY_WORDS: usize = 8;
 
@@ -60,6 +62,21 @@ fn round_constant(j: usize) -> u8
     1 << (j - 1)
 }
 
+// The S-box on each byte of a word.
+fn substitute_word(word: [u8; 4]) -> [u8; 4]
+    ensures { result ≡ word_of (λ k. substitute_byte (slice_index word k)) }
+{
+    let [a, b, c, d] = word;
+    let bytes = u8x16::from_array([a, b, c, d, 0, 0, 0, 0, 0, 0, 0, 0, 0, 0, 0, 0]);
+    let substituted = substitute(bytes).to_array();
+    [
+        substituted[0],
+        substituted[1],
+        substituted[2],
+        substituted[3],
+    ]
+}
+
 // What word `i - 8` is xored with.
 fn changed_word(keys: &RoundKeys, i: usize) -> [u8; 4]
     requires { (8 ≤ i) × (i < 60) }
@@ -73,19 +90,15 @@ fn changed_word(keys: &RoundKeys, i: usize) -> [u8; 4]
     ];
     let place = i % KEY_WORDS;
     if place == 0 {
+        let turned = substitute_word([b, c, d, a]);
         [
-            substitute_byte(b) ^ round_constant(i / 8),
-            substitute_byte(c),
-            substitute_byte(d),
-            substitute_byte(a),
+            turned[0] ^ round_constant(i / 8),
+            turned[1],
+            turned[2],
+            turned[3],
         ]
     } else if place == 4 {
-        [
-            substitute_byte(a),
-            substitute_byte(b),
-            substitute_byte(c),
-            substitute_byte(d),
-        ]
+        substitute_word([a, b, c, d])
     } else {
         [a, b, c, d]
     }

@@ -1,21 +1,31 @@
-//! AES-256 (FIPS 197) on single blocks of 16 bytes.
+//! AES-256 (FIPS 197) on blocks of 16 bytes, one at a time or eight at once. No place in memory that the
+//! code reads depends on a key or a block: the S-box is found by shuffles of tables in registers for
+//! one block, and by gates on planes of bits for eight.
 #![tactic(auto)]
 
-mod inverse_rounds;
+mod eight;
+mod inverse_substitution_circuit;
 mod key_schedule;
+mod plane_rounds;
 mod rounds;
-mod substitution;
+mod shuffles;
+mod substitution_circuit;
 #[cfg(test)]
 mod tests;
+mod transposition;
+mod vectors;
 
-ghost use Rattle.std.specs.Prelude.{◌≡◌, List, ℕ, take};
+ghost use Rattle.std.specs.Prelude.{◌≡◌, ◌<◌, List, [], ℕ, slice_index_or, take};
 ghost use Rattle.aes_core.specs.Aes.{decrypted_block, encrypted_block};
 ghost use Rattle.aes_core.specs.Laws.{DecryptionUndoes, DecryptsToBlocks, EncryptionUndoes, EncryptsToBlocks, InverseIsOne, MakesSixteen};
 ghost use Rattle.aes_core.specs.RoundKeys.{round_keys};
 
-use crate::inverse_rounds::{inverse_mix_columns, inverse_shift_rows, inverse_substitute_bytes};
-use crate::rounds::{RoundKeys, add_round_key, mix_columns, shift_rows, substitute_bytes};
+use crate::rounds::{
+    RoundKeys, add_round_key, inverse_mix_columns, inverse_shift_rows, inverse_substitute_bytes,
+    mix_columns, shift_rows, substitute_bytes,
+};
 use std::marker::Model;
+use std::simd::prelude::*;
 
 /// A key of 32 bytes with its round keys, which are made once. In contracts it is the key.
 #[derive(Drop)]
@@ -46,19 +56,19 @@ impl Aes256 {
     pub fn encrypt_block(&self, block: [u8; 16]) -> [u8; 16]
         ensures { result ≡ encrypted_block self.now block }
     {
-        let mut state = add_round_key(&self.schedule, 0, block);
+        let mut state = add_round_key(&self.schedule, 0, u8x16::from_array(block));
         'rounds: for done in 0..13 {
             let mixed = mix_columns(shift_rows(substitute_bytes(state)));
             state = add_round_key(&self.schedule, done + 1, mixed);
         }
-        add_round_key(&self.schedule, 14, shift_rows(substitute_bytes(state)))
+        add_round_key(&self.schedule, 14, shift_rows(substitute_bytes(state))).to_array()
     }
 
     /// The block decrypted (FIPS 197, 5.3).
     pub fn decrypt_block(&self, block: [u8; 16]) -> [u8; 16]
         ensures { result ≡ decrypted_block self.now block }
     {
-        let mut state = add_round_key(&self.schedule, 14, block);
+        let mut state = add_round_key(&self.schedule, 14, u8x16::from_array(block));
         'rounds: for done in 0..13 {
             let moved_back = inverse_substitute_bytes(inverse_shift_rows(state));
             state = inverse_mix_columns(add_round_key(&self.schedule, 13 - done, moved_back));
@@ -68,6 +78,23 @@ impl Aes256 {
             0,
             inverse_substitute_bytes(inverse_shift_rows(state)),
         )
+        .to_array()
+    }
+
+    /// Eight blocks encrypted, each in the lanes of one vector, byte by byte.
+    pub fn encrypt_eight(&self, blocks: [u8x16; 8]) -> [u8x16; 8]
+        ensures { (b : ℕ) → b < 8
+            → slice_index_or result b [] ≡ encrypted_block self.now (slice_index_or blocks b []) }
+    {
+        eight::encrypt_eight(&self.schedule, blocks)
+    }
+
+    /// Eight blocks decrypted, each in the lanes of one vector, byte by byte.
+    pub fn decrypt_eight(&self, blocks: [u8x16; 8]) -> [u8x16; 8]
+        ensures { (b : ℕ) → b < 8
+            → slice_index_or result b [] ≡ decrypted_block self.now (slice_index_or blocks b []) }
+    {
+        eight::decrypt_eight(&self.schedule, blocks)
     }
 }
 

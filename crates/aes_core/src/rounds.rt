@@ -1,112 +1,103 @@
-//! The steps of an encrypting round (FIPS 197, 5.1). A state is its 16 bytes, column by column.
+//! The steps of a round (FIPS 197, 5.1 and 5.3) on one state, whose 16 bytes stand in a vector column
+//! by column.
 
-ghost use Rattle.std.specs.Prelude.{◌≡◌, ◌≤◌, bit_xor};
-ghost use Rattle.aes_core.specs.Field.{field_product, times_x};
-ghost use Rattle.aes_core.specs.Steps.{add_round_key, mix_columns, shift_rows, substitute_bytes};
+ghost use Rattle.std.specs.Prelude.{◌≡◌, ◌≤◌, map};
+ghost use Rattle.aes_core.specs.Field.{times_x};
+ghost use Rattle.aes_core.specs.Lanes.{round_key, row_on};
+ghost use Rattle.aes_core.specs.Steps.{add_round_key, inverse_mix_columns, inverse_shift_rows, inverse_substitute_bytes, mix_columns, shift_rows, substitute_bytes};
 
-use crate::substitution::substitute_byte;
+use crate::shuffles::{inverse_substitute, substitute};
+use crate::vectors::xor;
+use std::simd::prelude::*;
 
-pub type State = [u8; 16];
-
-pub type RoundKeys = [u8; 240];
+pub(crate) type RoundKeys = [u8; 240];
 
 #[inline(always)]
-pub fn substitute_bytes(state: State) -> State
+pub(crate) fn substitute_bytes(state: u8x16) -> u8x16
     ensures { result ≡ substitute_bytes state }
 {
-    [
-        substitute_byte(state[0]),
-        substitute_byte(state[1]),
-        substitute_byte(state[2]),
-        substitute_byte(state[3]),
-        substitute_byte(state[4]),
-        substitute_byte(state[5]),
-        substitute_byte(state[6]),
-        substitute_byte(state[7]),
-        substitute_byte(state[8]),
-        substitute_byte(state[9]),
-        substitute_byte(state[10]),
-        substitute_byte(state[11]),
-        substitute_byte(state[12]),
-        substitute_byte(state[13]),
-        substitute_byte(state[14]),
-        substitute_byte(state[15]),
-    ]
+    substitute(state)
 }
 
 #[inline(always)]
-pub fn shift_rows(state: State) -> State
+pub(crate) fn inverse_substitute_bytes(state: u8x16) -> u8x16
+    ensures { result ≡ inverse_substitute_bytes state }
+{
+    inverse_substitute(state)
+}
+
+#[inline(always)]
+pub(crate) fn shift_rows(state: u8x16) -> u8x16
     ensures { result ≡ shift_rows state }
 {
-    [
-        state[0], state[5], state[10], state[15], state[4], state[9], state[14], state[3],
-        state[8], state[13], state[2], state[7], state[12], state[1], state[6], state[11],
-    ]
+    state.swizzle([0, 5, 10, 15, 4, 9, 14, 3, 8, 13, 2, 7, 12, 1, 6, 11])
 }
 
-/// The product by x in the field of bytes.
 #[inline(always)]
-pub fn times_x(byte: u8) -> u8
-    ensures { result ≡ times_x byte }
+pub(crate) fn inverse_shift_rows(state: u8x16) -> u8x16
+    ensures { result ≡ inverse_shift_rows state }
 {
-    (byte << 1) ^ ((byte >> 7) * 0x1b)
+    state.swizzle([0, 13, 10, 7, 4, 1, 14, 11, 8, 5, 2, 15, 12, 9, 6, 3])
 }
 
-// One byte of a mixed column: 02 a + 03 b + c + d.
+/// The product of each byte by x in the field of bytes.
 #[inline(always)]
-fn mixed_byte(a: u8, b: u8, c: u8, d: u8) -> u8
-    ensures { result ≡ bit_xor (bit_xor (bit_xor (field_product 0x02 a) (field_product 0x03 b))
-        (field_product 0x01 c)) (field_product 0x01 d) }
+fn times_x(bytes: u8x16) -> u8x16
+    ensures { result ≡ map times_x bytes }
 {
-    times_x(a) ^ (b ^ times_x(b)) ^ c ^ d
+    let highest = bytes.simd_ge(u8x16::splat(0x80));
+    (bytes + bytes) ^ highest.select(u8x16::splat(0x1b), u8x16::splat(0))
 }
 
+// In each column the byte of the next row.
 #[inline(always)]
-pub fn mix_columns(state: State) -> State
+pub(crate) fn next_row(state: u8x16) -> u8x16
+    ensures { result ≡ row_on 1 state }
+{
+    state.swizzle([1, 2, 3, 0, 5, 6, 7, 4, 9, 10, 11, 8, 13, 14, 15, 12])
+}
+
+// In each column the byte two rows on.
+#[inline(always)]
+pub(crate) fn second_row_on(state: u8x16) -> u8x16
+    ensures { result ≡ row_on 2 state }
+{
+    state.swizzle([2, 3, 0, 1, 6, 7, 4, 5, 10, 11, 8, 9, 14, 15, 12, 13])
+}
+
+// Of bytes a, b, c and d from a row on: 02 (a + b) + b + (c + d).
+#[inline(always)]
+pub(crate) fn mix_columns(state: u8x16) -> u8x16
     ensures { result ≡ mix_columns state }
 {
-    [
-        mixed_byte(state[0], state[1], state[2], state[3]),
-        mixed_byte(state[1], state[2], state[3], state[0]),
-        mixed_byte(state[2], state[3], state[0], state[1]),
-        mixed_byte(state[3], state[0], state[1], state[2]),
-        mixed_byte(state[4], state[5], state[6], state[7]),
-        mixed_byte(state[5], state[6], state[7], state[4]),
-        mixed_byte(state[6], state[7], state[4], state[5]),
-        mixed_byte(state[7], state[4], state[5], state[6]),
-        mixed_byte(state[8], state[9], state[10], state[11]),
-        mixed_byte(state[9], state[10], state[11], state[8]),
-        mixed_byte(state[10], state[11], state[8], state[9]),
-        mixed_byte(state[11], state[8], state[9], state[10]),
-        mixed_byte(state[12], state[13], state[14], state[15]),
-        mixed_byte(state[13], state[14], state[15], state[12]),
-        mixed_byte(state[14], state[15], state[12], state[13]),
-        mixed_byte(state[15], state[12], state[13], state[14]),
-    ]
+    let next = next_row(state);
+    let sum = xor(state, next);
+    xor(xor(times_x(sum), next), second_row_on(sum))
+}
+
+// The inverse polynomial is that of `mix_columns` times 04 x² + 05.
+#[inline(always)]
+pub(crate) fn inverse_mix_columns(state: u8x16) -> u8x16
+    ensures { result ≡ inverse_mix_columns state }
+{
+    let sum = xor(state, second_row_on(state));
+    mix_columns(xor(state, times_x(times_x(sum))))
+}
+
+// The words of round key `round`, one a column.
+#[inline(always)]
+pub(crate) fn round_key(keys: &RoundKeys, round: usize) -> u8x16
+    requires { round ≤ 14 }
+    ensures { result ≡ round_key keys.now round }
+{
+    u8x16::from_slice(&keys[16 * round..16 * round + 16])
 }
 
 /// Xors round key `round` into the state.
 #[inline(always)]
-pub fn add_round_key(keys: &RoundKeys, round: usize, state: State) -> State
+pub(crate) fn add_round_key(keys: &RoundKeys, round: usize, state: u8x16) -> u8x16
     requires { round ≤ 14 }
     ensures { result ≡ add_round_key keys.now round state }
 {
-    [
-        state[0] ^ keys[16 * round + 0],
-        state[1] ^ keys[16 * round + 1],
-        state[2] ^ keys[16 * round + 2],
-        state[3] ^ keys[16 * round + 3],
-        state[4] ^ keys[16 * round + 4],
-        state[5] ^ keys[16 * round + 5],
-        state[6] ^ keys[16 * round + 6],
-        state[7] ^ keys[16 * round + 7],
-        state[8] ^ keys[16 * round + 8],
-        state[9] ^ keys[16 * round + 9],
-        state[10] ^ keys[16 * round + 10],
-        state[11] ^ keys[16 * round + 11],
-        state[12] ^ keys[16 * round + 12],
-        state[13] ^ keys[16 * round + 13],
-        state[14] ^ keys[16 * round + 14],
-        state[15] ^ keys[16 * round + 15],
-    ]
+    xor(state, round_key(keys, round))
 }

@@ -1,40 +1,108 @@
 use crate::Aes256;
+use std::simd::prelude::*;
 
-// FIPS 197, appendix C.3, and NIST SP 800-38A, F.1.5 and F.1.6, block 1.
+#[derive(Clone, Copy)]
+struct Vectors {
+    key: [u128; 2],
+    blocks: [(u128, u128); 4],
+}
+
+// FIPS 197, appendix C.3, and NIST SP 800-38A, F.1.5 and F.1.6.
+fn standard_vectors() -> [Vectors; 2] {
+    let appendix = (
+        0x00112233445566778899aabbccddeeff,
+        0x8ea2b7ca516745bfeafc49904b496089,
+    );
+    [
+        Vectors {
+            key: [
+                0x000102030405060708090a0b0c0d0e0f,
+                0x101112131415161718191a1b1c1d1e1f,
+            ],
+            blocks: [appendix, appendix, appendix, appendix],
+        },
+        Vectors {
+            key: [
+                0x603deb1015ca71be2b73aef0857d7781,
+                0x1f352c073b6108d72d9810a30914dff4,
+            ],
+            blocks: [
+                (
+                    0x6bc1bee22e409f96e93d7e117393172a,
+                    0xf3eed1bdb5d2a03c064b5a7e3db181f8,
+                ),
+                (
+                    0xae2d8a571e03ac9c9eb76fac45af8e51,
+                    0x591ccb10d410ed26dc5ba74a31362870,
+                ),
+                (
+                    0x30c81c46a35ce411e5fbc1191a0a52ef,
+                    0xb6ed21b99ca6f4f9f153e7b1beafed1d,
+                ),
+                (
+                    0xf69f2445df4f9b17ad2b417be66c3710,
+                    0x23304b7a39f9f3ff067d8d8f9e24ecc7,
+                ),
+            ],
+        },
+    ]
+}
+
+fn key_of(halves: [u128; 2]) -> Aes256 {
+    let mut key = [0; 32];
+    key[..16].copy_from_slice(&halves[0].to_be_bytes());
+    key[16..].copy_from_slice(&halves[1].to_be_bytes());
+    Aes256::new(&key)
+}
+
 #[test]
 fn standard_blocks_encrypt_and_decrypt(rt: HostRuntime) {
-    let counted: [u8; 32] = [
-        0x00, 0x01, 0x02, 0x03, 0x04, 0x05, 0x06, 0x07, 0x08, 0x09, 0x0a, 0x0b, 0x0c, 0x0d, 0x0e,
-        0x0f, 0x10, 0x11, 0x12, 0x13, 0x14, 0x15, 0x16, 0x17, 0x18, 0x19, 0x1a, 0x1b, 0x1c, 0x1d,
-        0x1e, 0x1f,
-    ];
-    let other: [u8; 32] = [
-        0x60, 0x3d, 0xeb, 0x10, 0x15, 0xca, 0x71, 0xbe, 0x2b, 0x73, 0xae, 0xf0, 0x85, 0x7d, 0x77,
-        0x81, 0x1f, 0x35, 0x2c, 0x07, 0x3b, 0x61, 0x08, 0xd7, 0x2d, 0x98, 0x10, 0xa3, 0x09, 0x14,
-        0xdf, 0xf4,
-    ];
-    let plain: [u8; 16] = [
-        0x00, 0x11, 0x22, 0x33, 0x44, 0x55, 0x66, 0x77, 0x88, 0x99, 0xaa, 0xbb, 0xcc, 0xdd, 0xee,
-        0xff,
-    ];
-    let other_plain: [u8; 16] = [
-        0x6b, 0xc1, 0xbe, 0xe2, 0x2e, 0x40, 0x9f, 0x96, 0xe9, 0x3d, 0x7e, 0x11, 0x73, 0x93, 0x17,
-        0x2a,
-    ];
-    let secret: [u8; 16] = [
-        0x8e, 0xa2, 0xb7, 0xca, 0x51, 0x67, 0x45, 0xbf, 0xea, 0xfc, 0x49, 0x90, 0x4b, 0x49, 0x60,
-        0x89,
-    ];
-    let other_secret: [u8; 16] = [
-        0xf3, 0xee, 0xd1, 0xbd, 0xb5, 0xd2, 0xa0, 0x3c, 0x06, 0x4b, 0x5a, 0x7e, 0x3d, 0xb1, 0x81,
-        0xf8,
-    ];
-    for (key, block, want) in [
-        (&counted, plain, secret),
-        (&other, other_plain, other_secret),
-    ] {
-        let aes = Aes256::new(key);
-        assert_eq!(rt; aes.encrypt_block(block), want);
-        assert_eq!(rt; aes.decrypt_block(want), block);
+    for vectors in standard_vectors() {
+        let aes = key_of(vectors.key);
+        for (plain, secret) in vectors.blocks {
+            assert_eq!(rt;
+                aes.encrypt_block(plain.to_be_bytes()),
+                secret.to_be_bytes()
+            );
+            assert_eq!(rt;
+                aes.decrypt_block(secret.to_be_bytes()),
+                plain.to_be_bytes()
+            );
+        }
+    }
+}
+
+fn vector(block: u128) -> u8x16 {
+    u8x16::from_array(block.to_be_bytes())
+}
+
+// The four blocks and then the same four from the last on.
+fn eight(of: [u128; 4]) -> [u8x16; 8] {
+    let [a, b, c, d] = of;
+    [
+        vector(a),
+        vector(b),
+        vector(c),
+        vector(d),
+        vector(d),
+        vector(c),
+        vector(b),
+        vector(a),
+    ]
+}
+
+#[test]
+fn standard_blocks_encrypt_and_decrypt_by_eight(rt: HostRuntime) {
+    for vectors in standard_vectors() {
+        let aes = key_of(vectors.key);
+        let [a, b, c, d] = vectors.blocks;
+        let plain = eight([a.0, b.0, c.0, d.0]);
+        let secret = eight([a.1, b.1, c.1, d.1]);
+        let encrypted = aes.encrypt_eight(plain);
+        let decrypted = aes.decrypt_eight(secret);
+        for i in 0..8 {
+            assert_eq!(rt; encrypted[i].to_array(), secret[i].to_array());
+            assert_eq!(rt; decrypted[i].to_array(), plain[i].to_array());
+        }
     }
 }

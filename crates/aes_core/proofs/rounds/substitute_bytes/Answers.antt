@@ -1,12 +1,10 @@
 -- Each of the 16 bytes is that of the definition.
-use Rattle.std.proofs.Common.{[], ◌∷◌}
+use Rattle.std.proofs.Common.{◌≡◌, map, refl, ◌∙◌}
 use Rattle.aes_core.specs.Steps.{substitute_bytes}
+use Rattle.aes_core.specs.Substitution.{substitute_byte}
+use Rattle.aes_core.proofs.LaneLemmas.{of_sixteen}
 use Rattle.aes_core.proofs.rounds.substitute_bytes.Goals as goal
 
 pub returns : goal.returns
 unfolding substitute_bytes
-returns c = λ i.
-    c.substitute_byte.ensures i ∷ c.substitute_byte-2.ensures i ∷ c.substitute_byte-3.ensures i ∷ c.substitute_byte-4.ensures i ∷
-    c.substitute_byte-5.ensures i ∷ c.substitute_byte-6.ensures i ∷ c.substitute_byte-7.ensures i ∷ c.substitute_byte-8.ensures i ∷
-    c.substitute_byte-9.ensures i ∷ c.substitute_byte-10.ensures i ∷ c.substitute_byte-11.ensures i ∷ c.substitute_byte-12.ensures i ∷
-    c.substitute_byte-13.ensures i ∷ c.substitute_byte-14.ensures i ∷ c.substitute_byte-15.ensures i ∷ c.substitute_byte-16.ensures i ∷ []
+returns c = c.substitute.ensures ∙ of_sixteen (λ s. map substitute_byte s ≡ substitute_bytes s) (λ x0 x1 x2 x3 x4 x5 x6 x7 x8 x9 x10 x11 x12 x13 x14 x15. refl) c.args.state c.fits-state.0

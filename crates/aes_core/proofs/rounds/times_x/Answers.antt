@@ -1,7 +1,6 @@
--- The shift and the mask are the product by x, at each byte.
-use Rattle.std.proofs.Common.{arith}
-use Rattle.aes_core.proofs.Tables.{times_x_is}
+-- The mask is taken where the highest bit is set.
+use Rattle.aes_core.proofs.LaneLemmas.{times_x_lanes}
 use Rattle.aes_core.proofs.rounds.times_x.Goals as goal
 
 pub returns : goal.returns
-returns c = times_x_is c.args.byte (omega arith)
+returns c = times_x_lanes 16 c.args.bytes c.fits-bytes.0 c.fits-bytes.1
