@@ -1,3 +1,4 @@
 pub mod ByteLists
+pub mod GroupLemmas
 pub mod TweakLemmas
 pub mod UnitLemmas

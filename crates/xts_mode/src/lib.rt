@@ -2,6 +2,7 @@
 #![tactic(auto)]
 
 mod block;
+mod group;
 #[cfg(test)]
 mod tests;
 
@@ -10,6 +11,7 @@ ghost use Rattle.xts_mode.specs.Laws.{DecryptionUndoes, EncryptionUndoes, KeepsL
 ghost use Rattle.xts_mode.specs.Xts.{first_tweak, xts_decrypted, xts_encrypted};
 
 use crate::block::{block_at, decrypt_tweaked, encrypt_tweaked, half_of, times_alpha};
+use crate::group::{GROUP_BYTES, decrypt_group, encrypt_group};
 use aes_core::Aes256;
 use std::marker::Model;
 
@@ -48,7 +50,12 @@ impl XtsKey {
         ensures { unit.new ≡ xts_encrypted self.now index unit.old }
     {
         let mut tweak = self.first_tweak(index);
-        'units: for j in 0..unit.len() / 16 {
+        let groups = unit.len() / GROUP_BYTES;
+        'groups: for g in 0..groups {
+            let at = GROUP_BYTES * g;
+            tweak = encrypt_group(&self.cipher, tweak, &mut unit[at..at + GROUP_BYTES]);
+        }
+        'units: for j in 8 * groups..unit.len() / 16 {
             let block = encrypt_tweaked(&self.cipher, tweak, block_at(unit, j));
             unit[16 * j..16 * j + 16].copy_from_slice(&block);
             tweak = times_alpha(tweak);
@@ -61,7 +68,12 @@ impl XtsKey {
         ensures { unit.new ≡ xts_decrypted self.now index unit.old }
     {
         let mut tweak = self.first_tweak(index);
-        'units: for j in 0..unit.len() / 16 {
+        let groups = unit.len() / GROUP_BYTES;
+        'groups: for g in 0..groups {
+            let at = GROUP_BYTES * g;
+            tweak = decrypt_group(&self.cipher, tweak, &mut unit[at..at + GROUP_BYTES]);
+        }
+        'units: for j in 8 * groups..unit.len() / 16 {
             let block = decrypt_tweaked(&self.cipher, tweak, block_at(unit, j));
             unit[16 * j..16 * j + 16].copy_from_slice(&block);
             tweak = times_alpha(tweak);

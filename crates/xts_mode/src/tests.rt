@@ -1,17 +1,21 @@
 use crate::XtsKey;
 
-// The keys, indexes and units of IEEE 1619, annex B, vectors 10 to 14: 512 bytes that count up, at five
-// indexes. The first and the last block of what they become, and the way back. The ciphertexts are those
-// that another implementation, Python's `cryptography`, makes of these.
-#[test]
-fn standard_units_encrypt_and_decrypt(rt: HostRuntime) {
-    let key: [u8; 64] = [
+// The key of IEEE 1619, annex B, vectors 10 to 14.
+fn standard_key() -> [u8; 64] {
+    [
         0x27, 0x18, 0x28, 0x18, 0x28, 0x45, 0x90, 0x45, 0x23, 0x53, 0x60, 0x28, 0x74, 0x71, 0x35,
         0x26, 0x62, 0x49, 0x77, 0x57, 0x24, 0x70, 0x93, 0x69, 0x99, 0x59, 0x57, 0x49, 0x66, 0x96,
         0x76, 0x27, 0x31, 0x41, 0x59, 0x26, 0x53, 0x58, 0x97, 0x93, 0x23, 0x84, 0x62, 0x64, 0x33,
         0x83, 0x27, 0x95, 0x02, 0x88, 0x41, 0x97, 0x16, 0x93, 0x99, 0x37, 0x51, 0x05, 0x82, 0x09,
         0x74, 0x94, 0x45, 0x92,
-    ];
+    ]
+}
+
+// The keys, indexes and units of IEEE 1619, annex B, vectors 10 to 14: 512 bytes that count up, at five
+// indexes. The first and the last block of what they become, and the way back. The ciphertexts are those
+// that another implementation, Python's `cryptography`, makes of these.
+#[test]
+fn standard_units_encrypt_and_decrypt(rt: HostRuntime) {
     let vectors: [(u64, [u8; 16], [u8; 16]); 5] = [
         (
             0xff,
@@ -73,7 +77,7 @@ fn standard_units_encrypt_and_decrypt(rt: HostRuntime) {
     for i in 0..512 {
         plain[i] = (i % 256) as u8;
     }
-    let xts = XtsKey::new(&key);
+    let xts = XtsKey::new(&standard_key());
     for (index, first, last) in vectors {
         let mut unit = plain;
         xts.encrypt_unit(index, &mut unit);
@@ -81,5 +85,37 @@ fn standard_units_encrypt_and_decrypt(rt: HostRuntime) {
         assert_eq!(rt; unit[496..], last[..], "last block at index {index}");
         xts.decrypt_unit(index, &mut unit);
         assert_eq!(rt; unit, plain, "decrypted at index {index}");
+    }
+}
+
+// FNV-1a, 64 bits.
+fn checksum(bytes: &[u8]) -> u64 {
+    let mut sum = 0xcbf29ce484222325u64;
+    for byte in bytes {
+        sum = (sum ^ *byte as u64).wrapping_mul(0x100000001b3);
+    }
+    sum
+}
+
+// A unit of 4,096 bytes that count up, whose ciphertext by Python's `cryptography` has this checksum; and units that
+// are its beginning, whose ciphertexts are the beginning of that one.
+#[test]
+fn units_of_every_length_encrypt_and_decrypt(rt: HostRuntime) {
+    let mut plain = [0u8; 4096];
+    for i in 0..4096 {
+        plain[i] = (i % 256) as u8;
+    }
+    let xts = XtsKey::new(&standard_key());
+    let mut whole = plain;
+    xts.encrypt_unit(0xff, &mut whole);
+    assert_eq!(rt; checksum(&whole), 0xc9337eef5f7a3a4e);
+    for blocks in 1..256 {
+        let end = 16 * blocks;
+        let mut unit = plain;
+        xts.encrypt_unit(0xff, &mut unit[..end]);
+        assert_eq!(rt; unit[..end], whole[..end], "{blocks} blocks encrypted");
+        assert_eq!(rt; unit[end..], plain[end..], "the rest after {blocks} blocks");
+        xts.decrypt_unit(0xff, &mut unit[..end]);
+        assert_eq!(rt; unit, plain, "{blocks} blocks decrypted");
     }
 }
