@@ -1,19 +1,15 @@
 -- How secrets are kept; words of private functions.
-use Rattle.std.specs.Prelude.{ℕ, List, map, filter, not, Option}
-use Rattle.std.specs.Map.{lookup}
+use Rattle.std.specs.Prelude.{ℕ, List}
+use Rattle.std.specs.Global.{Global}
+use Rattle.std.specs.declared.boxed.Box.{Box}
 use Rattle.policy_ctx.specs.declared.policy.KeyId.{KeyId}
-use Rattle.fsc_keys.specs.Claims.{same_id}
-use Rattle.key_ring.specs.declared.secrets.Secret.{Secret}
+use Rattle.user_claims.specs.Claims.{id_cmp}
+use Rattle.key_counts.specs.Shown.{shown}
+use Rattle.key_ring.specs.Holding.{SecretMap}
 
-abbrev pub pair_of : Secret → KeyId × List ℕ
-pair_of kept = (kept.id, kept.key)
+abbrev pub SecretBox : Type 0
+SecretBox = Box (List ℕ) Global
 
-abbrev pub pairs_of : List Secret → List (KeyId × List ℕ)
-pairs_of kept = map pair_of kept
-
-abbrev pub kept_secret : List Secret → KeyId → Option (List ℕ)
-kept_secret kept id = lookup (λ key. same_id key id) (pairs_of kept)
-
--- the secrets of all other keys
-abbrev pub others_of : List Secret → KeyId → List Secret
-others_of kept id = filter (λ secret. not (same_id secret.id id)) kept
+-- the secrets in the boxes
+abbrev pub secrets_of : List (KeyId × SecretBox) → SecretMap
+secrets_of entries = shown id_cmp (λ secret. secret.value) entries

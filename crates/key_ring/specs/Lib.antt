@@ -1,2 +1,5 @@
 pub mod Holding
 pub mod Kept
+pub mod Modes
+pub mod KeptModes
+pub mod Zeros

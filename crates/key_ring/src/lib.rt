@@ -1,11 +1,16 @@
-//! The ring of master keys: who claims which, and the secret of each key that has a claim.
+//! The ring of master keys: who claims which, and the secret of each key that has a claim; and the
+//! keys of modes with their users.
 #![tactic(auto)]
 
+mod mode_key;
+mod mode_keys;
 mod ring;
 mod secrets;
 #[cfg(test)]
 mod tests;
 
-pub use fsc_keys::{KeyId, RawKey};
+pub use fsc_keys::{FileKey, KeyId, KeyKind, PreparedKey, RawKey};
+pub use mode_key::ModeKey;
+pub use mode_keys::ModeKeys;
 pub use ring::KeyRing;
 pub use user_claims::{ClaimFault, Claims};

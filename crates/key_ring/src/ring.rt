@@ -1,75 +1,96 @@
 //! The ring: claims, and a secret exactly where a claim stands.
 
-ghost use Rattle.std.specs.Prelude.{◌≡◌, ◌≤◌, ◌↔◌, [], IsTrue, IsFalse, IsOk, IsErrOf, IfOk, OnOk, OnErr, option_copied};
+ghost use Rattle.std.specs.Prelude.{◌≡◌, ◌↔◌, IsTrue, IsOk, IsErrOf, IfOk, OnOk, OnErr, option_copied};
+ghost use Rattle.std.specs.FinMap as map;
 ghost use Rattle.fsc_keys.specs.Keys.{key_id_of};
-ghost use Rattle.fsc_keys.specs.Claims.{has_claim, count_of_user, count_of_id, with_claim, without_claim, without_key};
-ghost use Rattle.key_ring.specs.Holding.{Holding, secret_of, HoldsClaimedSecrets, TakesSecret, ForgetsUnclaimed};
+ghost use Rattle.user_claims.specs.Claims.{IsOverQuota, no_claims, has_claim, count_of_id};
+ghost use Rattle.user_claims.specs.Claims.{with_claim, without_claim, without_id};
+ghost use Rattle.key_ring.specs.Holding.{secret_of, secrets_left, HoldsClaimedSecrets};
 
 use super::secrets;
-use super::secrets::Secret;
-use fsc_keys::{KeyId, RawKey, key_id};
+use super::secrets::Secrets;
+use fsc_keys::{KeyId, PreparedKey, RawKey};
 use std::alloc::Global;
+use std::collections::BTreeMap;
 use std::marker::Model;
 use user_claims::{ClaimFault, Claims};
 
-/// Master keys by identifier. In clauses it is its claims, and the secrets under their identifiers.
+/// Master keys by identifier, seen as the claims on them and the secret of each that has a claim.
+///
+/// Every call but `clear` takes a time that grows with the logarithm of how many there are.
 #[derive(Drop)]
 pub struct KeyRing {
     claims: Claims,
-    secrets: Vec<Secret>,
+    secrets: Secrets,
 }
 
 impl Model for KeyRing {
-    ghost use Rattle.key_ring.specs.Holding.{Holding, HoldsClaimedSecrets};
-    ghost use Rattle.key_ring.specs.Kept.{pairs_of};
+    ghost use Rattle.std.specs.Prelude.{ℕ, List, refl};
+    ghost use Rattle.std.specs.Coded.{code_by, coded_ℕ, coded×, coded_list};
+    ghost use Rattle.std.specs.FinMap.{code};
+    ghost use Rattle.policy_ctx.specs.contracts.policy.KeyId as key;
+    ghost use Rattle.user_claims.specs.contracts.claims.Claims as claimed;
+    ghost use Rattle.user_claims.specs.Claims.{ClaimSet};
+    ghost use Rattle.key_ring.specs.Holding.{Holding, SecretMap, HoldsClaimedSecrets};
+    ghost use Rattle.key_ring.specs.Kept.{secrets_of};
 
     ghost Value = { Holding };
 
-    ghost view = { λ r. record { claims = r.claims; secrets = pairs_of r.secrets.items } };
+    ghost coded = { code_by (ClaimSet × SecretMap)
+        (coded× claimed.the_row.coded (code key.the_row.coded (coded_list coded_ℕ)))
+        (λ ring. (ring.claims, ring.secrets))
+        (λ pair. record { claims = pair.0; secrets = pair.1 })
+        (λ _. refl) };
 
-    ghost invariant = { λ r. HoldsClaimedSecrets (record { claims = r.claims; secrets = pairs_of r.secrets.items }) };
+    ghost view = { λ r. record { claims = r.claims; secrets = secrets_of r.secrets.entries } };
+
+    ghost invariant = { λ r. HoldsClaimedSecrets (record { claims = r.claims; secrets = secrets_of r.secrets.entries }) };
 }
 
 impl KeyRing {
     /// No claims and no secrets. It takes no memory before the first key is added.
     pub fn new(alloc: Global) -> KeyRing
-        ensures claims { result.claims ≡ [] }
-        ensures secrets { result.secrets ≡ [] }
+        ensures claims { result.claims ≡ no_claims }
+        ensures secrets { result.secrets ≡ map.empty }
     {
         KeyRing {
             claims: Claims::new(alloc),
-            secrets: Vec::new(alloc),
+            secrets: BTreeMap::new(alloc),
         }
     }
 
-    /// The user claims the key, whose secret is then this raw key. Refused as the claim is:
-    /// `Quota` where it would be a new one and the user has 64.
-    pub fn add(&mut self, raw: &RawKey, uid: u32) -> Result<KeyId, ClaimFault>
+    /// The user claims the key, whose secret is then this raw key. Refused as the claim is: `Quota`
+    /// where it would be a new one and the user has 64. A claim that is held takes no memory; after a
+    /// refusal the ring is as before, and no copy of the raw key is left.
+    pub fn add(&mut self, alloc: Global, raw: &RawKey, uid: u32) -> Result<KeyId, ClaimFault>
         ensures id { IfOk result (λ id. id ≡ key_id_of raw.now) }
         ensures claimed { OnOk result (self.new.claims ≡ with_claim self.old.claims (key_id_of raw.now) uid) }
-        ensures secret { OnOk result (TakesSecret self.old self.new (key_id_of raw.now) raw.now) }
+        ensures secret { OnOk result (self.new.secrets ≡ map.insert self.old.secrets (key_id_of raw.now) raw.now) }
         ensures kept { OnErr result (self.new ≡ self.old) }
-        ensures quota { IsErrOf result ClaimFault.Quota ↔ (IsFalse (has_claim self.old.claims (key_id_of raw.now) uid) × (64 ≤ count_of_user self.old.claims uid)) }
+        ensures held { IsTrue (has_claim self.old.claims (key_id_of raw.now) uid) → IsOk result }
+        ensures quota { IsErrOf result ClaimFault.Quota ↔ IsOverQuota self.old.claims (key_id_of raw.now) uid }
     {
-        let id = key_id(raw);
-        let held = self.claims.has(&id, uid);
-        self.claims.claim(&id, uid)?;
-        if secrets::keep(&mut self.secrets, id, raw).is_err() {
-            if !held {
-                self.claims.unclaim(&id, uid);
-            }
+        let mut key = PreparedKey::new(copy_of(raw));
+        let id = key.id();
+        if let Err(fault) = self.claims.claim(&id, uid) {
+            key.wipe();
+            return Err(fault);
+        }
+        if secrets::keep(&mut self.secrets, alloc, id, key).is_err() {
+            // A key with a claim has a secret, for which there is room: so this claim is the key's first.
+            self.claims.unclaim(&id, uid);
             return Err(ClaimFault::NoMemory);
         }
         Ok(id)
     }
 
-    /// Takes away the user's claim on the key, and answers how many users still have one. With
-    /// the last one the secret is wiped and dropped.
+    /// Takes away the user's claim on the key, and answers how many users still have one. With the
+    /// last one the secret is overwritten and dropped. It takes no memory.
     pub fn take_claim(&mut self, id: &KeyId, uid: u32) -> u32
         requires held { IsTrue (has_claim self.old.claims id.now uid) }
         ensures claims { self.new.claims ≡ without_claim self.old.claims id.now uid }
         ensures left { result ≡ count_of_id self.new.claims id.now }
-        ensures secrets { ForgetsUnclaimed self.old self.new }
+        ensures secrets { self.new.secrets ≡ secrets_left self.old.secrets self.new.claims id.now }
     {
         self.claims.unclaim(id, uid);
         let left = self.claims.count_of_id(id);
@@ -79,17 +100,17 @@ impl KeyRing {
         left
     }
 
-    /// Takes away every claim on the key, and wipes and drops its secret.
+    /// Takes away every claim on the key, and overwrites and drops its secret. It takes no memory.
     pub fn clear(&mut self, id: &KeyId)
-        ensures claims { self.new.claims ≡ without_key self.old.claims id.now }
-        ensures secrets { ForgetsUnclaimed self.old self.new }
+        ensures claims { self.new.claims ≡ without_id self.old.claims id.now }
+        ensures secrets { self.new.secrets ≡ map.remove self.old.secrets id.now }
     {
         self.claims.clear(id);
         secrets::forget(&mut self.secrets, id);
     }
 
-    /// The key's secret: there exactly where some user has a claim.
-    pub fn secret_of(&self, id: &KeyId) -> Option<&RawKey>
+    /// The key's secret, from which keys are drawn: there exactly where some user has a claim.
+    pub fn secret_of(&self, id: &KeyId) -> Option<&PreparedKey>
         ensures { option_copied result ≡ secret_of self.now id.now }
     {
         secrets::get(&self.secrets, id)
@@ -101,5 +122,15 @@ impl KeyRing {
         ensures secrets { HoldsClaimedSecrets self.now }
     {
         &self.claims
+    }
+}
+
+// The same key once more.
+fn copy_of(raw: &RawKey) -> RawKey
+    ensures { result ≡ raw.now }
+{
+    match RawKey::read(raw.bytes()) {
+        Ok(copy) => copy,
+        Err(_) => unreachable!(),
     }
 }

@@ -1,76 +1,74 @@
-//! The secrets as they are kept. The bytes of one that goes are wiped where they stand.
+//! The secrets as they are kept: each in a box of its own, so that no map ever moves its bytes. The
+//! bytes of one that goes are overwritten where they stand.
 
-ghost use Rattle.std.specs.Prelude.{◌≡◌, Some, None, OnOk, OnErr, position, option_copied, if◌then◌else◌};
-ghost use Rattle.policy_ctx.specs.declared.policy.KeyId.{KeyId};
-ghost use Rattle.fsc_keys.specs.Claims.{same_id};
-ghost use Rattle.key_ring.specs.Kept.{kept_secret, others_of};
+ghost use Rattle.std.specs.Prelude.{◌≡◌, IsTrue, IsSome, IsOk, OnOk, OnErr, length, replicate, option_copied};
+ghost use Rattle.std.specs.FinMap as map;
+ghost use Rattle.key_ring.specs.Kept.{secrets_of};
 
-use fsc_keys::{KeyId, RawKey};
-use std::alloc::AllocError;
+use fsc_keys::{KeyId, PreparedKey};
+use std::alloc::{AllocError, Global};
+use std::collections::BTreeMap;
 
-/// The secret of one key.
-#[derive(Drop)]
-pub(crate) struct Secret {
-    pub(crate) id: KeyId,
-    pub(crate) key: RawKey,
-}
+/// Secrets by the identifiers of their keys.
+pub(crate) type Secrets = BTreeMap<KeyId, Box<PreparedKey>>;
 
-/// The index of the key's secret.
-fn place_of(secrets: &[Secret], id: &KeyId) -> Option<usize>
-    ensures { result ≡ position (λ kept. same_id kept.id id.now) secrets.now }
+// The key's secret, where it is kept.
+pub(crate) fn get<'a>(secrets: &'a Secrets, id: &KeyId) -> Option<&'a PreparedKey>
+    ensures { option_copied result ≡ map.get (secrets_of secrets.now.entries) id.now }
 {
-    secrets.iter().position(|kept| kept.id == *id)
-}
-
-/// The key's secret, where it is kept.
-pub(crate) fn get<'a>(secrets: &'a [Secret], id: &KeyId) -> Option<&'a RawKey>
-    ensures { option_copied result ≡ kept_secret secrets.now id.now }
-{
-    match place_of(secrets, id) {
-        Some(place) => Some(&secrets[place].key),
+    match secrets.get(id) {
+        Some(secret) => Some(&**secret),
         None => None,
     }
 }
 
-/// The same key once more.
-fn copy_of(raw: &RawKey) -> RawKey
-    ensures { result ≡ raw.now }
+// The secret with zeros written over it, where it stands.
+fn wiped(mut secret: Box<PreparedKey>) -> Box<PreparedKey>
+    ensures { result.value ≡ replicate (length secret.value) 0 }
 {
-    match RawKey::read(raw.bytes()) {
-        Ok(copy) => copy,
-        Err(_) => unreachable!(),
+    secret.wipe();
+    secret
+}
+
+// Keeps the key as the secret of the identifier. Only a key without a secret takes memory; where there
+// is none, the key is overwritten.
+pub(crate) fn keep(
+    secrets: &mut Secrets,
+    alloc: Global,
+    id: KeyId,
+    key: PreparedKey,
+) -> Result<(), AllocError>
+    ensures taken { OnOk result (secrets_of secrets.new.entries ≡ map.insert (secrets_of secrets.old.entries) id key) }
+    ensures kept { OnErr result (secrets_of secrets.new.entries ≡ secrets_of secrets.old.entries) }
+    ensures held { IsTrue (map.contains_key (secrets_of secrets.old.entries) id) → IsOk result }
+{
+    if let Some(kept) = secrets.get_mut(&id) {
+        kept.wipe();
+        **kept = key;
+        return Ok(());
+    }
+    let secret = match Box::new(alloc, key) {
+        Ok(secret) => secret,
+        Err(mut refused) => {
+            refused.value.wipe();
+            return Err(AllocError);
+        }
+    };
+    match secrets.insert(id, secret) {
+        Ok(_) => Ok(()),
+        Err(refused) => {
+            let (_, secret) = refused.value;
+            let _zeros = wiped(secret);
+            Err(AllocError)
+        }
     }
 }
 
-/// Keeps the raw key as the secret of the identifier, in the place of the one before.
-pub(crate) fn keep(secrets: &mut Vec<Secret>, id: KeyId, raw: &RawKey) -> Result<(), AllocError>
-    ensures taken { OnOk result ((other : KeyId) → kept_secret secrets.new.items other ≡ (if same_id id other then Some raw.now else kept_secret secrets.old.items other)) }
-    ensures kept { OnErr result (secrets.new.items ≡ secrets.old.items) }
+// Overwrites the secret of the identifier, and lets it go.
+pub(crate) fn forget(secrets: &mut Secrets, id: &KeyId)
+    ensures { secrets_of secrets.new.entries ≡ map.remove (secrets_of secrets.old.entries) id.now }
 {
-    let key = copy_of(raw);
-    let Some(place) = place_of(secrets, &id) else {
-        secrets.push(Secret { id, key })?;
-        return Ok(());
-    };
-    let secret = &mut secrets[place];
-    secret.key.wipe();
-    secret.key = key;
-    Ok(())
-}
-
-/// Wipes the secret of the identifier, and drops it.
-pub(crate) fn forget(secrets: &mut Vec<Secret>, id: &KeyId)
-    ensures { (other : KeyId) → kept_secret secrets.new.items other ≡ (if same_id id.now other then None else kept_secret secrets.old.items other) }
-{
-    wipe(secrets, id);
-    secrets.retain(|kept| kept.id != *id);
-}
-
-/// Writes zeros over the secret of the identifier, where it stands.
-fn wipe(secrets: &mut Vec<Secret>, id: &KeyId)
-    ensures { others_of secrets.new.items id.now ≡ others_of secrets.old.items id.now }
-{
-    if let Some(place) = place_of(secrets, id) {
-        secrets[place].key.wipe();
+    if let Some(secret) = secrets.remove(id) {
+        let _zeros = wiped(secret);
     }
 }

@@ -1,12 +1,14 @@
 use Rattle.std.proofs.Common.{Some, sym, ap, ◌∙◌}
-use Rattle.key_ring.specs.declared.secrets.Secret.{Secret}
-use Rattle.key_ring.proofs.KeptLemmas.{kept_secret_Some, kept_secret_None}
+use Rattle.std.specs.Prelude.{option_map}
+use Rattle.key_ring.specs.Kept.{SecretBox}
+use Rattle.user_claims.proofs.ClaimOrder.{id_cmp_total}
+use Rattle.key_counts.proofs.ShownLemmas.{get-shown}
 use Rattle.key_ring.proofs.secrets.get.Goals as goal
 
 pub returns-in-Some : goal.returns-in-Some
 returns-in-Some c =
-    ap (λ (k : Secret). Some k.key) (sym c.index-secrets-place.is)
-    ∙ sym (kept_secret_Some c.args.id.now c.args.secrets.now c.in-Some.place c.index-secrets-place.result (sym c.in-Some.ensures) c.index-secrets-place.is)
+    ap Some c.deref.ensures ∙ (ap (option_map (λ (s : SecretBox). s.value)) c.in-Some.ensures.value ∙ sym (get-shown id_cmp_total (λ (s : SecretBox). s.value) c.args.secrets.now.entries c.args.id.now))
 
 pub returns-in-None : goal.returns-in-None
-returns-in-None c = sym (kept_secret_None c.args.id.now c.args.secrets.now (sym c.in-None.ensures))
+returns-in-None c =
+    ap (option_map (λ (s : SecretBox). s.value)) c.in-None.ensures.value ∙ sym (get-shown id_cmp_total (λ (s : SecretBox). s.value) c.args.secrets.now.entries c.args.id.now)

@@ -1,19 +1,31 @@
-use Rattle.std.proofs.Common.{◌≡◌, Some, None, position, cond, sym, ap, ◌∙◌, subst}
-use Rattle.fsc_keys.specs.Claims.{same_id}
-use Rattle.key_ring.specs.Kept.{kept_secret}
-use Rattle.key_ring.proofs.KeptLemmas.{kept_secret-set, kept_secret-push}
+use Rattle.std.proofs.Common.{IsSome, is_some, refl, ap, subst, sym, ◌∙◌}
+use Rattle.std.proofs.lemmas.Bool.{true≢false}
+use Rattle.std.specs.Box.{with_value}
+use Rattle.std.specs.BTreeMap.{BTreeMap}
+use Rattle.std.specs.Option.{option_copied_mut, option_map}
+use Rattle.policy_ctx.specs.declared.policy.KeyId.{KeyId}
+use Rattle.user_claims.proofs.ClaimOrder.{id_cmp_total, id_cmp-IsAntisymmetric}
+use Rattle.std.specs.FinMap as map
+use Rattle.key_counts.proofs.ShownLemmas.{shown-inserted, get-shown}
+use Rattle.key_ring.specs.Kept.{SecretBox, secrets_of}
 use Rattle.key_ring.proofs.secrets.keep.Goals as goal
 
-pub returns-in_default-clause-taken : goal.returns-in_default-clause-taken
-returns-in_default-clause-taken c other =
-    let looked : position (λ kept. same_id kept.id c.args.id) c.deref.result.now ≡ None = sym c.in_default.ensures in
-    let gone = subst (λ xs. position (λ kept. same_id kept.id c.args.id) xs ≡ None) c.deref.ensures.value looked in
-    ap (λ xs. kept_secret xs other) c.in_ok-push.ensures.items ∙ (kept_secret-push c.args.id c.args.secrets.now.items gone c.copy_of-key.result other
-    ∙ ap (λ key. cond (same_id c.args.id other) (Some key) (kept_secret c.args.secrets.now.items other)) c.copy_of-key.ensures)
+pub returns-in-Some-clause-taken : goal.returns-in-Some-clause-taken
+returns-in-Some-clause-taken c =
+    let there = subst IsSome c.get_mut.ensures.value (subst (λ r. IsSome (option_copied_mut r)) (sym c.in-Some.is) refl) in
+    let secret : SecretBox = with_value (with_value c.in-Some.kept.now c.wipe.new.self) c.args.key in
+    shown-inserted id_cmp_total (λ (s : SecretBox). s.value) id_cmp-IsAntisymmetric c.args.secrets.now (c.get_mut.follows.lender secret) c.args.id secret ((c.get_mut.follows.holds secret).3 there).0
 
-pub returns-clause-taken : goal.returns-clause-taken
-returns-clause-taken c other =
-    let looked : position (λ kept. same_id kept.id c.args.id) c.deref.result.now ≡ Some c.in-Some.place = sym c.in-Some.ensures in
-    let there = subst (λ xs. position (λ kept. same_id kept.id c.args.id) xs ≡ Some c.in-Some.place) c.deref.ensures.value looked in
-    kept_secret-set c.args.id c.args.secrets.now.items c.in-Some.place c.index_mut-secret.result.now there c.index_mut-secret.ensures.value c.copy_of-key.result other
-    ∙ ap (λ key. cond (same_id c.args.id other) (Some key) (kept_secret c.args.secrets.now.items other)) c.copy_of-key.ensures
+pub returns-in-Err-clause-held : goal.returns-in-Err-clause-held
+returns-in-Err-clause-held c = λ has. absurd (true≢false (sym has ∙ ap is_some (get-shown id_cmp_total (λ (s : SecretBox). s.value) c.args.secrets.now.entries c.args.id
+    ∙ ap (option_map (λ (s : SecretBox). s.value)) (sym c.in_default.ensures.value))))
+
+pub returns-in-Ok-insert-clause-taken : goal.returns-in-Ok-insert-clause-taken
+returns-in-Ok-insert-clause-taken c =
+    shown-inserted id_cmp_total (λ (s : SecretBox). s.value) id_cmp-IsAntisymmetric c.get_mut.follows.lender-at-none c.insert.new.self c.args.id c.in-Ok.secret c.in-Ok-insert.ensures.updates.0
+    ∙ (ap (λ (m : BTreeMap KeyId SecretBox). map.insert (secrets_of m.entries) c.args.id c.in-Ok.secret.value) c.get_mut.follows.holds-at-none
+    ∙ ap (map.insert (secrets_of c.args.secrets.now.entries) c.args.id) c.in-Ok.ensures.ok)
+
+pub returns-clause-held : goal.returns-clause-held
+returns-clause-held c = λ has. absurd (true≢false (sym has ∙ ap is_some (get-shown id_cmp_total (λ (s : SecretBox). s.value) c.args.secrets.now.entries c.args.id
+    ∙ ap (option_map (λ (s : SecretBox). s.value)) (sym c.in_default.ensures.value))))
