@@ -1,10 +1,10 @@
 -- Bytes that are written into contents change each block by their part in it.
-use Rattle.std.proofs.Common.{◌≡◌, ℕ, ◌+◌, ◌-◌, ◌*◌, ◌<◌, ◌≤◌, List, length, take, drop, get_or, inl, inr, ◌⊎◌, refl, ap, sym, ◌∙◌, arith, length-drop}
+use Rattle.std.proofs.Common.{◌≡◌, ℕ, ◌+◌, ◌-◌, ◌*◌, ◌<◌, ◌≤◌, List, length, take, drop, get_or, inl, inr, ◌⊎◌, ap, sym, ◌∙◌, arith, length-drop}
 use Rattle.std.proofs.lemmas.Bool.{cases_lt}
 use Rattle.std.proofs.lemmas.Grind.{same_number_lists}
 use Rattle.std.proofs.lemmas.List.{get_or-drop, get_or-take, length-take}
 use Rattle.byte_words.specs.Blocks.{block_at}
-use Rattle.byte_words.specs.Contents.{spliced, with_bytes}
+use Rattle.byte_words.specs.Contents.{with_bytes}
 use Rattle.byte_words.proofs.ContentsLemmas.{get_or-zero_filled, length-spliced, spliced_before, spliced_in, spliced_after, with_bytes_before, with_bytes_in, with_bytes_after}
 use Rattle.data_crypt.specs.Blocks.{plain_block}
 use Rattle.data_crypt.specs.Parts.{place_in, part_in, block_with}

@@ -1,5 +1,5 @@
 -- A piece that is written into a file, and a part that is read of it, block by block.
-use Rattle.std.specs.Prelude.{ℕ, ◌+◌, ◌-◌, ◌*◌, ◌/◌, ◌&&◌, List, [], length, map, take, drop, min, cond, nat_le, nat_lt, Option, slice_index_or, if◌then◌else◌}
+use Rattle.std.specs.Prelude.{ℕ, ◌+◌, ◌-◌, ◌*◌, ◌/◌, ◌&&◌, List, [], length, map, take, drop, min, nat_le, nat_lt, Option, slice_index_or, if◌then◌else◌}
 use Rattle.std.specs.List.{range_with_len}
 use Rattle.byte_words.specs.Blocks.{block_at, first_blocks}
 use Rattle.byte_words.specs.Contents.{spliced}

@@ -1,5 +1,5 @@
 -- The next unit is the one that was passed, and is written over.
-use Rattle.std.proofs.Common.{◌≡◌, ℕ, ◌+◌, ◌-◌, ◌*◌, ◌/◌, ◌<◌, List, length, sym, ap, ◌∙◌, arith}
+use Rattle.std.proofs.Common.{◌≡◌, ℕ, ◌+◌, ◌-◌, ◌*◌, ◌/◌, ◌<◌, List, length, ap, ◌∙◌, arith}
 use Rattle.byte_words.specs.Blocks.{block_at}
 use Rattle.byte_words.proofs.BlockLemmas.{between-block_at}
 use Rattle.byte_words.proofs.InPlace.{none_in_place, read_in_place_below, write_in_place_below}

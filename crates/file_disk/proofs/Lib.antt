@@ -1,0 +1,4 @@
+pub mod DiskLemmas
+pub mod BodyLemmas
+pub mod WholeLemmas
+pub mod ReadLemmas

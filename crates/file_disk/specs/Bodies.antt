@@ -1,0 +1,28 @@
+-- The body of a file that holds contents, and what a write makes of a body.
+use Rattle.std.specs.Prelude.{ℕ, ◌+◌, ◌/◌, List, [], ◌∷◌, length, min, max, Option}
+use Rattle.std.specs.Int.{div_ceil}
+use Rattle.data_crypt.specs.Blocks.{Seal, read_block, stored_block, stored_blocks}
+use Rattle.data_crypt.specs.Parts.{edited, rewritten}
+use Rattle.disk_tree.specs.Blocks.{grown}
+use Rattle.disk_tree.specs.Nodes.{size_of, with_blocks, with_size}
+use Rattle.disk_tree.specs.declared.node.Body.{Body}
+use Rattle.disk_tree.specs.declared.node.Body.TheVariants.{File}
+
+-- the body of a file with these contents
+abbrev pub file_body : Option Seal → List ℕ → Body
+file_body seal contents = File (stored_blocks seal contents) (length contents)
+
+-- one past the last block of bytes that are written from here on
+abbrev pub end_block : ℕ → List ℕ → ℕ
+end_block at bytes = div_ceil (at + length bytes) 4096
+
+-- The blocks after a write: they grow as far as the bytes go, and those that the bytes touch, and
+-- all that are new, are stored anew. The others stay.
+unfoldable pub blocks_with : Option Seal → ℕ → List ℕ → List (List ℕ) → List (List ℕ)
+blocks_with seal at bytes blocks =
+    edited (rewritten (stored_block seal) (read_block seal) (length blocks) at bytes) (min (length blocks) (at / 4096)) (end_block at bytes) (grown (end_block at bytes) blocks)
+
+-- the body after a write; no bytes change nothing
+abbrev pub body_written : Option Seal → ℕ → List ℕ → Body → Body
+body_written seal at [] body = body
+body_written seal at (b ∷ bs) body = with_size (max (size_of body) (at + length (b ∷ bs))) (with_blocks (blocks_with seal at (b ∷ bs)) body)

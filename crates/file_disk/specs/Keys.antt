@@ -1,0 +1,21 @@
+-- What a file's contents are sealed with, from what the calls are given.
+use Rattle.std.specs.Prelude.{Option, None, Some}
+use Rattle.data_crypt.specs.Blocks.{Seal}
+use Rattle.file_disk.specs.declared.key.ContentsKey.{ContentsKey}
+use Rattle.file_disk.specs.declared.key.FileCipher.{FileCipher}
+
+abbrev pub key_seal : ContentsKey → Seal
+key_seal key = record { key = key.bytes; start = key.start; unit = key.unit }
+
+-- nothing, where a file is under no policy
+abbrev pub seal_of : Option ContentsKey → Option Seal
+seal_of None = None
+seal_of (Some key) = Some (key_seal key)
+
+-- the same of a key with its round keys
+abbrev pub cipher_seal : FileCipher → Seal
+cipher_seal cipher = record { key = cipher.key; start = cipher.start; unit = cipher.unit }
+
+abbrev pub seal_by : Option FileCipher → Option Seal
+seal_by None = None
+seal_by (Some cipher) = Some (cipher_seal cipher)

@@ -1,0 +1,24 @@
+-- What a file holds, and what a read that has begun gives.
+use Rattle.std.specs.Prelude.{◌≡◌, ℕ, ◌*◌, List, [], length, Option, None, Some, option_map, nat_le, if◌then◌else◌}
+use Rattle.byte_words.specs.Bytes.{AreBytes}
+use Rattle.number_map.specs.Numbered.{get}
+use Rattle.data_crypt.specs.Blocks.{Seal}
+use Rattle.data_crypt.specs.Parts.{content_of}
+use Rattle.disk_tree.specs.DiskTree.{Disk, file_blocks, file_size}
+use Rattle.file_disk.specs.Bodies.{file_body}
+use Rattle.file_disk.specs.Keys.{seal_of}
+use Rattle.file_disk.specs.declared.lent.LentRead.{LentRead}
+
+-- the file holds these contents, under this seal
+pub record IsStored (disk : Disk) (file : ℕ) (seal : Option Seal) (contents : List ℕ) : Type 0 where
+  pub body : option_map (λ node. node.body) (get disk file) ≡ Some (file_body seal contents)
+  pub bytes : AreBytes contents
+
+-- the content that a read will have: none, where there is nothing to decipher
+abbrev pub lent_content : Option LentRead → List ℕ
+lent_content None = []
+lent_content (Some read) = content_of (seal_of read.key) read.block read.text.items read.skip read.len
+
+-- the size of a file that has a block for each of its bytes, else 0
+abbrev pub whole_size : Disk → ℕ → ℕ
+whole_size disk file = if nat_le (file_size disk file) (4096 * length (file_blocks disk file)) then file_size disk file else 0

@@ -1,0 +1,4 @@
+pub mod Keys
+pub mod Bodies
+pub mod Lent
+pub mod Laws

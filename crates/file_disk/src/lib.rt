@@ -1,0 +1,22 @@
+//! What a file on the disk holds: a piece is written into its stored blocks, and a part of them is
+//! read in two halves.
+#![tactic(auto)]
+
+mod cipher;
+mod key;
+mod laws;
+mod lent;
+mod limits;
+mod read;
+#[cfg(test)]
+mod tests;
+mod write;
+
+pub use disk_tree::{DiskFault, DiskTree};
+pub use key::ContentsKey;
+pub use laws::writes_give_the_contents;
+pub use lent::LentRead;
+pub use limits::{MOST_FILE_BYTES, MOST_READ};
+pub use policy_ctx::Unit;
+pub use read::{begin_read, finish_read};
+pub use write::write_file;

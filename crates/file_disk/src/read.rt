@@ -1,0 +1,152 @@
+//! A part of a file's contents is read in two halves: stored blocks are copied, and then deciphered.
+ghost use Rattle.std.specs.Prelude.{◌≡◌, ◌+◌, ◌*◌, ◌/◌, ◌%◌, ◌<◌, ◌≤◌, ◌^◌, ℕ, List, take, drop, length, IfOk, IfSome, OnOk};
+ghost use Rattle.byte_words.specs.Bytes.{AreBytes};
+ghost use Rattle.byte_words.specs.Contents.{bytes_from};
+ghost use Rattle.data_crypt.specs.Laws.{IsKeyOfBytes};
+ghost use Rattle.data_crypt.specs.Parts.{blocks_joined, content_of, opened_text};
+ghost use Rattle.disk_tree.specs.DiskTree.{file_blocks, file_size};
+ghost use Rattle.file_disk.specs.Keys.{seal_by, seal_of};
+ghost use Rattle.file_disk.specs.Lent.{IsStored, lent_content, whole_size};
+
+use crate::cipher::{cipher_of, read};
+use crate::key::{ContentsKey, FileCipher};
+use crate::lent::LentRead;
+use crate::limits::MOST_READ;
+use data_crypt::BLOCK_SIZE;
+use disk_tree::DiskTree;
+use std::alloc::{AllocError, Global};
+
+/// Copies the stored blocks of the part that is asked for, and the key that they are sealed with;
+/// `None` where the part is empty, which takes no memory. It deciphers nothing.
+///
+/// `len` is at most 4,096. The part ends with the file.
+pub fn begin_read(
+    disk: &DiskTree,
+    alloc: Global,
+    file: u32,
+    key: &Option<ContentsKey>,
+    offset: u32,
+    len: u32,
+) -> Result<Option<LentRead>, AllocError>
+    requires { len ≤ MOST_READ }
+    ensures past { whole_size disk.now file ≤ offset → result ≡ Ok None }
+    ensures none { len ≡ 0 → result ≡ Ok None }
+    ensures text { IfOk result (λ lent. IfSome lent (λ read. read.text.items ≡ blocks_joined (file_blocks disk.now file) read.block (length read.text.items / 4096))) }
+    ensures key { IfOk result (λ lent. IfSome lent (λ read. seal_of read.key ≡ seal_of key.now)) }
+    ensures content { IfOk result (λ lent. (contents : List ℕ) → IsStored disk.now file (seal_of key.now) contents → lent_content lent ≡ bytes_from offset len contents) }
+{
+    let size = whole_size(disk, file);
+    if offset >= size || len == 0 {
+        return Ok(None);
+    }
+    let block = offset / BLOCK_SIZE as u32;
+    let skip = offset % BLOCK_SIZE as u32;
+    let len = len.min(size - offset);
+    let count = (skip + len).div_ceil(BLOCK_SIZE as u32);
+    let text = copy_blocks(disk, alloc, file, block, count)?;
+    let key = copy_key(key);
+    Ok(Some(LentRead {
+        key,
+        block,
+        text,
+        skip,
+        len,
+    }))
+}
+
+/// Deciphers the text in place and cuts it to the content. It takes no memory; the key is
+/// overwritten.
+pub fn finish_read(lent: LentRead) -> Vec<u8>
+    ensures { result.items ≡ content_of (seal_of lent.key) lent.block lent.text.items lent.skip lent.len }
+{
+    let LentRead {
+        key,
+        block,
+        mut text,
+        skip,
+        len,
+    } = lent;
+    open_text(&cipher_of(&key), block, text.as_mut_slice());
+    cut(&mut text, skip as usize, len as usize);
+    text
+}
+
+// The size of the file; 0 where it hasn't so many blocks.
+fn whole_size(disk: &DiskTree, file: u32) -> u32
+    ensures { result ≡ whole_size disk.now file }
+{
+    let size = disk.file_size(file);
+    if size as usize <= disk.block_count(file).saturating_mul(BLOCK_SIZE) {
+        size
+    } else {
+        0
+    }
+}
+
+// So many stored blocks of the file from one on, side by side.
+fn copy_blocks(
+    disk: &DiskTree,
+    alloc: Global,
+    file: u32,
+    from: u32,
+    count: u32,
+) -> Result<Vec<u8>, AllocError>
+    requires there { from + count ≤ length (file_blocks disk.now file) }
+    requires near { from + count ≤ 2 ^ 20 }
+    ensures copied { IfOk result (λ text. text.items ≡ blocks_joined (file_blocks disk.now file) from count) }
+    ensures size { IfOk result (λ text. length text.items ≡ 4096 * count) }
+{
+    let mut text = Vec::new(alloc);
+    'each: for i in 0..count {
+        text.extend_from_slice(disk.block(file, from + i))?;
+    }
+    Ok(text)
+}
+
+fn copy_key(key: &Option<ContentsKey>) -> Option<ContentsKey>
+    ensures same { seal_of result ≡ seal_of key.now }
+    ensures ranged { IsKeyOfBytes (seal_of key.now) }
+{
+    match key {
+        Some(key) => {
+            are_bytes(key.bytes.as_slice());
+            Some(ContentsKey {
+                bytes: key.bytes,
+                start: key.start,
+                unit: key.unit,
+            })
+        }
+        None => None,
+    }
+}
+
+// Does nothing. Its contract is that bytes are below 256.
+fn are_bytes(bytes: &[u8])
+    ensures { AreBytes bytes.now }
+{
+    let _len = bytes.len();
+}
+
+// Opens each block of the text; the first is block `first` of the file.
+fn open_text(cipher: &Option<FileCipher>, first: u32, text: &mut [u8])
+    requires near { first + length text.old / 4096 ≤ 2 ^ 20 }
+    requires whole_blocks { length text.old % 4096 ≡ 0 }
+    ensures { text.new ≡ opened_text (seal_by cipher.now) first text.old }
+{
+    'each: for i in 0..text.len() / BLOCK_SIZE {
+        read(
+            cipher,
+            first + i as u32,
+            &mut text[BLOCK_SIZE * i..BLOCK_SIZE * i + BLOCK_SIZE],
+        );
+    }
+}
+
+// Leaves `len` bytes from byte `skip` on.
+fn cut(text: &mut Vec<u8>, skip: usize, len: usize)
+    requires { skip + len ≤ length text.old.items }
+    ensures { text.new.items ≡ take len (drop skip text.old.items) }
+{
+    text.copy_within(skip..skip + len, 0);
+    text.truncate(len);
+}

@@ -1,0 +1,102 @@
+//! A piece is written into a file's stored blocks.
+ghost use Rattle.std.specs.Prelude.{◌≡◌, ◌+◌, ◌-◌, ◌*◌, ◌<◌, ◌≤◌, ◌^◌, length, IfErr, IsOk, OnErr, OnOk};
+ghost use Rattle.std.specs.Int.{div_ceil};
+ghost use Rattle.number_map.specs.Numbered as map;
+ghost use Rattle.data_crypt.specs.Blocks.{read_block, stored_block};
+ghost use Rattle.data_crypt.specs.Parts.{edited, rewritten};
+ghost use Rattle.disk_tree.specs.DiskTree.{IsFileAt, block_total, file_blocks};
+ghost use Rattle.disk_tree.specs.Nodes.{on_body, with_blocks};
+ghost use Rattle.file_disk.specs.Bodies.{body_written};
+ghost use Rattle.file_disk.specs.Keys.{seal_by, seal_of};
+
+use crate::cipher::{cipher_of, read, store};
+use crate::key::{ContentsKey, FileCipher};
+use crate::limits::MOST_FILE_BYTES;
+use data_crypt::{BLOCK_SIZE, put_part};
+use disk_tree::{DiskFault, DiskTree, MOST_BLOCKS};
+use std::alloc::Global;
+
+/// Writes the bytes into the file from byte `offset` on. A gap before them is zeros, sealed as all
+/// else; no bytes change nothing. Only the blocks from the first that is touched or new on are
+/// written.
+///
+/// NoSpace where more than 16,384 blocks would stand in all. After a fault the disk is as before. A
+/// write that needs no new block takes no memory.
+pub fn write_file(
+    disk: &mut DiskTree,
+    alloc: Global,
+    file: u32,
+    key: &Option<ContentsKey>,
+    offset: u32,
+    bytes: &[u8],
+) -> Result<(), DiskFault>
+    requires file { IsFileAt disk.old file }
+    requires fits { offset + length bytes.now ≤ MOST_FILE_BYTES }
+    ensures written { OnOk result (disk.new ≡ map.changed disk.old file (on_body (body_written (seal_of key.now) offset bytes.now))) }
+    ensures kept { OnErr result (disk.new ≡ disk.old) }
+    ensures empty { length bytes.now ≡ 0 → IsOk result }
+    ensures inside { offset + length bytes.now ≤ BLOCK_SIZE * length (file_blocks disk.old file) → IsOk result }
+    ensures full { 0 < length bytes.now → MOST_BLOCKS < block_total disk.old + (div_ceil (offset + length bytes.now) BLOCK_SIZE - length (file_blocks disk.old file)) → result ≡ Err DiskFault.NoSpace }
+    ensures no_space { IfErr result (λ fault. fault ≡ DiskFault.NoSpace → MOST_BLOCKS < block_total disk.old + (div_ceil (offset + length bytes.now) BLOCK_SIZE - length (file_blocks disk.old file))) }
+{
+    if bytes.is_empty() {
+        return Ok(());
+    }
+    let had = disk.block_count(file);
+    let size = offset + bytes.len() as u32;
+    let end = size.div_ceil(BLOCK_SIZE as u32);
+    match disk.grow(alloc, file, end) {
+        Ok(()) => {
+            let first = had.min(offset as usize / BLOCK_SIZE) as u32;
+            let cipher = cipher_of(key);
+            rewrite_blocks(disk, file, &cipher, had, first, end, offset, bytes);
+            let size = disk.file_size(file).max(size);
+            disk.set_size(file, size);
+            Ok(())
+        }
+        Err(fault) => Err(fault),
+    }
+}
+
+// Stores each block from `first` on and before `end` anew, with its part of the bytes. The file had
+// `had` blocks that hold contents; those behind are plain zeros.
+fn rewrite_blocks(
+    disk: &mut DiskTree,
+    file: u32,
+    cipher: &Option<FileCipher>,
+    had: usize,
+    first: u32,
+    end: u32,
+    offset: u32,
+    bytes: &[u8],
+)
+    requires there { end ≤ length (file_blocks disk.old file) }
+    requires near { end ≤ 2 ^ 20 }
+    requires order { first ≤ end }
+    ensures { disk.new ≡ map.changed disk.old file (on_body (with_blocks (edited (rewritten (stored_block (seal_by cipher.now)) (read_block (seal_by cipher.now)) had offset bytes.now) first end))) }
+{
+    'each: for j in first..end {
+        let block = disk.block_mut(file, j);
+        rewrite_block(cipher, had, j, offset, bytes, block);
+    }
+}
+
+#[tactic(auto, unfolding(data_crypt::specs::Parts::rewritten))]
+fn rewrite_block(
+    cipher: &Option<FileCipher>,
+    had: usize,
+    index: u32,
+    offset: u32,
+    bytes: &[u8],
+    block: &mut [u8],
+)
+    requires block_size { length block.old ≡ BLOCK_SIZE }
+    requires near { index < 2 ^ 20 }
+    ensures { block.new ≡ rewritten (stored_block (seal_by cipher.now)) (read_block (seal_by cipher.now)) had offset bytes.now index block.old }
+{
+    if (index as usize) < had {
+        read(cipher, index, block);
+    }
+    put_part(block, index, offset, bytes);
+    store(cipher, index, block);
+}
