@@ -1,5 +1,5 @@
 -- Decryption undoes encryption, and the length stays.
-use Rattle.std.proofs.Common.{◌≡◌, ℕ, zero, suc, ◌+◌, ◌*◌, ◌-◌, ◌/◌, ◌≤◌, ◌<◌, List, ◌++◌, length, take, drop, inl, inr, refl, ap, sym, ◌∙◌, arith, length-append}
+use Rattle.std.proofs.Common.{◌≡◌, ℕ, zero, suc, ◌+◌, ◌*◌, ◌-◌, ◌/◌, ◌≤◌, ◌<◌, List, ◌++◌, length, take, drop, inl, inr, refl, ap, sym, subst, ◌∙◌, arith, length-append}
 use Rattle.std.proofs.lemmas.List.{append_assoc, take_all, take_at, drop_at, take-append-drop, length-take-le}
 use Rattle.std.proofs.lemmas.Bool.{cases_eq}
 use Rattle.byte_words.specs.Bytes.{AreBytes}
@@ -9,7 +9,7 @@ use Rattle.byte_words.proofs.BlockLemmas.{first_blocks_more, first_blocks_same, 
 use Rattle.byte_words.proofs.XorLemmas.{length-xor_bytes, xor_bytes_twice, xor_bytes-lt, length-zero_filled}
 use Rattle.cts_mode.specs.Cbc.{cbc_block, block_before, plain_block}
 use Rattle.cts_mode.specs.CbcStealing.{cs3_encrypted, cs3_decrypted}
-use Rattle.byte_words.proofs.AreBytesLemmas.{AreBytes-zero_filled, AreBytes-block_at, AreBytes-take, AreBytes-drop}
+use Rattle.byte_words.proofs.AreBytesLemmas.{AreBytes-append, AreBytes-zero_filled, AreBytes-block_at, AreBytes-first_blocks, AreBytes-take, AreBytes-drop, AreBytes-xor_bytes}
 use Rattle.cts_mode.proofs.ByteLemmas.{drop_filled, xor_filled}
 use Rattle.cts_mode.proofs.CbcLemmas.{cbc_block_suc, length-cbc_block}
 use Rattle.cts_mode.proofs.StealingLemmas.{Pieces, pieces, cs3_encrypted_short, cs3_encrypted_long, cs3_decrypted_short, cs3_decrypted_long, whole_blocks, last_piece, length-whole_blocks, length-last_piece, stealing_is, unstealing_is, completed}
@@ -130,14 +130,28 @@ module _ (encipher decipher : List ℕ → List ℕ) (cipher : IsCipher encipher
     rest : drop (16 * (r + 1)) stolen ≡ take (length piece) previous
     rest = drop_at (first_blocks block r ++ final) (take (length piece) previous) (16 * (r + 1)) length-joined
 
-    -- the last block of the text, filled and masked
-    unmasked : decipher (block_at 16 stolen r) ≡ xor_bytes (zero_filled 16 piece) previous
-    unmasked =
+    -- the last block of the text, filled and masked, is a block of bytes
+    masked_size : length (xor_bytes (zero_filled 16 piece) previous) ≡ 16
+    masked_size =
         let size : length (zero_filled 16 piece) ≡ 16 = length-zero_filled 16 piece few in
-        ap decipher middle
-        ∙ cipher.undone (xor_bytes (zero_filled 16 piece) previous)
-        (length-xor_bytes (zero_filled 16 piece) previous (size ∙ sym previous_sound.0) ∙ size)
-        (xor_bytes-lt (zero_filled 16 piece) previous (AreBytes-zero_filled 16 piece (AreBytes-drop (16 * (r + 1)) text text_bytes)) previous_sound.1)
+        length-xor_bytes (zero_filled 16 piece) previous (size ∙ sym previous_sound.0) ∙ size
+
+    masked_bytes : AreBytes (xor_bytes (zero_filled 16 piece) previous)
+    masked_bytes =
+        AreBytes-xor_bytes (zero_filled 16 piece) previous (AreBytes-zero_filled 16 piece (AreBytes-drop (16 * (r + 1)) text text_bytes)) previous_sound.1
+
+    -- so the ciphertext is bytes
+    stolen_bytes : AreBytes stolen
+    stolen_bytes =
+        AreBytes-append (first_blocks block r ++ final) (take (length piece) previous)
+        (AreBytes-append (first_blocks block r) final
+        (AreBytes-first_blocks block r (λ j low. (sound front (AreBytes-take (16 * (r + 1)) text text_bytes) (suc j) (omega (arith, length-whole_blocks text r cut))).1))
+        (cipher.bytes (xor_bytes (zero_filled 16 piece) previous) masked_size masked_bytes))
+        (AreBytes-take (length piece) previous previous_sound.1)
+
+    -- deciphered, it is masked again
+    unmasked : decipher (block_at 16 stolen r) ≡ xor_bytes (zero_filled 16 piece) previous
+    unmasked = ap decipher middle ∙ cipher.undone (xor_bytes (zero_filled 16 piece) previous) masked_size masked_bytes
 
     whole_again : completed (drop (16 * (r + 1)) stolen) (decipher (block_at 16 stolen r)) ≡ previous
     unfolding zero_filled
@@ -172,4 +186,15 @@ module _ (encipher decipher : List ℕ → List ℕ) (cipher : IsCipher encipher
       elim (cases_eq (length text) 16) [
         | inl short ↦ undone_short text text_bytes short
         | inr long ↦ undone_long text text_bytes ((length text - 1) / 16 - 1) (pieces text some long)
+      ]
+
+  -- a text of bytes is enciphered to bytes
+  pub cs3_encrypted-AreBytes : (text : List ℕ) → AreBytes text → 16 ≤ length text → AreBytes (cs3_encrypted encipher iv text)
+  cs3_encrypted-AreBytes text text_bytes some =
+      elim (cases_eq (length text) 16) [
+        | inl short ↦ subst AreBytes (sym (cs3_encrypted_short encipher iv text short)) (sound text text_bytes 1 (omega arith)).1
+        | inr long ↦
+            let r : ℕ = (length text - 1) / 16 - 1 in
+            let cut : Pieces text r = pieces text some long in
+            subst AreBytes (sym (cs3_encrypted_long encipher iv text r cut ∙ stealing_is text r cut encipher iv)) (stolen_bytes text text_bytes r cut)
       ]

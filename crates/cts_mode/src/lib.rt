@@ -2,7 +2,7 @@
 #![tactic(auto)]
 
 ghost use Rattle.std.specs.Prelude.{◌≡◌, ◌≤◌, length};
-ghost use Rattle.cts_mode.specs.Laws.{DecryptionUndoes, LengthStays};
+ghost use Rattle.cts_mode.specs.Laws.{DecryptionUndoes, EncryptsToBytes, LengthStays};
 ghost use Rattle.cts_mode.specs.Cts.{cts_encrypted, cts_decrypted};
 
 mod blocks;
@@ -51,9 +51,10 @@ pub fn cts_decrypt(key: &Aes256, iv: [u8; 16], text: &mut [u8])
 }
 
 /// Does nothing. Its contract is the law that decryption undoes encryption, for every key, iv and
-/// text of at least 16 bytes, and that both keep the length of the text.
+/// text of at least 16 bytes, that encryption makes bytes of bytes, and that both keep the length.
 pub fn decryption_undoes_encryption()
     ensures decrypted { DecryptionUndoes }
+    ensures bytes { EncryptsToBytes }
     ensures encrypted_length { LengthStays cts_encrypted }
     ensures decrypted_length { LengthStays cts_decrypted }
 {}

@@ -1,3 +1,3 @@
-pub mod FilledLemmas
-pub mod Symbols
 pub mod NameLemmas
+pub mod Symbols
+pub mod TextLemmas

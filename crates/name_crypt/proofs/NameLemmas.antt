@@ -8,11 +8,15 @@ use Rattle.std.specs.List.{position_or_len}
 use Rattle.std.proofs.lemmas.List.{take_at, length-append, length-replicate, length-take, get_or-take, get_or-replicate, drop-replicate, take-replicate}
 use Rattle.std.proofs.lemmas.List.Sums.{position_or_len_is, fails_before_first}
 use Rattle.std.proofs.lemmas.Bool.{ne_eqb, eq-eqb, cases_lt, lt-ltb, le-ltb}
+use Rattle.byte_words.specs.Numbers.{little_endian_bytes}
 use Rattle.byte_words.specs.Xor.{zero_filled}
+use Rattle.byte_words.proofs.AreBytesLemmas.{AreBytes-append, AreBytes-little_endian_bytes, AreBytes-zeros}
+use Rattle.byte_words.proofs.NumberLemmas.{length-little_endian_bytes}
+use Rattle.aes_core.specs.Laws.{IsBlock}
 use Rattle.policy_ctx.specs.declared.policy.Pad.{Pad}
 use Rattle.policy_ctx.specs.declared.policy.Pad.TheVariants.{P4, P8, P16, P32}
 use Rattle.name_crypt.specs.Plain.{IsPlain}
-use Rattle.name_crypt.specs.StoredName.{padded_length, before_nul}
+use Rattle.name_crypt.specs.StoredName.{padded_length, before_nul, name_iv}
 
 -- a stored name has room for its name, and 16 to 255 bytes
 pub record Fits (len size : ℕ) : Type 0 where
@@ -77,3 +81,10 @@ place_or_end place len found is low = elim (cases_lt place len) [
   | inl before ↦ ap (λ o. unwrap_or o len) (is ∙ ap (λ b. cond b (Some place) None) (lt-ltb place len before))
   | inr after ↦ ap (λ o. unwrap_or o len) (is ∙ ap (λ b. cond b (Some place) None) (le-ltb place len after)) ∙ omega (arith, low, after)
 ]
+
+-- the iv of a start is a block
+pub name_iv-IsBlock : (start : ℕ) → IsBlock (name_iv start)
+name_iv-IsBlock start = record {
+  size = length-append (little_endian_bytes 8 start) (replicate 8 0) ∙ omega (arith, length-little_endian_bytes 8 start, length-replicate {A = ℕ} 8 0);
+  bytes = AreBytes-append (little_endian_bytes 8 start) (replicate 8 0) (AreBytes-little_endian_bytes 8 start) (AreBytes-zeros 8);
+}

@@ -4,11 +4,13 @@ use Rattle.std.specs.Prelude.{ℕ, List, ◌++◌, length, take, drop, replicate
 use Rattle.sha2.specs.Sha256.{sha256}
 use Rattle.base64.specs.GeneralPurpose.{encode_of}
 use Rattle.base64.specs.Engines.{url_safe_no_pad}
+use Rattle.name_crypt.specs.declared.limits.TheConstants.{MOST_SPELLED_BYTES}
 
 -- the stored name, up to 149 bytes whole, else its first 149 bytes and the SHA-256 of the others
 abbrev pub shown_bytes : List ℕ → List ℕ
 shown_bytes stored =
-    if nat_le (length stored) 149 then stored else take 149 stored ++ sha256 (drop 149 stored)
+    if nat_le (length stored) MOST_SPELLED_BYTES then stored
+    else take MOST_SPELLED_BYTES stored ++ sha256 (drop MOST_SPELLED_BYTES stored)
 
 -- base64url without padding, of two little-endian words of 32 bits that are 0, and these bytes
 abbrev pub nokey_text_of : List ℕ → List ℕ

@@ -2,16 +2,16 @@
 
 ghost use Rattle.std.specs.Prelude.{◌≡◌, ◌+◌, ◌≤◌, ◌↔◌, [], ◌++◌, length, take, drop, IsErr, IfOk};
 ghost use Rattle.cts_mode.specs.Cts.{cts_decrypted};
-ghost use Rattle.name_crypt.specs.Laws.{NamesComeBack, NamesStayDistinct, StoredNamesFit};
 ghost use Rattle.name_crypt.specs.StoredName.{before_nul, padded_length, plain_name_with, stored_name_with};
 
-use crate::filled::Filled;
+use crate::limits::{LEAST_STORED_BYTES, MOST_NAME_BYTES};
 use crate::plain::Plain;
 use crate::steps::Steps;
 use crate::stored::StoredName;
 use aes_core::Aes256;
 use cts_mode::{cts_decrypt, cts_encrypt};
 use policy_ctx::Pad;
+use short_bytes::Filled;
 use std::sync::ledger::Ledger;
 use thiserror::Error;
 
@@ -34,7 +34,7 @@ pub fn encrypt_name<L: Ledger>(
     encrypt_name_with(&Aes256::new(key), iv, pad, name, steps)
 }
 
-/// The same with the key's schedule made before, for several names under one key.
+/// The same with the round keys made before, for several names under one key.
 pub fn encrypt_name_with<L: Ledger>(
     key: &Aes256,
     iv: [u8; 16],
@@ -46,7 +46,7 @@ pub fn encrypt_name_with<L: Ledger>(
     ensures tick { steps.new ≡ steps.old + 1 }
 {
     steps.tick();
-    let mut text = [0; 255];
+    let mut text = [0; MOST_NAME_BYTES];
     let len = padded_length(pad, name.bytes().len());
     fill(&mut text, name.bytes());
     cts_encrypt(key, iv, &mut text[..len]);
@@ -62,7 +62,7 @@ pub fn decrypt_name(key: &[u8; 32], iv: [u8; 16], stored: &StoredName) -> Result
     decrypt_name_with(&Aes256::new(key), iv, stored)
 }
 
-/// The same with the key's schedule made before, for several names under one key.
+/// The same with the round keys made before, for several names under one key.
 pub fn decrypt_name_with(key: &Aes256, iv: [u8; 16], stored: &StoredName) -> Result<Plain, NotPlain>
     ensures value { IfOk result (λ name. name ≡ plain_name_with key.now iv stored.now) }
     ensures not_plain { IsErr result ↔ (plain_name_with key.now iv stored.now ≡ []) }
@@ -74,43 +74,35 @@ pub fn decrypt_name_with(key: &Aes256, iv: [u8; 16], stored: &StoredName) -> Res
     }
 }
 
-/// Does nothing. Its contract is that encryption loses nothing of a name, and fits a stored name.
-pub fn names_come_back()
-    ensures back { NamesComeBack }
-    ensures distinct { NamesStayDistinct }
-    ensures fit { StoredNamesFit }
-{
-    cts_mode::decryption_undoes_encryption();
-}
-
-fn deciphered(key: &Aes256, iv: [u8; 16], stored: &StoredName) -> Filled<255>
+// What a stored name is deciphered to, with the NULs behind the name.
+fn deciphered(key: &Aes256, iv: [u8; 16], stored: &StoredName) -> Filled<MOST_NAME_BYTES>
     ensures { result ≡ cts_decrypted key.now iv stored.now }
 {
-    let mut text = [0; 255];
+    let mut text = [0; MOST_NAME_BYTES];
     let len = stored.bytes().len();
     fill(&mut text, stored.bytes());
     cts_decrypt(key, iv, &mut text[..len]);
     Filled::of(&text[..len])
 }
 
-/// The length of the stored name of a name of this length.
+// The length of the stored name of a name of this length.
 fn padded_length(pad: Pad, len: usize) -> usize
-    requires { len ≤ 255 }
+    requires { len ≤ MOST_NAME_BYTES }
     ensures { result ≡ padded_length pad len }
 {
     let size = pad.size();
-    (len.max(16).div_ceil(size) * size).min(255)
+    (len.max(LEAST_STORED_BYTES).div_ceil(size) * size).min(MOST_NAME_BYTES)
 }
 
-/// Writes the bytes over the beginning of the text.
-fn fill(text: &mut [u8; 255], bytes: &[u8])
-    requires { length bytes.now ≤ 255 }
+// Writes the bytes over the beginning of the text.
+fn fill(text: &mut [u8; MOST_NAME_BYTES], bytes: &[u8])
+    requires { length bytes.now ≤ MOST_NAME_BYTES }
     ensures { text.new ≡ bytes.now ++ drop (length bytes.now) text.old }
 {
     text[..bytes.len()].copy_from_slice(bytes);
 }
 
-/// The bytes before the first NUL.
+// The bytes before the first NUL.
 fn before_nul(bytes: &[u8]) -> &[u8]
     ensures { result.now ≡ before_nul bytes.now }
 {

@@ -1,20 +1,21 @@
 //! Names and targets: plain, stored under a key, and shown without the key.
 #![tactic(auto)]
 
+mod cipher;
 mod encrypt;
-mod filled;
-mod label;
+mod limits;
+mod name_laws;
 mod nokey;
 mod plain;
 mod steps;
 mod stored;
 
 pub use aes_core::Aes256;
-pub use encrypt::{
-    NotPlain, decrypt_name, decrypt_name_with, encrypt_name, encrypt_name_with, names_come_back,
-};
+pub use cipher::{NameCipher, name_iv};
+pub use encrypt::{NotPlain, decrypt_name, decrypt_name_with, encrypt_name, encrypt_name_with};
 pub use item_list::{Bytes, Items};
-pub use label::Label;
+pub use limits::{LEAST_STORED_BYTES, MOST_NAME_BYTES, MOST_SPELLED_BYTES, MOST_TEXT_CHARACTERS};
+pub use name_laws::{names_come_back, texts_stay_distinct};
 pub use nokey::{NoKeyText, nokey_matches, nokey_text};
 pub use plain::{Plain, PlainFault};
 pub use steps::Steps;

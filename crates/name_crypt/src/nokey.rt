@@ -4,21 +4,20 @@ ghost use Rattle.std.specs.Prelude.{◌≡◌, ◌<◌, ◌≤◌, ◌↔◌, �
 ghost use Rattle.base64.specs.Engines.{url_safe_no_pad};
 ghost use Rattle.base64.specs.GeneralPurpose.{encode_of};
 ghost use Rattle.sha2.specs.Sha256.{sha256};
+ghost use Rattle.name_crypt.specs.declared.limits.TheConstants.{MOST_TEXT_CHARACTERS};
 ghost use Rattle.name_crypt.specs.NoKeyText.{nokey_text_of, shown_bytes};
 
-use crate::filled::Filled;
+use crate::limits::{MOST_NAME_BYTES, MOST_SPELLED_BYTES, MOST_TEXT_CHARACTERS};
 use crate::stored::StoredName;
 use base64::engine::general_purpose::URL_SAFE_NO_PAD;
 use sha2::{Digest, Sha256};
+use short_bytes::Filled;
 use std::marker::Model;
-
-/// How many bytes of a stored name a no-key text spells. Of a longer name it has the hash of the others.
-const SPELLED: usize = 149;
 
 /// The no-key text of a stored name: at most 252 characters.
 #[derive(Clone, Copy, Debug, PartialEq, Eq, Hash)]
 pub struct NoKeyText {
-    characters: Filled<252>,
+    characters: Filled<MOST_TEXT_CHARACTERS>,
 }
 
 impl Model for NoKeyText {
@@ -26,7 +25,7 @@ impl Model for NoKeyText {
 
     ghost view = { λ text. text.characters };
 
-    ghost invariant = { λ text. length text.characters ≤ 252 };
+    ghost invariant = { λ text. length text.characters ≤ MOST_TEXT_CHARACTERS };
 
     ghost inverse = { λ bytes. record { characters = bytes } };
 }
@@ -35,7 +34,7 @@ impl NoKeyText {
     /// The characters, each of one byte.
     pub fn bytes(&self) -> &[u8]
         ensures value { result.now ≡ self.now }
-        ensures bound { length result.now ≤ 252 }
+        ensures bound { length result.now ≤ MOST_TEXT_CHARACTERS }
     {
         self.characters.bytes()
     }
@@ -47,7 +46,7 @@ pub fn nokey_text(stored: &StoredName) -> NoKeyText
     ensures { result ≡ nokey_text_of stored.now }
 {
     let source = encoded_bytes(stored.bytes());
-    let mut characters = [0; 252];
+    let mut characters = [0; MOST_TEXT_CHARACTERS];
     let Ok(len) = URL_SAFE_NO_PAD.encode_slice(source.bytes(), &mut characters) else {
         unreachable!();
     };
@@ -56,16 +55,16 @@ pub fn nokey_text(stored: &StoredName) -> NoKeyText
     }
 }
 
-/// What the text encodes.
+// What the text encodes.
 fn encoded_bytes(stored: &[u8]) -> Filled<189>
-    requires { length stored.now ≤ 255 }
+    requires { length stored.now ≤ MOST_NAME_BYTES }
     ensures { result ≡ replicate 8 0 ++ shown_bytes stored.now }
 {
     let mut bytes = Filled::of(&[0; 8]);
-    if stored.len() <= SPELLED {
+    if stored.len() <= MOST_SPELLED_BYTES {
         bytes.append(stored);
     } else {
-        let (spelled, hashed) = stored.split_at(SPELLED);
+        let (spelled, hashed) = stored.split_at(MOST_SPELLED_BYTES);
         bytes.append(spelled);
         bytes.append(&Sha256::digest(hashed));
     }
@@ -78,16 +77,16 @@ pub fn nokey_matches(text: &[u8], stored: &StoredName) -> bool
     ensures { IsTrue result ↔ (text.now ≡ nokey_text_of stored.now) }
 {
     let bytes = stored.bytes();
-    if bytes.len() <= SPELLED {
+    if bytes.len() <= MOST_SPELLED_BYTES {
         return is_spelled_part(text, bytes);
     }
     is_hashed_text(text, bytes)
 }
 
-/// The same for a stored name of more than 149 bytes. 8 zeros and the first 148 bytes are 52 groups
-/// of three, so their 208 symbols can be compared before there is a hash.
+// The same for a stored name of more than 149 bytes. 8 zeros and the first 148 bytes are 52 groups
+// of three, so their 208 symbols can be compared before there is a hash.
 fn is_hashed_text(text: &[u8], stored: &[u8]) -> bool
-    requires { 149 < length stored.now }
+    requires { MOST_SPELLED_BYTES < length stored.now }
     ensures { IsTrue result ↔ (text.now ≡ encode_of url_safe_no_pad (replicate 8 0 ++ (take 149 stored.now ++ sha256 (drop 149 stored.now)))) }
 {
     if text.len() < 208 {
@@ -101,9 +100,9 @@ fn is_hashed_text(text: &[u8], stored: &[u8]) -> bool
     is_hashed_part(back, others)
 }
 
-/// Whether the text is the base64url of eight zeros and these bytes.
+// Whether the text is the base64url of eight zeros and these bytes.
 fn is_spelled_part(text: &[u8], first: &[u8]) -> bool
-    requires { length first.now ≤ 149 }
+    requires { length first.now ≤ MOST_SPELLED_BYTES }
     ensures { IsTrue result ↔ (text.now ≡ encode_of url_safe_no_pad (replicate 8 0 ++ first.now)) }
 {
     let mut source = Filled::<157>::of(&[0; 8]);
@@ -111,7 +110,7 @@ fn is_spelled_part(text: &[u8], first: &[u8]) -> bool
     is_encoding(text, source.bytes())
 }
 
-/// Whether the text is the base64url of the first byte and the SHA-256 of the others.
+// Whether the text is the base64url of the first byte and the SHA-256 of the others.
 fn is_hashed_part(text: &[u8], bytes: &[u8]) -> bool
     requires { 1 ≤ length bytes.now }
     ensures { IsTrue result ↔ (text.now ≡ encode_of url_safe_no_pad (take 1 bytes.now ++ sha256 (drop 1 bytes.now))) }
@@ -122,7 +121,7 @@ fn is_hashed_part(text: &[u8], bytes: &[u8]) -> bool
     is_encoding(text, source.bytes())
 }
 
-/// Whether the text is the base64url of the bytes.
+// Whether the text is the base64url of the bytes.
 fn is_encoding(mut text: &[u8], mut bytes: &[u8]) -> bool
     ensures { IsTrue result ↔ (text.entry.now ≡ encode_of url_safe_no_pad bytes.entry.now) }
 {
@@ -136,7 +135,7 @@ fn is_encoding(mut text: &[u8], mut bytes: &[u8]) -> bool
     is_short_encoding(text, bytes)
 }
 
-/// The same of at most 24 bytes, which make at most 32 symbols.
+// The same of at most 24 bytes, which make at most 32 symbols.
 fn is_short_encoding(text: &[u8], bytes: &[u8]) -> bool
     requires { length bytes.now ≤ 24 }
     ensures { IsTrue result ↔ (text.now ≡ encode_of url_safe_no_pad bytes.now) }

@@ -4,14 +4,15 @@ ghost use Rattle.std.specs.Prelude.{◌≡◌, ◌<◌, ◌≤◌, ◌↔◌, �
 ghost use Rattle.byte_words.specs.Bytes.{AreBytes};
 ghost use Rattle.name_crypt.specs.Plain.{IsPlain};
 
-use crate::filled::Filled;
+use crate::limits::MOST_NAME_BYTES;
+use short_bytes::Filled;
 use std::marker::Model;
 use thiserror::Error;
 
 /// A name of a directory's entry, or a symlink's target: 1 to 255 bytes, none of them NUL.
 #[derive(Clone, Copy, Debug, PartialEq, Eq, Hash)]
 pub struct Plain {
-    bytes: Filled<255>,
+    bytes: Filled<MOST_NAME_BYTES>,
 }
 
 impl Model for Plain {
@@ -40,10 +41,10 @@ impl Plain {
     pub fn read(bytes: &[u8]) -> Result<Plain, PlainFault>
         ensures value { IfOk result (λ name. name ≡ bytes.now) }
         ensures plain { IsOk result ↔ IsPlain bytes.now }
-        ensures length { IsErrOf result PlainFault.Length ↔ ((length bytes.now ≡ 0) ⊎ (255 < length bytes.now)) }
-        ensures nul { IsErrOf result PlainFault.Nul ↔ ((1 ≤ length bytes.now) × (length bytes.now ≤ 255) × Contains bytes.now 0) }
+        ensures length { IsErrOf result PlainFault.Length ↔ ((length bytes.now ≡ 0) ⊎ (MOST_NAME_BYTES < length bytes.now)) }
+        ensures nul { IsErrOf result PlainFault.Nul ↔ ((1 ≤ length bytes.now) × (length bytes.now ≤ MOST_NAME_BYTES) × Contains bytes.now 0) }
     {
-        if bytes.is_empty() || bytes.len() > 255 {
+        if bytes.is_empty() || bytes.len() > MOST_NAME_BYTES {
             return Err(PlainFault::Length);
         }
         if bytes.contains(&0) {

@@ -4,14 +4,15 @@ ghost use Rattle.std.specs.Prelude.{◌≡◌, ◌<◌, ◌≤◌, ◌↔◌, �
 ghost use Rattle.byte_words.specs.Bytes.{AreBytes};
 ghost use Rattle.name_crypt.specs.Plain.{IsStored};
 
-use crate::filled::Filled;
+use crate::limits::{LEAST_STORED_BYTES, MOST_NAME_BYTES};
+use short_bytes::Filled;
 use std::marker::Model;
 use thiserror::Error;
 
 /// An enciphered name or target: 16 to 255 bytes.
 #[derive(Clone, Copy, Debug, PartialEq, Eq, Hash)]
 pub struct StoredName {
-    bytes: Filled<255>,
+    bytes: Filled<MOST_NAME_BYTES>,
 }
 
 impl Model for StoredName {
@@ -33,9 +34,9 @@ impl StoredName {
     /// The stored name of these bytes.
     pub fn read(bytes: &[u8]) -> Result<StoredName, StoredLength>
         ensures value { IfOk result (λ name. name ≡ bytes.now) }
-        ensures length { IsErr result ↔ ((length bytes.now < 16) ⊎ (255 < length bytes.now)) }
+        ensures length { IsErr result ↔ ((length bytes.now < LEAST_STORED_BYTES) ⊎ (MOST_NAME_BYTES < length bytes.now)) }
     {
-        if bytes.len() < 16 || bytes.len() > 255 {
+        if bytes.len() < LEAST_STORED_BYTES || bytes.len() > MOST_NAME_BYTES {
             return Err(StoredLength);
         }
         Ok(StoredName::of(bytes))

@@ -39,9 +39,8 @@ fn stored_name_lengths_and_round_trip(rt: HostRuntime) -> Result<(), Fail> {
             Ok(name),
             "a name of {len} bytes"
         );
-        let aes = Aes256::new(&KEY);
         assert_eq!(rt;
-            decrypt_name_with(&aes, [0; 16], &stored),
+            NameCipher::new(&KEY, 0).decrypt(&stored),
             Ok(name),
             "a name of {len} bytes"
         );
@@ -49,17 +48,58 @@ fn stored_name_lengths_and_round_trip(rt: HostRuntime) -> Result<(), Fail> {
     Ok(())
 }
 
+/// The stored name under the key of these tests from a start, counted on a ledger of its own.
+fn stored_from<L: Ledger>(blank: Blank, start: u64, name: &Plain) -> StoredName
+    requires name { blank.name ≡ L.name }
+    requires parts { blank.parts ≡ L.parts }
+    requires some { 0 < L.parts }
+{
+    let mut steps = Steps::<L>::new(blank);
+    NameCipher::new(&KEY, start).encrypt(Pad::P4, name, &mut steps)
+}
+
+// The two blocks are those of `openssl enc -aes-256-cbc`, swapped, with the start of node 12 in the
+// iv and without.
 #[test]
-fn names_labels_and_stored_names_have_bounds(rt: HostRuntime) -> Result<(), Fail> {
+fn start_of_a_node_is_in_the_iv(rt: HostRuntime) -> Result<(), Fail> {
+    let name = Plain::read(b"a name of thirty-two bytes, this")?;
+    let stored = [
+        (
+            12 << 32,
+            [
+                0x5e, 0x64, 0x5e, 0x78, 0xbb, 0xf4, 0x3f, 0x98, 0x00, 0xae, 0x08, 0x1b, 0xb6, 0x90,
+                0x86, 0xa8, 0x90, 0xa8, 0x49, 0xf3, 0x07, 0xa0, 0x51, 0xea, 0x4d, 0xe0, 0x32, 0x56,
+                0x0d, 0x56, 0x1b, 0xeb,
+            ],
+        ),
+        (
+            0,
+            [
+                0xd2, 0x8a, 0xd1, 0xc8, 0xdd, 0x43, 0x79, 0x59, 0xd7, 0x37, 0x9e, 0x87, 0x8c, 0xf5,
+                0x68, 0x99, 0xe2, 0x6a, 0xf8, 0x5f, 0x44, 0xa1, 0xe9, 0xc7, 0x71, 0x27, 0xba, 0xaf,
+                0x45, 0xad, 0x71, 0x9e,
+            ],
+        ),
+    ];
+    for (start, want) in stored {
+        let found = stored_from::<Brand>(Blank::new(1), start, &name);
+        assert!(rt; found.bytes() == want.as_slice(), "start {start}");
+        assert_eq!(rt;
+            NameCipher::new(&KEY, start).decrypt(&found),
+            Ok(name),
+            "start {start}"
+        );
+    }
+    Ok(())
+}
+
+#[test]
+fn names_and_stored_names_have_bounds(rt: HostRuntime) -> Result<(), Fail> {
     let zeros = [0; 256];
     assert_eq!(rt; Plain::read(&zeros), Err(PlainFault::Length));
     assert_eq!(rt; Plain::read(&zeros[..1]), Err(PlainFault::Nul));
     assert_eq!(rt; StoredName::read(&zeros[..15]), Err(StoredLength));
     assert!(rt; StoredName::read(&zeros[..255]).is_ok());
-    assert!(rt;
-        Label::read(b"login-2_b").is_some_and(|label| label.bytes() == b"login-2_b".as_slice())
-    );
-    assert!(rt; Label::read(b"Login").is_none());
     Ok(())
 }
 

@@ -10,7 +10,8 @@ use Rattle.hex.specs.Hex.{encode_lower, IsBytes}
 use Rattle.text_words.specs.Digits.{is_lower_hex_digit}
 use Rattle.text_words.specs.Numbers.{decimal_of}
 use Rattle.text_words.proofs.NumberLemmas.{test-from_IsDecimal, IsDecimal-decimal_of}
-use Rattle.name_crypt.specs.Label.{is_label_character}
+use Rattle.short_bytes.specs.Label.{IsLabel, is_label_character}
+use Rattle.short_bytes.proofs.LabelLemmas.{IsLabel-bounds}
 use Rattle.protector_meta.proofs.WordLaws.{digits_are_lower}
 use Rattle.protector_meta.proofs.PieceLaws.{is_free_of}
 
@@ -20,8 +21,8 @@ implied p q h (x ∷ xs) all =
     let parts = and_parts (p x) (list_all p xs) all in
     and_from (q x) (list_all q xs) (h x parts.0) (implied p q h xs parts.1)
 
-pub label_is_free : (c : ℕ) (xs : List ℕ) → c < 45 → list_all is_label_character xs ≡ true → is_free_of c xs ≡ true
-label_is_free c xs low all = implied is_label_character (λ b. not (b == c)) (λ x h. above x h) xs all
+pub label_is_free : (c : ℕ) (xs : List ℕ) → c < 45 → IsLabel xs → is_free_of c xs ≡ true
+label_is_free c xs low is = implied is_label_character (λ b. not (b == c)) (λ x h. above x h) xs (IsLabel-bounds xs is).2
   where
     above : (x : ℕ) → is_label_character x ≡ true → not (x == c) ≡ true
     above x h = grind (arith, nat_tests)

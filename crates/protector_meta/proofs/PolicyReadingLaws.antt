@@ -9,7 +9,7 @@ use Rattle.std.proofs.lemmas.List.Elements.{All-from_recursion, recursion_from_A
 use Rattle.std.proofs.lemmas.Option.{same_Some}
 use Rattle.hex.specs.Hex.{encode_lower}
 use Rattle.text_words.specs.Lines.{pieces_of}
-use Rattle.name_crypt.specs.Label.{IsLabel}
+use Rattle.short_bytes.specs.Label.{IsLabel}
 use Rattle.protector_meta.specs.declared.fault.MetaFault.{MetaFault}
 use Rattle.protector_meta.specs.declared.fault.MetaFault.TheVariants.{Bad, NoMemory}
 use Rattle.protector_meta.specs.declared.wraps.Wrap.{Wrap}
@@ -255,7 +255,7 @@ module _ (p : PolicyFile) (is : IsPolicyFile p) where
   from_id_again = ap (λ (r : Result (List ℕ × List ℕ) MetaFault). r >>= λ id. behind_id has p.name id.0 id.1) id_again ∙ behind_id_again
 
   name_again : value_at name_line_value 2 name_text ≡ Ok (p.name, id_text)
-  name_again = value_again name_line_value 2 (codes "name " ++ p.name) id_text p.name (label_is_free 10 p.name (lit< tt) is.name.2) (name_line_again p.name is.name)
+  name_again = value_again name_line_value 2 (codes "name " ++ p.name) id_text p.name (label_is_free 10 p.name (lit< tt) is.name) (name_line_again p.name is.name)
 
   from_name_again : after_head has name_text ≡ Ok p
   from_name_again = ap (λ (r : Result (List ℕ × List ℕ) MetaFault). r >>= λ name. after_name has name.0 name.1) name_again ∙ from_id_again

@@ -9,7 +9,7 @@ use Rattle.std.proofs.lemmas.List.{nil_from_length}
 use Rattle.std.proofs.lemmas.Option.{same_Some}
 use Rattle.hex.specs.Hex.{encode_lower}
 use Rattle.text_words.specs.Digits.{is_lower_hex_digit}
-use Rattle.name_crypt.specs.Label.{IsLabel}
+use Rattle.short_bytes.specs.Label.{IsLabel}
 use Rattle.protector_meta.specs.Descriptor.{IsDescriptor}
 use Rattle.protector_meta.specs.LineValues.{AreBytesOfLength, digits_line_value, name_line_value}
 use Rattle.protector_meta.specs.ProtectorText.{protector_text, kind_text, IsKind, IsProtector}

@@ -35,7 +35,7 @@ pub protector_again : (p : Protector) → IsProtector p → protector_read (prot
 unfolding protector_read protector_text
 protector_again p h =
     goes_on head_value 1 (codes "fsc-protector 1") (behind_head p) tt from_name p refl refl
-    (goes_on name_line_value 2 (codes "name " ++ p.name) (behind_name p) p.name from_kind p (label_is_free 10 p.name (omega arith) h.name.2) (name_line_again p.name h.name)
+    (goes_on name_line_value 2 (codes "name " ++ p.name) (behind_name p) p.name from_kind p (label_is_free 10 p.name (omega arith) h.name) (name_line_again p.name h.name)
     (goes_on kind_line_value 3 (codes "kind " ++ kind_text p.kind) (behind_kind p) p.kind (from_descriptor p.name) p (kind_is_free p.kind h.kind) (word_value_again (codes "kind ") kind_value (kind_text p.kind) p.kind (kind_again p.kind h.kind))
     (goes_on descriptor_line_value 4 (codes "descriptor " ++ p.descriptor) (behind_descriptor p) p.descriptor (from_iv p.name p.kind) p (lower_digits_are_free 10 p.descriptor (omega arith) h.descriptor.1) (word_value_again (codes "descriptor ") descriptor_value p.descriptor p.descriptor (descriptor_again p.descriptor h.descriptor))
     (goes_on (digits_line_value (codes "iv ") 16) 5 (codes "iv " ++ encode_lower p.iv) (behind_iv p) p.iv (from_key p.name p.kind p.descriptor) p (digits_are_free 10 p.iv (omega arith) h.iv.1) (digits_line_again (codes "iv ") 16 p.iv h.iv)

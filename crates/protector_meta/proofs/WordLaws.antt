@@ -1,20 +1,19 @@
 -- What stands behind words, and the values there: each is read from what it is spelled as, and from nothing else.
-use Rattle.std.proofs.Common.{◌≡◌, ℕ, Bool, true, false, ◌&&◌, List, ◌++◌, length, take, drop, Option, Some, None, refl, sym, ap, ◌∙◌, subst, arith}
-use Rattle.std.specs.Prelude.{nat_le, codes, if◌then◌else◌}
+use Rattle.std.proofs.Common.{◌≡◌, ℕ, Bool, true, false, List, ◌++◌, length, take, drop, Option, Some, None, refl, sym, ap, ◌∙◌, subst, arith}
+use Rattle.std.specs.Prelude.{codes, if◌then◌else◌}
 use Rattle.std.specs.List.{list_all}
 use Rattle.std.specs.Str.{bytes_eq}
 use Rattle.std.specs.Option.{option_and_then}
 use Rattle.std.specs.Cmp.Lexicographic.{same_text, nat_list_eq_equiv}
 use Rattle.std.proofs.lemmas.List.{take_at, drop_at, take-append-drop}
-use Rattle.std.proofs.lemmas.Bool.{and_parts, leb-true}
-use Rattle.std.proofs.lemmas.Bool.Decides.{nat_tests}
-use Rattle.std.proofs.lemmas.Option.{cond_some, same_Some}
+use Rattle.std.proofs.lemmas.Option.{cond_some}
 use Rattle.hex.specs.Hex.{encode_lower, IsBytes}
 use Rattle.hex.proofs.HexLemmas.{decode_of-encode_lower, decode_of-ok}
 use Rattle.text_words.specs.Digits.{hex_bytes_of_length, lower_hex_bytes_of_length, is_lower_hex_digit}
 use Rattle.text_words.proofs.DigitLemmas.{lower_written, lower_every, spells}
-use Rattle.name_crypt.specs.Label.{IsLabel, is_label_character}
-use Rattle.protector_meta.specs.LineValues.{AreBytesOfLength, behind, digits_line_value, is_label, label_value, name_line_value, word_value}
+use Rattle.short_bytes.specs.Label.{IsLabel, label_of}
+use Rattle.short_bytes.proofs.LabelLemmas.{label_of-label, label_of-found}
+use Rattle.protector_meta.specs.LineValues.{AreBytesOfLength, behind, digits_line_value, name_line_value, word_value}
 
 -- a test that chose a value
 pub chose : {A : Type 0} (b : Bool) (o : Option A) (x : A) → (let r : Option A = if b then o else None in r ≡ Some x) → (b ≡ true) × (o ≡ Some x)
@@ -78,28 +77,15 @@ pub digits_are_lower : (bytes : List ℕ) → IsBytes bytes → list_all is_lowe
 digits_are_lower bytes are =
     (chose (list_all is_lower_hex_digit (encode_lower bytes)) (hex_bytes_of_length (length bytes) (encode_lower bytes)) bytes (digits_again (length bytes) bytes refl are)).0
 
--- ---- labels
-
-pub label_again : (label : List ℕ) → IsLabel label → label_value label ≡ Some label
-label_again label is = grind (arith, nat_tests)
-
-pub label_found : (text label : List ℕ) → label_value text ≡ Some label → (text ≡ label) × IsLabel label
-label_found text label h =
-    let taken = chose (is_label text) (Some text) label h in
-    let same : text ≡ label = same_Some text label taken.1 in
-    let long = and_parts (nat_le 1 (length text)) (nat_le (length text) 32 && list_all is_label_character text) taken.0 in
-    let few = and_parts (nat_le (length text) 32) (list_all is_label_character text) long.1 in
-    (same, subst IsLabel same (leb-true 1 (length text) long.0, leb-true (length text) 32 few.0, few.1))
-
 -- ---- lines that both records have
 
 pub name_line_again : (name : List ℕ) → IsLabel name → name_line_value (codes "name " ++ name) ≡ Some name
-name_line_again name is = word_value_again (codes "name ") label_value name name (label_again name is)
+name_line_again name is = word_value_again (codes "name ") label_of name name (label_of-label name is)
 
 pub name_line_found : (line name : List ℕ) → name_line_value line ≡ Some name → (line ≡ codes "name " ++ name) × IsLabel name
 name_line_found line name h =
-    let on = word_value_found (codes "name ") label_value line name h in
-    let label = label_found on.0 name on.2 in
+    let on = word_value_found (codes "name ") label_of line name h in
+    let label = label_of-found on.0 name on.2 in
     (on.1 ∙ ap (λ (l : List ℕ). codes "name " ++ l) label.0, label.1)
 
 pub digits_line_again : (word : List ℕ) (n : ℕ) (bytes : List ℕ) → AreBytesOfLength n bytes → digits_line_value word n (word ++ encode_lower bytes) ≡ Some bytes

@@ -5,11 +5,12 @@ use Rattle.std.proofs.lemmas.Option.{same_Some}
 use Rattle.hex.specs.Hex.{encode_lower}
 use Rattle.text_words.specs.Digits.{lower_hex_bytes_of_length}
 use Rattle.text_words.specs.Words.{words_of}
-use Rattle.protector_meta.specs.LineValues.{label_value}
+use Rattle.short_bytes.specs.Label.{label_of}
+use Rattle.short_bytes.proofs.LabelLemmas.{label_of-label, label_of-found}
 use Rattle.protector_meta.specs.PolicyText.{IsWrap, wrap_line}
 use Rattle.protector_meta.specs.PolicyLines.{wrap_of_words, wrap_value}
 use Rattle.protector_meta.specs.declared.wraps.Wrap.{Wrap}
-use Rattle.protector_meta.proofs.WordLaws.{digits_again, digits_found, label_again, label_found, word_value_again, word_value_found}
+use Rattle.protector_meta.proofs.WordLaws.{digits_again, digits_found, word_value_again, word_value_found}
 use Rattle.protector_meta.proofs.PieceLaws.{is_free_of}
 use Rattle.protector_meta.proofs.CharacterLaws.{digits_are_free, free_of_both, label_is_free}
 use Rattle.protector_meta.proofs.FourWords.{four_words_again, four_words_found}
@@ -17,12 +18,12 @@ use Rattle.protector_meta.proofs.FourWords.{four_words_again, four_words_found}
 module _ (w : Wrap) (is : IsWrap w) where
   wrap_words_again : wrap_of_words (w.protector ∷ encode_lower w.iv ∷ encode_lower w.key ∷ encode_lower w.tag ∷ []) ≡ Some w
   wrap_words_again =
-      rw (label_again w.protector is.protector, digits_again 16 w.iv is.iv.0 is.iv.1, digits_again 64 w.key is.key.0 is.key.1, digits_again 32 w.tag is.tag.0 is.tag.1) refl
+      rw (label_of-label w.protector is.protector, digits_again 16 w.iv is.iv.0 is.iv.1, digits_again 64 w.key is.key.0 is.key.1, digits_again 32 w.tag is.tag.0 is.tag.1) refl
 
   wrap_words_of : words_of (w.protector ++ 32 ∷ (encode_lower w.iv ++ 32 ∷ (encode_lower w.key ++ 32 ∷ encode_lower w.tag)))
       ≡ w.protector ∷ encode_lower w.iv ∷ encode_lower w.key ∷ encode_lower w.tag ∷ []
   wrap_words_of = four_words_again w.protector (encode_lower w.iv) (encode_lower w.key) (encode_lower w.tag)
-      (label_is_free 32 w.protector (omega arith) is.protector.2) (digits_are_free 32 w.iv (omega arith) is.iv.1)
+      (label_is_free 32 w.protector (omega arith) is.protector) (digits_are_free 32 w.iv (omega arith) is.iv.1)
       (digits_are_free 32 w.key (omega arith) is.key.1) (digits_are_free 32 w.tag (omega arith) is.tag.1)
 
   pub wrap_value_again : wrap_value (wrap_line w) ≡ Some w
@@ -34,16 +35,16 @@ module _ (w : Wrap) (is : IsWrap w) where
 
   pub wrap_line_is_free : is_free_of 10 (wrap_line w) ≡ true
   wrap_line_is_free =
-      free_of_both 10 w.protector (32 ∷ (encode_lower w.iv ++ 32 ∷ (encode_lower w.key ++ 32 ∷ encode_lower w.tag))) (label_is_free 10 w.protector (omega arith) is.protector.2)
+      free_of_both 10 w.protector (32 ∷ (encode_lower w.iv ++ 32 ∷ (encode_lower w.key ++ 32 ∷ encode_lower w.tag))) (label_is_free 10 w.protector (omega arith) is.protector)
       (free_of_both 10 (encode_lower w.iv) (32 ∷ (encode_lower w.key ++ 32 ∷ encode_lower w.tag)) (digits_are_free 10 w.iv (omega arith) is.iv.1)
       (free_of_both 10 (encode_lower w.key) (32 ∷ encode_lower w.tag) (digits_are_free 10 w.key (omega arith) is.key.1)
       (digits_are_free 10 w.tag (omega arith) is.tag.1)))
 
 -- what four words tell of
 module _ (label iv key tag : List ℕ) (w : Wrap) where
-  tell : (l i k t : Option (List ℕ)) → label_value label ≡ l → lower_hex_bytes_of_length 16 iv ≡ i → lower_hex_bytes_of_length 64 key ≡ k → lower_hex_bytes_of_length 32 tag ≡ t
+  tell : (l i k t : Option (List ℕ)) → label_of label ≡ l → lower_hex_bytes_of_length 16 iv ≡ i → lower_hex_bytes_of_length 64 key ≡ k → lower_hex_bytes_of_length 32 tag ≡ t
       → wrap_of_words (label ∷ iv ∷ key ∷ tag ∷ []) ≡ Some w
-      → (label_value label ≡ Some w.protector) × ((lower_hex_bytes_of_length 16 iv ≡ Some w.iv) × ((lower_hex_bytes_of_length 64 key ≡ Some w.key) × (lower_hex_bytes_of_length 32 tag ≡ Some w.tag)))
+      → (label_of label ≡ Some w.protector) × ((lower_hex_bytes_of_length 16 iv ≡ Some w.iv) × ((lower_hex_bytes_of_length 64 key ≡ Some w.key) × (lower_hex_bytes_of_length 32 tag ≡ Some w.tag)))
   tell (Some l) (Some i) (Some k) (Some t) el ei ek et h =
       let v : Wrap = record { protector = l; iv = i; key = k; tag = t } in
       let told : wrap_of_words (label ∷ iv ∷ key ∷ tag ∷ []) ≡ Some v = rw (el, ei, ek, et) refl in
@@ -60,7 +61,7 @@ told_words : (words : List (List ℕ)) (w : Wrap) → wrap_of_words words ≡ So
     → (words ≡ w.protector ∷ encode_lower w.iv ∷ encode_lower w.key ∷ encode_lower w.tag ∷ []) × IsWrap w
 told_words (label ∷ iv ∷ key ∷ tag ∷ []) w h =
     let parts = tell label iv key tag w _ _ _ _ refl refl refl refl h in
-    let l = label_found label w.protector parts.0 in
+    let l = label_of-found label w.protector parts.0 in
     let i = digits_found 16 iv w.iv parts.1.0 in
     let k = digits_found 64 key w.key parts.1.1.0 in
     let t = digits_found 32 tag w.tag parts.1.1.1 in

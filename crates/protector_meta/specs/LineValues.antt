@@ -1,23 +1,14 @@
 -- The values on lines of records: most stand behind a word with which the line begins.
-use Rattle.std.specs.Prelude.{ℕ, ◌≡◌, Bool, ◌&&◌, nat_le, List, length, take, drop, codes, Option, Some, None, if◌then◌else◌}
-use Rattle.std.specs.List.{list_all}
+use Rattle.std.specs.Prelude.{ℕ, ◌≡◌, List, length, take, drop, codes, Option, Some, None, if◌then◌else◌}
 use Rattle.std.specs.Option.{option_and_then}
 use Rattle.std.specs.Str.{bytes_eq}
 use Rattle.hex.specs.Hex.{IsBytes}
 use Rattle.text_words.specs.Digits.{lower_hex_bytes_of_length}
-use Rattle.name_crypt.specs.Label.{is_label_character}
+use Rattle.short_bytes.specs.Label.{label_of}
 
 -- what stands behind a word with which the text begins
 abbrev pub behind : List ℕ → List ℕ → Option (List ℕ)
 behind word text = if bytes_eq (take (length word) text) word then Some (drop (length word) text) else None
-
--- whether the text is a label
-abbrev pub is_label : List ℕ → Bool
-is_label text = nat_le 1 (length text) && (nat_le (length text) 32 && list_all is_label_character text)
-
--- the label that the text is
-abbrev pub label_value : List ℕ → Option (List ℕ)
-label_value text = if is_label text then Some text else None
 
 -- the value of what stands behind a word
 abbrev pub word_value : {A : Type 0} → List ℕ → (List ℕ → Option A) → List ℕ → Option A
@@ -25,7 +16,7 @@ word_value word value text = option_and_then value (behind word text)
 
 -- the label on the line of a name
 abbrev pub name_line_value : List ℕ → Option (List ℕ)
-name_line_value line = word_value (codes "name ") label_value line
+name_line_value line = word_value (codes "name ") label_of line
 
 -- the n bytes that digits spell behind a word
 abbrev pub digits_line_value : List ℕ → ℕ → List ℕ → Option (List ℕ)

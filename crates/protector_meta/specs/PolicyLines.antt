@@ -6,10 +6,11 @@ use Rattle.text_words.specs.Digits.{lower_hex_bytes_of_length}
 use Rattle.text_words.specs.Numbers.{number_below}
 use Rattle.text_words.specs.Words.{words_of}
 use Rattle.policy_ctx.specs.Settings.{pad_of_size, unit_of_log2}
+use Rattle.short_bytes.specs.Label.{label_of}
 use Rattle.protector_meta.specs.declared.policy_file.Options.{Options}
 use Rattle.protector_meta.specs.declared.wraps.Wrap.{Wrap}
 use Rattle.protector_meta.specs.RecordLines.{LineTest}
-use Rattle.protector_meta.specs.LineValues.{digits_line_value, label_value, name_line_value, word_value}
+use Rattle.protector_meta.specs.LineValues.{digits_line_value, name_line_value, word_value}
 use Rattle.protector_meta.specs.Wraps.{adding_fault}
 
 -- whether a line of options has its place, which the first line tells by its version
@@ -46,7 +47,7 @@ options_value line = word_value (codes "options ") (λ text. options_of_words (w
 -- the wrap of which four words tell
 abbrev pub wrap_of_words : List (List ℕ) → Option Wrap
 wrap_of_words (label ∷ iv ∷ key ∷ tag ∷ []) = do
-  protector ← label_value label
+  protector ← label_of label
   iv ← lower_hex_bytes_of_length 16 iv
   key ← lower_hex_bytes_of_length 64 key
   tag ← lower_hex_bytes_of_length 32 tag

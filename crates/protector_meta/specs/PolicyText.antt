@@ -3,7 +3,7 @@ use Rattle.std.specs.Prelude.{ℕ, List, [], ◌∷◌, ◌++◌, map, codes, Op
 use Rattle.std.specs.List.{All}
 use Rattle.hex.specs.Hex.{encode_lower}
 use Rattle.text_words.specs.Numbers.{decimal_of}
-use Rattle.name_crypt.specs.Label.{IsLabel}
+use Rattle.short_bytes.specs.Label.{IsLabel}
 use Rattle.policy_ctx.specs.Policy.{pad_size, unit_log2}
 use Rattle.protector_meta.specs.declared.wraps.Wrap.{Wrap}
 use Rattle.protector_meta.specs.declared.policy_file.Options.{Options}

@@ -2,7 +2,7 @@
 use Rattle.std.specs.Prelude.{ℕ, List, [], ◌∷◌, ◌++◌, codes}
 use Rattle.hex.specs.Hex.{encode_lower}
 use Rattle.text_words.specs.Numbers.{decimal_of}
-use Rattle.name_crypt.specs.Label.{IsLabel}
+use Rattle.short_bytes.specs.Label.{IsLabel}
 use Rattle.argon_kdf.specs.declared.costs.Costs.{Costs}
 use Rattle.protector_meta.specs.Descriptor.{IsDescriptor}
 use Rattle.protector_meta.specs.Stretching.{IsStretching}

@@ -17,7 +17,6 @@ pub use descriptor::Descriptor;
 pub use fault::MetaFault;
 pub use fsc_keys::KeyId;
 pub use item_list::Bytes;
-pub use name_crypt::Label;
 pub use policy_ctx::{Pad, Unit};
 pub use policy_file::{Options, PolicyFile, add_protector, drop_protector};
 pub use policy_reading::decode_policy_file;
@@ -25,6 +24,7 @@ pub use policy_text::encode_policy_file;
 pub use protector::{Protector, ProtectorKind, Stretching};
 pub use protector_text::{decode_protector, encode_protector};
 pub use rewrapping::rewrap;
+pub use short_bytes::Label;
 pub use wraps::{Wrap, WrapFault, WrapList};
 
 #[cfg(test)]

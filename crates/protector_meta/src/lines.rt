@@ -8,7 +8,7 @@ ghost use Rattle.protector_meta.specs.Reading.{Gives, line_at};
 ghost use Rattle.protector_meta.specs.LineValues as spec;
 
 use crate::fault::MetaFault;
-use name_crypt::Label;
+use short_bytes::Label;
 use std::alloc::{AllocError, Global};
 use text_words::{lower_hex_bytes_into, next_line};
 
@@ -32,13 +32,6 @@ pub(crate) fn behind<'a>(text: &'a [u8], word: &[u8]) -> Option<&'a [u8]>
     text.strip_prefix(word)
 }
 
-/// The label that the text is.
-pub(crate) fn label_value(text: &[u8]) -> Option<Label>
-    ensures { result ≡ spec.label_value text.now }
-{
-    Label::read(text)
-}
-
 /// The bytes that lower-case digits spell, two digits for each byte.
 pub(crate) fn digits_value<const N: usize>(text: &[u8]) -> Option<[u8; N]>
     ensures { result ≡ lower_hex_bytes_of_length N text.now }
@@ -55,7 +48,7 @@ pub(crate) fn digits_value<const N: usize>(text: &[u8]) -> Option<[u8; N]>
 pub(crate) fn name_line_value(line: &[u8]) -> Option<Label>
     ensures { result ≡ spec.name_line_value line.now }
 {
-    label_value(behind(line, b"name ")?)
+    Label::read(behind(line, b"name ")?)
 }
 
 /// The bytes that digits spell behind a word with which the line begins.

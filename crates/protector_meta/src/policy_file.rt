@@ -6,8 +6,8 @@ ghost use Rattle.protector_meta.specs.Wraps.{adding_fault, dropping_fault, wraps
 
 use crate::wraps::{Wrap, WrapFault, WrapList};
 use fsc_keys::KeyId;
-use name_crypt::Label;
 use policy_ctx::{Pad, Unit};
+use short_bytes::Label;
 
 /// What a directory gets whose policy is set by a record, unless its caller says otherwise.
 #[derive(Clone, Copy, Debug, PartialEq, Eq)]

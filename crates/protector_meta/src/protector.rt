@@ -8,7 +8,7 @@ ghost use Rattle.argon_kdf.specs.declared.costs.Costs.{Costs};
 
 use crate::descriptor::Descriptor;
 use argon_kdf::{CostFault, Costs};
-use name_crypt::Label;
+use short_bytes::Label;
 use std::marker::Model;
 
 /// How a passphrase is stretched to a wrapping key: what that costs, 1 to 16 passes over 1 to 8 lanes

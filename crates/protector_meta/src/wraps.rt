@@ -6,7 +6,7 @@ ghost use Rattle.std.specs.Slice.Iter.{iter_rest};
 ghost use Rattle.protector_meta.specs.declared.wraps.Wrap.{Wrap};
 ghost use Rattle.protector_meta.specs.Wraps.{AreWraps, adding_fault, dropping_fault, is_for, is_listed, wrap_for, wraps_without};
 
-use name_crypt::Label;
+use short_bytes::Label;
 use std::alloc::{AllocError, AllocFailed, Global};
 use std::marker::Model;
 use std::slice;

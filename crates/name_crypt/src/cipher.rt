@@ -1,0 +1,65 @@
+//! What the names of one node are enciphered with: made once, for as many names as there are.
+
+ghost use Rattle.std.specs.Prelude.{◌≡◌, ◌+◌, ◌↔◌, [], IsErr, IfOk};
+ghost use Rattle.aes_core.specs.Laws.{IsBlock};
+ghost use Rattle.name_crypt.specs.StoredName as spec;
+ghost use Rattle.name_crypt.specs.StoredName.{plain_name, stored_name};
+
+use crate::encrypt::{NotPlain, decrypt_name_with, encrypt_name_with};
+use crate::plain::Plain;
+use crate::steps::Steps;
+use crate::stored::StoredName;
+use aes_core::Aes256;
+use policy_ctx::Pad;
+use std::sync::ledger::Ledger;
+
+/// The iv of the names of a node: the start that the node counts from in 8 bytes, the low byte first,
+/// and zeros.
+pub fn name_iv(start: u64) -> [u8; 16]
+    ensures value { result ≡ spec.name_iv start }
+    ensures block { IsBlock result }
+{
+    let mut iv = [0; 16];
+    iv[..8].copy_from_slice(&start.to_le_bytes());
+    iv
+}
+
+/// The round keys of a names key, made once, and the start of the node whose names they are for: a
+/// whole directory is listed with one of these.
+#[derive(Drop)]
+pub struct NameCipher {
+    /// The names key.
+    pub key: Aes256,
+    /// What the node counts from: 0 under a key of its own, else its number times 2^32.
+    pub start: u64,
+}
+
+impl NameCipher {
+    /// The cipher of a names key of 32 bytes and a start.
+    pub fn new(key: &[u8; 32], start: u64) -> NameCipher
+        ensures key { result.key ≡ key.now }
+        ensures start { result.start ≡ start }
+    {
+        NameCipher {
+            key: Aes256::new(key),
+            start,
+        }
+    }
+
+    /// The stored name of a name or target. `steps` counts one more.
+    pub fn encrypt<L: Ledger>(&self, pad: Pad, name: &Plain, steps: &mut Steps<L>) -> StoredName
+        ensures value { result ≡ stored_name self.now.key self.now.start pad name.now }
+        ensures tick { steps.new ≡ steps.old + 1 }
+    {
+        encrypt_name_with(&self.key, name_iv(self.start), pad, name, steps)
+    }
+
+    /// The name or target of a stored one: the deciphered bytes before the first NUL. There is none
+    /// exactly where the first of them is NUL.
+    pub fn decrypt(&self, stored: &StoredName) -> Result<Plain, NotPlain>
+        ensures value { IfOk result (λ name. name ≡ plain_name self.now.key self.now.start stored.now) }
+        ensures not_plain { IsErr result ↔ (plain_name self.now.key self.now.start stored.now ≡ []) }
+    {
+        decrypt_name_with(&self.key, name_iv(self.start), stored)
+    }
+}

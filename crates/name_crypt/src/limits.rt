@@ -1,0 +1,14 @@
+//! How long names and their texts are.
+
+/// The most bytes of a name or a target, plain or stored.
+pub const MOST_NAME_BYTES: usize = 255;
+
+/// The fewest bytes of a stored name: a block of AES.
+pub const LEAST_STORED_BYTES: usize = 16;
+
+/// The most bytes of a stored name that its no-key text spells. Of a longer name it has the hash of
+/// the others.
+pub const MOST_SPELLED_BYTES: usize = 149;
+
+/// The most characters of a no-key text.
+pub const MOST_TEXT_CHARACTERS: usize = 252;
