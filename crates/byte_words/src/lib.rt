@@ -36,3 +36,6 @@ pub fn written_bytes_are_read()
     ensures others { OtherBytesStay }
     ensures grow { ContentsGrow }
 {}
+
+#[cfg(test)]
+mod tests;
