@@ -5,3 +5,5 @@
 mod tests;
 #[cfg(test)]
 mod vectors;
+#[cfg(test)]
+mod vectors_by_mode;
