@@ -1,20 +1,18 @@
 -- Each step leaves a well-formed mount.
 use Rattle.std.proofs.Common.{◌≡◌, ℕ, List, [], ◌∷◌, refl}
-use Rattle.std.proofs.lemmas.Bool.{cond_both}
 use Rattle.plain_tree.specs.Nodes.{Dir, File, Link}
 use Rattle.mount_model.specs.declared.call.Op.{Op}
 use Rattle.mount_model.specs.declared.call.Op.TheVariants as op
 use Rattle.mount_model.specs.declared.reply.Reply.TheVariants.{Done}
-use Rattle.mount_model.specs.PlainMount.{PlainMount, empty_mount}
-use Rattle.mount_model.specs.History.{MountEntry, History, is_want_of_memory, mount_left, mount_from, mount_after}
+use Rattle.mount_model.specs.PlainMount.{PlainMount}
 use Rattle.mount_model.specs.KeyAnswers.{status_of}
 use Rattle.mount_model.specs.Answered.{Answer}
-use Rattle.mount_model.specs.Answer.{answer_to, answer_of}
+use Rattle.mount_model.specs.Answer.{answer_to}
 use Rattle.mount_model.specs.WellFormed.{HasKeys}
 use Rattle.mount_model.proofs.CaseLemmas.{Covers, at_add_key, at_remove_key, at_remove_key_all, at_set_policy, at_get_policy}
 use Rattle.mount_model.proofs.NameCases.{at_make, at_unlink, at_rmdir, at_rename}
 use Rattle.mount_model.proofs.FileCases.{at_read_link, at_list, at_stat, at_open_node, at_read, at_write, at_close, at_meta_load, at_meta_store}
-use Rattle.mount_model.proofs.KeyLemmas.{HasKeys-with_key, HasKeys-without_claim, HasKeys-without_id, HasKeys-empty}
+use Rattle.mount_model.proofs.KeyLemmas.{HasKeys-with_key, HasKeys-without_claim, HasKeys-without_id}
 
 -- ---- claims and raw keys
 
@@ -47,16 +45,3 @@ keys_step m caller uid (op.Close handle) well = at_close Keys m caller handle (k
 keys_step m caller uid op.DropCaches well = (keys_cover m well).of_replies Done refl
 keys_step m caller uid (op.MetaLoad name) well = at_meta_load Keys m name (keys_cover m well)
 keys_step m caller uid (op.MetaStore name expected bytes) well = at_meta_store Keys m name expected bytes (keys_cover m well) (λ _ _. well)
-
--- ---- histories
-
--- what each answer keeps, each entry keeps, and so each history
-kept_left : (P : PlainMount → Type 0) (m : PlainMount) (e : MountEntry) → P m → P (answer_of m e.who e.call).mount → P (mount_left m e)
-kept_left P m e before after = cond_both (is_want_of_memory e.reply) m (answer_of m e.who e.call).mount P (λ _. before) (λ _. after)
-
-keys_from : (m : PlainMount) (h : History) → HasKeys m.claims m.raws → HasKeys (mount_from m h).claims (mount_from m h).raws
-keys_from m [] well = well
-keys_from m (e ∷ h) well = keys_from (mount_left m e) h (kept_left (λ x. HasKeys x.claims x.raws) m e well (keys_step m e.who e.call.uid e.call.op well))
-
-pub keys_after : (h : History) → HasKeys (mount_after h).claims (mount_after h).raws
-keys_after h = keys_from empty_mount h HasKeys-empty

@@ -98,7 +98,7 @@ pub record CanMove (m : PlainMount) (d : ℕ) (part : Name) (e : Name × ℕ) (p
 pub at_rename : (R : Answer → Type 0) (m : PlainMount) (old_path new_path : PathParts) → Covers R m
     → ((d : ℕ) (e : Name × ℕ) (to : ℕ) → CanMove m d (last_part old_path) e new_path to → R (done (with_moved m d e.0 to (last_part new_path) e.1))) → R (answer_to_rename m old_path new_path)
 at_rename R m old_path new_path covers ok =
-    when R (λ _. covers.of_refusals Inval refl) (λ (named : (is_root old_path || is_root new_path) ≡ false).
+    when R (λ _. covers.of_refusals Inval refl) (λ roots.
     at_walk R m (answer_to_rename_in m (last_part old_path) new_path) (parent m old_path) covers (parent_due m old_path) (λ d _.
     when R (λ _. covers.of_refusals NoKey refl) (λ (_ : not (is_keyed m d) ≡ false).
     at_found R m (answer_to_move_from m new_path d) (found m d (last_part old_path)) covers (λ e is.
@@ -110,7 +110,7 @@ at_rename R m old_path new_path covers ok =
     when R (λ _. covers.of_refusals NoKeyClash refl) (λ apart.
     when R (λ _. covers.of_refusals NoSpace refl) (λ room.
     ok d e to (record {
-      named = (or_parts (is_root old_path) (is_root new_path) named).1;
+      named = (or_parts (is_root old_path) (is_root new_path) roots).1;
       entry_found = is;
       led = led;
       keyed = is_so _ keyed;

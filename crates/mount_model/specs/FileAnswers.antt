@@ -29,7 +29,8 @@ with_handle m caller n = record m {
 
 -- 4,096 handles are open, or the caller has opened as many as a number can tell
 abbrev pub is_out_of_handles : PlainMount → ℕ → Bool
-is_out_of_handles m caller = nat_le MOST_HANDLES (length m.handles) || nat_le MOST_OPENS (opens_of m.opened caller)
+is_out_of_handles m caller =
+    nat_le MOST_HANDLES (length m.handles) || nat_le MOST_OPENS (opens_of m.opened caller)
 
 abbrev pub opened_on : PlainMount → ℕ → ℕ → Answer
 opened_on m caller n = record { reply = Opened (opens_of m.opened caller); mount = with_handle m caller n }
@@ -77,12 +78,17 @@ block_total nodes = sum_by (λ e. block_count (contents_of e.1.body)) (entries n
 abbrev pub lacks_blocks : PlainMount → List ℕ → List ℕ → Bool
 lacks_blocks m old new = nat_lt (MOST_BLOCKS - block_total m.nodes) (block_count new - block_count old)
 
+-- so do the contents of file n, once the bytes are written
+abbrev pub lacks_blocks_for : PlainMount → ℕ → ℕ → List ℕ → Bool
+lacks_blocks_for m n offset bytes =
+    lacks_blocks m (contents_at m.nodes n) (with_bytes offset bytes (contents_at m.nodes n))
+
 -- a gap before the offset is filled with zeros; no bytes change nothing
 abbrev pub answer_to_write : PlainMount → ℕ → ℕ → ℕ → List ℕ → Answer
 answer_to_write m caller handle offset bytes = at_handle m (λ n.
     if is_dir_at m.nodes n then refused m IsDir else
     if nat_lt MOST_FILE_BYTES (offset + length bytes) then refused m TooBig else
-    if lacks_blocks m (contents_at m.nodes n) (with_bytes offset bytes (contents_at m.nodes n)) then refused m NoSpace else
+    if lacks_blocks_for m n offset bytes then refused m NoSpace else
     done (record m { nodes = written m.nodes n (with_bytes offset bytes) })) (node_of m.handles caller handle)
 
 -- ---- Close
@@ -99,4 +105,5 @@ with_closed m caller handle n = record m {
 }
 
 abbrev pub answer_to_close : PlainMount → ℕ → ℕ → Answer
-answer_to_close m caller handle = at_handle m (λ n. done (with_closed m caller handle n)) (node_of m.handles caller handle)
+answer_to_close m caller handle =
+    at_handle m (λ n. done (with_closed m caller handle n)) (node_of m.handles caller handle)

@@ -25,7 +25,8 @@ OpFits (op.Stat path) = IsPath path
 OpFits (OpenNode path) = IsPath path
 OpFits (Write handle offset bytes) = AreFewBytes bytes MOST_WRITE_BYTES
 OpFits (MetaLoad name) = HasLength name MOST_RECORD_NAME_BYTES
-OpFits (MetaStore name expected bytes) = HasLength name MOST_RECORD_NAME_BYTES × (length bytes ≤ MOST_CARRIED_BYTES)
+OpFits (MetaStore name expected bytes) =
+    HasLength name MOST_RECORD_NAME_BYTES × (length bytes ≤ MOST_CARRIED_BYTES)
 OpFits other = ⊤
 
 abbrev pub Fits : Call → Type 0

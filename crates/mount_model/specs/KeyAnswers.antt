@@ -21,7 +21,8 @@ is_raw_key raw = nat_le LEAST_KEY_BYTES (length raw) && nat_le (length raw) MOST
 
 -- the claim is new, and the user has 64
 abbrev pub is_over_quota : PlainMount → ℕ → List ℕ → Bool
-is_over_quota m uid raw = not (has_claim m.claims (key_id_of raw) uid) && nat_le MOST_CLAIMS (count_of_user m.claims uid)
+is_over_quota m uid raw =
+    not (has_claim m.claims (key_id_of raw) uid) && nat_le MOST_CLAIMS (count_of_user m.claims uid)
 
 -- the mount in which the user holds this raw key
 abbrev pub with_key : PlainMount → ℕ → List ℕ → PlainMount
@@ -46,9 +47,12 @@ abbrev pub is_absent : PlainMount → KeyId → Bool
 is_absent m id = not (is_present m.claims id) && not (is_busy m id)
 
 -- others tells whether a claim is left; busy, where none is, whether something open needs the key
+abbrev pub removal_told : Bool → Bool → Reply
+removal_told left busy = Removed left (not left && busy)
+
 abbrev pub removed : PlainMount → ℕ → KeyId → Answer
 removed m uid id = record {
-  reply = Removed (is_present (without_claim m.claims id uid) id) (not (is_present (without_claim m.claims id uid) id) && is_busy m id);
+  reply = removal_told (is_present (without_claim m.claims id uid) id) (is_busy m id);
   mount = record m { claims = without_claim m.claims id uid };
 }
 
@@ -59,7 +63,10 @@ answer_to_remove_key m uid id =
     removed m uid id
 
 abbrev pub all_removed : PlainMount → KeyId → Answer
-all_removed m id = record { reply = Removed false (is_busy m id); mount = record m { claims = without_id m.claims id } }
+all_removed m id = record {
+  reply = Removed false (is_busy m id);
+  mount = record m { claims = without_id m.claims id };
+}
 
 abbrev pub answer_to_remove_key_all : PlainMount → ℕ → KeyId → Answer
 answer_to_remove_key_all m uid id =

@@ -1,5 +1,5 @@
 -- What is asked of a history whatever raw keys were added, and what where they agree.
-use Rattle.std.specs.Prelude.{◌≡◌, ⊤, ℕ, false, List, [], ◌∷◌, ◌++◌, All, Contains, if◌then◌else◌}
+use Rattle.std.specs.Prelude.{◌≡◌, ⊤, ℕ, false, Some, List, [], ◌∷◌, ◌++◌, All, Contains, if◌then◌else◌}
 use Rattle.policy_ctx.specs.declared.policy.KeyId.{KeyId}
 use Rattle.fsc_keys.specs.Keys.{key_id_of}
 use Rattle.user_claims.specs.Claims.{ClaimSet, no_claims, has_claim, is_present, count_of_id}
@@ -7,6 +7,7 @@ use Rattle.mount_model.specs.declared.call.Op.{Op}
 use Rattle.mount_model.specs.declared.call.Op.TheVariants.{AddKey, RemoveKey, RemoveKeyAll, KeyStatus}
 use Rattle.mount_model.specs.declared.reply.Reply.{Reply}
 use Rattle.mount_model.specs.declared.reply.Reply.TheVariants.{Added, Removed, Status}
+use Rattle.mount_model.specs.PlainMount.{Raws, raw_in}
 use Rattle.mount_model.specs.Fits.{Fits}
 use Rattle.mount_model.specs.History.{MountEntry, History, IsLegal}
 use Rattle.mount_model.specs.ClaimHistory.{is_refused, claims_left}
@@ -24,7 +25,17 @@ raws_added (e ∷ es) = (if is_refused e.reply then [] else raw_of e.call.op) ++
 
 -- no two different raw keys that were added share an identifier
 abbrev pub KeysAgree : History → Type 0
-KeysAgree history = (a b : List ℕ) → Contains (raws_added history) a → Contains (raws_added history) b → key_id_of a ≡ key_id_of b → a ≡ b
+KeysAgree history = (a b : List ℕ) → Contains (raws_added history) a → Contains (raws_added history) b
+    → key_id_of a ≡ key_id_of b → a ≡ b
+
+-- the raw key that was added under its identifier before, if there is one, is this one
+abbrev pub AgreesWith : Raws → List ℕ → Type 0
+AgreesWith raws raw = (old : List ℕ) → raw_in raws (key_id_of raw) ≡ Some old → old ≡ raw
+
+-- so for a call that adds one; no other call adds any
+abbrev pub KeyAgrees : Raws → Op → Type 0
+KeyAgrees raws (AddKey raw) = AgreesWith raws raw
+KeyAgrees raws other = ⊤
 
 -- ---- what is told of claims
 
@@ -32,7 +43,8 @@ KeysAgree history = (a b : List ℕ) → Contains (raws_added history) a → Con
 abbrev pub TellsBy : ClaimSet → ClaimSet → ℕ → Op → Reply → Type 0
 TellsBy before after uid (AddKey raw) (Added id) = id ≡ key_id_of raw
 TellsBy before after uid (RemoveKey id) (Removed others busy) = others ≡ is_present after id
-TellsBy before after uid (RemoveKeyAll id) (Removed others busy) = (others ≡ false) × (is_present after id ≡ false)
+TellsBy before after uid (RemoveKeyAll id) (Removed others busy) =
+    (others ≡ false) × (is_present after id ≡ false)
 TellsBy before after uid (KeyStatus id) (Status state by_self users) =
     (by_self ≡ has_claim before id uid) × (users ≡ count_of_id before id)
 TellsBy before after uid op reply = ⊤

@@ -17,6 +17,9 @@ pub mod ClaimHistory
 pub mod Lawful
 pub mod WellFormed
 pub mod Carried
+pub mod NameLaws
+pub mod KeyLaws
+pub mod OrderLaws
 pub mod Fits
 pub mod Numbers
 pub mod Port

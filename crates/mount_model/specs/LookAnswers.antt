@@ -32,7 +32,8 @@ answer_to_read_link m path = at_node m (λ n. target_told m n (get m.nodes n)) (
 
 abbrev pub put_in_order : Name → List Name → List Name
 put_in_order name [] = name ∷ []
-put_in_order name (x ∷ xs) = if is_gt (slice_cmp nat_cmp name x) then x ∷ put_in_order name xs else name ∷ x ∷ xs
+put_in_order name (x ∷ xs) =
+    if is_gt (slice_cmp nat_cmp name x) then x ∷ put_in_order name xs else name ∷ x ∷ xs
 
 -- names in the order of their bytes
 abbrev pub in_order : List Name → List Name
@@ -44,7 +45,8 @@ listed m d = in_order (map (λ e. shown m d e.0) (children m.nodes d))
 
 -- at most 128 names from number start on, and whether further ones follow
 abbrev pub page_of : PlainMount → ℕ → ℕ → Reply
-page_of m d start = reply.Names (take MOST_LISTED (drop start (listed m d))) (nat_lt (start + MOST_LISTED) (length (listed m d)))
+page_of m d start =
+    reply.Names (take MOST_LISTED (drop start (listed m d))) (nat_lt (start + MOST_LISTED) (length (listed m d)))
 
 abbrev pub answer_to_list : PlainMount → PathParts → ℕ → Answer
 answer_to_list m path start = at_node m (λ d.
@@ -66,7 +68,8 @@ size_of m n (Link target) = length (shown m n target)
 
 abbrev pub node_told : PlainMount → ℕ → Option Node → Answer
 node_told m n None = refused m NotFound
-node_told m n (Some v) = told m (reply.Stat (kind_of v.body) n (size_of m n v.body) (is_some v.context) (is_keyed m n))
+node_told m n (Some v) =
+    told m (reply.Stat (kind_of v.body) n (size_of m n v.body) (is_some v.context) (is_keyed m n))
 
 abbrev pub answer_to_stat : PlainMount → PathParts → Answer
 answer_to_stat m path = at_node m (λ n. node_told m n (get m.nodes n)) (walked m path)

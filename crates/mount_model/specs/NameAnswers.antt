@@ -40,11 +40,16 @@ inherited nonce None = None
 inherited nonce (Some c) = Some (record { policy = c.policy; nonce = nonce })
 
 abbrev pub new_node : PlainMount → ℕ → List ℕ → Body → Node
-new_node m d nonce body = record { named = true; context = inherited nonce (context_at m.nodes d); body = body }
+new_node m d nonce body = record {
+  named = true;
+  context = inherited nonce (context_at m.nodes d);
+  body = body;
+}
 
 -- the directory, the mount, or the numbers are used up
 abbrev pub is_full : PlainMount → ℕ → Bool
-is_full m d = nat_le MOST_CHILDREN (length (children m.nodes d)) || (nat_le MOST_NODES (len m.nodes) || (m.next == LAST_NODE))
+is_full m d =
+    nat_le MOST_CHILDREN (length (children m.nodes d)) || (nat_le MOST_NODES (len m.nodes) || (m.next == LAST_NODE))
 
 -- a symlink's target of more than 255 bytes
 abbrev pub is_long_target : Body → Bool

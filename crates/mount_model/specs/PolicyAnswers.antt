@@ -38,6 +38,10 @@ policy_in bytes = record {
   id = id_in bytes;
 }
 
+-- what a node of the policy that the bytes spell keeps
+abbrev pub context_of : List ℕ → List ℕ → Context
+context_of policy nonce = record { policy = policy_in policy; nonce = nonce }
+
 -- two policies are one, in each setting and in the key
 abbrev pub is_same_policy : Policy → Policy → Bool
 is_same_policy a b = bytes_eq (policy_bytes a) (policy_bytes b)
@@ -50,7 +54,8 @@ may_use m uid id = if uid == 0 then is_present m.claims id else has_claim m.clai
 
 -- on the directory d, which has the one context and is to have the other
 abbrev pub answer_to_encrypt : PlainMount → ℕ → ℕ → Context → Option Context → Answer
-answer_to_encrypt m uid d new (Some old) = if is_same_policy old.policy new.policy then done m else refused m Exists
+answer_to_encrypt m uid d new (Some old) =
+    if is_same_policy old.policy new.policy then done m else refused m Exists
 answer_to_encrypt m uid d new None =
     if not (length (children m.nodes d) == 0) then refused m NotEmpty else
     if not (may_use m uid new.policy.id) then refused m NoKey else
@@ -61,7 +66,7 @@ answer_to_set_policy m uid path policy nonce = at_node m (λ d.
     if not (is_dir_at m.nodes d) then refused m NotDir else
     if d == 0 then refused m Inval else
     if is_some (policy_fault policy) then refused m Inval else
-    answer_to_encrypt m uid d (record { policy = policy_in policy; nonce = nonce }) (context_at m.nodes d)) (walked m path)
+    answer_to_encrypt m uid d (context_of policy nonce) (context_at m.nodes d)) (walked m path)
 
 -- ---- GetPolicy
 

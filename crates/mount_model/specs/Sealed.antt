@@ -27,10 +27,14 @@ node_key raws c kind =
 abbrev pub node_start : ℕ → Context → ℕ
 node_start n c = if c.policy.by_mode then n * 2 ^ 32 else 0
 
+-- the iv of a start: its 8 bytes, the lowest first, and 8 zeros
+abbrev pub iv_at : ℕ → List ℕ
+iv_at start = little_endian_bytes 8 start ++ replicate 8 0
+
 -- a name of the directory n, or the target of the symlink n, as it is stored
 unfoldable pub sealed_name : Raws → ℕ → Context → Name → List ℕ
 sealed_name raws n c name =
-    stored_name_with (key_bytes (node_key raws c Names)) (little_endian_bytes 8 (node_start n c) ++ replicate 8 0) c.policy.pad name
+    stored_name_with (key_bytes (node_key raws c Names)) (iv_at (node_start n c)) c.policy.pad name
 
 -- the text that stands for it where the key is absent
 unfoldable pub texts : Raws → Texts

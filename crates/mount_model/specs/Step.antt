@@ -30,4 +30,5 @@ IsWantOfMemory m call reply after = IsTrue (takes_memory call.op) × (reply ≡ 
 
 -- a call, and what comes of it
 abbrev pub IsMountStep : PlainMount → ℕ → Call → Reply → PlainMount → Type 0
-IsMountStep m caller call reply after = IsAnswered m caller call reply after ⊎ IsWantOfMemory m call reply after
+IsMountStep m caller call reply after =
+    IsAnswered m caller call reply after ⊎ IsWantOfMemory m call reply after

@@ -78,7 +78,8 @@ pub record HasHandles (nodes : Nodes) (handles : HandleList) (opened : Numbered 
   -- a handle is on a directory or a file
   pub on : (n : ℕ) → has_handle handles n ≡ true → is_openable nodes n ≡ true
   -- a node without name has one
-  pub nameless : (n : ℕ) → is_some (get nodes n) ≡ true → is_named nodes n ≡ false → has_handle handles n ≡ true
+  pub nameless : (n : ℕ) → is_some (get nodes n) ≡ true → is_named nodes n ≡ false
+      → has_handle handles n ≡ true
   -- its number lies below the count of its caller
   pub numbered : (caller number : ℕ) → is_live handles caller number ≡ true → number < opens_of opened caller
   -- no two of a caller have one number

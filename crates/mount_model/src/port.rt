@@ -42,7 +42,9 @@ pub trait MountPort {
 
     ghost by_none: { (port : Self) → came port [] port };
 
-    ghost by_more: { (first second third : Self) (e f : PlacedCalls) → came first e second → came second f third → came first (e ++ f) third };
+    ghost by_more: { (first second third : Self) (e f : PlacedCalls)
+        → came first e second → came second f third → came first (e ++ f) third };
 
-    ghost one_caller: { (first second : Self) (e : PlacedCalls) → came first e second → who second ≡ who first };
+    ghost one_caller: { (first second : Self) (e : PlacedCalls)
+        → came first e second → who second ≡ who first };
 }

@@ -1,0 +1,21 @@
+-- What removals leave of claims, and what is told of a key without claims.
+use Rattle.std.specs.Prelude.{◌≡◌, ℕ, false, ◌&&◌, ◌==◌, if◌then◌else◌}
+use Rattle.policy_ctx.specs.declared.policy.KeyId.{KeyId}
+use Rattle.policy_ctx.specs.KeyIds.{same_id}
+use Rattle.user_claims.specs.Claims.{has_claim, is_present}
+use Rattle.mount_model.specs.declared.reply.KeyState.TheVariants.{Absent, Incomplete}
+use Rattle.mount_model.specs.PlainMount.{PlainMount}
+use Rattle.mount_model.specs.States.{is_busy, key_state_of}
+use Rattle.mount_model.specs.KeyAnswers.{answer_to_remove_key}
+
+-- a removal by one user leaves each claim but that user's on that key
+abbrev pub OtherClaimsStay : Type 0
+OtherClaimsStay = (m : PlainMount) (uid : ℕ) (id other : KeyId) (user : ℕ)
+    → (same_id other id && (user == uid)) ≡ false
+    → has_claim (answer_to_remove_key m uid id).mount.claims other user ≡ has_claim m.claims other user
+
+-- the state of a key without claims is Incomplete where an open handle is on a node whose policy names
+-- it, else Absent
+abbrev pub OpenHandlesKeepKeys : Type 0
+OpenHandlesKeepKeys = (m : PlainMount) (id : KeyId) → is_present m.claims id ≡ false
+    → key_state_of m id ≡ (if is_busy m id then Incomplete else Absent)

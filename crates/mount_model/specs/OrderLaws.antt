@@ -1,0 +1,28 @@
+-- Which refusal comes first where several would hold, and that a handle keeps its node's key at hand.
+use Rattle.std.specs.Prelude.{◌≡◌, ◌≢◌, ℕ, true, false, List, [], Ok, Some, None, is_some}
+use Rattle.policy_ctx.specs.Policy.{policy_fault}
+use Rattle.plain_tree.specs.Nodes.{Body, children, context_at, is_dir_at}
+use Rattle.mount_model.specs.declared.reply.Refusal.TheVariants.{NoKey, NotEmpty}
+use Rattle.mount_model.specs.PlainMount.{PlainMount, has_handle}
+use Rattle.mount_model.specs.States.{is_keyed}
+use Rattle.mount_model.specs.Walk.{PathParts, walked, is_root, parent}
+use Rattle.mount_model.specs.Answered.{refused}
+use Rattle.mount_model.specs.PolicyAnswers.{answer_to_set_policy}
+use Rattle.mount_model.specs.NameAnswers.{lacks_key, answer_to_make}
+
+-- a node is keyed as long as a handle is open on it, whatever becomes of the claims
+abbrev pub HandlesKeepNodesKeyed : Type 0
+HandlesKeepNodesKeyed = (m : PlainMount) (n : ℕ) → has_handle m.handles n ≡ true → is_keyed m n ≡ true
+
+-- a creation where the key isn't present is NoKey, also where the name is there
+abbrev pub CreationsNeedTheKey : Type 0
+CreationsNeedTheKey = (m : PlainMount) (path : PathParts) (nonce : List ℕ) (body : Body) (d : ℕ) → is_root path ≡ false
+    → parent m path ≡ Ok d → lacks_key m (context_at m.nodes d) ≡ true
+    → answer_to_make m path nonce body ≡ refused m NoKey
+
+-- a policy for a directory with entries is NotEmpty, whatever the user holds
+abbrev pub OnlyEmptyOnesAreEncrypted : Type 0
+OnlyEmptyOnesAreEncrypted = (m : PlainMount) (uid : ℕ) (path : PathParts) (policy nonce : List ℕ) (d : ℕ)
+    → walked m path ≡ Ok d → is_dir_at m.nodes d ≡ true → (d ≢ 0) → is_some (policy_fault policy) ≡ false
+    → context_at m.nodes d ≡ None → (children m.nodes d ≢ [])
+    → answer_to_set_policy m uid path policy nonce ≡ refused m NotEmpty
