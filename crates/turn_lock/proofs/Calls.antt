@@ -13,22 +13,23 @@ use Rattle.call_history.specs.Entries.{History, PlacedList, by, entries_by}
 use Rattle.call_history.proofs.Prefixes.{IsPrefix-refl, IsPrefix-longer}
 use Rattle.call_history.proofs.Placing.{by-append, by-cons_own, by-cons_other, entries_by-more_own, entries_by-more_other}
 use Rattle.turn_lock.specs.declared.view.View.{View}
-use Rattle.turn_lock.specs.Turns.{TurnState, Owns, Fits, Kept, all_left}
+use Rattle.turn_lock.specs.Standing.{Standing, standing}
+use Rattle.turn_lock.specs.Turns.{TurnState, Owns, Knows, Kept, all_left}
 use Rattle.turn_lock.specs.Steps.{Seated, tried, counted, counted_view, released}
 use Rattle.turn_lock.proofs.Views.{at_written, only, each_set, alone, apart_set, left_set}
 
-module _ {C R : Type 0} (numbers allowance : ℕ) where
-  abbrev Rule : TurnState C R → Type 0
-  Rule = Kept numbers allowance
+module _ {V C R : Type 0} (leads : History C R → V → Type 0) (numbers allowance : ℕ) where
+  abbrev Rule : TurnState V C R → Type 0
+  Rule = Kept leads numbers allowance
 
-  abbrev table : List ℕ → List (maybe.Option (Option (History C R))) → List (View C R) → TurnState C R
+  abbrev table : List ℕ → List (maybe.Option (Option (Standing V C R))) → List (View C R) → TurnState V C R
   table words homes views = record { words = words; homes = homes; views = views }
 
   -- a step that changes nothing
-  pub same : (s : TurnState C R) (k : Rule s) → Rule (table (k.turn ∷ length k.history ∷ []) s.homes s.views)
+  pub same : (s : TurnState V C R) (k : Rule s) → Rule (table (k.turn ∷ length k.history ∷ []) s.homes s.views)
   same s k = record { history = k.history; turn = k.turn; holder = k.holder; words = refl; free = k.free; taken = k.taken; each = k.each; apart = k.apart; callers = k.callers; room = k.room; small = k.small }
 
-  pub unchanged : (s : TurnState C R) (k : Rule s) (id : ℕ) (v : View C R) → get_elem? s.views id ≡ some v
+  pub unchanged : (s : TurnState V C R) (k : Rule s) (id : ℕ) (v : View C R) → get_elem? s.views id ≡ some v
       → Rule (table (k.turn ∷ length k.history ∷ []) s.homes (set s.views id v))
   unchanged s k id v at = subst (λ (vs : List (View C R)). Rule (table (k.turn ∷ length k.history ∷ []) s.homes vs)) (sym (set_again s.views id v at)) (same s k)
 
@@ -37,30 +38,33 @@ module _ {C R : Type 0} (numbers allowance : ℕ) where
   left_same vs id v w at e = let sums = left_set vs id v w at in omega arith
 
   -- no other seat has the turn that this one has
-  no_other : (s : TurnState C R) (k : Rule s) (id j : ℕ) (v u : View C R) → get_elem? s.views id ≡ some v → v.turn ≡ true → j ≢ id → get_elem? s.views j ≡ some u → u.turn ≡ true → ⊥
+  no_other : (s : TurnState V C R) (k : Rule s) (id j : ℕ) (v u : View C R) → get_elem? s.views id ≡ some v → v.turn ≡ true → j ≢ id → get_elem? s.views j ≡ some u → u.turn ≡ true → ⊥
   no_other s k id j v u at t other at' t' = other (((k.each j u at').holds_turn t').1 ∙ sym ((k.each id v at).holds_turn t).1)
 
   -- the turn is taken
   tries : (slots id : ℕ) (v : View C R) → v.who < v.high
       → Allows Rule slots id (v, []) 0 (λ n. either (eqb n 0) 1 n) (tried (v, []))
   tries slots id v some_number s k long at small =
-      subst (λ (ws : List ℕ). (w : View C R) × (a : Act (Option (History C R))) × Valid s.homes [] a
+      subst (λ (ws : List ℕ). (w : View C R) × (a : Act (Option (Standing V C R))) × Valid s.homes [] a
       × Rule (table (set ws 0 (either (eqb (get_or ws 0 0) 0) 1 (get_or ws 0 0))) (homes_after s.homes [] a) (set s.views id w))
       × tried (v, []) (get_or ws 0 0) (w, carried_after [] a)) (sym k.words)
-      (exchanged k.turn 0 1 (λ n. (w : View C R) × (a : Act (Option (History C R))) × Valid s.homes [] a
+      (exchanged k.turn 0 1 (λ n. (w : View C R) × (a : Act (Option (Standing V C R))) × Valid s.homes [] a
       × Rule (table (n ∷ length k.history ∷ []) (homes_after s.homes [] a) (set s.views id w)) × tried (v, []) k.turn (w, carried_after [] a)) hit miss)
     where
       w : View C R
       w = record v { turn = true; seen = k.history }
 
-      f : Fits numbers k.history k.turn k.holder id v
+      f : Knows numbers k.history k.turn k.holder id v
       f = k.each id v at
 
-      hit : k.turn ≡ 0 → (w : View C R) × (a : Act (Option (History C R))) × Valid s.homes [] a
+      hit : k.turn ≡ 0 → (w : View C R) × (a : Act (Option (Standing V C R))) × Valid s.homes [] a
           × Rule (table (1 ∷ length k.history ∷ []) (homes_after s.homes [] a) (set s.views id w)) × tried (v, []) k.turn (w, carried_after [] a)
-      hit z = (w, takes 0 (Some k.history), ap (λ (hs : List (maybe.Option (Option (History C R)))). get_elem? hs 0) (k.free z), kept, ((λ _. (k.history, f.begins, refl)), (λ nz. absurd (nz z))))
+      hit z = (w, takes 0 (Some held), ap (λ (hs : List (maybe.Option (Option (Standing V C R)))). get_elem? hs 0) (k.free z).1, kept, ((λ _. (held, f.begins, refl)), (λ nz. absurd (nz z))))
         where
-          kept : Rule (table (1 ∷ length k.history ∷ []) (homes_after s.homes [] (takes 0 (Some k.history))) (set s.views id w))
+          held : Standing V C R
+          held = standing (k.free z).0 k.history
+
+          kept : Rule (table (1 ∷ length k.history ∷ []) (homes_after s.homes [] (takes 0 (Some held))) (set s.views id w))
           kept = record {
             history = k.history;
             turn = 1;
@@ -68,7 +72,7 @@ module _ {C R : Type 0} (numbers allowance : ℕ) where
             words = refl;
             free = λ e. absurd (omega arith);
             taken = λ _. (w, at_written s.views id v w at, refl);
-            each = each_set (Fits numbers k.history 1 id) s.views id w
+            each = each_set (Knows numbers k.history 1 id) s.views id w
                 record { begins = IsPrefix-refl k.history; told_begins = f.told_begins; holds_turn = λ _. (refl, refl, refl, some_number); below = f.below; own = f.own }
                 (λ j u other at'. let g = k.each j u at' in record { begins = g.begins; told_begins = g.told_begins; holds_turn = λ t. let one = (g.holds_turn t).0 in absurd (omega arith); below = g.below; own = g.own });
             apart = apart_set s.views id w k.apart (alone s.views id v k.apart at);
@@ -77,15 +81,15 @@ module _ {C R : Type 0} (numbers allowance : ℕ) where
             small = k.small;
           }
 
-      miss : k.turn ≢ 0 → (w : View C R) × (a : Act (Option (History C R))) × Valid s.homes [] a
+      miss : k.turn ≢ 0 → (w : View C R) × (a : Act (Option (Standing V C R))) × Valid s.homes [] a
           × Rule (table (k.turn ∷ length k.history ∷ []) (homes_after s.homes [] a) (set s.views id w)) × tried (v, []) k.turn (w, carried_after [] a)
       miss nz = (v, keeps, tt, unchanged s k id v at, ((λ z. absurd (nz z)), (λ _. refl)))
 
   -- the entry is counted
-  counts : (slots id : ℕ) (v : View C R) (c : List (ℕ × Option (History C R))) (e : Entry C R) → v.turn ≡ true → e.who ≡ v.who → 0 < v.left
+  counts : (slots id : ℕ) (v : View C R) (c : List (ℕ × Option (Standing V C R))) (e : Entry C R) → v.turn ≡ true → e.who ≡ v.who → 0 < v.left
       → Allows Rule slots id (v, c) 1 (λ n. (n + 1) % 2 ^ 64) (counted (e ∷ []) (v, c))
   counts slots id v c e turn own some_left s k long at small =
-      subst (λ (ws : List ℕ). (w : View C R) × (a : Act (Option (History C R))) × Valid s.homes c a
+      subst (λ (ws : List ℕ). (w : View C R) × (a : Act (Option (Standing V C R))) × Valid s.homes c a
       × Rule (table (set ws 1 ((get_or ws 1 0 + 1) % 2 ^ 64)) (homes_after s.homes c a) (set s.views id w))
       × counted (e ∷ []) (v, c) (get_or ws 1 0) (w, carried_after c a)) (sym k.words)
       (w, keeps, tt, kept, (sym (ap length seen_all), refl, mine v.who (omega arith, held.3) ∙ ap (λ (h : History C R). entries_by v.who (h ++ e ∷ [])) (sym seen_all)))
@@ -93,7 +97,7 @@ module _ {C R : Type 0} (numbers allowance : ℕ) where
       w : View C R
       w = counted_view v (e ∷ [])
 
-      f : Fits numbers k.history k.turn k.holder id v
+      f : Knows numbers k.history k.turn k.holder id v
       f = k.each id v at
 
       held : (k.turn ≡ 1) × (id ≡ k.holder) × (v.seen ≡ k.history) × (v.who < v.high)
@@ -138,7 +142,7 @@ module _ {C R : Type 0} (numbers allowance : ℕ) where
         words = let room = k.room in let most = k.small in ap (λ n. k.turn ∷ n ∷ []) (mod-eq_of_lt (omega arith) ∙ sym one_more);
         free = λ z. let one = held.0 in absurd (omega arith);
         taken = λ _. (w, subst (λ h. get_elem? (set s.views id w) h ≡ some w) held.1 (at_written s.views id v w at), turn);
-        each = each_set (Fits numbers longer k.turn k.holder) s.views id w
+        each = each_set (Knows numbers longer k.turn k.holder) s.views id w
             record {
               begins = subst (λ (h : History C R). IsPrefix (h ++ e ∷ []) longer) (sym seen_all) (IsPrefix-refl longer);
               told_begins = IsPrefix-longer v.told k.history (e ∷ []) f.told_begins;
@@ -160,29 +164,33 @@ module _ {C R : Type 0} (numbers allowance : ℕ) where
       }
 
   -- the value goes home, and the turn is free
-  releases : (id : ℕ) (v : View C R) → v.turn ≡ true
-      → Allows Rule 1 id (v, (0, Some v.seen) ∷ []) 0 (λ _. 0) (λ _. released (v, (0, Some v.seen) ∷ []) 0)
-  releases id v turn s k long at small =
-      subst (λ (ws : List ℕ). (w : View C R) × (a : Act (Option (History C R))) × Valid s.homes ((0, Some v.seen) ∷ []) a
-      × Rule (table (set ws 0 0) (homes_after s.homes ((0, Some v.seen) ∷ []) a) (set s.views id w))
-      × released (v, (0, Some v.seen) ∷ []) 0 (w, carried_after ((0, Some v.seen) ∷ []) a)) (sym k.words)
+  releases : (id : ℕ) (v : View C R) (value : V) → v.turn ≡ true → leads v.seen value
+      → Allows Rule 1 id (v, (0, Some (standing value v.seen)) ∷ []) 0 (λ _. 0) (λ _. released (v, (0, Some (standing value v.seen)) ∷ []) 0)
+  releases id v value turn led s k long at small =
+      subst (λ (ws : List ℕ). (w : View C R) × (a : Act (Option (Standing V C R))) × Valid s.homes ((0, Some (standing value v.seen)) ∷ []) a
+      × Rule (table (set ws 0 0) (homes_after s.homes ((0, Some (standing value v.seen)) ∷ []) a) (set s.views id w))
+      × released (v, (0, Some (standing value v.seen)) ∷ []) 0 (w, carried_after ((0, Some (standing value v.seen)) ∷ []) a)) (sym k.words)
       (w, gives, tt, kept, refl)
     where
       w : View C R
       w = record v { turn = false }
 
-      f : Fits numbers k.history k.turn k.holder id v
+      f : Knows numbers k.history k.turn k.holder id v
       f = k.each id v at
 
-      kept : Rule (table (0 ∷ length k.history ∷ []) (set s.homes 0 (some (Some v.seen))) (set s.views id w))
+      kept : Rule (table (0 ∷ length k.history ∷ []) (set s.homes 0 (some (Some (standing value v.seen)))) (set s.views id w))
       kept = record {
         history = k.history;
         turn = 0;
         holder = 0;
         words = refl;
-        free = λ _. only s.homes (some (Some v.seen)) long ∙ ap (λ (h : History C R). some (Some h) ∷ []) (f.holds_turn turn).2;
+        free = λ _. (
+            value,
+            only s.homes (some (Some (standing value v.seen))) long ∙ ap (λ (h : History C R). some (Some (standing value h)) ∷ []) (f.holds_turn turn).2,
+            subst (λ (h : History C R). leads h value) (f.holds_turn turn).2 led,
+          );
         taken = λ nz. absurd (nz refl);
-        each = each_set (Fits numbers k.history 0 0) s.views id w
+        each = each_set (Knows numbers k.history 0 0) s.views id w
             record { begins = f.begins; told_begins = f.told_begins; holds_turn = λ t. absurd (true≢false (sym t)); below = f.below; own = f.own }
             (λ j u other at'. let g = k.each j u at' in record { begins = g.begins; told_begins = g.told_begins; holds_turn = λ t. absurd (no_other s k id j v u at turn other at' t); below = g.below; own = g.own });
         apart = apart_set s.views id w k.apart (alone s.views id v k.apart at);
@@ -192,18 +200,18 @@ module _ {C R : Type 0} (numbers allowance : ℕ) where
       }
 
   -- the same at a seat that is known by equations
-  pub tries_at : (slots id : ℕ) (m : Seated C R) → m.1 ≡ [] → m.0.who < m.0.high
+  pub tries_at : (slots id : ℕ) (m : Seated V C R) → m.1 ≡ [] → m.0.who < m.0.high
       → Allows Rule slots id m 0 (λ n. either (eqb n 0) 1 n) (tried m)
   tries_at slots id m bare wide =
-      subst (λ (z : Seated C R). Allows Rule slots id z 0 (λ n. either (eqb n 0) 1 n) (tried z)) (λ i. (m.0, sym bare i)) (tries slots id m.0 wide)
+      subst (λ (z : Seated V C R). Allows Rule slots id z 0 (λ n. either (eqb n 0) 1 n) (tried z)) (λ i. (m.0, sym bare i)) (tries slots id m.0 wide)
 
-  pub counts_at : (slots id : ℕ) (m : Seated C R) (said : History C R) (e : Entry C R) → said ≡ e ∷ [] → m.0.turn ≡ true → e.who ≡ m.0.who → 0 < m.0.left
+  pub counts_at : (slots id : ℕ) (m : Seated V C R) (said : History C R) (e : Entry C R) → said ≡ e ∷ [] → m.0.turn ≡ true → e.who ≡ m.0.who → 0 < m.0.left
       → Allows Rule slots id m 1 (λ n. (n + 1) % 2 ^ 64) (counted said m)
   counts_at slots id m said e is turn own some_left =
       subst (λ (h : History C R). Allows Rule slots id m 1 (λ n. (n + 1) % 2 ^ 64) (counted h m)) (sym is) (counts slots id m.0 m.1 e turn own some_left)
 
-  pub releases_at : (slots id : ℕ) (m : Seated C R) → slots ≡ 1 → m.0.turn ≡ true → m.1 ≡ (0, Some m.0.seen) ∷ []
-      → Allows Rule slots id m 0 (λ _. 0) (λ _. released m 0)
-  releases_at slots id m one turn carried =
+  pub releases_at : (slots id : ℕ) (m : Seated V C R) (value : V) → slots ≡ 1 → m.0.turn ≡ true → leads m.0.seen value
+      → m.1 ≡ (0, Some (standing value m.0.seen)) ∷ [] → Allows Rule slots id m 0 (λ _. 0) (λ _. released m 0)
+  releases_at slots id m value one turn led carried =
       subst (λ (n : ℕ). Allows Rule n id m 0 (λ _. 0) (λ _. released m 0)) (sym one)
-      (subst (λ (z : Seated C R). Allows Rule 1 id z 0 (λ _. 0) (λ _. released z 0)) (λ i. (m.0, sym carried i)) (releases id m.0 turn))
+      (subst (λ (z : Seated V C R). Allows Rule 1 id z 0 (λ _. 0) (λ _. released z 0)) (λ i. (m.0, sym carried i)) (releases id m.0 value turn led))

@@ -9,30 +9,32 @@ use Rattle.atomic_table.specs.Table.{Final, Seen}
 use Rattle.call_history.specs.Prefix.{IsPrefix}
 use Rattle.call_history.specs.Entries.{History, by, entries_by}
 use Rattle.turn_lock.specs.declared.view.View.{View}
-use Rattle.turn_lock.specs.Turns.{TurnState, Owns, Fits, Kept}
+use Rattle.turn_lock.specs.Standing.{Standing, standing}
+use Rattle.turn_lock.specs.Turns.{TurnState, Owns, Knows, Kept}
 use Rattle.turn_lock.proofs.Shares.{by_not_own, by_past}
 use Rattle.turn_lock.proofs.Views.{at_same}
 
 pub Some-injective : {A : Type 0} (a b : A) → Some a ≡ Some b → a ≡ b
 Some-injective a b e = ap (λ o. unwrap_or o a) e
 
-module _ {C R : Type 0} (numbers allowance : ℕ) where
-  abbrev Rule : TurnState C R → Type 0
-  Rule = Kept numbers allowance
+module _ {V C R : Type 0} (leads : History C R → V → Type 0) (numbers allowance : ℕ) where
+  abbrev Rule : TurnState V C R → Type 0
+  Rule = Kept leads numbers allowance
 
   -- the history that the value at home stands after
-  pub record Left (id : ℕ) (v : View C R) (slots : List (Option (History C R))) : Type 0 where
+  pub record Left (id : ℕ) (v : View C R) (slots : List (Option (Standing V C R))) : Type 0 where
     pub history : History C R
-    pub value : get_elem? slots 0 ≡ some (Some history)
+    pub value : V
+    pub home : get_elem? slots 0 ≡ some (Some (standing value history))
     pub entries : (caller : ℕ) → by caller (v.past ++ v.mine) ≡ entries_by caller history
     pub begins : IsPrefix v.seen history
 
-  pub closes : (id : ℕ) (v : View C R) (words : List ℕ) (slots : List (Option (History C R))) → v.who ≡ 0 → v.high ≡ numbers → v.who < v.high → v.turn ≡ false
+  pub closes : (id : ℕ) (v : View C R) (words : List ℕ) (slots : List (Option (Standing V C R))) → v.who ≡ 0 → v.high ≡ numbers → v.who < v.high → v.turn ≡ false
       → by v.who v.mine ≡ v.mine → ((caller : ℕ) → ¬ Owns v caller → by caller v.past ≡ [])
       → Final (Seen Rule id v) words slots → Left id v slots
-  closes id v words slots from to wide idle own no_past final = record { history = k.history; value = at_home; entries = all; begins = f.begins }
+  closes id v words slots from to wide idle own no_past final = record { history = k.history; value = (k.free free).0; home = at_home; entries = all; begins = f.begins }
     where
-      s : TurnState C R
+      s : TurnState V C R
       s = final.0
 
       k : Rule s
@@ -41,7 +43,7 @@ module _ {C R : Type 0} (numbers allowance : ℕ) where
       at : get_elem? s.views id ≡ some v
       at = final.1.1
 
-      f : Fits numbers k.history k.turn k.holder id v
+      f : Knows numbers k.history k.turn k.holder id v
       f = k.each id v at
 
       free : k.turn ≡ 0
@@ -58,8 +60,8 @@ module _ {C R : Type 0} (numbers allowance : ℕ) where
               (λ other. k.apart k.holder id t.0 v t.1 at other t.0.who (omega arith, some_number) (omega arith, omega arith))
               (cases_eq k.holder id)
 
-      at_home : get_elem? slots 0 ≡ some (Some k.history)
-      at_home = final.4 0 (Some k.history) (ap (λ (hs : List (maybe.Option (Option (History C R)))). get_elem? hs 0) (k.free free))
+      at_home : get_elem? slots 0 ≡ some (Some (standing (k.free free).0 k.history))
+      at_home = final.4 0 (Some (standing (k.free free).0 k.history)) (ap (λ (hs : List (maybe.Option (Option (Standing V C R)))). get_elem? hs 0) (k.free free).1)
 
       all : (caller : ℕ) → by caller (v.past ++ v.mine) ≡ entries_by caller k.history
       all caller = ⊎_elim

@@ -10,18 +10,19 @@ use Rattle.call_history.proofs.Prefixes.{IsPrefix-nil, IsPrefix_shorter}
 use Rattle.call_history.proofs.Placing.{by-append}
 use Rattle.turn_lock.specs.declared.view.View.{View}
 use Rattle.turn_lock.specs.Passes.{under, over}
-use Rattle.turn_lock.specs.Turns.{TurnState, Owns, Fits, Kept, spent_view}
+use Rattle.turn_lock.specs.Standing.{Standing}
+use Rattle.turn_lock.specs.Turns.{TurnState, Owns, Knows, Kept, spent_view}
 use Rattle.turn_lock.specs.Steps.{Seated, looked, lower_view, upper_view, joined_view}
 use Rattle.turn_lock.proofs.Calls.{unchanged}
 use Rattle.turn_lock.proofs.Shares.{by-under, by-over, by_not_own, by_past, by_mine, length-mine, IsPrefix-longer_both, IsPrefix-shorter_both}
 use Rattle.turn_lock.proofs.Views.{at_same, each_set, each_new, alone, Apart, Alone, set_swap, apart_set, apart_new, left_set, left_new, left_at}
 
-module _ {C R : Type 0} (numbers allowance : ℕ) where
-  abbrev Rule : TurnState C R → Type 0
-  Rule = Kept numbers allowance
+module _ {V C R : Type 0} (leads : History C R → V → Type 0) (numbers allowance : ℕ) where
+  abbrev Rule : TurnState V C R → Type 0
+  Rule = Kept leads numbers allowance
 
   -- the seat that has the turn is not this one, and has it where this one's view has changed
-  still_taken : (s : TurnState C R) (k : Rule s) (id : ℕ) (v w : View C R) → get_elem? s.views id ≡ some v → v.turn ≡ false → k.turn ≢ 0
+  still_taken : (s : TurnState V C R) (k : Rule s) (id : ℕ) (v w : View C R) → get_elem? s.views id ≡ some v → v.turn ≡ false → k.turn ≢ 0
       → (u : View C R) × (get_elem? (set s.views id w) k.holder ≡ some u) × (u.turn ≡ true)
   still_taken s k id v w at idle nz = let t = k.taken nz in
       let other : k.holder ≢ id = λ e. true≢false (sym t.2 ∙ (ap (λ (u : View C R). u.turn) (at_same s.views id t.0 v (subst (λ i. get_elem? s.views i ≡ some t.0) e t.1) at) ∙ idle)) in
@@ -36,9 +37,9 @@ module _ {C R : Type 0} (numbers allowance : ℕ) where
     words = k.words;
     free = k.free;
     taken = λ nz. let t = still_taken s k id v lower here idle nz in (t.0, at_longer changed (upper ∷ []) k.holder t.0 t.1, t.2);
-    each = each_new (Fits numbers k.history k.turn k.holder) changed upper
+    each = each_new (Knows numbers k.history k.turn k.holder) changed upper
         (λ j. record { begins = f.begins; told_begins = f.told_begins; holds_turn = λ t. absurd (true≢false (sym t ∙ idle)); below = f.below; own = upper_own })
-        (each_set (Fits numbers k.history k.turn k.holder) s.views id lower
+        (each_set (Knows numbers k.history k.turn k.holder) s.views id lower
         record { begins = f.begins; told_begins = f.told_begins; holds_turn = λ t. absurd (true≢false (sym t ∙ idle)); below = let most = f.below in omega arith; own = lower_own }
         (λ j u other at'. k.each j u at'));
     apart = apart_new changed upper
@@ -60,7 +61,7 @@ module _ {C R : Type 0} (numbers allowance : ℕ) where
       changed : List (View C R)
       changed = set s.views id lower
 
-      f : Fits numbers k.history k.turn k.holder id v
+      f : Knows numbers k.history k.turn k.holder id v
       f = k.each id v here
 
       lower_own : (caller : ℕ) → Owns lower caller → by caller (under at v.past ++ v.mine) ≡ entries_by caller k.history
@@ -114,7 +115,7 @@ module _ {C R : Type 0} (numbers allowance : ℕ) where
       less = set s.views other spent_view
 
       fits : ℕ → View C R → Type 0
-      fits = Fits numbers k.history k.turn k.holder
+      fits = Knows numbers k.history k.turn k.holder
 
       there : get_elem? s.views other ≡ some w
       there = sym (set_else s.views id other both two) ∙ there'
@@ -149,19 +150,19 @@ module _ {C R : Type 0} (numbers allowance : ℕ) where
   looks : (slots id : ℕ) (v : View C R) → v.who < v.high → by v.who v.mine ≡ v.mine → length v.told ≤ length v.seen
       → Allows Rule slots id (v, []) 0 (λ n. n) (looked (v, []))
   looks slots id v wide own short s k long at small =
-      subst (λ (ws : List ℕ). (x : View C R) × (a : Rattle.atomic_table.specs.Table.Act (Option (History C R))) × Rattle.atomic_table.specs.Table.Valid s.homes [] a
+      subst (λ (ws : List ℕ). (x : View C R) × (a : Rattle.atomic_table.specs.Table.Act (Option (Standing V C R))) × Rattle.atomic_table.specs.Table.Valid s.homes [] a
       × Rule record { words = set ws 0 (get_or ws 0 0); homes = Rattle.atomic_table.specs.Table.homes_after s.homes [] a; views = set s.views id x }
       × looked (v, []) (get_or ws 0 0) (x, Rattle.atomic_table.specs.Table.carried_after [] a)) (sym k.words)
-      (v, keeps, tt, unchanged numbers allowance s k id v at, (refl, IsPrefix_shorter v.told v.seen k.history f.told_begins f.begins short, fewer))
+      (v, keeps, tt, unchanged leads numbers allowance s k id v at, (refl, IsPrefix_shorter v.told v.seen k.history f.told_begins f.begins short, fewer))
     where
-      f : Fits numbers k.history k.turn k.holder id v
+      f : Knows numbers k.history k.turn k.holder id v
       f = k.each id v at
 
       fewer : v.left + length v.mine ≤ 2 ^ 40
       fewer = let mine = length-mine v.who v.past v.mine k.history own (f.own v.who (omega arith, wide)) in
           let room = k.room in let most = k.small in let left = left_at s.views id v at in omega arith
 
-  pub looks_at : (slots id : ℕ) (m : Seated C R) → m.1 ≡ [] → m.0.who < m.0.high → by m.0.who m.0.mine ≡ m.0.mine → length m.0.told ≤ length m.0.seen
+  pub looks_at : (slots id : ℕ) (m : Seated V C R) → m.1 ≡ [] → m.0.who < m.0.high → by m.0.who m.0.mine ≡ m.0.mine → length m.0.told ≤ length m.0.seen
       → Allows Rule slots id m 0 (λ n. n) (looked m)
   looks_at slots id m bare wide own short =
-      subst (λ (z : Seated C R). Allows Rule slots id z 0 (λ n. n) (looked z)) (λ i. (m.0, sym bare i)) (looks slots id m.0 wide own short)
+      subst (λ (z : Seated V C R). Allows Rule slots id z 0 (λ n. n) (looked z)) (λ i. (m.0, sym bare i)) (looks slots id m.0 wide own short)

@@ -32,9 +32,9 @@ module _ {C R : Type 0} where
       (ap (λ (v : View C R). entries_by who v.seen) freed ∙ (sym all ∙ ((λ i. by who (past_is i ++ mine_is i))
       ∙ (by_after_call who (length held.seen) before.past before.mine e own is ∙ ap (λ (l : PlacedList C R). by who before.past ++ l) (sym mine_is')))))
 
-module _ {C R : Type 0} (m : Seated C R) (who high left made : ℕ) (is : IsPass m who high left made) where
-  pub upper_is : (at give : ℕ) (m' : Seated C R) → who < at → at < high → give ≤ left → m' ≡ (upper_view at give m.0, []) → IsPass m' at high give 0
-  upper_is at give m' low top enough e = subst (λ (z : Seated C R). IsPass z at high give 0) (sym e) record {
+module _ {V C R : Type 0} (m : Seated V C R) (who high left made : ℕ) (is : IsPass m who high left made) where
+  pub upper_is : (at give : ℕ) (m' : Seated V C R) → who < at → at < high → give ≤ left → m' ≡ (upper_view at give m.0, []) → IsPass m' at high give 0
+  upper_is at give m' low top enough e = subst (λ (z : Seated V C R). IsPass z at high give 0) (sym e) record {
     bare = refl;
     idle = is.idle;
     who_is = refl;
@@ -49,8 +49,8 @@ module _ {C R : Type 0} (m : Seated C R) (who high left made : ℕ) (is : IsPass
         (cases_lt caller at);
   }
 
-  pub lower_is : (at give : ℕ) (m' : Seated C R) → who < at → at < high → give ≤ left → m' ≡ (lower_view at give m.0, []) → IsPass m' who at (left - give) made
-  lower_is at give m' low top enough e = subst (λ (z : Seated C R). IsPass z who at (left - give) made) (sym e) record {
+  pub lower_is : (at give : ℕ) (m' : Seated V C R) → who < at → at < high → give ≤ left → m' ≡ (lower_view at give m.0, []) → IsPass m' who at (left - give) made
+  lower_is at give m' low top enough e = subst (λ (z : Seated V C R). IsPass z who at (left - give) made) (sym e) record {
     bare = refl;
     idle = is.idle;
     who_is = is.who_is;
@@ -72,7 +72,7 @@ module _ {C R : Type 0} (m : Seated C R) (who high left made : ℕ) (is : IsPass
       let wide = is.some_number in let from = is.who_is in let to = is.high_is in
       by_mine caller m.0.past m.0.mine (is.past_own caller other) ∙ by_not_own caller who m.0.mine is.mine_own (λ e. other (omega arith, omega arith))
 
-  module _ (n : Seated C R) (who' high' left' made' : ℕ) (is' : IsPass n who' high' left' made') (next : who' ≡ high) where
+  module _ (n : Seated V C R) (who' high' left' made' : ℕ) (is' : IsPass n who' high' left' made') (next : who' ≡ high) where
     others_none' : (caller : ℕ) → ¬ Owns n.0 caller → by caller (n.0.past ++ n.0.mine) ≡ []
     others_none' caller other =
         let wide = is'.some_number in let from = is'.who_is in let to = is'.high_is in
@@ -92,8 +92,8 @@ module _ {C R : Type 0} (m : Seated C R) (who high left made : ℕ) (is : IsPass
     pub others_past : (caller : ℕ) → who' < caller → by caller (m.0.past ++ (n.0.past ++ n.0.mine)) ≡ by caller n.0.past
     others_past caller l = other_past caller (omega arith) ∙ by_past caller n.0.past n.0.mine (by_not_own caller who' n.0.mine is'.mine_own (λ e. absurd (omega arith)))
 
-    pub joined_is : (m' : Seated C R) → left + left' + made ≤ 2 ^ 40 → m' ≡ (joined_view m.0 n.0, []) → IsPass m' who high' (left + left') made
-    joined_is m' fit e = subst (λ (z : Seated C R). IsPass z who high' (left + left') made) (sym e) record {
+    pub joined_is : (m' : Seated V C R) → left + left' + made ≤ 2 ^ 40 → m' ≡ (joined_view m.0 n.0, []) → IsPass m' who high' (left + left') made
+    joined_is m' fit e = subst (λ (z : Seated V C R). IsPass z who high' (left + left') made) (sym e) record {
       bare = refl;
       idle = is.idle;
       who_is = is.who_is;

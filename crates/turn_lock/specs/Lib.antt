@@ -1,4 +1,5 @@
 pub mod Passes
 pub mod Seats
+pub mod Standing
 pub mod Steps
 pub mod Turns

@@ -13,7 +13,7 @@ module _ {C R : Type 0} where
   pass_view table v = record { table = table; who = v.who; high = v.high; left = v.left; seen = v.seen; mine = v.mine; past = v.past }
 
   -- a seat that has no turn, and the numbers and counts that its pass stores
-  pub record IsPass (me : Seated C R) (who high left made : ℕ) : Type 0 where
+  pub record IsPass {V : Type 0} (me : Seated V C R) (who high left made : ℕ) : Type 0 where
     pub bare : me.1 ≡ []
     pub idle : me.0.turn ≡ false
     pub who_is : who ≡ me.0.who

@@ -4,29 +4,31 @@ use Rattle.atomic_table.specs.Table.{Me}
 use Rattle.call_history.specs.Entries.{History, numbered, by, entries_by}
 use Rattle.call_history.specs.Prefix.{IsPrefix}
 use Rattle.turn_lock.specs.declared.view.View.{View}
+use Rattle.turn_lock.specs.Standing.{Standing}
 use Rattle.turn_lock.specs.Passes.{under, over, longer}
 
 -- what a seat knows, and the slots in its hand
-abbrev pub Seated : Type 0 → Type 0 → Type 0
-Seated C R = Me (Option (History C R)) (View C R)
+abbrev pub Seated : Type 0 → Type 0 → Type 0 → Type 0
+Seated V C R = Me (Option (Standing V C R)) (View C R)
 
 module _ {C R : Type 0} where
   -- the turn is taken, with the value and its history, or it was not free
-  abbrev pub tried : Seated C R → ℕ → Seated C R → Type 0
-  tried m found m' =
-      (found ≡ 0 → (h : History C R) × IsPrefix m.0.seen h × (m' ≡ (record m.0 { turn = true; seen = h }, (0, Some h) ∷ [])))
+  abbrev pub tried : {V : Type 0} → Seated V C R → ℕ → Seated V C R → Type 0
+  tried {V} m found m' =
+      (found ≡ 0 → (held : Standing V C R) × IsPrefix m.0.seen held.history
+          × (m' ≡ (record m.0 { turn = true; seen = held.history }, (0, Some held) ∷ [])))
       × (found ≢ 0 → m' ≡ m)
 
   abbrev pub counted_view : View C R → History C R → View C R
   counted_view v said = record v { left = v.left - 1; seen = v.seen ++ said; mine = v.mine ++ numbered (length v.seen) said }
 
   -- the entry is counted: its place is the number of entries before it, and the caller's entries are those in its past and its own
-  abbrev pub counted : History C R → Seated C R → ℕ → Seated C R → Type 0
+  abbrev pub counted : {V : Type 0} → History C R → Seated V C R → ℕ → Seated V C R → Type 0
   counted said m found m' =
       (found ≡ length m.0.seen) × (m' ≡ (counted_view m.0 said, m.1)) × (by m'.0.who (m'.0.past ++ m'.0.mine) ≡ entries_by m'.0.who m'.0.seen)
 
   -- the value goes home and the turn is free
-  abbrev pub released : Seated C R → ℕ → Seated C R → Type 0
+  abbrev pub released : {V : Type 0} → Seated V C R → ℕ → Seated V C R → Type 0
   released m stored m' = m' ≡ (record m.0 { turn = false }, [])
 
   abbrev pub lower_view : ℕ → ℕ → View C R → View C R
@@ -43,5 +45,5 @@ module _ {C R : Type 0} where
       record v { high = w.high; left = v.left + w.left; seen = longer v.seen w.seen; told = shorter v.seen w.seen; past = v.past ++ (w.past ++ w.mine) }
 
   -- nothing changes; of two views that were joined, the shorter list begins the longer, and the calls fit
-  abbrev pub looked : Seated C R → ℕ → Seated C R → Type 0
+  abbrev pub looked : {V : Type 0} → Seated V C R → ℕ → Seated V C R → Type 0
   looked m found m' = (m' ≡ m) × IsPrefix m.0.told m.0.seen × (m.0.left + length m.0.mine ≤ 2 ^ 40)

@@ -6,10 +6,11 @@ use Rattle.atomic_table.specs.Table.{State}
 use Rattle.call_history.specs.Entries.{History, by, entries_by}
 use Rattle.call_history.specs.Prefix.{IsPrefix}
 use Rattle.turn_lock.specs.declared.view.View.{View}
+use Rattle.turn_lock.specs.Standing.{Standing, standing}
 
 -- all that the table holds
-abbrev pub TurnState : Type 0 → Type 0 → Type 0
-TurnState C R = State (Option (History C R)) (View C R)
+abbrev pub TurnState : Type 0 → Type 0 → Type 0 → Type 0
+TurnState V C R = State (Option (Standing V C R)) (View C R)
 
 module _ {C R : Type 0} where
   -- the caller's number is one of the seat's
@@ -17,7 +18,7 @@ module _ {C R : Type 0} where
   Owns v caller = (v.who ≤ caller) × (caller < v.high)
 
   -- what seat j knows is so, where the holder is the seat that has the turn, if any
-  pub record Fits (numbers : ℕ) (history : History C R) (turn holder j : ℕ) (v : View C R) : Type 0 where
+  pub record Knows (numbers : ℕ) (history : History C R) (turn holder j : ℕ) (v : View C R) : Type 0 where
     pub begins : IsPrefix v.seen history
     pub told_begins : IsPrefix v.told history
     pub holds_turn : v.turn ≡ true → (turn ≡ 1) × (j ≡ holder) × (v.seen ≡ history) × (v.who < v.high)
@@ -27,15 +28,15 @@ module _ {C R : Type 0} where
   abbrev pub all_left : List (View C R) → ℕ
   all_left views = sum_by (λ v. v.left) views
 
-  -- Word 0 is the turn, word 1 counts the calls. While the turn is free the value is at home, and its history is the whole one
-  pub record Kept (numbers allowance : ℕ) (s : TurnState C R) : Type 0 where
+  -- Word 0 is the turn, word 1 counts the calls. While the turn is free a value is at home, and it stands after the whole history
+  pub record Kept {V : Type 0} (leads : History C R → V → Type 0) (numbers allowance : ℕ) (s : TurnState V C R) : Type 0 where
     pub history : History C R
     pub turn : ℕ
     pub holder : ℕ
     pub words : s.words ≡ turn ∷ length history ∷ []
-    pub free : turn ≡ 0 → s.homes ≡ some (Some history) ∷ []
+    pub free : turn ≡ 0 → (value : V) × (s.homes ≡ some (Some (standing value history)) ∷ []) × leads history value
     pub taken : turn ≢ 0 → (v : View C R) × (get_elem? s.views holder ≡ some v) × (v.turn ≡ true)
-    pub each : (j : ℕ) (v : View C R) → get_elem? s.views j ≡ some v → Fits numbers history turn holder j v
+    pub each : (j : ℕ) (v : View C R) → get_elem? s.views j ≡ some v → Knows numbers history turn holder j v
     pub apart : (i j : ℕ) (v w : View C R) → get_elem? s.views i ≡ some v → get_elem? s.views j ≡ some w → i ≢ j → (caller : ℕ) → Owns v caller → Owns w caller → ⊥
     pub callers : (caller : ℕ) → numbers ≤ caller → entries_by caller history ≡ []
     pub room : all_left s.views + length history ≤ allowance

@@ -1,6 +1,4 @@
 //! What lies in the slot while the turn is free.
-ghost use Rattle.call_history.specs.Entries.{History};
-
 use crate::machine::Machine;
 use crate::recorder::Recorder;
 use std::marker::Model;
@@ -13,9 +11,11 @@ pub(crate) struct Held<M: Machine> {
 }
 
 impl<M: Machine> Model for Held<M> {
-    ghost Value = { History M.Call M.Reply };
+    ghost use Rattle.turn_lock.specs.Standing.{Standing, standing};
 
-    ghost view = { λ h. h.recorder };
+    ghost Value = { Standing M M.Call M.Reply };
+
+    ghost view = { λ h. standing h.value h.recorder };
 
     ghost invariant = { λ h. M.leads h.recorder h.value };
 }

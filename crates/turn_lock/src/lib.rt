@@ -14,7 +14,7 @@ mod shared;
 mod steps;
 mod view;
 
-pub use laws::free_turn_matches_history;
+pub use laws::free_value_stands_after_its_history;
 pub use machine::{At, Machine, Worn};
 pub use pass::Pass;
 pub use shared::Shared;

@@ -17,9 +17,9 @@ use std::thread;
 pub(crate) fn take_turn<M: Machine, W: Wait>(rt: &W, top: &Top<M>, seat: &mut Place<M>) -> Held<M>
     requires table { (seat.old.table_id ≡ top.now.table_id) × (top.now.table_id.words ≡ 2) }
     requires idle { (seat.old.me.1 ≡ []) × (seat.old.me.0.who < seat.old.me.0.high) }
-    ensures seen { IsPrefix seat.old.me.0.seen result }
+    ensures seen { IsPrefix seat.old.me.0.seen result.history }
     ensures seat { (seat.new.table_id ≡ seat.old.table_id) × (seat.new.id ≡ seat.old.id) }
-    ensures turn { seat.new.me ≡ (record seat.old.me.0 { turn = true; seen = result }, (0, None) ∷ []) }
+    ensures turn { seat.new.me ≡ (record seat.old.me.0 { turn = true; seen = result.history }, (0, None) ∷ []) }
 {
     for _ in rt.forever() {
         if top.compare_exchange::<Try>(seat, 0, 0, 1) == 0 {
@@ -56,7 +56,8 @@ pub(crate) fn enter<K: Said<M::Call, M::Reply>, M: Machine>(
 /// Gives the value back and frees the turn.
 pub(crate) fn give_back<M: Machine>(top: &Top<M>, seat: &mut Place<M>, held: Held<M>)
     requires table { (seat.old.table_id ≡ top.now.table_id) × (top.now.table_id.words ≡ 2) × (top.now.table_id.slots ≡ 1) }
-    requires turn { (seat.old.me.0.turn ≡ true) × (seat.old.me.0.seen ≡ held) × (seat.old.me.1 ≡ (0, None) ∷ []) }
+    requires turn { (seat.old.me.0.turn ≡ true) × (seat.old.me.0.seen ≡ held.history) × (seat.old.me.1 ≡ (0, None) ∷ []) }
+    requires stands { M.leads held.history held.value }
     ensures seat { (seat.new.table_id ≡ seat.old.table_id) × (seat.new.id ≡ seat.old.id) }
     ensures free { seat.new.me ≡ (record seat.old.me.0 { turn = false }, []) }
 {

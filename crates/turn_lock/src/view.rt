@@ -32,7 +32,7 @@ pub struct Limits {
 pub(crate) struct Turn;
 
 impl<M: Machine> TableRule<Option<Held<M>>, View<M::Call, M::Reply>, Limits> for Turn {
-    ghost holds = { λ limits. Kept limits.numbers limits.allowance };
+    ghost holds = { λ limits. Kept M.leads limits.numbers limits.allowance };
 
     ghost first = { λ limits. first_view limits.numbers limits.allowance };
 }

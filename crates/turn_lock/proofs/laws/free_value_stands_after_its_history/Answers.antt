@@ -1,0 +1,8 @@
+use Rattle.std.proofs.Common.{ap, sym, ◌∙◌, slice_index}
+use Rattle.turn_lock.specs.Standing.{standing}
+use Rattle.turn_lock.proofs.laws.free_value_stands_after_its_history.Goals as goal
+
+pub returns : goal.returns
+returns g c numbers allowance s kept free =
+    let home = kept.free (sym (ap (λ ws. slice_index ws 0) kept.words) ∙ free) in
+    (standing home.0 kept.history, home.1, home.2, ap (λ ws. slice_index ws 1) kept.words)
