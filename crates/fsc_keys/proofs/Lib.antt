@@ -1,2 +1,1 @@
-pub mod Wiped
 pub mod ClaimLemmas

@@ -14,4 +14,4 @@ pub use descriptors::descriptor;
 pub use file_keys::{FileKey, KeyKind, file_key, key_id, mode_key};
 pub use policy_ctx::KeyId;
 pub use prepared_key::PreparedKey;
-pub use raw_key::{KeySize, RawKey};
+pub use raw_key::{KeySize, LEAST_RAW_KEY_BYTES, MOST_RAW_KEY_BYTES, RawKey};

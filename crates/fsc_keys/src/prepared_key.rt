@@ -7,7 +7,7 @@ ghost use Rattle.hmac_kdf.specs.Hkdf.{extracted};
 
 use crate::draws::{draw_file_key, draw_id, draw_mode_key, extract};
 use crate::file_keys::{FileKey, KeyKind};
-use crate::raw_key::RawKey;
+use crate::raw_key::{LEAST_RAW_KEY_BYTES, MOST_RAW_KEY_BYTES, RawKey};
 use hmac_kdf::Prk512;
 use policy_ctx::KeyId;
 use std::marker::Model;
@@ -42,8 +42,9 @@ impl PreparedKey {
     /// The bytes of the raw key: 32 to 64.
     pub fn bytes(&self) -> &[u8]
         ensures value { result.now ≡ self.now }
-        ensures not_short { 32 ≤ length result.now }
-        ensures not_long { length result.now ≤ 64 }
+        ensures not_short { LEAST_RAW_KEY_BYTES ≤ length result.now }
+        ensures not_long { length result.now ≤ MOST_RAW_KEY_BYTES }
+        ensures ranged { AreBytes result.now }
     {
         self.raw.bytes()
     }

@@ -1,15 +1,17 @@
 //! A raw master key as it was handed in: 32 to 64 bytes.
 
-ghost use Rattle.std.specs.Prelude.{◌≡◌, ◌↔◌, ◌≤◌, ℕ, List, length, take, replicate, IsOk, IfOk, IfErr};
+ghost use Rattle.std.specs.Prelude.{◌≡◌, ◌↔◌, ◌≤◌, ℕ, List, length, replicate, IsOk, IfOk, IfErr};
+ghost use Rattle.byte_words.specs.Bytes.{AreBytes};
 
+use short_bytes::Filled;
 use std::marker::Model;
 use thiserror::Error;
 
 /// The fewest bytes of a raw key: what AES-256 needs.
-const SHORTEST: usize = 32;
+pub const LEAST_RAW_KEY_BYTES: usize = 32;
 
 /// The most bytes of a raw key, as Linux has it.
-const LONGEST: usize = 64;
+pub const MOST_RAW_KEY_BYTES: usize = 64;
 
 /// Bytes that are no raw key, since they are fewer than 32 or more than 64.
 #[derive(Clone, Copy, Debug, PartialEq, Eq, Error)]
@@ -21,49 +23,50 @@ pub struct KeySize {
 /// A raw master key of 32 to 64 bytes. It can be wiped, and is never printed.
 #[derive(Drop)]
 pub struct RawKey {
-    buf: [u8; LONGEST],
-    len: usize,
+    bytes: Filled<MOST_RAW_KEY_BYTES>,
 }
 
 impl Model for RawKey {
+    ghost use Rattle.std.specs.Prelude.{◌≤◌, ℕ, List, length};
+    ghost use Rattle.fsc_keys.specs.declared.raw_key.TheConstants.{LEAST_RAW_KEY_BYTES};
+
     ghost Value = { List ℕ };
 
-    ghost view = { λ key. take key.len key.buf };
+    ghost view = { λ key. key.bytes };
 
-    ghost invariant = { λ key. (32 ≤ key.len) × (key.len ≤ 64) };
+    ghost invariant = { λ key. LEAST_RAW_KEY_BYTES ≤ length key.bytes };
 }
 
 impl RawKey {
     /// The key of these bytes. Any others than 32 to 64 are refused.
     pub fn read(bytes: &[u8]) -> Result<RawKey, KeySize>
         ensures value { IfOk result (λ key. key ≡ bytes.now) }
-        ensures ok_in_range { IsOk result ↔ ((32 ≤ length bytes.now) × (length bytes.now ≤ 64)) }
+        ensures ok_in_range { IsOk result
+            ↔ ((LEAST_RAW_KEY_BYTES ≤ length bytes.now) × (length bytes.now ≤ MOST_RAW_KEY_BYTES)) }
         ensures refused { IfErr result (λ fault. fault.len ≡ length bytes.now) }
     {
-        if bytes.len() < SHORTEST || bytes.len() > LONGEST {
+        if bytes.len() < LEAST_RAW_KEY_BYTES || bytes.len() > MOST_RAW_KEY_BYTES {
             return Err(KeySize { len: bytes.len() });
         }
-        let mut buf = [0; LONGEST];
-        buf[..bytes.len()].copy_from_slice(bytes);
         Ok(RawKey {
-            buf,
-            len: bytes.len(),
+            bytes: Filled::of(bytes),
         })
     }
 
     /// The bytes of the key.
     pub fn bytes(&self) -> &[u8]
         ensures value { result.now ≡ self.now }
-        ensures not_short { 32 ≤ length result.now }
-        ensures not_long { length result.now ≤ 64 }
+        ensures not_short { LEAST_RAW_KEY_BYTES ≤ length result.now }
+        ensures not_long { length result.now ≤ MOST_RAW_KEY_BYTES }
+        ensures ranged { AreBytes result.now }
     {
-        &self.buf[..self.len]
+        self.bytes.bytes()
     }
 
     /// Writes zeros over the key. It is then the key of as many zeros.
     pub fn wipe(&mut self)
         ensures { self.new ≡ replicate (length self.old) 0 }
     {
-        self.buf = [0; LONGEST];
+        self.bytes.wipe();
     }
 }
