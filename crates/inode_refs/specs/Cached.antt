@@ -1,0 +1,61 @@
+-- What is cached of nodes: keys by their numbers, and the pins of each.
+use Rattle.std.specs.Prelude.{ℕ, Bool, false, not, ◌&&◌, ◌==◌, Option, Some, None, unwrap_or, is_none, if◌then◌else◌}
+use Rattle.std.specs.Option.{option_map_or}
+use Rattle.std.specs.Ordering.{nat_cmp}
+use Rattle.std.specs.FinMap as map
+use Rattle.policy_ctx.specs.declared.policy.KeyId.{KeyId}
+use Rattle.policy_ctx.specs.KeyIds.{same_id}
+use Rattle.inode_refs.specs.declared.node_key.NodeKey.{NodeKey}
+
+abbrev pub KeyMap : Type 0
+KeyMap = map.FinMap nat_cmp NodeKey
+
+abbrev pub PinMap : Type 0
+PinMap = map.FinMap nat_cmp ℕ
+
+pub record Cache : Type 0 where
+  pub keys : KeyMap
+  pub pins : PinMap
+
+abbrev pub no_cache : Cache
+no_cache = record { keys = map.empty; pins = map.empty }
+
+-- the key of the node with its identifier, where one is cached
+abbrev pub key_at : Cache → ℕ → Option NodeKey
+key_at cache node = map.get cache.keys node
+
+-- how often the node is pinned; nothing stands for none
+abbrev pub pins_at : PinMap → ℕ → ℕ
+pins_at pins node = unwrap_or (map.get pins node) 0
+
+abbrev pub pins_of : Cache → ℕ → ℕ
+pins_of cache node = pins_at cache.pins node
+
+-- the pins with this number of them on the node
+abbrev pub with_pins : PinMap → ℕ → ℕ → PinMap
+with_pins pins node count = if count == 0 then map.remove pins node else map.insert pins node count
+
+-- the keys once this one was handed in with a pin: a key that is cached stays
+abbrev pub given : KeyMap → ℕ → Option NodeKey → KeyMap
+given keys node None = keys
+given keys node (Some key) = if is_none (map.get keys node) then map.insert keys node key else keys
+
+-- whether the node has no pins
+abbrev pub is_unpinned : Cache → ℕ → Bool
+is_unpinned cache node = pins_of cache node == 0
+
+-- whether the node's key was drawn from the master key
+abbrev pub has_id : Cache → KeyId → ℕ → Bool
+has_id cache id node = option_map_or (λ key. same_id key.id id) (key_at cache node) false
+
+-- the keys that are left when those drawn from the master key go from the nodes without pins, and
+-- when all keys go from them
+abbrev pub evicted : Cache → KeyId → KeyMap
+evicted cache id = map.retain_keys cache.keys (λ node. not (is_unpinned cache node && has_id cache id node))
+
+abbrev pub all_evicted : Cache → KeyMap
+all_evicted cache = map.retain_keys cache.keys (λ node. not (is_unpinned cache node))
+
+-- how many nodes with pins have a key that was drawn from the master key
+abbrev pub users_of : Cache → KeyId → ℕ
+users_of cache id = map.len (map.retain_keys cache.keys (λ node. not (is_unpinned cache node) && has_id cache id node))

@@ -1,0 +1,18 @@
+-- How keys are cached; words of private functions.
+use Rattle.std.specs.Prelude.{ℕ, List}
+use Rattle.std.specs.Ordering.{nat_cmp}
+use Rattle.std.specs.Global.{Global}
+use Rattle.std.specs.declared.boxed.Box.{Box}
+use Rattle.key_counts.specs.Shown.{shown}
+use Rattle.inode_refs.specs.declared.node_key.NodeKey.{NodeKey}
+use Rattle.inode_refs.specs.Cached.{KeyMap, PinMap}
+
+abbrev pub KeyBox : Type 0
+KeyBox = Box NodeKey Global
+
+-- the keys in the boxes
+abbrev pub keys_of : List (ℕ × KeyBox) → KeyMap
+keys_of entries = shown nat_cmp (λ key. key.value) entries
+
+abbrev pub pins_in : List (ℕ × ℕ) → PinMap
+pins_in entries = shown nat_cmp (λ count. count) entries

@@ -1,0 +1,11 @@
+//! What is cached of nodes: file keys, and how often each node is pinned by an open handle.
+#![tactic(auto)]
+
+mod cache;
+mod node_key;
+#[cfg(test)]
+mod tests;
+
+pub use cache::InodeCache;
+pub use fsc_keys::{FileKey, KeyId};
+pub use node_key::NodeKey;
