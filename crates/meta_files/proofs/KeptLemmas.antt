@@ -1,5 +1,5 @@
 -- Records as they are kept, looked up and written by name.
-use Rattle.std.proofs.Common.{◌≡◌, ℕ, zero, suc, ◌+◌, ◌<◌, ◌≤◌, true, false, cond, not, List, [], ◌∷◌, ◌++◌, length, get_or, set, Option, Some, None, IfSome, Ok, Err, is_ok, position, sym, refl, ap, ◌∙◌, subst, ⊎_elim, arith, nat_lt, bytes_eq}
+use Rattle.std.proofs.Common.{◌≡◌, ℕ, zero, suc, ◌+◌, ◌<◌, ◌≤◌, true, false, cond, not, List, [], ◌∷◌, ◌++◌, length, get_or, set, Option, Some, None, is_some, IfSome, Ok, Err, is_ok, position, sym, refl, ap, ◌∙◌, subst, ⊎_elim, arith, nat_lt, bytes_eq}
 use Rattle.std.specs.List.{position_or_len}
 use Rattle.std.proofs.lemmas.Slice.Eq.{bytes_eq-Decides}
 use Rattle.std.proofs.lemmas.Bool.{cases_Bool, cond-true, cond-false, true≢false, le-ltb}
@@ -7,6 +7,7 @@ use Rattle.std.proofs.lemmas.Grind.{common_steps}
 use Rattle.std.proofs.lemmas.List.Quantifiers.{position-Some}
 use Rattle.std.proofs.lemmas.List.{length-map}
 use Rattle.meta_files.specs.declared.files.Record.{Record}
+use Rattle.meta_files.specs.declared.files.TheConstants.{MOST_RECORD_BYTES}
 use Rattle.meta_files.specs.declared.fault.StoreFault.{StoreFault}
 use Rattle.meta_files.specs.Records.{RecordList, record_of, with_record}
 use Rattle.meta_files.specs.Kept.{pair_of, pairs_of, rewrite_fault, append_fault}
@@ -73,11 +74,11 @@ module _ (name : List ℕ) (xs : List Record) (gone : position (λ kept. bytes_e
 
 -- ---- which fault comes
 
-pub store_fault_there : (rs : RecordList) (name : List ℕ) (expected : ℕ) (bytes : List ℕ) (r : ℕ × List ℕ) → length bytes ≤ 8192 → record_of rs name ≡ Some r → store_fault rs name expected bytes ≡ rewrite_fault r.0 expected
-store_fault_there rs name expected bytes r fits there = let small : nat_lt 8192 (length bytes) ≡ false = le-ltb 8192 (length bytes) fits in rw (small, there) refl
+pub store_fault_there : (rs : RecordList) (name : List ℕ) (expected : ℕ) (bytes : List ℕ) (r : ℕ × List ℕ) → length bytes ≤ MOST_RECORD_BYTES → record_of rs name ≡ Some r → store_fault rs name expected bytes ≡ rewrite_fault r.0 expected
+store_fault_there rs name expected bytes r fits there = let small : nat_lt MOST_RECORD_BYTES (length bytes) ≡ false = le-ltb MOST_RECORD_BYTES (length bytes) fits in rw (small, there) refl
 
-pub store_fault_new : (xs : List Record) (name : List ℕ) (expected : ℕ) (bytes : List ℕ) → length bytes ≤ 8192 → record_of (pairs_of xs) name ≡ None → store_fault (pairs_of xs) name expected bytes ≡ append_fault (length xs) expected
-store_fault_new xs name expected bytes fits gone = let small : nat_lt 8192 (length bytes) ≡ false = le-ltb 8192 (length bytes) fits in rw (small, gone, length-map) refl
+pub store_fault_new : (xs : List Record) (name : List ℕ) (expected : ℕ) (bytes : List ℕ) → length bytes ≤ MOST_RECORD_BYTES → record_of (pairs_of xs) name ≡ None → store_fault (pairs_of xs) name expected bytes ≡ append_fault (length xs) expected
+store_fault_new xs name expected bytes fits gone = let small : nat_lt MOST_RECORD_BYTES (length bytes) ≡ false = le-ltb MOST_RECORD_BYTES (length bytes) fits in rw (small, gone, length-map) refl
 
 -- ---- as the calls see it: rs is what clauses see of the records xs, and ys is xs behind a reference
 
@@ -90,7 +91,7 @@ module _ (rs : RecordList) (xs ys : List Record) (name : List ℕ) (view : pairs
   seen_new gone version bytes after is = ap pairs_of is ∙ (with_record_new name xs (subst (λ l. position (λ kept. bytes_eq kept.name name) l ≡ None) behind gone) version bytes
       ∙ ap (λ l. with_record l name version bytes) view)
 
-  pub seen_new_fault : (expected : ℕ) (bytes : List ℕ) → length bytes ≤ 8192 → position (λ kept. bytes_eq kept.name name) ys ≡ None → store_fault rs name expected bytes ≡ append_fault (length xs) expected
+  pub seen_new_fault : (expected : ℕ) (bytes : List ℕ) → length bytes ≤ MOST_RECORD_BYTES → position (λ kept. bytes_eq kept.name name) ys ≡ None → store_fault rs name expected bytes ≡ append_fault (length xs) expected
   seen_new_fault expected bytes fits gone = ap (λ l. store_fault l name expected bytes) (sym view)
       ∙ store_fault_new xs name expected bytes fits (record_of_None name xs (subst (λ l. position (λ kept. bytes_eq kept.name name) l ≡ None) behind gone))
 
@@ -105,10 +106,14 @@ module _ (rs : RecordList) (xs ys : List Record) (name : List ℕ) (view : pairs
         ∙ (with_record_there name xs i kept (subst (λ l. position (λ kept. bytes_eq kept.name name) l ≡ Some i) behind there) version bytes
         ∙ ap (λ l. with_record l name version bytes) view)
 
-    pub seen_fault : (kept : Record) → kept ≡ get_or xs i kept → (expected : ℕ) (bytes : List ℕ) → length bytes ≤ 8192 → store_fault rs name expected bytes ≡ rewrite_fault kept.version expected
+    pub seen_fault : (kept : Record) → kept ≡ get_or xs i kept → (expected : ℕ) (bytes : List ℕ) → length bytes ≤ MOST_RECORD_BYTES → store_fault rs name expected bytes ≡ rewrite_fault kept.version expected
     seen_fault kept is expected bytes fits = store_fault_there rs name expected bytes (kept.version, kept.bytes) fits (seen_Some kept is)
 
 -- where a version came, no fault was due
 pub None-from_Ok : (due : Option StoreFault) (version : ℕ) → IfSome due (λ fault. Ok version ≡ Err fault) → due ≡ None
 None-from_Ok None version none = refl
 None-from_Ok (Some fault) version bad = absurd (true≢false (ap is_ok bad))
+
+-- a record that is there isn't absent
+pub not_absent : {X : Type 0} (x : X) (o : Option X) → o ≡ Some x → o ≡ None → ⊥
+not_absent x o there absent = true≢false (ap is_some (sym there ∙ absent))

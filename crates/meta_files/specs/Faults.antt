@@ -1,15 +1,16 @@
 -- Why a record can't be stored: the first that holds.
 use Rattle.std.specs.Prelude.{ℕ, List, length, Option, Some, None, is_none, not, ◌&&◌, ◌==◌, nat_lt, nat_le, if◌then◌else◌}
+use Rattle.meta_files.specs.declared.files.TheConstants.{MOST_RECORD_BYTES, MOST_RECORDS, LAST_VERSION}
 use Rattle.meta_files.specs.declared.fault.StoreFault.{StoreFault}
 use Rattle.meta_files.specs.declared.fault.StoreFault.TheVariants.{TooBig, Changed, NoSpace}
 use Rattle.meta_files.specs.Records.{RecordList, record_of, version_of}
 
--- TooBig above 8,192 bytes; Changed where the version isn't the expected one; NoSpace for a new record
--- where there are 1,024, and where the version is the last that there is
+-- TooBig above the most bytes; Changed where the version isn't the expected one; NoSpace for a new record
+-- where there are as many as there may be, and where the version is the last that there is
 abbrev pub store_fault : RecordList → List ℕ → ℕ → List ℕ → Option StoreFault
 store_fault records name expected bytes =
-    if nat_lt 8192 (length bytes) then Some TooBig else
+    if nat_lt MOST_RECORD_BYTES (length bytes) then Some TooBig else
     if not (version_of records name == expected) then Some (Changed (version_of records name)) else
-    if is_none (record_of records name) && nat_le 1024 (length records) then Some NoSpace else
-    if version_of records name == 4294967295 then Some NoSpace else
+    if is_none (record_of records name) && nat_le MOST_RECORDS (length records) then Some NoSpace else
+    if version_of records name == LAST_VERSION then Some NoSpace else
     None

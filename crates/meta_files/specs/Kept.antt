@@ -1,5 +1,6 @@
 -- How records are kept; words of private functions.
 use Rattle.std.specs.Prelude.{ℕ, List, map, Option, Some, None, not, ◌==◌, nat_le, if◌then◌else◌}
+use Rattle.meta_files.specs.declared.files.TheConstants.{MOST_RECORDS, LAST_VERSION}
 use Rattle.meta_files.specs.declared.fault.StoreFault.{StoreFault}
 use Rattle.meta_files.specs.declared.fault.StoreFault.TheVariants.{Changed, NoSpace}
 use Rattle.meta_files.specs.declared.files.Record.{Record}
@@ -15,12 +16,12 @@ pairs_of kept = map pair_of kept
 abbrev pub rewrite_fault : ℕ → ℕ → Option StoreFault
 rewrite_fault version expected =
     if not (version == expected) then Some (Changed version) else
-    if version == 4294967295 then Some NoSpace else
+    if version == LAST_VERSION then Some NoSpace else
     None
 
 -- why a new one can't be put behind the others, by their number
 abbrev pub append_fault : ℕ → ℕ → Option StoreFault
 append_fault count expected =
     if not (0 == expected) then Some (Changed 0) else
-    if nat_le 1024 count then Some NoSpace else
+    if nat_le MOST_RECORDS count then Some NoSpace else
     None

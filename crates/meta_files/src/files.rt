@@ -1,6 +1,6 @@
 //! The records themselves, in the order in which they were first stored.
 
-ghost use Rattle.std.specs.Prelude.{◌≡◌, ◌+◌, ℕ, List, [], ◌∷◌, ◌++◌, length, IfSome, IfNone, IfOk, IsOk, IsOkUnless, OnErr, position, bytes_eq};
+ghost use Rattle.std.specs.Prelude.{◌≡◌, ◌+◌, ℕ, List, [], ◌∷◌, ◌++◌, length, IfSome, IfNone, IfOk, IsOk, IsOkUnless, OnErr, position, bytes_eq, None};
 ghost use Rattle.meta_files.specs.Records.{record_of, version_of, with_record};
 ghost use Rattle.meta_files.specs.Faults.{store_fault};
 ghost use Rattle.meta_files.specs.Kept.{rewrite_fault, append_fault};
@@ -10,10 +10,13 @@ use std::alloc::{AllocError, Global};
 use std::marker::Model;
 
 /// The most bytes that a record may have.
-const BYTES_MAX: usize = 8_192;
+pub const MOST_RECORD_BYTES: usize = 8_192;
 
 /// The most records that there may be.
-const RECORDS_MAX: usize = 1_024;
+pub const MOST_RECORDS: usize = 1_024;
+
+/// The last version that a record can have.
+pub const LAST_VERSION: u32 = 4_294_967_295;
 
 /// A record as it is kept.
 #[derive(Drop)]
@@ -48,9 +51,11 @@ impl MetaFiles {
         }
     }
 
-    /// The version and a copy of the bytes of the record of this name, where there is one.
+    /// The version and a copy of the bytes of the record of this name, where there is one. Only the copy
+    /// takes memory, so none is wanting where there is no record.
     pub fn load(&self, alloc: Global, name: &[u8]) -> Result<Option<(u32, Bytes)>, AllocError>
-        ensures { IfOk result (λ found. found ≡ record_of self.now name.now) }
+        ensures found { IfOk result (λ found. found ≡ record_of self.now name.now) }
+        ensures absent { record_of self.now name.now ≡ None → IsOk result }
     {
         let Some(place) = place_of(&self.records, name) else {
             return Ok(None);
@@ -75,7 +80,7 @@ impl MetaFiles {
         ensures refused { IfSome (store_fault self.old name.now expected bytes.now) (λ fault. result ≡ Err fault) }
         ensures accepted { IfNone (store_fault self.old name.now expected bytes.now) (IsOkUnless result StoreFault.NoMemory) }
     {
-        if bytes.len() > BYTES_MAX {
+        if bytes.len() > MOST_RECORD_BYTES {
             return Err(StoreFault::TooBig);
         }
         let Some(place) = place_of(&self.records, name) else {
@@ -126,7 +131,7 @@ fn append(
     if expected != 0 {
         return Err(StoreFault::Changed { version: 0 });
     }
-    if records.len() >= RECORDS_MAX {
+    if records.len() >= MOST_RECORDS {
         return Err(StoreFault::NoSpace);
     }
     let record = Record {

@@ -8,6 +8,6 @@ mod laws;
 mod tests;
 
 pub use fault::StoreFault;
-pub use files::MetaFiles;
+pub use files::{LAST_VERSION, MOST_RECORD_BYTES, MOST_RECORDS, MetaFiles};
 pub use item_list::Bytes;
 pub use laws::writing_changes_one_record;
