@@ -1,7 +1,7 @@
 //! The calls that the commands of a script make.
 
 ghost use Rattle.std.specs.Prelude.{◌≡◌, IfOk, OnErr, IsTrue};
-ghost use Rattle.mount_model.specs.Fits.{Fits};
+ghost use Rattle.mount_model.specs.Fits.{CanBeAsked};
 ghost use Rattle.script_lang.specs.Spelled.{IsAskable};
 ghost use Rattle.fsc_session.specs.Session.{call_of, holds_bytes, id_meant};
 
@@ -16,7 +16,7 @@ use std::alloc::{AllocError, Global};
 pub fn call_of(alloc: Global, uid: u32, command: &Command) -> Result<Call, AllocError>
     requires { IsAskable command.now.verb }
     ensures value { IfOk result (λ call. call ≡ call_of uid command.now) }
-    ensures fits { IfOk result Fits }
+    ensures fits { IfOk result CanBeAsked }
     ensures memory { OnErr result (IsTrue (holds_bytes command.now.verb)) }
 {
     let op = match &command.verb {

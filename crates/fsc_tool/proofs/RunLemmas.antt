@@ -1,26 +1,12 @@
 -- A run goes on by one caller's call, and by one round.
-use Rattle.std.proofs.Common.{◌≡◌, ℕ, suc, ◌+◌, ◌<◌, List, [], ◌∷◌, ◌++◌, length, drop, get_or, refl, ap, ap₂, sym, ◌∙◌, arith, append-nil, append_assoc, drop_of_length-le, subst}
+use Rattle.std.proofs.Common.{◌≡◌, ℕ, suc, ◌+◌, ◌<◌, List, [], ◌∷◌, ◌++◌, length, drop, get_or, refl, ap, ap₂, sym, ◌∙◌, arith, append-nil, append_assoc, drop_of_length-le}
 use Rattle.std.proofs.Math.Seq.{drop-cons}
 use Rattle.std.proofs.lemmas.List.{map-append}
 use Rattle.byte_words.specs.Blocks.{first_blocks}
 use Rattle.mount_model.specs.declared.call.Call.{Call}
-use Rattle.mount_model.specs.PlainMount.{empty_mount}
-use Rattle.mount_model.specs.History.{MountEntry, History, calls_of, mount_after}
-use Rattle.mount_model.proofs.HistoryLemmas.{IsLegal-more, mount_after-more}
+use Rattle.mount_model.specs.History.{MountEntry, History, calls_of}
 use Rattle.script_lang.specs.declared.commands.Section.{Section}
-use Rattle.fsc_tool.specs.Ring.{Holding, StandsFor, IsStepOf}
 use Rattle.fsc_session.specs.Rotation.{nth_call, round_from, round_of}
-use Rattle.fsc_tool.specs.Running.{IsRunning}
-
--- a history goes on by an entry, which is a step of the mount that it leaves
-pub IsRunning-more : (h : History) (e : MountEntry) (old new : Holding) → IsRunning old h
-    → (StandsFor old (mount_after h) → IsStepOf (mount_after h) e new) → IsRunning new (h ++ e ∷ [])
-IsRunning-more h e old new running stepped =
-    let step : IsStepOf (mount_after h) e new = stepped running.stands in
-    record {
-      legal = IsLegal-more h e _ running.legal step.0;
-      stands = subst (StandsFor new) (sym (mount_after-more h e _ step.0)) step.1;
-    }
 
 pub calls_of-more : (h : History) (e : MountEntry) → calls_of (h ++ e ∷ []) ≡ calls_of h ++ (e.who, e.call) ∷ []
 calls_of-more h e = map-append (λ (x : MountEntry). let asked : ℕ × Call = (x.who, x.call) in asked) h (e ∷ [])
@@ -50,7 +36,3 @@ round-end n i script calls all end so_far =
 pub no_rounds : (script : List Section) → [] ≡ first_blocks (round_of script) 0
 unfolding first_blocks
 no_rounds script = refl
-
--- an empty ring stands for the mount that an empty history leaves
-pub IsRunning-none : (ring : Holding) (h : History) → StandsFor ring empty_mount → h ≡ [] → IsRunning ring h
-IsRunning-none ring h stands none = subst (IsRunning ring) (sym none) (record { legal = tt; stands = stands })

@@ -3,6 +3,7 @@ use Rattle.std.proofs.Common.{◌≡◌, ℕ, ◌<◌, ◌≤◌, inl, inr, List
 use Rattle.std.specs.Prelude.{IsSome, ◌↔◌}
 use Rattle.std.specs.Io.KnownBytes.{Consumes, IsAtEnd}
 use Rattle.text_words.specs.Lines.{line_count}
+use Rattle.mount_model.specs.History.{History}
 use Rattle.script_lang.specs.Script.{parsed_script}
 use Rattle.fsc_outside.specs.States.{SourceState, SeedState}
 use Rattle.fsc_outside.specs.Input.{GaveWhole, GaveTooMuch, IsWithin}
@@ -69,15 +70,15 @@ same_script old new input bytes told gave = ap parsed_script (gave_told old new 
 
 -- ---- Usage, exactly where the words are no form
 
-usage_exactly : (words : List (List ℕ)) (a b : Outside) (status : Status) → Ends words a b status → (status ≡ Usage) ↔ (form_of words ≡ None)
-usage_exactly words a b Usage h = (λ _. h.no_form, λ _. refl)
-usage_exactly words a b Done h = (λ e. absurd (cc e), λ none. absurd (other_form _ _ h.log.seeded.said none))
-usage_exactly words a b (BadLine line) h = (λ e. absurd (cc e), λ none. absurd (no_form _ h.early.form none))
-usage_exactly words a b ReadFault h = (λ e. absurd (cc e), λ none. absurd (no_form _ h.early.form none))
-usage_exactly words a b WriteFault h = (λ e. absurd (cc e), λ none. absurd (other_form _ _ h.log.seeded.said none))
-usage_exactly words a b SeedFault h = (λ e. absurd (cc e), λ none. absurd (other_form _ _ h.form none))
-usage_exactly words a b TooLong h = (λ e. absurd (cc e), λ none. absurd (no_form _ h.early.form none))
-usage_exactly words a b NoMemory h = (λ e. absurd (cc e), λ none. absurd (no_form _ h.form none))
+usage_exactly : (lawful : History → Type 0) (words : List (List ℕ)) (a b : Outside) (status : Status) → Ends lawful words a b status → (status ≡ Usage) ↔ (form_of words ≡ None)
+usage_exactly lawful words a b Usage h = (λ _. h.no_form, λ _. refl)
+usage_exactly lawful words a b Done h = (λ e. absurd (cc e), λ none. absurd (other_form _ _ h.log.seeded.said none))
+usage_exactly lawful words a b (BadLine line) h = (λ e. absurd (cc e), λ none. absurd (no_form _ h.early.form none))
+usage_exactly lawful words a b ReadFault h = (λ e. absurd (cc e), λ none. absurd (no_form _ h.early.form none))
+usage_exactly lawful words a b WriteFault h = (λ e. absurd (cc e), λ none. absurd (other_form _ _ h.log.seeded.said none))
+usage_exactly lawful words a b SeedFault h = (λ e. absurd (cc e), λ none. absurd (other_form _ _ h.form none))
+usage_exactly lawful words a b TooLong h = (λ e. absurd (cc e), λ none. absurd (no_form _ h.early.form none))
+usage_exactly lawful words a b NoMemory h = (λ e. absurd (cc e), λ none. absurd (no_form _ h.form none))
 
 -- ---- a seed of the words' own
 
@@ -90,76 +91,76 @@ own_seed : (words : List (List ℕ)) (old new : SeedState) (seed own : List ℕ)
 own_seed words old new seed own said given =
     let is = sym given.said ∙ said in own_of_form given.form old new seed own (cc is) given.given
 
-unasked : (words : List (List ℕ)) (a b : Outside) (status : Status) → Ends words a b status
+unasked : (lawful : History → Type 0) (words : List (List ℕ)) (a b : Outside) (status : Status) → Ends lawful words a b status
     → (own : List ℕ) → form_of words ≡ Some (Seeded own) → b.seeds ≡ a.seeds
-unasked words a b Done h own said = own_seed words a.seeds b.seeds h.log.seed own said h.log.seeded
-unasked words a b WriteFault h own said = own_seed words a.seeds b.seeds h.log.seed own said h.log.seeded
-unasked words a b Usage h own said = ap (λ (o : Outside). o.seeds) h.still
-unasked words a b (BadLine line) h own said = h.early.unasked
-unasked words a b ReadFault h own said = h.early.unasked
-unasked words a b TooLong h own said = h.early.unasked
-unasked words a b SeedFault h own said = let no = sym h.form ∙ said in absurd (cc no)
-unasked words a b NoMemory h own said = elim h.seeds [
+unasked lawful words a b Done h own said = own_seed words a.seeds b.seeds h.log.seed own said h.log.seeded
+unasked lawful words a b WriteFault h own said = own_seed words a.seeds b.seeds h.log.seed own said h.log.seeded
+unasked lawful words a b Usage h own said = ap (λ (o : Outside). o.seeds) h.still
+unasked lawful words a b (BadLine line) h own said = h.early.unasked
+unasked lawful words a b ReadFault h own said = h.early.unasked
+unasked lawful words a b TooLong h own said = h.early.unasked
+unasked lawful words a b SeedFault h own said = let no = sym h.form ∙ said in absurd (cc no)
+unasked lawful words a b NoMemory h own said = elim h.seeds [
   | inl still ↦ still
   | inr taken ↦ own_seed words a.seeds b.seeds taken.0 own said taken.1
 ]
 
 -- ---- a source that tells its bytes
 
-long_ends : (words : List (List ℕ)) (a b : Outside) (status : Status) → Ends words a b status
+long_ends : (lawful : History → Type 0) (words : List (List ℕ)) (a b : Outside) (status : Status) → Ends lawful words a b status
     → (input : List ℕ) → Told words a b input → IsLong input → IsOrNoMemory TooLong status
-long_ends words a b TooLong h input told long = inl refl
-long_ends words a b NoMemory h input told long = inr refl
-long_ends words a b Usage h input told long = absurd (no_form _ told.form h.no_form)
-long_ends words a b ReadFault h input told long = absurd (told.read h.cause)
-long_ends words a b Done h input told long =
+long_ends lawful words a b TooLong h input told long = inl refl
+long_ends lawful words a b NoMemory h input told long = inr refl
+long_ends lawful words a b Usage h input told long = absurd (no_form _ told.form h.no_form)
+long_ends lawful words a b ReadFault h input told long = absurd (told.read h.cause)
+long_ends lawful words a b Done h input told long =
     absurd (not_short a.source b.source input h.log.input told.left h.log.read.gave h.log.read.within long)
-long_ends words a b WriteFault h input told long =
+long_ends lawful words a b WriteFault h input told long =
     absurd (not_short a.source b.source input h.log.input told.left h.log.read.gave h.log.read.within long)
-long_ends words a b (BadLine line) h input told long =
+long_ends lawful words a b (BadLine line) h input told long =
     absurd (not_short a.source b.source input h.input told.left h.read.gave h.read.within long)
-long_ends words a b SeedFault h input told long =
+long_ends lawful words a b SeedFault h input told long =
     absurd (not_short a.source b.source input h.input told.left h.read.gave h.read.within long)
 
-bad_line_ends : (words : List (List ℕ)) (a b : Outside) (status : Status) → Ends words a b status
+bad_line_ends : (lawful : History → Type 0) (words : List (List ℕ)) (a b : Outside) (status : Status) → Ends lawful words a b status
     → (input : List ℕ) (line : ℕ) → Told words a b input → IsWithin input_limits input → parsed_script input ≡ Err line
     → IsOrNoMemory (BadLine line) status
-bad_line_ends words a b NoMemory h input line told within bad = inr refl
-bad_line_ends words a b Usage h input line told within bad = absurd (no_form _ told.form h.no_form)
-bad_line_ends words a b ReadFault h input line told within bad = absurd (told.read h.cause)
-bad_line_ends words a b TooLong h input line told within bad =
+bad_line_ends lawful words a b NoMemory h input line told within bad = inr refl
+bad_line_ends lawful words a b Usage h input line told within bad = absurd (no_form _ told.form h.no_form)
+bad_line_ends lawful words a b ReadFault h input line told within bad = absurd (told.read h.cause)
+bad_line_ends lawful words a b TooLong h input line told within bad =
     absurd (not_too_much a.source b.source input h.much.bytes told.left h.much.gave within)
-bad_line_ends words a b (BadLine other) h input line told within bad =
+bad_line_ends lawful words a b (BadLine other) h input line told within bad =
     let same = sym h.bad ∙ same_script a.source b.source input h.input told.left h.read.gave ∙ bad in
     inl (ap BadLine (cc same))
-bad_line_ends words a b Done h input line told within bad =
+bad_line_ends lawful words a b Done h input line told within bad =
     let same = sym h.log.spelled ∙ same_script a.source b.source input h.log.input told.left h.log.read.gave ∙ bad in absurd (cc same)
-bad_line_ends words a b WriteFault h input line told within bad =
+bad_line_ends lawful words a b WriteFault h input line told within bad =
     let same = sym h.log.spelled ∙ same_script a.source b.source input h.log.input told.left h.log.read.gave ∙ bad in absurd (cc same)
-bad_line_ends words a b SeedFault h input line told within bad =
+bad_line_ends lawful words a b SeedFault h input line told within bad =
     let same = sym h.script.1 ∙ same_script a.source b.source input h.input told.left h.read.gave ∙ bad in absurd (cc same)
 
-script_ends : (words : List (List ℕ)) (a b : Outside) (status : Status) → Ends words a b status
+script_ends : (lawful : History → Type 0) (words : List (List ℕ)) (a b : Outside) (status : Status) → Ends lawful words a b status
     → (input : List ℕ) → IsReplayable words a b input → IsOrNoMemory Done status
-script_ends words a b Done h input fine = inl refl
-script_ends words a b NoMemory h input fine = inr refl
-script_ends words a b Usage h input fine = absurd (no_form _ fine.told.form h.no_form)
-script_ends words a b ReadFault h input fine = absurd (fine.told.read h.cause)
-script_ends words a b WriteFault h input fine = absurd (fine.written h.written.cause)
-script_ends words a b SeedFault h input fine = absurd (fine.seeded h.seeds.cause)
-script_ends words a b TooLong h input fine =
+script_ends lawful words a b Done h input fine = inl refl
+script_ends lawful words a b NoMemory h input fine = inr refl
+script_ends lawful words a b Usage h input fine = absurd (no_form _ fine.told.form h.no_form)
+script_ends lawful words a b ReadFault h input fine = absurd (fine.told.read h.cause)
+script_ends lawful words a b WriteFault h input fine = absurd (fine.written h.written.cause)
+script_ends lawful words a b SeedFault h input fine = absurd (fine.seeded h.seeds.cause)
+script_ends lawful words a b TooLong h input fine =
     absurd (not_too_much a.source b.source input h.much.bytes fine.told.left h.much.gave fine.within)
-script_ends words a b (BadLine line) h input fine =
+script_ends lawful words a b (BadLine line) h input fine =
     let same = sym h.bad ∙ same_script a.source b.source input h.input fine.told.left h.read.gave ∙ fine.script.1 in absurd (cc same)
 
 -- ---- the theorem, from what each status means
 
-pub serial_replay : (words : List (List ℕ)) (a b : Outside) (status : Status) → Ends words a b status → IsSerialReplay words a b status
-serial_replay words a b status h = record {
+pub serial_replay : (lawful : History → Type 0) (words : List (List ℕ)) (a b : Outside) (status : Status) → Ends lawful words a b status → IsSerialReplay lawful words a b status
+serial_replay lawful words a b status h = record {
   ends = h;
-  usage = usage_exactly words a b status h;
-  own_seed = unasked words a b status h;
-  too_long = long_ends words a b status h;
-  bad_line = bad_line_ends words a b status h;
-  complete = script_ends words a b status h;
+  usage = usage_exactly lawful words a b status h;
+  own_seed = unasked lawful words a b status h;
+  too_long = long_ends lawful words a b status h;
+  bad_line = bad_line_ends lawful words a b status h;
+  complete = script_ends lawful words a b status h;
 }

@@ -1,5 +1,6 @@
 -- What a run did from what it met outside to what it leaves, by the status that it ends with.
 use Rattle.std.specs.Prelude.{◌≡◌, ◌⊎◌, ℕ, List, Some, None, IsSome, Ok, Err}
+use Rattle.mount_model.specs.History.{History}
 use Rattle.script_lang.specs.declared.commands.Section.{Section}
 use Rattle.script_lang.specs.Script.{parsed_script}
 use Rattle.fsc_outside.specs.Causes.{Rose}
@@ -19,15 +20,15 @@ abbrev pub IsScript : List ℕ → Type 0
 IsScript text = (script : List Section) × (parsed_script text ≡ Ok script)
 
 -- the log was written whole
-pub record EndsDone (words : List (List ℕ)) (a b : Outside) : Type 0 where
+pub record EndsDone (lawful : History → Type 0) (words : List (List ℕ)) (a b : Outside) : Type 0 where
   pub text : List ℕ
-  pub log : HasLog words a b text
+  pub log : HasLog lawful words a b text
   pub written : GotWhole a.sink b.sink text
 
 -- the sink failed short of the log's end
-pub record EndsWriteFault (words : List (List ℕ)) (a b : Outside) : Type 0 where
+pub record EndsWriteFault (lawful : History → Type 0) (words : List (List ℕ)) (a b : Outside) : Type 0 where
   pub text : List ℕ
-  pub log : HasLog words a b text
+  pub log : HasLog lawful words a b text
   pub written : GotPart a.sink b.sink text
 
 -- the words are no form, and nothing was called
@@ -74,13 +75,13 @@ pub record EndsNoMemory (words : List (List ℕ)) (a b : Outside) : Type 0 where
   pub seeds : (b.seeds ≡ a.seeds) ⊎ ((seed : List ℕ) × IsSeedOf words a.seeds b.seeds seed)
   pub unwritten : b.sink ≡ a.sink
 
--- what the status means
-abbrev pub Ends : List (List ℕ) → Outside → Outside → Status → Type 0
-Ends words a b Done = EndsDone words a b
-Ends words a b Usage = EndsUsage words a b
-Ends words a b (BadLine line) = EndsBadLine line words a b
-Ends words a b ReadFault = EndsReadFault words a b
-Ends words a b WriteFault = EndsWriteFault words a b
-Ends words a b SeedFault = EndsSeedFault words a b
-Ends words a b TooLong = EndsTooLong words a b
-Ends words a b NoMemory = EndsNoMemory words a b
+-- what the status means, where the machine's histories are the lawful ones
+abbrev pub Ends : (History → Type 0) → List (List ℕ) → Outside → Outside → Status → Type 0
+Ends lawful words a b Done = EndsDone lawful words a b
+Ends lawful words a b Usage = EndsUsage words a b
+Ends lawful words a b (BadLine line) = EndsBadLine line words a b
+Ends lawful words a b ReadFault = EndsReadFault words a b
+Ends lawful words a b WriteFault = EndsWriteFault lawful words a b
+Ends lawful words a b SeedFault = EndsSeedFault words a b
+Ends lawful words a b TooLong = EndsTooLong words a b
+Ends lawful words a b NoMemory = EndsNoMemory words a b

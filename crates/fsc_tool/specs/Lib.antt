@@ -1,12 +1,9 @@
 pub mod Ends
 pub mod Faults
 pub mod Forms
-pub mod KeyCalls
 pub mod Limits
 pub mod LogOfRun
 pub mod Outside
-pub mod Ring
-pub mod Running
 pub mod Seed
 pub mod Serial
 pub mod SerialReplay

@@ -1,5 +1,6 @@
 -- The theorem of the tool: what holds of each run, from what it met outside to what it leaves.
 use Rattle.std.specs.Prelude.{◌≡◌, ◌↔◌, ◌⊎◌, ℕ, List, Some, None, IsSome, Err}
+use Rattle.mount_model.specs.History.{History}
 use Rattle.script_lang.specs.Script.{parsed_script}
 use Rattle.fsc_outside.specs.Causes.{Rose}
 use Rattle.fsc_outside.specs.Input.{IsWithin}
@@ -29,9 +30,10 @@ pub record IsReplayable (words : List (List ℕ)) (a b : Outside) (input : List 
 abbrev pub IsOrNoMemory : Status → Status → Type 0
 IsOrNoMemory wanted status = (status ≡ wanted) ⊎ (status ≡ NoMemory)
 
-pub record IsSerialReplay (words : List (List ℕ)) (a b : Outside) (status : Status) : Type 0 where
-  -- what the status means, with its cause
-  pub ends : Ends words a b status
+pub record IsSerialReplay (lawful : History → Type 0) (words : List (List ℕ)) (a b : Outside) (status : Status)
+    : Type 0 where
+  -- what the status means, with its cause; the log is of a history that is lawful by the machine
+  pub ends : Ends lawful words a b status
   -- Usage comes exactly where the words are no form
   pub usage : (status ≡ Usage) ↔ (form_of words ≡ None)
   -- the seed source isn't asked where the words give a seed

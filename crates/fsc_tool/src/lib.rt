@@ -3,7 +3,6 @@
 
 mod form;
 mod limits;
-mod ring;
 mod run;
 mod seed;
 mod serial;

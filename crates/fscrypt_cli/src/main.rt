@@ -3,6 +3,7 @@
 
 use fsc_outside::{RuntimeSeed, StdSink, StdSource, write_all};
 use fsc_tool::tool_serial;
+use mount_shared::KeyMount;
 use reply_text::Status;
 use std::env;
 use std::io::ErrorKind;
@@ -48,7 +49,14 @@ fn main(rt: HostRuntime) -> ExitCode {
     let mut source = StdSource::new(&rt);
     let mut sink = StdSink::new(&rt);
     let mut seeds = RuntimeSeed::new(&rt);
-    let status = tool_serial(rt.alloc(), &words, &mut source, &mut sink, &mut seeds);
+    let status = tool_serial(
+        rt.alloc(),
+        &words,
+        &mut source,
+        &mut sink,
+        &mut seeds,
+        KeyMount::new(rt.alloc()),
+    );
     end(rt, status)
 }
 

@@ -7,7 +7,6 @@ mod replies;
 mod status;
 #[cfg(test)]
 mod tests;
-mod words;
 
 pub use log::write_log;
 pub use status::Status;

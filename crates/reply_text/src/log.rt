@@ -5,11 +5,11 @@ ghost use Rattle.reply_text.specs.Log.{head_text, entry_text, log_text};
 
 use crate::calls::put_call;
 use crate::replies::put_reply;
-use crate::words::put_number;
 use call_history::Entry;
 use item_list::Bytes;
 use mount_model::{Call, Reply};
 use std::alloc::{AllocError, Global};
+use text_words::push_decimal;
 
 /// The bytes of a history's log: a line for each entry, in order of place. Places count from 0.
 pub fn write_log(alloc: Global, history: &[Entry<Call, Reply>]) -> Result<Bytes, AllocError>
@@ -17,26 +17,21 @@ pub fn write_log(alloc: Global, history: &[Entry<Call, Reply>]) -> Result<Bytes,
 {
     let mut text = Vec::new(alloc);
     'entries: for (place, entry) in history.iter().enumerate() {
-        put_entry(alloc, &mut text, place as u64, entry)?;
+        put_entry(&mut text, place as u64, entry)?;
     }
     Ok(Bytes::from_vec(text))
 }
 
 // Puts the line of the entry at a place behind the text.
 #[tactic(auto, unfolding(crate::specs::Log::entry_text))]
-fn put_entry(
-    alloc: Global,
-    text: &mut Vec<u8>,
-    place: u64,
-    entry: &Entry<Call, Reply>,
-) -> Result<(), AllocError>
+fn put_entry(text: &mut Vec<u8>, place: u64, entry: &Entry<Call, Reply>) -> Result<(), AllocError>
     ensures { OnOk result (text.new.items ≡ text.old.items ++ entry_text place entry.now) }
 {
     put_head(text, place, entry)?;
     text.push(b' ')?;
-    put_call(alloc, text, &entry.call.op)?;
+    put_call(text, &entry.call.op)?;
     text.extend_from_slice(b" = ")?;
-    put_reply(alloc, text, &entry.reply)?;
+    put_reply(text, &entry.reply)?;
     text.push(b'\n')?;
     Ok(())
 }
@@ -45,9 +40,9 @@ fn put_entry(
 fn put_head(text: &mut Vec<u8>, place: u64, entry: &Entry<Call, Reply>) -> Result<(), AllocError>
     ensures { OnOk result (text.new.items ≡ text.old.items ++ head_text place entry.now) }
 {
-    put_number(text, place)?;
+    push_decimal(text, place)?;
     text.push(b' ')?;
-    put_number(text, u64::from(entry.who))?;
+    push_decimal(text, u64::from(entry.who))?;
     text.push(b' ')?;
-    put_number(text, u64::from(entry.call.uid))
+    push_decimal(text, u64::from(entry.call.uid))
 }

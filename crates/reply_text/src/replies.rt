@@ -1,30 +1,56 @@
 //! The text of what was replied.
 
-ghost use Rattle.std.specs.Prelude.{◌≡◌, ◌++◌, OnOk};
-ghost use Rattle.reply_text.specs.Log.{bit, flag_text, state_text, refusal_text, reply_text, removed_text, status_reply_text};
+ghost use Rattle.std.specs.Prelude.{◌≡◌, ◌++◌, OnOk, codes};
+ghost use Rattle.reply_text.specs.Words.{bit, state_text, refusal_name, refusal_text, version_text};
+ghost use Rattle.reply_text.specs.Log.{flag_text, reply_text, removed_text, status_reply_text};
 
 use crate::calls::put_named;
-use crate::words::put_number;
 use mount_model::{KeyState, Refusal, Reply};
-use std::alloc::{AllocError, Global};
+use std::alloc::AllocError;
+use text_words::push_decimal;
 
 // Puts what was replied behind the text.
-pub(crate) fn put_reply(alloc: Global, text: &mut Vec<u8>, reply: &Reply) -> Result<(), AllocError>
+pub(crate) fn put_reply(text: &mut Vec<u8>, reply: &Reply) -> Result<(), AllocError>
     ensures { OnOk result (text.new.items ≡ text.old.items ++ reply_text reply.now) }
 {
     match reply {
-        Reply::Added(id) => put_named(alloc, text, b"added ", id),
+        Reply::Added(id) => put_named(text, b"added ", id),
         Reply::Removed { others, busy } => put_removed(text, *others, *busy),
         Reply::Status {
             state,
             by_self,
             users,
         } => put_status(text, *state, *by_self, *users),
-        Reply::Refused(refusal) => {
-            text.extend_from_slice(b"refused ")?;
-            text.extend_from_slice(refusal_text(*refusal))
-        }
+        Reply::Refused(refusal) => put_refusal(text, *refusal),
+        Reply::Done => text.extend_from_slice(b"ok"),
+        Reply::PolicyIs(_) => text.extend_from_slice(b"policy"),
+        Reply::Names { .. } => text.extend_from_slice(b"names"),
+        Reply::Stat { .. } => text.extend_from_slice(b"stat"),
+        Reply::Opened(_) => text.extend_from_slice(b"handle"),
+        Reply::Content(_) => text.extend_from_slice(b"data"),
+        Reply::Target(_) => text.extend_from_slice(b"target"),
+        Reply::Held { .. } => text.extend_from_slice(b"record"),
+        Reply::Stored(_) => text.extend_from_slice(b"stored"),
     }
+}
+
+// Puts why nothing was done behind the text.
+fn put_refusal(text: &mut Vec<u8>, refusal: Refusal) -> Result<(), AllocError>
+    ensures { OnOk result (text.new.items ≡ text.old.items ++ (codes "refused " ++ refusal_text refusal)) }
+{
+    text.extend_from_slice(b"refused ")?;
+    text.extend_from_slice(refusal_name(refusal))?;
+    put_version(text, refusal)
+}
+
+// Puts the version that a refusal tells behind the text.
+fn put_version(text: &mut Vec<u8>, refusal: Refusal) -> Result<(), AllocError>
+    ensures { OnOk result (text.new.items ≡ text.old.items ++ version_text refusal) }
+{
+    if let Refusal::Changed { version } = refusal {
+        push_decimal(text, u64::from(version))?;
+    }
+    Ok(())
 }
 
 // Puts what is left of a key on which a claim was given up behind the text.
@@ -40,7 +66,7 @@ fn put_flag(text: &mut Vec<u8>, name: &[u8], value: bool) -> Result<(), AllocErr
     ensures { OnOk result (text.new.items ≡ text.old.items ++ flag_text name.now value) }
 {
     text.extend_from_slice(name)?;
-    put_number(text, bit(value))
+    push_decimal(text, bit(value))
 }
 
 // Puts what stands of a key behind the text.
@@ -56,7 +82,7 @@ fn put_status(
     text.extend_from_slice(state_text(state))?;
     put_flag(text, b" self=", by_self)?;
     text.extend_from_slice(b" users=")?;
-    put_number(text, u64::from(users))
+    push_decimal(text, u64::from(users))
 }
 
 fn bit(value: bool) -> u64
@@ -75,13 +101,28 @@ fn state_text(state: KeyState) -> &'static [u8]
     }
 }
 
-fn refusal_text(refusal: Refusal) -> &'static [u8]
-    ensures { result.now ≡ refusal_text refusal }
+// The name of a refusal, with a space behind it where a version follows.
+fn refusal_name(refusal: Refusal) -> &'static [u8]
+    ensures { result.now ≡ refusal_name refusal }
 {
     match refusal {
         Refusal::NoKey => b"no-key",
+        Refusal::Access => b"access",
         Refusal::Quota => b"quota",
         Refusal::Inval => b"inval",
+        Refusal::Exists => b"exists",
+        Refusal::NotFound => b"not-found",
+        Refusal::NotDir => b"not-dir",
+        Refusal::IsDir => b"is-dir",
+        Refusal::NotEmpty => b"not-empty",
+        Refusal::XDev => b"x-dev",
+        Refusal::NoData => b"no-data",
+        Refusal::BadHandle => b"bad-handle",
+        Refusal::NameTooLong => b"name-too-long",
+        Refusal::TooBig => b"too-big",
+        Refusal::NoSpace => b"no-space",
+        Refusal::NoKeyClash => b"no-key-clash",
+        Refusal::Changed { .. } => b"changed ",
         Refusal::NoMemory => b"no-memory",
     }
 }

@@ -2,6 +2,7 @@
 
 use fsc_outside::{CallList, FixedSeed, MemSink, MemSource};
 use fsc_tool::tool_serial;
+use mount_shared::KeyMount;
 use reply_text::Status;
 use std::alloc::{AllocError, Global};
 
@@ -45,6 +46,7 @@ pub(crate) fn replay(alloc: Global, input: Vec<u8>) -> Result<(Status, MemSink),
         &mut source,
         &mut sink,
         &mut FixedSeed::failing(),
+        KeyMount::new(alloc),
     );
     Ok((status, sink))
 }

@@ -5,8 +5,8 @@ use Rattle.fsc_tool.proofs.RunLemmas.{round-step, round-end}
 use Rattle.fsc_tool.proofs.run.run_round.Goals as goal
 
 pub callers-preserved : goal.callers-preserved
-callers-preserved c = record {
-  running = c.in_ok-run_command.ensures.running;
+callers-preserved g c = record {
+  leads = c.in_ok-run_command.ensures.leads;
   order =
       ap (λ calls. calls ++ round_from c.args.number (c.callers.caller + 1) (drop (c.callers.caller + 1) c.args.sections.now)) c.in_ok-run_command.ensures.order
       ∙ round-step c.args.number c.callers.caller c.args.sections.now c.index-sections-caller.result (calls_of c.callers.history) _
@@ -14,5 +14,5 @@ callers-preserved c = record {
 }
 
 pub returns-clause-order : goal.returns-clause-order
-returns-clause-order c =
+returns-clause-order g c =
     round-end c.args.number c.callers.caller c.args.sections.now (calls_of c.callers.history) _ (omega arith) c.callers.invariant.order

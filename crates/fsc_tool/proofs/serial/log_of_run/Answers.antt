@@ -4,11 +4,11 @@ use Rattle.fsc_tool.proofs.SerialLemmas.{serial}
 use Rattle.fsc_tool.proofs.serial.log_of_run.Goals as goal
 
 pub returns : goal.returns
-returns c = record {
+returns g c = record {
   history = c.in_ok-history.history;
   runs = c.in_ok-history.ensures.run;
-  legal = c.in_ok-history.ensures.legal;
+  lawfully = c.in_ok-history.ensures.lawful;
   log = c.in_ok-log.ensures ∙ ap log_text c.as_slice.ensures;
   order = c.in_ok-history.ensures.order;
-  serial = serial c.args.script.now c.in_ok-history.history c.in_ok-history.ensures.legal c.in_ok-history.ensures.order;
+  serial = λ legal. serial c.args.script.now c.in_ok-history.history legal c.in_ok-history.ensures.order;
 }
