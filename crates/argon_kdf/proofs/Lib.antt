@@ -7,3 +7,6 @@ pub mod Chains
 pub mod Steps
 pub mod Referring
 pub mod Recursion
+pub mod SegmentLemmas
+pub mod AloneLemmas
+pub mod PlacingLemmas

@@ -195,7 +195,7 @@ finished_keeps_before x h0 t w s i k pass slice lane index =
 
 -- ---- the blocks that are read
 
-joined_same : (x : Shape) (at : Place) (now other : ℕ → ℕ → List ℕ) → now at.lane (column_before x at) ≡ other at.lane (column_before x at)
+pub joined_same : (x : Shape) (at : Place) (now other : ℕ → ℕ → List ℕ) → now at.lane (column_before x at) ≡ other at.lane (column_before x at)
     → ((word : ℕ) → now (reference_lane x at (word / 2 ^ 32)) (reference_column x at (reference_lane x at (word / 2 ^ 32)) (word % 2 ^ 32))
     ≡ other (reference_lane x at (word / 2 ^ 32)) (reference_column x at (reference_lane x at (word / 2 ^ 32)) (word % 2 ^ 32)))
     → joined_block x at now ≡ joined_block x at other
@@ -205,7 +205,7 @@ joined_same x at now other previous referred =
     let second = referred (reference_word x at (now at.lane (column_before x at))) ∙ ap (λ (block : List ℕ). at_word (reference_word x at block)) previous in
     λ j. joined (previous j) (second j)
 
-new_first_same : (x : Shape) (h0 : List ℕ) (at : Place) (now other : ℕ → ℕ → List ℕ) → at.pass ≡ 0 → column_of x at < 2
+pub new_first_same : (x : Shape) (h0 : List ℕ) (at : Place) (now other : ℕ → ℕ → List ℕ) → at.pass ≡ 0 → column_of x at < 2
     → new_block x h0 at now ≡ new_block x h0 at other
 unfolding new_block
 new_first_same x h0 at now other first low =
@@ -213,7 +213,7 @@ new_first_same x h0 at now other first low =
     let is_low : nat_lt (column_of x at) 2 ≡ true = grind (arith, nat_tests) in
     rw (is_first, is_low) refl
 
-new_joined_same : (x : Shape) (h0 : List ℕ) (at : Place) (now other : ℕ → ℕ → List ℕ) → at.pass ≡ 0 → 2 ≤ column_of x at
+pub new_joined_same : (x : Shape) (h0 : List ℕ) (at : Place) (now other : ℕ → ℕ → List ℕ) → at.pass ≡ 0 → 2 ≤ column_of x at
     → joined_block x at now ≡ joined_block x at other → new_block x h0 at now ≡ new_block x h0 at other
 unfolding new_block
 new_joined_same x h0 at now other first past same =

@@ -52,7 +52,7 @@ unfolding latest
 latest_old x b at l z high = grind (arith, nat_tests)
 
 -- a block put at a place is the latest there once the filling has gone on
-latest_put_here : (x : Shape) (b : Table) (w s i k : ℕ) (new : List ℕ)
+pub latest_put_here : (x : Shape) (b : Table) (w s i k : ℕ) (new : List ℕ)
     → latest x (put b w i (s * x.width + k) new) (place w s i (k + 1)) i (s * x.width + k) ≡ new
 latest_put_here x b w s i k new =
     let here : columns_made x (place w s i (k + 1)) i ≡ s * x.width + (k + 1) = made_here x w s i (k + 1) in
@@ -60,12 +60,12 @@ latest_put_here x b w s i k new =
     ∙ put_same b w i (s * x.width + k) new
 
 -- a column that is made in this pass, or not, is so before and after
-latest_same : (x : Shape) (b c : Table) (at to : Place) (l z : ℕ) → at.pass ≡ to.pass → columns_made x at l ≡ columns_made x to l
+pub latest_same : (x : Shape) (b c : Table) (at to : Place) (l z : ℕ) → at.pass ≡ to.pass → columns_made x at l ≡ columns_made x to l
     → b at.pass l z ≡ c at.pass l z → b (at.pass - 1) l z ≡ c (at.pass - 1) l z → latest x b at l z ≡ latest x c to l z
 unfolding latest
 latest_same x b c at to l z pass made now before = rw (made, now, before, pass) refl
 
-latest_put_lane : (x : Shape) (b : Table) (w s i k : ℕ) (new : List ℕ) (l z : ℕ) → l ≢ i
+pub latest_put_lane : (x : Shape) (b : Table) (w s i k : ℕ) (new : List ℕ) (l z : ℕ) → l ≢ i
     → latest x b (place w s i k) l z ≡ latest x (put b w i (s * x.width + k) new) (place w s i (k + 1)) l z
 latest_put_lane x b w s i k new l z other =
     let made : columns_made x (place w s i k) l ≡ columns_made x (place w s i (k + 1)) l =
@@ -76,7 +76,7 @@ latest_put_lane x b w s i k new l z other =
     latest_same x b (put b w i (s * x.width + k) new) (place w s i k) (place w s i (k + 1)) l z refl made
     (sym (put_lane b w i (s * x.width + k) new w l z other)) (sym (put_lane b w i (s * x.width + k) new (w - 1) l z other))
 
-latest_put_column : (x : Shape) (b : Table) (w s i k : ℕ) (new : List ℕ) (z : ℕ) → z ≢ s * x.width + k
+pub latest_put_column : (x : Shape) (b : Table) (w s i k : ℕ) (new : List ℕ) (z : ℕ) → z ≢ s * x.width + k
     → latest x b (place w s i k) i z ≡ latest x (put b w i (s * x.width + k) new) (place w s i (k + 1)) i z
 latest_put_column x b w s i k new z other =
     let c : Table = put b w i (s * x.width + k) new in

@@ -1,5 +1,5 @@
 -- A step of the filling, from the blocks that the program reads.
-use Rattle.std.proofs.Common.{◌≡◌, ℕ, ◌+◌, ◌*◌, ◌/◌, ◌%◌, ◌^◌, ◌<◌, ◌≤◌, ◌==◌, true, false, nat_lt, List, [], slice_index_or, slice_set, refl, arith, add-one}
+use Rattle.std.proofs.Common.{◌≡◌, ℕ, ◌+◌, ◌-◌, ◌*◌, ◌/◌, ◌%◌, ◌^◌, ◌<◌, ◌≤◌, ◌==◌, true, false, nat_lt, List, [], slice_index_or, slice_set, refl, ap, ◌∙◌, arith, add-one}
 use Rattle.std.proofs.Math.Nat.{mul-le-mul_left}
 use Rattle.std.proofs.lemmas.Bool.Decides.{nat_tests}
 use Rattle.argon_kdf.specs.declared.layout.Place.{Place}
@@ -8,7 +8,9 @@ use Rattle.argon_kdf.specs.Shapes.{Shape, IsWithin, place, columns, block_count,
 use Rattle.argon_kdf.specs.References.{address_input, address_block, reference_word, reference_lane, reference_column}
 use Rattle.argon_kdf.specs.Tables.{Table, empty_table, latest}
 use Rattle.argon_kdf.specs.Filling.{first_block, joined_block, new_block, with_block, with_places, with_lanes, with_slices, with_passes}
-use Rattle.argon_kdf.specs.Argon2id.{lanes_xored}
+use Rattle.argon_kdf.specs.Argon2id.{lanes_xored, tag_of}
+use Rattle.argon_kdf.specs.LongDigest.{long_digest}
+use Rattle.byte_words.specs.Words.{bytes_of_words}
 use Rattle.argon_kdf.specs.Memory.{Stands}
 use Rattle.argon_kdf.proofs.Standing.{Stands_put}
 
@@ -121,3 +123,10 @@ pub lanes_xored_next : (blocks : ℕ → ℕ → List ℕ) (column n : ℕ)
     → lanes_xored blocks column (n + 1) ≡ xored (lanes_xored blocks column n) (blocks n column)
 unfolding lanes_xored
 lanes_xored_next blocks column n = rw add-one refl
+
+-- ---- the tag
+
+pub tag_from : (x : Shape) (h0 sum tag : List ℕ) → tag ≡ long_digest 32 (bytes_of_words sum)
+    → sum ≡ lanes_xored (with_passes x h0 x.passes (x.passes - 1)) (columns x - 1) x.lanes → tag ≡ tag_of x h0
+unfolding tag_of
+tag_from x h0 sum tag made summed = made ∙ ap (λ (block : List ℕ). long_digest 32 (bytes_of_words block)) summed

@@ -4,7 +4,8 @@ use Rattle.blake2_core.specs.Words.{bytes_of_words}
 use Rattle.blake2_core.specs.Digest.{blake2b_digest}
 use Rattle.argon_kdf.specs.declared.costs.Costs.{Costs}
 use Rattle.argon_kdf.specs.Blocks.{zero_block, xored}
-use Rattle.argon_kdf.specs.LongDigest.{le32, long_digest}
+use Rattle.byte_words.specs.Numbers.{little_endian_bytes}
+use Rattle.argon_kdf.specs.LongDigest.{long_digest}
 use Rattle.argon_kdf.specs.Shapes.{Shape, columns, shape_of_costs}
 use Rattle.argon_kdf.specs.Filling.{with_passes}
 
@@ -12,9 +13,9 @@ use Rattle.argon_kdf.specs.Filling.{with_passes}
 -- (step 1)
 abbrev pub first_input : Costs → List ℕ → List ℕ → List ℕ → List ℕ → List ℕ
 first_input costs password salt secret extra =
-    le32 costs.lanes ++ le32 32 ++ le32 costs.kib ++ le32 costs.passes ++ le32 0x13 ++ le32 2
-    ++ le32 (length password) ++ password ++ le32 (length salt) ++ salt
-    ++ le32 (length secret) ++ secret ++ le32 (length extra) ++ extra
+    little_endian_bytes 4 costs.lanes ++ little_endian_bytes 4 32 ++ little_endian_bytes 4 costs.kib ++ little_endian_bytes 4 costs.passes ++ little_endian_bytes 4 0x13 ++ little_endian_bytes 4 2
+    ++ little_endian_bytes 4 (length password) ++ password ++ little_endian_bytes 4 (length salt) ++ salt
+    ++ little_endian_bytes 4 (length secret) ++ secret ++ little_endian_bytes 4 (length extra) ++ extra
 
 -- H_0
 unfoldable pub first_digest : Costs → List ℕ → List ℕ → List ℕ → List ℕ → List ℕ

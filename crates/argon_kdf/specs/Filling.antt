@@ -2,14 +2,15 @@
 use Rattle.std.specs.Prelude.{ℕ, zero, suc, ◌/◌, ◌%◌, ◌^◌, ◌==◌, nat_lt, List, ◌++◌, if◌then◌else◌}
 use Rattle.argon_kdf.specs.declared.layout.Place.{Place}
 use Rattle.argon_kdf.specs.Blocks.{block_of, joined, xored}
-use Rattle.argon_kdf.specs.LongDigest.{le32, long_digest}
+use Rattle.byte_words.specs.Numbers.{little_endian_bytes}
+use Rattle.argon_kdf.specs.LongDigest.{long_digest}
 use Rattle.argon_kdf.specs.Shapes.{Shape, place, column_of, column_before}
 use Rattle.argon_kdf.specs.References.{reference_word, reference_lane, reference_column}
 use Rattle.argon_kdf.specs.Tables.{Table, empty_table, put, latest}
 
 -- the first two blocks of a lane, from the digest H_0 (steps 3 and 4)
 unfoldable pub first_block : List ℕ → ℕ → ℕ → List ℕ
-first_block h0 lane column = block_of (long_digest 1024 ((h0 ++ le32 column) ++ le32 lane))
+first_block h0 lane column = block_of (long_digest 1024 ((h0 ++ little_endian_bytes 4 column) ++ little_endian_bytes 4 lane))
 
 -- G of the block before a place and the block that it refers to, among the blocks `now` as they stand
 unfoldable pub joined_block : Shape → Place → (ℕ → ℕ → List ℕ) → List ℕ

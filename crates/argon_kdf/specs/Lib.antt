@@ -1,7 +1,9 @@
 pub mod CostLimits
 pub mod Blocks
 pub mod Permutation
+pub mod Lanes
 pub mod LongDigest
+pub mod Segments
 pub mod Shapes
 pub mod References
 pub mod Tables

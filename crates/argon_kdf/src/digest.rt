@@ -5,7 +5,8 @@ ghost use Rattle.std.specs.Prelude.{◌≡◌, ℕ, ◌+◌, ◌*◌, ◌^◌, �
 ghost use Rattle.blake2_core.specs.Words.{bytes_of_words};
 ghost use Rattle.blake2_core.specs.Digest.{blake2b_digest};
 ghost use Rattle.blake2_core.specs.Hasher.{Holds, output_length};
-ghost use Rattle.argon_kdf.specs.LongDigest.{chained_digest, le32, long_digest};
+ghost use Rattle.byte_words.specs.Numbers.{little_endian_bytes};
+ghost use Rattle.argon_kdf.specs.LongDigest.{chained_digest, long_digest};
 ghost use Rattle.argon_kdf.specs.Filling.{first_block};
 ghost use Rattle.argon_kdf.specs.Argon2id.{first_digest};
 
@@ -23,7 +24,7 @@ const BLOCK_LEN: u32 = 1024;
 
 fn update_number(hasher: &mut Blake2b, number: u32)
     ensures length { output_length hasher.new ≡ output_length hasher.old }
-    ensures added { (m : List ℕ) → Holds hasher.old m → Holds hasher.new (m ++ le32 number) }
+    ensures added { (m : List ℕ) → Holds hasher.old m → Holds hasher.new (m ++ little_endian_bytes 4 number) }
 {
     hasher.update(&number.to_le_bytes());
 }
@@ -31,7 +32,7 @@ fn update_number(hasher: &mut Blake2b, number: u32)
 fn update_counted(hasher: &mut Blake2b, text: &[u8])
     requires { length text.now ≤ 1024 }
     ensures length { output_length hasher.new ≡ output_length hasher.old }
-    ensures added { (m : List ℕ) → Holds hasher.old m → Holds hasher.new (m ++ le32 (length text.now) ++ text.now) }
+    ensures added { (m : List ℕ) → Holds hasher.old m → Holds hasher.new (m ++ little_endian_bytes 4 (length text.now) ++ text.now) }
 {
     update_number(hasher, text.len() as u32);
     hasher.update(text);
@@ -75,7 +76,7 @@ pub fn first_digest(
 }
 
 fn first_value(h0: &[u8; 64], lane: u32, column: u32) -> [u8; 64]
-    ensures { result ≡ chained_digest 1024 ((h0.now ++ le32 column) ++ le32 lane) 0 }
+    ensures { result ≡ chained_digest 1024 ((h0.now ++ little_endian_bytes 4 column) ++ little_endian_bytes 4 lane) 0 }
 {
     let mut hasher = Blake2b::new(64);
     update_number(&mut hasher, BLOCK_LEN);

@@ -7,6 +7,7 @@ ghost use Rattle.argon_kdf.specs.CostLimits.{checked_costs};
 ghost use Rattle.argon_kdf.specs.Argon2id.{argon2id_tag};
 
 use block::{Block, ZERO_BLOCK};
+pub use by_lanes::argon2id_lanes;
 pub use costs::{CostFault, Costs};
 use digest::{first_digest, write_tag};
 use fill::{fill, last_column};
@@ -15,12 +16,15 @@ use layout::Layout;
 use std::alloc::{AllocError, Global};
 
 mod block;
+mod by_lanes;
 mod costs;
 mod digest;
 mod fill;
+mod lanes;
 mod law;
 mod layout;
 mod reference;
+mod segment;
 #[cfg(test)]
 mod tests;
 

@@ -1,4 +1,4 @@
-use crate::{CostFault, Costs, argon2id};
+use crate::{CostFault, Costs, argon2id, argon2id_lanes};
 use std::alloc::AllocError;
 
 // RFC 9106, section 5.3.
@@ -25,6 +25,55 @@ fn argon2id_example(rt: HostRuntime) -> Result<(), AllocError> {
         &mut tag,
     )?;
     assert_eq!(rt; tag, want);
+    let mut by_lanes = [0; 32];
+    argon2id_lanes(
+        &rt,
+        rt.alloc(),
+        &costs,
+        &[1; 32],
+        &[2; 16],
+        &[3; 8],
+        &[4; 12],
+        &mut by_lanes,
+    )?;
+    assert_eq!(rt; by_lanes, want);
+    Ok(())
+}
+
+// What no contract says is that the threads run to their end.
+#[test]
+fn lanes_at_once_end_with_the_tag(rt: HostRuntime) -> Result<(), AllocError> {
+    for lanes in 1..9 {
+        for passes in [1, 3] {
+            let costs = Costs {
+                passes,
+                kib: 8 * lanes,
+                lanes,
+            };
+            let mut one = [0; 32];
+            let mut other = [1; 32];
+            argon2id(
+                rt.alloc(),
+                &costs,
+                b"password",
+                b"somesalt",
+                b"",
+                b"",
+                &mut one,
+            )?;
+            argon2id_lanes(
+                &rt,
+                rt.alloc(),
+                &costs,
+                b"password",
+                b"somesalt",
+                b"",
+                b"",
+                &mut other,
+            )?;
+            assert_eq!(rt; one, other, "{lanes} lanes, {passes} passes");
+        }
+    }
     Ok(())
 }
 

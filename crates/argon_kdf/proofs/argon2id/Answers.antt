@@ -1,16 +1,10 @@
-use Rattle.std.proofs.Common.{◌≡◌, ◌∙◌, ◌-◌, ℕ, List, ap, arith, length, drop}
+use Rattle.std.proofs.Common.{◌≡◌, ◌∙◌, arith, length, drop}
 use Rattle.std.proofs.lemmas.List.{take_at}
-use Rattle.blake2_core.specs.Words.{bytes_of_words}
-use Rattle.argon_kdf.specs.LongDigest.{long_digest}
-use Rattle.argon_kdf.specs.Shapes.{Shape, columns, shape}
-use Rattle.argon_kdf.specs.Argon2id.{argon2id_tag, lanes_xored, tag_of}
+use Rattle.argon_kdf.specs.Shapes.{shape}
+use Rattle.argon_kdf.specs.Argon2id.{argon2id_tag, tag_of}
 use Rattle.argon_kdf.specs.Filling.{with_passes}
+use Rattle.argon_kdf.proofs.Steps.{tag_from}
 use Rattle.argon_kdf.proofs.argon2id.Goals as goal
-
-tag_from : (x : Shape) (h0 sum tag : List ℕ) → tag ≡ long_digest 32 (bytes_of_words sum)
-    → sum ≡ lanes_xored (with_passes x h0 x.passes (x.passes - 1)) (columns x - 1) x.lanes → tag ≡ tag_of x h0
-unfolding tag_of
-tag_from x h0 sum tag made summed = made ∙ ap (λ (block : List ℕ). long_digest 32 (bytes_of_words block)) summed
 
 pub returns-clause-tag : goal.returns-clause-tag
 unfolding argon2id_tag

@@ -1,0 +1,138 @@
+// A segment made beside the others of its slice: from the memory before the slice, and from its own
+// blocks. No reference goes into another lane's segment of the slice (RFC 9106, 3.4).
+
+ghost use Rattle.std.specs.Prelude.{◌≡◌, ◌⊎◌, ℕ, ◌+◌, ◌-◌, ◌*◌, ◌/◌, ◌<◌, ◌≤◌, List, [], length, slice_index_or};
+ghost use Rattle.argon_kdf.specs.Shapes.{IsWithin, block_count, column_of, columns, place, shape};
+ghost use Rattle.argon_kdf.specs.Lanes.{seen_block};
+ghost use Rattle.argon_kdf.specs.References.{address_block};
+ghost use Rattle.argon_kdf.specs.Tables.{Table, latest};
+ghost use Rattle.argon_kdf.specs.Filling.{joined_block, new_block, with_places};
+ghost use Rattle.argon_kdf.specs.Memory.{Stands};
+ghost use Rattle.argon_kdf.specs.Segments.{Begun};
+
+use crate::block::{Block, ZERO_BLOCK, join, xor_into};
+use crate::digest::first_block;
+use crate::layout::{Layout, Place};
+use crate::reference::{reference_column, reference_lane, reference_word, refresh};
+
+// The block of a lane and a column as the segment of a place sees it.
+#[tactic(auto, unfolding(crate::specs::Lanes::seen_block))]
+fn seen<'a>(
+    layout: Layout,
+    memory: &'a [Block],
+    segment: &'a [Block],
+    at: Place,
+    lane: usize,
+    column: usize,
+) -> &'a Block
+    requires within { IsWithin (shape layout) at }
+    requires whole { length memory.now ≡ block_count (shape layout) }
+    requires segment { length segment.now ≡ layout.width }
+    requires lane { lane < layout.lanes }
+    requires column { column < columns (shape layout) }
+    ensures { result.now ≡ seen_block (shape layout) memory.now segment.now at lane column }
+{
+    let begin = at.slice * layout.width;
+    if lane == at.lane && begin <= column && column < begin + at.index {
+        &segment[column - begin]
+    } else {
+        &memory[layout.offset(lane, column)]
+    }
+}
+
+// Writes G of the block before a place and the block that it refers to.
+fn write_joined(
+    block: &mut Block,
+    layout: Layout,
+    memory: &[Block],
+    segment: &[Block],
+    addresses: &Block,
+    at: Place,
+)
+    requires within { IsWithin (shape layout) at }
+    requires begun { at.pass ≡ 0 → 2 ≤ column_of (shape layout) at }
+    requires whole { length memory.now ≡ block_count (shape layout) }
+    requires segment { length segment.now ≡ layout.width }
+    ensures { (table : Table) → Begun (shape layout) memory.now segment.now table at
+        → (at.pass ≡ 0 → at.slice < 2 → addresses.now ≡ address_block (shape layout) at (at.index / 128 + 1))
+        → block.new ≡ joined_block (shape layout) at (latest (shape layout) table at) }
+{
+    let previous = seen(
+        layout,
+        memory,
+        segment,
+        at,
+        at.lane,
+        layout.column_before(at),
+    );
+    let word = reference_word(addresses, at, previous);
+    let lane = reference_lane(layout, at, word >> 32);
+    let column = reference_column(layout, at, lane, word % (1 << 32));
+    join(
+        block,
+        previous,
+        seen(layout, memory, segment, at, lane, column),
+    );
+}
+
+// Writes the block of a place.
+fn write_new(
+    block: &mut Block,
+    layout: Layout,
+    h0: &[u8; 64],
+    memory: &[Block],
+    segment: &[Block],
+    addresses: &Block,
+    at: Place,
+)
+    requires within { IsWithin (shape layout) at }
+    requires whole { length memory.now ≡ block_count (shape layout) }
+    requires segment { length segment.now ≡ layout.width }
+    ensures { (table : Table) → Begun (shape layout) memory.now segment.now table at
+        → (at.pass ≡ 0 → at.slice < 2 → addresses.now ≡ address_block (shape layout) at (at.index / 128 + 1))
+        → block.new ≡ new_block (shape layout) h0.now at (latest (shape layout) table at) }
+{
+    let column = layout.column_of(at);
+    if at.pass > 0 {
+        write_joined(block, layout, memory, segment, addresses, at);
+        xor_into(block, seen(layout, memory, segment, at, at.lane, column));
+    } else if column < 2 {
+        *block = first_block(h0, at.lane, column);
+    } else {
+        write_joined(block, layout, memory, segment, addresses, at);
+    }
+}
+
+/// Makes the segment of a slice and a lane, in a buffer of its own, from the memory before the slice.
+pub fn make_segment(
+    layout: Layout,
+    h0: &[u8; 64],
+    memory: &[Block],
+    segment: &mut [Block],
+    pass: usize,
+    slice: usize,
+    lane: usize,
+)
+    requires slice { slice < 4 }
+    requires lane { lane < layout.lanes }
+    requires whole { length memory.now ≡ block_count (shape layout) }
+    requires segment { length segment.old ≡ layout.width }
+    ensures whole { length segment.new ≡ layout.width }
+    ensures made { (table : Table) → Stands (shape layout) memory.now table (place pass slice 0 0)
+        → (k : ℕ) → k < layout.width → slice_index_or segment.new k []
+        ≡ with_places (shape layout) h0.now table pass slice lane layout.width pass lane (slice * layout.width + k) }
+{
+    let mut block = ZERO_BLOCK;
+    let mut addresses = ZERO_BLOCK;
+    'places: for index in 0..layout.width {
+        let at = Place {
+            pass,
+            slice,
+            lane,
+            index,
+        };
+        refresh(&mut addresses, layout, at);
+        write_new(&mut block, layout, h0, memory, segment, &addresses, at);
+        segment[index] = block;
+    }
+}
