@@ -4,3 +4,4 @@ pub mod NodeLemmas
 pub mod ChangeLemmas
 pub mod DiskLemmas
 pub mod AgreeLemmas
+pub mod IndexLemmas

@@ -6,3 +6,4 @@ pub mod DiskTree
 pub mod TreeLends
 pub mod BodyLends
 pub mod Laws
+pub mod Indexed

@@ -8,6 +8,7 @@ mod entries;
 mod fault;
 mod laws;
 mod limits;
+mod name_index;
 mod node;
 #[cfg(test)]
 mod tests;

@@ -89,7 +89,6 @@ fn has_names(tree: &DiskTree, number: u32, names: &[&[u8]]) -> bool {
                 ..
             },
         ) => {
-            let entries = entries.as_slice();
             if entries.len() != names.len() {
                 return false;
             }
