@@ -13,3 +13,4 @@ pub mod SealedLemmas
 pub mod FoundLemmas
 pub mod FactLemmas
 pub mod AgreeLemmas
+pub mod StoredLemmas

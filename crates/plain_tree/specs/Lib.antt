@@ -5,3 +5,4 @@ pub mod Seals
 pub mod Facts
 pub mod Laws
 pub mod SealLaws
+pub mod Stored

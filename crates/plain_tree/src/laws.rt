@@ -5,6 +5,7 @@ ghost use Rattle.plain_tree.specs.Tree.{IsTree};
 ghost use Rattle.plain_tree.specs.Laws as tree;
 ghost use Rattle.plain_tree.specs.Seals.{Texts, IsSealed};
 ghost use Rattle.plain_tree.specs.SealLaws as seal;
+ghost use Rattle.plain_tree.specs.Stored as stored;
 
 /// A mount begins as a tree of its root alone, whose next number is 1, and each kind of change of a
 /// tree leaves a tree.
@@ -34,4 +35,13 @@ pub fn changes_keep_seals()
 /// In a sealed tree the text of a name leads to the node to which the name leads.
 pub fn texts_lead()
     ensures { seal.TextsLead }
+{}
+
+/// Entries with their names in stored form are searched and edited as the plain ones are, whatever
+/// the stored form is, where no two names of the directory are stored alike.
+pub fn stored_entries_agree()
+    ensures searches { stored.SearchesAgree }
+    ensures puts { stored.PutsAgree }
+    ensures removals { stored.RemovalsAgree }
+    ensures differ { stored.StoredFormsDiffer }
 {}

@@ -3,7 +3,7 @@
 
 mod laws;
 
-pub use laws::{changes_keep_seals, changes_keep_trees, texts_lead};
+pub use laws::{changes_keep_seals, changes_keep_trees, stored_entries_agree, texts_lead};
 
 /// The most nodes that a mount may have, the root and nodes without a name counted.
 pub const MOST_NODES: usize = 65_536;
