@@ -1,10 +1,13 @@
 -- The body of a file that holds contents, and what a write makes of a body.
-use Rattle.std.specs.Prelude.{ℕ, ◌+◌, ◌/◌, List, [], ◌∷◌, length, min, max, Option}
+use Rattle.std.specs.Prelude.{ℕ, ◌+◌, ◌-◌, ◌/◌, ◌<◌, List, [], ◌∷◌, length, min, max, Option}
 use Rattle.std.specs.Int.{div_ceil}
+use Rattle.number_map.specs.Numbered.{changed}
 use Rattle.data_crypt.specs.Blocks.{Seal, read_block, stored_block, stored_blocks}
 use Rattle.data_crypt.specs.Parts.{edited, rewritten}
 use Rattle.disk_tree.specs.Blocks.{grown}
-use Rattle.disk_tree.specs.Nodes.{size_of, with_blocks, with_size}
+use Rattle.disk_tree.specs.Nodes.{size_of, on_body, with_blocks, with_size}
+use Rattle.disk_tree.specs.DiskTree.{Disk, block_total, file_blocks}
+use Rattle.disk_tree.specs.declared.limits.TheConstants.{MOST_BLOCKS}
 use Rattle.disk_tree.specs.declared.node.Body.{Body}
 use Rattle.disk_tree.specs.declared.node.Body.TheVariants.{File}
 
@@ -20,9 +23,31 @@ end_block at bytes = div_ceil (at + length bytes) 4096
 -- all that are new, are stored anew. The others stay.
 unfoldable pub blocks_with : Option Seal → ℕ → List ℕ → List (List ℕ) → List (List ℕ)
 blocks_with seal at bytes blocks =
-    edited (rewritten (stored_block seal) (read_block seal) (length blocks) at bytes) (min (length blocks) (at / 4096)) (end_block at bytes) (grown (end_block at bytes) blocks)
+    edited (rewritten (stored_block seal) (read_block seal) (length blocks) at bytes)
+    (min (length blocks) (at / 4096)) (end_block at bytes) (grown (end_block at bytes) blocks)
 
 -- the body after a write; no bytes change nothing
 abbrev pub body_written : Option Seal → ℕ → List ℕ → Body → Body
 body_written seal at [] body = body
 body_written seal at (b ∷ bs) body = with_size (max (size_of body) (at + length (b ∷ bs))) (with_blocks (blocks_with seal at (b ∷ bs)) body)
+
+-- the blocks that all files would have after a write
+abbrev pub blocks_after : Disk → ℕ → ℕ → List ℕ → ℕ
+blocks_after disk file at bytes = block_total disk + (end_block at bytes - length (file_blocks disk file))
+
+-- they would be more than all files may have
+abbrev pub ExceedsDisk : Disk → ℕ → ℕ → List ℕ → Type 0
+ExceedsDisk disk file at bytes = MOST_BLOCKS < blocks_after disk file at bytes
+
+-- the disk after a write: this file's body is changed
+abbrev pub disk_written : Disk → ℕ → Option Seal → ℕ → List ℕ → Disk
+disk_written disk file seal at bytes = changed disk file (on_body (body_written seal at bytes))
+
+-- block j stored anew with its part of the bytes, where the file had so many blocks before
+abbrev pub stored_anew : Option Seal → ℕ → ℕ → List ℕ → ℕ → List ℕ → List ℕ
+stored_anew seal had at bytes j block = rewritten (stored_block seal) (read_block seal) had at bytes j block
+
+-- some blocks of the file stored anew
+abbrev pub blocks_rewritten : Disk → ℕ → Option Seal → ℕ → ℕ → List ℕ → ℕ → ℕ → Disk
+blocks_rewritten disk file seal had at bytes first end =
+    changed disk file (on_body (with_blocks (edited (rewritten (stored_block seal) (read_block seal) had at bytes) first end)))

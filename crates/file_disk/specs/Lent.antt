@@ -1,9 +1,10 @@
 -- What a file holds, and what a read that has begun gives.
-use Rattle.std.specs.Prelude.{◌≡◌, ℕ, ◌*◌, List, [], length, Option, None, Some, option_map, nat_le, if◌then◌else◌}
+use Rattle.std.specs.Prelude.{◌≡◌, ℕ, ◌*◌, ◌/◌, List, [], length, Option, None, Some, option_map, nat_le, if◌then◌else◌}
 use Rattle.byte_words.specs.Bytes.{AreBytes}
+use Rattle.byte_words.specs.Contents.{bytes_from}
 use Rattle.number_map.specs.Numbered.{get}
 use Rattle.data_crypt.specs.Blocks.{Seal}
-use Rattle.data_crypt.specs.Parts.{content_of}
+use Rattle.data_crypt.specs.Parts.{blocks_joined, content_of}
 use Rattle.disk_tree.specs.DiskTree.{Disk, file_blocks, file_size}
 use Rattle.file_disk.specs.Bodies.{file_body}
 use Rattle.file_disk.specs.Keys.{seal_of}
@@ -22,3 +23,11 @@ lent_content (Some read) = content_of (seal_of read.key) read.block read.text.it
 -- the size of a file that has a block for each of its bytes, else 0
 abbrev pub whole_size : Disk → ℕ → ℕ
 whole_size disk file = if nat_le (file_size disk file) (4096 * length (file_blocks disk file)) then file_size disk file else 0
+
+-- the text is the stored blocks that it begins and ends with
+abbrev pub IsCopied : Disk → ℕ → LentRead → Type 0
+IsCopied disk file read = read.text.items ≡ blocks_joined (file_blocks disk file) read.block (length read.text.items / 4096)
+
+-- what a read will have is the part that was asked for, whatever contents the file holds
+abbrev pub IsPart : Disk → ℕ → Option Seal → ℕ → ℕ → Option LentRead → Type 0
+IsPart disk file seal offset len lent = (contents : List ℕ) → IsStored disk file seal contents → lent_content lent ≡ bytes_from offset len contents

@@ -1,12 +1,11 @@
 //! A part of a file's contents is read in two halves: stored blocks are copied, and then deciphered.
-ghost use Rattle.std.specs.Prelude.{◌≡◌, ◌+◌, ◌*◌, ◌/◌, ◌%◌, ◌<◌, ◌≤◌, ◌^◌, ℕ, List, take, drop, length, IfOk, IfSome, OnOk};
+ghost use Rattle.std.specs.Prelude.{◌≡◌, ◌+◌, ◌*◌, ◌/◌, ◌%◌, ◌<◌, ◌≤◌, ◌^◌, take, drop, length, IfOk, IfSome, OnOk};
 ghost use Rattle.byte_words.specs.Bytes.{AreBytes};
-ghost use Rattle.byte_words.specs.Contents.{bytes_from};
 ghost use Rattle.data_crypt.specs.Laws.{IsKeyOfBytes};
 ghost use Rattle.data_crypt.specs.Parts.{blocks_joined, content_of, opened_text};
 ghost use Rattle.disk_tree.specs.DiskTree.{file_blocks, file_size};
 ghost use Rattle.file_disk.specs.Keys.{seal_by, seal_of};
-ghost use Rattle.file_disk.specs.Lent.{IsStored, lent_content, whole_size};
+ghost use Rattle.file_disk.specs.Lent.{IsCopied, IsPart, whole_size};
 
 use crate::cipher::{cipher_of, read};
 use crate::key::{ContentsKey, FileCipher};
@@ -31,9 +30,9 @@ pub fn begin_read(
     requires { len ≤ MOST_READ }
     ensures past { whole_size disk.now file ≤ offset → result ≡ Ok None }
     ensures none { len ≡ 0 → result ≡ Ok None }
-    ensures text { IfOk result (λ lent. IfSome lent (λ read. read.text.items ≡ blocks_joined (file_blocks disk.now file) read.block (length read.text.items / 4096))) }
+    ensures text { IfOk result (λ lent. IfSome lent (IsCopied disk.now file)) }
     ensures key { IfOk result (λ lent. IfSome lent (λ read. seal_of read.key ≡ seal_of key.now)) }
-    ensures content { IfOk result (λ lent. (contents : List ℕ) → IsStored disk.now file (seal_of key.now) contents → lent_content lent ≡ bytes_from offset len contents) }
+    ensures content { IfOk result (IsPart disk.now file (seal_of key.now) offset len) }
 {
     let size = whole_size(disk, file);
     if offset >= size || len == 0 {

@@ -1,19 +1,14 @@
 //! A piece is written into a file's stored blocks.
-ghost use Rattle.std.specs.Prelude.{◌≡◌, ◌+◌, ◌-◌, ◌*◌, ◌<◌, ◌≤◌, ◌^◌, length, IfErr, IsOk, OnErr, OnOk};
-ghost use Rattle.std.specs.Int.{div_ceil};
-ghost use Rattle.number_map.specs.Numbered as map;
-ghost use Rattle.data_crypt.specs.Blocks.{read_block, stored_block};
-ghost use Rattle.data_crypt.specs.Parts.{edited, rewritten};
-ghost use Rattle.disk_tree.specs.DiskTree.{IsFileAt, block_total, file_blocks};
-ghost use Rattle.disk_tree.specs.Nodes.{on_body, with_blocks};
-ghost use Rattle.file_disk.specs.Bodies.{body_written};
+ghost use Rattle.std.specs.Prelude.{◌≡◌, ◌+◌, ◌<◌, ◌≤◌, ◌^◌, length, IfErr, IsOk, OnErr, OnOk};
+ghost use Rattle.disk_tree.specs.DiskTree.{IsFileAt, file_blocks};
+ghost use Rattle.file_disk.specs.Bodies.{ExceedsDisk, blocks_rewritten, disk_written, end_block, stored_anew};
 ghost use Rattle.file_disk.specs.Keys.{seal_by, seal_of};
 
 use crate::cipher::{cipher_of, read, store};
 use crate::key::{ContentsKey, FileCipher};
 use crate::limits::MOST_FILE_BYTES;
 use data_crypt::{BLOCK_SIZE, put_part};
-use disk_tree::{DiskFault, DiskTree, MOST_BLOCKS};
+use disk_tree::{DiskFault, DiskTree};
 use std::alloc::Global;
 
 /// Writes the bytes into the file from byte `offset` on. A gap before them is zeros, sealed as all
@@ -32,12 +27,12 @@ pub fn write_file(
 ) -> Result<(), DiskFault>
     requires file { IsFileAt disk.old file }
     requires fits { offset + length bytes.now ≤ MOST_FILE_BYTES }
-    ensures written { OnOk result (disk.new ≡ map.changed disk.old file (on_body (body_written (seal_of key.now) offset bytes.now))) }
+    ensures written { OnOk result (disk.new ≡ disk_written disk.old file (seal_of key.now) offset bytes.now) }
     ensures kept { OnErr result (disk.new ≡ disk.old) }
     ensures empty { length bytes.now ≡ 0 → IsOk result }
-    ensures inside { offset + length bytes.now ≤ BLOCK_SIZE * length (file_blocks disk.old file) → IsOk result }
-    ensures full { 0 < length bytes.now → MOST_BLOCKS < block_total disk.old + (div_ceil (offset + length bytes.now) BLOCK_SIZE - length (file_blocks disk.old file)) → result ≡ Err DiskFault.NoSpace }
-    ensures no_space { IfErr result (λ fault. fault ≡ DiskFault.NoSpace → MOST_BLOCKS < block_total disk.old + (div_ceil (offset + length bytes.now) BLOCK_SIZE - length (file_blocks disk.old file))) }
+    ensures inside { end_block offset bytes.now ≤ length (file_blocks disk.old file) → IsOk result }
+    ensures full { 0 < length bytes.now → ExceedsDisk disk.old file offset bytes.now → result ≡ Err DiskFault.NoSpace }
+    ensures no_space { IfErr result (λ fault. fault ≡ DiskFault.NoSpace → ExceedsDisk disk.old file offset bytes.now) }
 {
     if bytes.is_empty() {
         return Ok(());
@@ -73,7 +68,7 @@ fn rewrite_blocks(
     requires there { end ≤ length (file_blocks disk.old file) }
     requires near { end ≤ 2 ^ 20 }
     requires order { first ≤ end }
-    ensures { disk.new ≡ map.changed disk.old file (on_body (with_blocks (edited (rewritten (stored_block (seal_by cipher.now)) (read_block (seal_by cipher.now)) had offset bytes.now) first end))) }
+    ensures { disk.new ≡ blocks_rewritten disk.old file (seal_by cipher.now) had offset bytes.now first end }
 {
     'each: for j in first..end {
         let block = disk.block_mut(file, j);
@@ -92,7 +87,7 @@ fn rewrite_block(
 )
     requires block_size { length block.old ≡ BLOCK_SIZE }
     requires near { index < 2 ^ 20 }
-    ensures { block.new ≡ rewritten (stored_block (seal_by cipher.now)) (read_block (seal_by cipher.now)) had offset bytes.now index block.old }
+    ensures { block.new ≡ stored_anew (seal_by cipher.now) had offset bytes.now index block.old }
 {
     if (index as usize) < had {
         read(cipher, index, block);
