@@ -2,20 +2,19 @@
 use Rattle.std.proofs.Common.{◌≡◌, ℕ, ◌*◌, ◌^◌, Bool, true, false, cond, List, [], ◌++◌, replicate, Option, Some, None, is_some, sym, refl, ap, ◌∙◌, subst, ⊎_elim}
 use Rattle.std.specs.Option.{unwrap_or}
 use Rattle.std.proofs.lemmas.Bool.{cond-true, cond-false, cases_Bool, true≢false}
-use Rattle.byte_words.specs.Numbers.{little_endian_bytes}
 use Rattle.policy_ctx.specs.declared.policy.KeyId.{KeyId}
 use Rattle.policy_ctx.specs.declared.policy.Context.{Context}
 use Rattle.policy_ctx.specs.KeyIds.{same_id}
 use Rattle.policy_ctx.proofs.KeyIdLemmas.{same_id-eq}
 use Rattle.fsc_keys.specs.declared.file_keys.KeyKind.TheVariants.{Names}
 use Rattle.fsc_keys.specs.Keys.{key_id_of, file_key_of, mode_key_of, key_bytes}
-use Rattle.name_crypt.specs.StoredName.{stored_name_with}
+use Rattle.name_crypt.specs.StoredName.{stored_name}
 use Rattle.name_crypt.specs.NoKeyText.{nokey_text_of}
 use Rattle.number_map.specs.Numbered.{get}
 use Rattle.plain_tree.specs.Nodes.{Name, Node, Nodes, context_in, context_at}
 use Rattle.plain_tree.proofs.SealLemmas.{same_texts}
 use Rattle.mount_model.specs.PlainMount.{Raws, raw_in, with_raw}
-use Rattle.mount_model.specs.Sealed.{node_start, iv_at, sealed_name, texts}
+use Rattle.mount_model.specs.Sealed.{node_start, sealed_name, texts}
 use Rattle.mount_model.specs.WellFormed.{HasRaw, HasNodes}
 use Rattle.mount_model.specs.Lawful.{AgreesWith}
 use Rattle.mount_model.proofs.KeyLemmas.{raw_in-with_raw}
@@ -24,9 +23,9 @@ use Rattle.mount_model.proofs.KeyLemmas.{raw_in-with_raw}
 texts_alike : (raws others : Raws) (n : ℕ) (c : Context) (name : Name) → raw_in others c.policy.id ≡ raw_in raws c.policy.id → texts others n c name ≡ texts raws n c name
 unfolding texts sealed_name
 texts_alike raws others n c name alike =
-    ap (λ (o : Option (List ℕ)). nokey_text_of (stored_name_with
+    ap (λ (o : Option (List ℕ)). nokey_text_of (stored_name
     (key_bytes (cond c.policy.by_mode (mode_key_of (unwrap_or o []) Names) (file_key_of (unwrap_or o []) Names c.nonce)))
-    (iv_at (node_start n c)) c.policy.pad name)) alike
+    (node_start n c) c.policy.pad name)) alike
 
 module _ (raws : Raws) (raw : List ℕ) (agrees : AgreesWith raws raw) where
   same_raw : (q : KeyId) (o : Option (List ℕ)) → raw_in raws q ≡ o → is_some o ≡ true → q ≡ key_id_of raw → Some raw ≡ o

@@ -1,9 +1,9 @@
 -- Each step leaves well-formed handles.
-use Rattle.std.proofs.Common.{nat_le, ◌≡◌, ℕ, ◌<◌, Bool, true, false, cond, not, ◌||◌, ◌&&◌, List, [], ◌∷◌, length, Option, Some, None, is_some, Result, Ok, refl, sym, ap, ◌∙◌}
+use Rattle.std.proofs.Common.{nat_le, ◌≡◌, ℕ, true, ◌&&◌, List, [], length, Option, Some, None, is_some, refl}
 use Rattle.std.proofs.lemmas.Bool.{or_parts, leb-false, not_from_false}
 use Rattle.byte_words.specs.Contents.{with_bytes}
 use Rattle.number_map.specs.Numbered.{get}
-use Rattle.plain_tree.specs.Nodes.{Name, Body, Dir, File, Link, Node, is_named_in, is_named}
+use Rattle.plain_tree.specs.Nodes.{Body, Dir, File, Link, Node, is_named_in}
 use Rattle.plain_tree.specs.Tree.{IsReached}
 use Rattle.plain_tree.proofs.ReachedLemmas.{reached_named}
 use Rattle.mount_model.specs.declared.call.Op.{Op}
@@ -16,17 +16,18 @@ use Rattle.mount_model.specs.PlainMount.{PlainMount, opens_of}
 use Rattle.mount_model.specs.Walk.{PathParts, last_part}
 use Rattle.mount_model.specs.KeyAnswers.{status_of}
 use Rattle.mount_model.specs.PolicyAnswers.{policy_in}
-use Rattle.mount_model.specs.NameAnswers.{new_node, with_node, without_name}
+use Rattle.mount_model.specs.NameAnswers.{new_node, with_node}
 use Rattle.mount_model.specs.FileAnswers.{is_link_at, with_handle}
 use Rattle.mount_model.specs.Answered.{Answer}
 use Rattle.mount_model.specs.Answer.{answer_to}
-use Rattle.mount_model.specs.WellFormed.{is_openable, HasNodes, HasHandles}
+use Rattle.mount_model.specs.WellFormed.{HasHandles}
 use Rattle.mount_model.proofs.CaseLemmas.{Covers, at_add_key, at_remove_key, at_remove_key_all, at_set_policy, at_get_policy}
 use Rattle.mount_model.proofs.NameCases.{CanMake, at_make, at_unlink, at_rmdir, at_rename}
 use Rattle.mount_model.proofs.FileCases.{CanOpen, at_read_link, at_list, at_stat, at_open_node, at_read, at_write, at_close, at_meta_load, at_meta_store}
 use Rattle.mount_model.proofs.WalkLemmas.{walked_reached}
 use Rattle.mount_model.proofs.HandlesWell.{made_open, left_open, moved_open, written_open, encrypted_open}
-use Rattle.mount_model.proofs.OpenLemmas.{opened_well, closed_well}
+use Rattle.mount_model.proofs.OpenLemmas.{opened_well}
+use Rattle.mount_model.proofs.CloseLemmas.{closed_well}
 use Rattle.mount_model.proofs.TreeCalls.{IsFresh, comes}
 use Rattle.mount_model.proofs.CallParts.{fresh_dir, fresh_file, fresh_link}
 use Rattle.mount_model.proofs.NodeSteps.{AreNodes}

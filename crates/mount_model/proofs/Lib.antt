@@ -12,6 +12,7 @@ pub mod NodeParts
 pub mod NodesWell
 pub mod HandlesWell
 pub mod OpenLemmas
+pub mod CloseLemmas
 pub mod TreeCalls
 pub mod CallParts
 pub mod NodeSteps

@@ -1,14 +1,13 @@
 -- What keys do to names: under which key and from which start a node's names are stored, and by which
 -- text a name is shown where the key is absent.
-use Rattle.std.specs.Prelude.{ℕ, ◌*◌, ◌^◌, List, [], ◌++◌, replicate, Option, Some, None, if◌then◌else◌}
+use Rattle.std.specs.Prelude.{ℕ, ◌*◌, ◌^◌, List, [], if◌then◌else◌}
 use Rattle.std.specs.Option.{unwrap_or}
-use Rattle.byte_words.specs.Numbers.{little_endian_bytes}
 use Rattle.policy_ctx.specs.declared.policy.Context.{Context}
 use Rattle.fsc_keys.specs.declared.file_keys.KeyKind.{KeyKind}
 use Rattle.fsc_keys.specs.declared.file_keys.KeyKind.TheVariants.{Contents, Names}
 use Rattle.fsc_keys.specs.declared.file_keys.FileKey.{FileKey}
 use Rattle.fsc_keys.specs.Keys.{file_key_of, mode_key_of, key_bytes}
-use Rattle.name_crypt.specs.StoredName.{stored_name_with}
+use Rattle.name_crypt.specs.StoredName.{stored_name}
 use Rattle.name_crypt.specs.NoKeyText.{nokey_text_of}
 use Rattle.plain_tree.specs.Nodes.{Name}
 use Rattle.plain_tree.specs.Seals.{Texts}
@@ -27,14 +26,10 @@ node_key raws c kind =
 abbrev pub node_start : ℕ → Context → ℕ
 node_start n c = if c.policy.by_mode then n * 2 ^ 32 else 0
 
--- the iv of a start: its 8 bytes, the lowest first, and 8 zeros
-abbrev pub iv_at : ℕ → List ℕ
-iv_at start = little_endian_bytes 8 start ++ replicate 8 0
-
 -- a name of the directory n, or the target of the symlink n, as it is stored
 unfoldable pub sealed_name : Raws → ℕ → Context → Name → List ℕ
 sealed_name raws n c name =
-    stored_name_with (key_bytes (node_key raws c Names)) (iv_at (node_start n c)) c.policy.pad name
+    stored_name (key_bytes (node_key raws c Names)) (node_start n c) c.policy.pad name
 
 -- the text that stands for it where the key is absent
 unfoldable pub texts : Raws → Texts
