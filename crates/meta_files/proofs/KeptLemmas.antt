@@ -10,6 +10,7 @@ use Rattle.meta_files.specs.declared.files.Record.{Record}
 use Rattle.meta_files.specs.declared.files.TheConstants.{MOST_RECORD_BYTES}
 use Rattle.meta_files.specs.declared.fault.StoreFault.{StoreFault}
 use Rattle.meta_files.specs.Records.{RecordList, record_of, with_record}
+use Rattle.meta_files.specs.Indexed.{place_in}
 use Rattle.meta_files.specs.Kept.{pair_of, pairs_of, rewrite_fault, append_fault}
 use Rattle.meta_files.specs.Faults.{store_fault}
 
@@ -80,30 +81,30 @@ store_fault_there rs name expected bytes r fits there = let small : nat_lt MOST_
 pub store_fault_new : (xs : List Record) (name : List ℕ) (expected : ℕ) (bytes : List ℕ) → length bytes ≤ MOST_RECORD_BYTES → record_of (pairs_of xs) name ≡ None → store_fault (pairs_of xs) name expected bytes ≡ append_fault (length xs) expected
 store_fault_new xs name expected bytes fits gone = let small : nat_lt MOST_RECORD_BYTES (length bytes) ≡ false = le-ltb MOST_RECORD_BYTES (length bytes) fits in rw (small, gone, length-map) refl
 
--- ---- as the calls see it: rs is what clauses see of the records xs, and ys is xs behind a reference
+-- ---- as the calls see it: rs is what clauses see of the records xs
 
-module _ (rs : RecordList) (xs ys : List Record) (name : List ℕ) (view : pairs_of xs ≡ rs) (behind : ys ≡ xs) where
-  pub seen_None : position (λ kept. bytes_eq kept.name name) ys ≡ None → record_of rs name ≡ None
-  seen_None gone = subst (λ l. record_of l name ≡ None) view (record_of_None name xs (subst (λ l. position (λ kept. bytes_eq kept.name name) l ≡ None) behind gone))
+module _ (rs : RecordList) (xs : List Record) (name : List ℕ) (view : pairs_of xs ≡ rs) where
+  pub seen_None : place_in xs name ≡ None → record_of rs name ≡ None
+  seen_None gone = subst (λ l. record_of l name ≡ None) view (record_of_None name xs gone)
 
-  pub seen_new : position (λ kept. bytes_eq kept.name name) ys ≡ None → (version : ℕ) (bytes : List ℕ) (after : List Record) → after ≡ xs ++ record { name = name; version = version; bytes = bytes } ∷ []
+  pub seen_new : place_in xs name ≡ None → (version : ℕ) (bytes : List ℕ) (after : List Record) → after ≡ xs ++ record { name = name; version = version; bytes = bytes } ∷ []
       → pairs_of after ≡ with_record rs name version bytes
-  seen_new gone version bytes after is = ap pairs_of is ∙ (with_record_new name xs (subst (λ l. position (λ kept. bytes_eq kept.name name) l ≡ None) behind gone) version bytes
+  seen_new gone version bytes after is = ap pairs_of is ∙ (with_record_new name xs gone version bytes
       ∙ ap (λ l. with_record l name version bytes) view)
 
-  pub seen_new_fault : (expected : ℕ) (bytes : List ℕ) → length bytes ≤ MOST_RECORD_BYTES → position (λ kept. bytes_eq kept.name name) ys ≡ None → store_fault rs name expected bytes ≡ append_fault (length xs) expected
+  pub seen_new_fault : (expected : ℕ) (bytes : List ℕ) → length bytes ≤ MOST_RECORD_BYTES → place_in xs name ≡ None → store_fault rs name expected bytes ≡ append_fault (length xs) expected
   seen_new_fault expected bytes fits gone = ap (λ l. store_fault l name expected bytes) (sym view)
-      ∙ store_fault_new xs name expected bytes fits (record_of_None name xs (subst (λ l. position (λ kept. bytes_eq kept.name name) l ≡ None) behind gone))
+      ∙ store_fault_new xs name expected bytes fits (record_of_None name xs gone)
 
-  module _ (i : ℕ) (there : position (λ kept. bytes_eq kept.name name) ys ≡ Some i) where
+  module _ (i : ℕ) (there : place_in xs name ≡ Some i) where
     pub seen_Some : (kept : Record) → kept ≡ get_or xs i kept → record_of rs name ≡ Some (kept.version, kept.bytes)
-    seen_Some kept is = ap (λ l. record_of l name) (sym view) ∙ (record_of_Some name xs i kept (subst (λ l. position (λ kept. bytes_eq kept.name name) l ≡ Some i) behind there)
+    seen_Some kept is = ap (λ l. record_of l name) (sym view) ∙ (record_of_Some name xs i kept there
         ∙ ap (λ (k : Record). Some (k.version, k.bytes)) (sym is))
 
     pub seen_there : (kept : Record) → kept ≡ get_or xs i kept → (version : ℕ) (bytes : List ℕ)
         → pairs_of (set xs i (record kept { version = version; bytes = bytes })) ≡ with_record rs name version bytes
     seen_there kept is version bytes = ap (λ (k : Record). pairs_of (set xs i (record k { version = version; bytes = bytes }))) is
-        ∙ (with_record_there name xs i kept (subst (λ l. position (λ kept. bytes_eq kept.name name) l ≡ Some i) behind there) version bytes
+        ∙ (with_record_there name xs i kept there version bytes
         ∙ ap (λ l. with_record l name version bytes) view)
 
     pub seen_fault : (kept : Record) → kept ≡ get_or xs i kept → (expected : ℕ) (bytes : List ℕ) → length bytes ≤ MOST_RECORD_BYTES → store_fault rs name expected bytes ≡ rewrite_fault kept.version expected

@@ -1,12 +1,15 @@
 //! The records themselves, in the order in which they were first stored.
 
-ghost use Rattle.std.specs.Prelude.{◌≡◌, ◌+◌, ℕ, List, [], ◌∷◌, ◌++◌, length, IfSome, IfNone, IfOk, IsOk, IsOkUnless, OnErr, position, bytes_eq, None};
+ghost use Rattle.std.specs.Prelude.{◌≡◌, ◌+◌, ℕ, List, [], ◌∷◌, ◌++◌, length, IfSome, IfNone, IfOk, IsOk, IsOkUnless, OnErr, None};
 ghost use Rattle.meta_files.specs.Records.{record_of, version_of, with_record};
 ghost use Rattle.meta_files.specs.Faults.{store_fault};
 ghost use Rattle.meta_files.specs.Kept.{rewrite_fault, append_fault};
+ghost use Rattle.meta_files.specs.Indexed.{IsIndexed, place_in};
 
 use super::{Bytes, StoreFault};
+use crate::name_index::{Index, add_name, drop_name, place_of};
 use std::alloc::{AllocError, Global};
+use std::collections::BTreeMap;
 use std::marker::Model;
 
 /// The most bytes that a record may have.
@@ -27,18 +30,24 @@ struct Record {
 }
 
 /// The records of a mount. In clauses it is the list of (name, (version, bytes)).
+///
+/// A record is found in a time that grows with the logarithm of their number.
 #[derive(Drop)]
 pub struct MetaFiles {
     records: Vec<Record>,
+    index: Index,
 }
 
 impl Model for MetaFiles {
     ghost use Rattle.std.specs.Prelude.{ℕ, List};
     ghost use Rattle.meta_files.specs.Kept.{pairs_of};
+    ghost use Rattle.meta_files.specs.Indexed.{IsIndexed};
 
     ghost Value = { List (List ℕ × (ℕ × List ℕ)) };
 
     ghost view = { λ files. pairs_of files.records.items };
+
+    ghost invariant = { λ files. IsIndexed files.records.items files.index.entries };
 }
 
 impl MetaFiles {
@@ -48,6 +57,7 @@ impl MetaFiles {
     {
         MetaFiles {
             records: Vec::new(alloc),
+            index: BTreeMap::new(alloc),
         }
     }
 
@@ -57,7 +67,7 @@ impl MetaFiles {
         ensures found { IfOk result (λ found. found ≡ record_of self.now name.now) }
         ensures absent { record_of self.now name.now ≡ None → IsOk result }
     {
-        let Some(place) = place_of(&self.records, name) else {
+        let Some(place) = place_of(&self.index, name) else {
             return Ok(None);
         };
         let kept = &self.records[place];
@@ -83,8 +93,15 @@ impl MetaFiles {
         if bytes.len() > MOST_RECORD_BYTES {
             return Err(StoreFault::TooBig);
         }
-        let Some(place) = place_of(&self.records, name) else {
-            return append(alloc, &mut self.records, name, expected, bytes);
+        let Some(place) = place_of(&self.index, name) else {
+            return append(
+                alloc,
+                &mut self.records,
+                &mut self.index,
+                name,
+                expected,
+                bytes,
+            );
         };
         let version = next_version(self.records[place].version, expected)?;
         let bytes = Bytes::from_vec(Vec::from_slice(alloc, bytes)?);
@@ -95,14 +112,7 @@ impl MetaFiles {
     }
 }
 
-/// The index of the record of this name.
-fn place_of(records: &[Record], name: &[u8]) -> Option<usize>
-    ensures { result ≡ position (λ kept. bytes_eq kept.name name.now) records.now }
-{
-    records.iter().position(|kept| kept.name.as_slice() == name)
-}
-
-/// The version after this one, where this one is expected.
+// The version after this one, where this one is expected.
 fn next_version(version: u32, expected: u32) -> Result<u32, StoreFault>
     ensures next { IfOk result (λ next. next ≡ version + 1) }
     ensures refused { IfSome (rewrite_fault version expected) (λ fault. result ≡ Err fault) }
@@ -114,16 +124,20 @@ fn next_version(version: u32, expected: u32) -> Result<u32, StoreFault>
     version.checked_add(1).ok_or(StoreFault::NoSpace)
 }
 
-/// Puts a new record of version 1 behind the others.
+// Puts a new record of version 1 behind the others, and its place into the index.
 fn append(
     alloc: Global,
     records: &mut Vec<Record>,
+    index: &mut Index,
     name: &[u8],
     expected: u32,
     bytes: &[u8],
 ) -> Result<u32, StoreFault>
+    requires indexed { IsIndexed records.old.items index.old.entries }
+    requires absent { place_in records.old.items name.now ≡ None }
     ensures written { IfOk result (λ version. records.new.items ≡ records.old.items ++ record { name = name.now; version = version; bytes = bytes.now } ∷ []) }
     ensures version { IfOk result (λ version. version ≡ 1) }
+    ensures indexed { IsIndexed records.new.items index.new.entries }
     ensures kept { OnErr result (records.new.items ≡ records.old.items) }
     ensures refused { IfSome (append_fault (length records.old.items) expected) (λ fault. result ≡ Err fault) }
     ensures accepted { IfNone (append_fault (length records.old.items) expected) (IsOkUnless result StoreFault.NoMemory) }
@@ -131,7 +145,8 @@ fn append(
     if expected != 0 {
         return Err(StoreFault::Changed { version: 0 });
     }
-    if records.len() >= MOST_RECORDS {
+    let place = records.len();
+    if place >= MOST_RECORDS {
         return Err(StoreFault::NoSpace);
     }
     let record = Record {
@@ -139,6 +154,10 @@ fn append(
         version: 1,
         bytes: Bytes::from_vec(Vec::from_slice(alloc, bytes)?),
     };
-    records.push(record)?;
+    add_name(index, alloc, name, place)?;
+    if records.push(record).is_err() {
+        drop_name(index, name);
+        return Err(StoreFault::NoMemory);
+    }
     Ok(1)
 }

@@ -4,6 +4,7 @@
 mod fault;
 mod files;
 mod laws;
+mod name_index;
 #[cfg(test)]
 mod tests;
 
