@@ -7,7 +7,7 @@ use Rattle.std.proofs.lemmas.List.Sums.{sum_by_push}
 use Rattle.std.proofs.lemmas.List.Splits.{length-slice_split}
 use Rattle.text_words.specs.Lines.{pieces_of, is_line_feed}
 use Rattle.script_lang.specs.Statements.{statement_of}
-use Rattle.script_lang.specs.Sections.{is_caller, may_stand, first_bad_line, commands_of, sections_of}
+use Rattle.script_lang.specs.Sections.{is_caller, may_stand, first_misplaced_line, commands_of, sections_of}
 use Rattle.script_lang.specs.Script.{statements_in, statements_of, parsed_script, Reads}
 use Rattle.script_lang.specs.Reading.{with_commands, with_command, after_line, AddsStatement, TakesLine}
 use Rattle.script_lang.specs.declared.commands.Command.{Command}
@@ -71,8 +71,8 @@ first_bad_from n callers (line ∷ more) =
     if may_stand callers line then first_bad_from (n + 1) (if is_caller line then callers + 1 else callers) more else Some n
 
 pub first_bad_from-line : (before lines : List (Option Statement))
-    → first_bad_line before lines ≡ first_bad_from (length before + 1) (count_by is_caller before) lines
-unfolding first_bad_line first_bad_from
+    → first_misplaced_line before lines ≡ first_bad_from (length before + 1) (count_by is_caller before) lines
+unfolding first_misplaced_line first_bad_from
 first_bad_from-line before [] = refl
 first_bad_from-line before (line ∷ more) =
     let longer : length (before ++ line ∷ []) ≡ length before + 1 = length-append before (line ∷ []) in

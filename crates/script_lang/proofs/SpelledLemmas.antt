@@ -4,7 +4,7 @@ use Rattle.std.specs.Prelude.{IfSome, nat_lt, if◌then◌else◌}
 use Rattle.std.specs.Option.{option_map_or}
 use Rattle.std.proofs.lemmas.Bool.{ltb-true, cases_Bool}
 use Rattle.text_words.specs.Lines.{pieces_of}
-use Rattle.script_lang.specs.Sections.{first_bad_line, commands_of, sections_of}
+use Rattle.script_lang.specs.Sections.{first_misplaced_line, commands_of, sections_of}
 use Rattle.script_lang.specs.Script.{statements_in, statements_of, parsed_script}
 use Rattle.script_lang.specs.Writing.{line_behind}
 use Rattle.script_lang.specs.Spelled.{StandBehind, HaveRoom, IsWritable}
@@ -110,7 +110,7 @@ unfolding parsed_script
 IsWritable-spelled text script h =
     let lines = statements_of text in
     let said = AreSaid-statements_in (pieces_of text) in
-    let parts = both (first_bad_line [] lines) (sections_of 1 lines) script h in
+    let parts = both (first_misplaced_line [] lines) (sections_of 1 lines) script h in
     let good : first_bad_from 1 0 lines ≡ None = sym (first_bad_from-line [] lines) ∙ parts.0 in
     rw (← parts.1) (
       let few = sections_of-few 1 1 0 lines (omega arith) good in omega arith,

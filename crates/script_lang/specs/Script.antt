@@ -3,7 +3,7 @@ use Rattle.std.specs.Prelude.{ℕ, ◌==◌, ◌≡◌, List, [], ◌∷◌, len
 use Rattle.std.specs.Option.{option_map_or}
 use Rattle.text_words.specs.Lines.{pieces_of}
 use Rattle.script_lang.specs.Statements.{statement_of}
-use Rattle.script_lang.specs.Sections.{first_bad_line, sections_of}
+use Rattle.script_lang.specs.Sections.{first_misplaced_line, sections_of}
 use Rattle.script_lang.specs.declared.commands.Section.{Section}
 use Rattle.script_lang.specs.declared.statements.Statement.{Statement}
 use Rattle.script_lang.specs.declared.reader.ScriptFault.{ScriptFault}
@@ -22,7 +22,7 @@ statements_of text = statements_in (pieces_of text)
 
 -- the script that a text spells, or the number, from 1, of its first line outside the grammar
 unfoldable pub parsed_script : List ℕ → Result (List Section) ℕ
-parsed_script text = option_map_or Err (first_bad_line [] (statements_of text)) (Ok (sections_of 1 (statements_of text)))
+parsed_script text = option_map_or Err (first_misplaced_line [] (statements_of text)) (Ok (sections_of 1 (statements_of text)))
 
 -- what reading answers: the script or its first line outside the grammar, and want of memory freely
 abbrev pub Reads : Result (List Section) ScriptFault → Result (List Section) ℕ → Type 0

@@ -21,10 +21,10 @@ may_stand callers (Some (Order verb)) = nat_lt 0 callers
 
 -- the number of the first line that may not stand behind all those before it: `before` stand before
 -- the lines that are left
-unfoldable pub first_bad_line : List (Option Statement) → List (Option Statement) → Option ℕ
-first_bad_line before [] = None
-first_bad_line before (line ∷ more) =
-    if may_stand (count_by is_caller before) line then first_bad_line (before ++ line ∷ []) more
+unfoldable pub first_misplaced_line : List (Option Statement) → List (Option Statement) → Option ℕ
+first_misplaced_line before [] = None
+first_misplaced_line before (line ∷ more) =
+    if may_stand (count_by is_caller before) line then first_misplaced_line (before ++ line ∷ []) more
     else Some (length before + 1)
 
 -- the commands up to the next caller, each with the number of its line; the first line's is n
