@@ -18,7 +18,8 @@ use Rattle.protector_meta.specs.declared.policy_file.PolicyFile.{PolicyFile}
 use Rattle.protector_meta.specs.Wraps.{AreWraps}
 use Rattle.protector_meta.specs.Reading.{◌>>=◌, value_at}
 use Rattle.protector_meta.specs.RecordLines.{ended_lines, first_bad_line, first_unfit, record_text}
-use Rattle.protector_meta.specs.LineValues.{AreBytesOfLength, name_line_value}
+use Rattle.byte_words.specs.Bytes.{AreBytesOfLength}
+use Rattle.protector_meta.specs.LineValues.{name_line_value}
 use Rattle.protector_meta.specs.PolicyText.{IsPolicyFile, IsWrap, option_lines, options_line, policy_text, version_line, wrap_line}
 use Rattle.protector_meta.specs.PolicyLines.{head_value, id_value, options_value, policy_line_fits, wrap_value}
 use Rattle.protector_meta.specs.PolicyReading.{GivesInMemory, behind_id, policy_read, with_wraps, wraps_from}

@@ -11,7 +11,8 @@ use Rattle.hex.specs.Hex.{encode_lower}
 use Rattle.text_words.specs.Digits.{is_lower_hex_digit}
 use Rattle.short_bytes.specs.Label.{IsLabel}
 use Rattle.protector_meta.specs.Descriptor.{IsDescriptor}
-use Rattle.protector_meta.specs.LineValues.{AreBytesOfLength, digits_line_value, name_line_value}
+use Rattle.byte_words.specs.Bytes.{AreBytesOfLength}
+use Rattle.protector_meta.specs.LineValues.{digits_line_value, name_line_value}
 use Rattle.protector_meta.specs.ProtectorText.{protector_text, kind_text, IsKind, IsProtector}
 use Rattle.protector_meta.specs.ProtectorLines.{head_value, kind_line_value, kind_value, descriptor_value, descriptor_line_value}
 use Rattle.protector_meta.specs.ProtectorReading.{nothing_left, protector_read}

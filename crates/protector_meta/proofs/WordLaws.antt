@@ -13,7 +13,8 @@ use Rattle.text_words.specs.Digits.{hex_bytes_of_length, lower_hex_bytes_of_leng
 use Rattle.text_words.proofs.DigitLemmas.{lower_written, lower_every, spells}
 use Rattle.short_bytes.specs.Label.{IsLabel, label_of}
 use Rattle.short_bytes.proofs.LabelLemmas.{label_of-label, label_of-found}
-use Rattle.protector_meta.specs.LineValues.{AreBytesOfLength, behind, digits_line_value, name_line_value, word_value}
+use Rattle.byte_words.specs.Bytes.{AreBytesOfLength}
+use Rattle.protector_meta.specs.LineValues.{behind, digits_line_value, name_line_value, word_value}
 
 -- a test that chose a value
 pub chose : {A : Type 0} (b : Bool) (o : Option A) (x : A) → (let r : Option A = if b then o else None in r ≡ Some x) → (b ≡ true) × (o ≡ Some x)

@@ -1,8 +1,7 @@
 -- The values on lines of records: most stand behind a word with which the line begins.
-use Rattle.std.specs.Prelude.{ℕ, ◌≡◌, List, length, take, drop, codes, Option, Some, None, if◌then◌else◌}
+use Rattle.std.specs.Prelude.{ℕ, List, length, take, drop, codes, Option, Some, None, if◌then◌else◌}
 use Rattle.std.specs.Option.{option_and_then}
 use Rattle.std.specs.Str.{bytes_eq}
-use Rattle.hex.specs.Hex.{IsBytes}
 use Rattle.text_words.specs.Digits.{lower_hex_bytes_of_length}
 use Rattle.short_bytes.specs.Label.{label_of}
 
@@ -21,7 +20,3 @@ name_line_value line = word_value (codes "name ") label_of line
 -- the n bytes that digits spell behind a word
 abbrev pub digits_line_value : List ℕ → ℕ → List ℕ → Option (List ℕ)
 digits_line_value word n line = word_value word (lower_hex_bytes_of_length n) line
-
--- n bytes
-abbrev pub AreBytesOfLength : ℕ → List ℕ → Type 0
-AreBytesOfLength n bytes = (length bytes ≡ n) × IsBytes bytes

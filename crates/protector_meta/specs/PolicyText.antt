@@ -8,7 +8,7 @@ use Rattle.policy_ctx.specs.Policy.{pad_size, unit_log2}
 use Rattle.protector_meta.specs.declared.wraps.Wrap.{Wrap}
 use Rattle.protector_meta.specs.declared.policy_file.Options.{Options}
 use Rattle.protector_meta.specs.declared.policy_file.PolicyFile.{PolicyFile}
-use Rattle.protector_meta.specs.LineValues.{AreBytesOfLength}
+use Rattle.byte_words.specs.Bytes.{AreBytesOfLength}
 use Rattle.protector_meta.specs.RecordLines.{record_text}
 use Rattle.protector_meta.specs.Wraps.{AreWraps}
 

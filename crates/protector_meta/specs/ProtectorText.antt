@@ -7,7 +7,7 @@ use Rattle.argon_kdf.specs.declared.costs.Costs.{Costs}
 use Rattle.protector_meta.specs.Descriptor.{IsDescriptor}
 use Rattle.protector_meta.specs.Stretching.{IsStretching}
 use Rattle.protector_meta.specs.RecordLines.{record_text}
-use Rattle.protector_meta.specs.LineValues.{AreBytesOfLength}
+use Rattle.byte_words.specs.Bytes.{AreBytesOfLength}
 use Rattle.protector_meta.specs.declared.protector.ProtectorKind.{ProtectorKind}
 use Rattle.protector_meta.specs.declared.protector.ProtectorKind.TheVariants.{Raw, Pass}
 use Rattle.protector_meta.specs.declared.protector.Protector.{Protector}

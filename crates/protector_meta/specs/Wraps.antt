@@ -2,6 +2,7 @@
 use Rattle.std.specs.Prelude.{ℕ, ◌≤◌, ◌==◌, Bool, not, IsFalse, nat_le, List, [], ◌∷◌, length, Option, Some, None, if◌then◌else◌}
 use Rattle.std.specs.List.{list_any, find, filter}
 use Rattle.std.specs.Str.{bytes_eq}
+use Rattle.protector_meta.specs.declared.wraps.TheConstants.{MOST_WRAPS}
 use Rattle.protector_meta.specs.declared.wraps.Wrap.{Wrap}
 use Rattle.protector_meta.specs.declared.wraps.WrapFault.{WrapFault}
 use Rattle.protector_meta.specs.declared.wraps.WrapFault.TheVariants.{Listed, Full, NotListed, LastOne}
@@ -19,10 +20,10 @@ abbrev pub AreDistinct : List Wrap → Type 0
 AreDistinct [] = Unit {0}
 AreDistinct (wrap ∷ wraps) = IsFalse (is_listed wrap.protector wraps) × AreDistinct wraps
 
--- 1 to 16 wraps, each for another protector
+-- 1 to MOST_WRAPS wraps, each for another protector
 pub record AreWraps (wraps : List Wrap) : Type 0 where
   pub some : 1 ≤ length wraps
-  pub few : length wraps ≤ 16
+  pub few : length wraps ≤ MOST_WRAPS
   pub distinct : AreDistinct wraps
 
 -- the wrap for the protector of this label, where it is listed
@@ -37,7 +38,7 @@ wraps_without label wraps = filter (λ wrap. not (is_for label wrap)) wraps
 abbrev pub adding_fault : List ℕ → List Wrap → Option WrapFault
 adding_fault label wraps =
     if is_listed label wraps then Some Listed else
-    if nat_le 16 (length wraps) then Some Full else
+    if nat_le MOST_WRAPS (length wraps) then Some Full else
     None
 
 -- why its wrap can't be dropped: the first that holds

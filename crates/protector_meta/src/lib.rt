@@ -25,7 +25,7 @@ pub use protector::{Protector, ProtectorKind, Stretching};
 pub use protector_text::{decode_protector, encode_protector};
 pub use rewrapping::rewrap;
 pub use short_bytes::Label;
-pub use wraps::{Wrap, WrapFault, WrapList};
+pub use wraps::{MOST_WRAPS, Wrap, WrapFault, WrapList};
 
 #[cfg(test)]
 mod tests;

@@ -2,15 +2,15 @@
 
 ghost use Rattle.std.specs.Prelude.{◌≡◌, ◌∷◌, [], ◌++◌, OnOk, OnErr};
 ghost use Rattle.std.specs.Option.{option_map};
-ghost use Rattle.hex.specs.Hex.{IsBytes, encode_lower};
-ghost use Rattle.text_words.specs.Digits.{lower_hex_bytes_of_length};
+ghost use Rattle.byte_words.specs.Bytes.{AreBytes};
+ghost use Rattle.hex.specs.Hex.{encode_lower};
 ghost use Rattle.protector_meta.specs.Reading.{Gives, line_at};
 ghost use Rattle.protector_meta.specs.LineValues as spec;
 
 use crate::fault::MetaFault;
 use short_bytes::Label;
-use std::alloc::{AllocError, Global};
-use text_words::{lower_hex_bytes_into, next_line};
+use std::alloc::AllocError;
+use text_words::{lower_hex_bytes, next_line, push_lower_hex};
 
 /// The first line, where a line feed ends it, and the text behind the line feed. Else the line of
 /// this number is at fault.
@@ -32,18 +32,6 @@ pub(crate) fn behind<'a>(text: &'a [u8], word: &[u8]) -> Option<&'a [u8]>
     text.strip_prefix(word)
 }
 
-/// The bytes that lower-case digits spell, two digits for each byte.
-pub(crate) fn digits_value<const N: usize>(text: &[u8]) -> Option<[u8; N]>
-    ensures { result ≡ lower_hex_bytes_of_length N text.now }
-{
-    let mut bytes = [0; N];
-    if lower_hex_bytes_into(text, &mut bytes) {
-        Some(bytes)
-    } else {
-        None
-    }
-}
-
 /// The label on the line of a name.
 pub(crate) fn name_line_value(line: &[u8]) -> Option<Label>
     ensures { result ≡ spec.name_line_value line.now }
@@ -55,7 +43,7 @@ pub(crate) fn name_line_value(line: &[u8]) -> Option<Label>
 pub(crate) fn digits_line_value<const N: usize>(line: &[u8], word: &[u8]) -> Option<[u8; N]>
     ensures { result ≡ spec.digits_line_value word.now N line.now }
 {
-    digits_value(behind(line, word)?)
+    lower_hex_bytes(behind(line, word)?)
 }
 
 /// Writes a line at the end of the text: a word, and what stands behind it.
@@ -68,27 +56,17 @@ pub(crate) fn push_line(text: &mut Vec<u8>, word: &[u8], value: &[u8]) -> Result
     Ok(())
 }
 
-/// Writes the lower-case digits of the bytes at the end of the text.
-pub(crate) fn push_digits(alloc: Global, text: &mut Vec<u8>, bytes: &[u8]) -> Result<(), AllocError>
-    ensures { OnOk result (text.new.items ≡ text.old.items ++ encode_lower bytes.now) }
-{
-    let digits = hex::encode(alloc, bytes)?;
-    text.extend_from_slice(digits.as_bytes())?;
-    Ok(())
-}
-
 /// Writes a line at the end of the text: a word, and the lower-case digits of the bytes.
 pub(crate) fn push_digits_line(
-    alloc: Global,
     text: &mut Vec<u8>,
     word: &[u8],
     bytes: &[u8],
 ) -> Result<(), AllocError>
     ensures line { OnOk result (text.new.items ≡ text.old.items ++ (word.now ++ encode_lower bytes.now) ++ 10 ∷ []) }
-    ensures in_form { OnOk result (IsBytes bytes.now) }
+    ensures in_form { OnOk result (AreBytes bytes.now) }
 {
     text.extend_from_slice(word)?;
-    push_digits(alloc, text, bytes)?;
+    push_lower_hex(text, bytes)?;
     text.push(b'\n')?;
     Ok(())
 }

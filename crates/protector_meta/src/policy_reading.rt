@@ -14,7 +14,7 @@ ghost use Rattle.protector_meta.specs.PolicyLines.{id_value, next_wrap, policy_l
 ghost use Rattle.protector_meta.specs.PolicyReading.{GivesInMemory, policy_read, wraps_from};
 
 use crate::fault::MetaFault;
-use crate::lines::{behind, digits_line_value, digits_value, ended_line, name_line_value};
+use crate::lines::{behind, digits_line_value, ended_line, name_line_value};
 use crate::policy_file::{Options, PolicyFile};
 use crate::policy_text::{HEAD, HEAD_WITH_OPTIONS};
 use crate::wraps::{Wrap, WrapFault, WrapList};
@@ -22,7 +22,7 @@ use fsc_keys::KeyId;
 use policy_ctx::{Pad, Unit};
 use short_bytes::Label;
 use std::alloc::Global;
-use text_words::{decimal_value, next_line, nth_word, word_count};
+use text_words::{decimal_value, lower_hex_bytes, next_line, nth_word, word_count};
 
 /// The number of the first line behind the identifier: of the options, or else of the first wrap.
 const FOURTH_LINE: u32 = 4;
@@ -186,9 +186,9 @@ fn wrap_of_words(text: &[u8]) -> Option<Wrap>
     let (label, iv, key, tag) = four_words(text)?;
     Some(Wrap {
         protector: Label::read(label)?,
-        iv: digits_value(iv)?,
-        key: digits_value(key)?,
-        tag: digits_value(tag)?,
+        iv: lower_hex_bytes(iv)?,
+        key: lower_hex_bytes(key)?,
+        tag: lower_hex_bytes(tag)?,
     })
 }
 

@@ -1,9 +1,9 @@
 //! Protectors: what their records hold. Each field's type keeps what a record can spell.
 
 ghost use Rattle.std.specs.Prelude.{◌≡◌, ◌↔◌, ℕ, List, IfOk, IfErr, IsOk, Ok, Err};
+ghost use Rattle.byte_words.specs.Bytes.{AreBytesOfLength};
 ghost use Rattle.argon_kdf.specs.CostLimits.{checked_costs};
 ghost use Rattle.protector_meta.specs.Stretching.{IsStretching};
-ghost use Rattle.protector_meta.specs.LineValues.{AreBytesOfLength};
 ghost use Rattle.argon_kdf.specs.declared.costs.Costs.{Costs};
 
 use crate::descriptor::Descriptor;

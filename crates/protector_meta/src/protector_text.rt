@@ -12,14 +12,15 @@ ghost use Rattle.protector_meta.specs.Stretching.{IsStretching};
 use crate::descriptor::Descriptor;
 use crate::fault::MetaFault;
 use crate::lines::{
-    behind, digits_line_value, digits_value, ended_line, name_line_value, push_digits,
-    push_digits_line, push_line,
+    behind, digits_line_value, ended_line, name_line_value, push_digits_line, push_line,
 };
 use crate::protector::{Protector, ProtectorKind, Stretching};
 use argon_kdf::Costs;
 use item_list::Bytes;
 use std::alloc::{AllocError, Global};
-use text_words::{decimal_digits, decimal_value, nth_word, word_count};
+use text_words::{
+    decimal_value, lower_hex_bytes, nth_word, push_decimal, push_lower_hex, word_count,
+};
 
 /// The first line of the record.
 const HEAD: &[u8] = b"fsc-protector 1";
@@ -33,11 +34,11 @@ pub fn encode_protector(alloc: Global, protector: &Protector) -> Result<Bytes, A
     let mut text = Vec::new(alloc);
     push_line(&mut text, HEAD, b"")?;
     push_line(&mut text, b"name ", protector.name.bytes())?;
-    push_kind(alloc, &mut text, &protector.kind)?;
+    push_kind(&mut text, &protector.kind)?;
     push_line(&mut text, b"descriptor ", protector.descriptor.bytes())?;
-    push_digits_line(alloc, &mut text, b"iv ", &protector.iv)?;
-    push_digits_line(alloc, &mut text, b"key ", &protector.key)?;
-    push_digits_line(alloc, &mut text, b"tag ", &protector.tag)?;
+    push_digits_line(&mut text, b"iv ", &protector.iv)?;
+    push_digits_line(&mut text, b"key ", &protector.key)?;
+    push_digits_line(&mut text, b"tag ", &protector.tag)?;
     Ok(Bytes::from_vec(text))
 }
 
@@ -55,7 +56,7 @@ pub fn decode_protector(text: &[u8]) -> Result<Protector, MetaFault>
 }
 
 // `kind raw`, or `kind pass` with the costs and the salt.
-fn push_kind(alloc: Global, text: &mut Vec<u8>, kind: &ProtectorKind) -> Result<(), AllocError>
+fn push_kind(text: &mut Vec<u8>, kind: &ProtectorKind) -> Result<(), AllocError>
     ensures line { OnOk result (text.new.items ≡ text.old.items ++ (codes "kind " ++ kind_text kind.now) ++ 10 ∷ []) }
     ensures in_form { OnOk result (IsKind kind.now) }
 {
@@ -63,18 +64,14 @@ fn push_kind(alloc: Global, text: &mut Vec<u8>, kind: &ProtectorKind) -> Result<
         ProtectorKind::Raw => push_line(text, b"kind ", b"raw"),
         ProtectorKind::Pass(stretching) => {
             text.extend_from_slice(b"kind pass ")?;
-            push_stretching(alloc, text, stretching)?;
+            push_stretching(text, stretching)?;
             push_line(text, b"", b"")
         }
     }
 }
 
 // The three costs, and the digits of the salt.
-fn push_stretching(
-    alloc: Global,
-    text: &mut Vec<u8>,
-    stretching: &Stretching,
-) -> Result<(), AllocError>
+fn push_stretching(text: &mut Vec<u8>, stretching: &Stretching) -> Result<(), AllocError>
     ensures text { OnOk result (text.new.items ≡ text.old.items ++ stretching_text stretching.now) }
     ensures in_form { OnOk result (IsStretching stretching.now) }
 {
@@ -82,14 +79,14 @@ fn push_stretching(
     push_number(text, costs.passes)?;
     push_number(text, costs.kib)?;
     push_number(text, costs.lanes)?;
-    push_digits(alloc, text, stretching.salt())
+    push_lower_hex(text, stretching.salt())
 }
 
 // The number, and a space.
 fn push_number(text: &mut Vec<u8>, number: u32) -> Result<(), AllocError>
     ensures { OnOk result (text.new.items ≡ text.old.items ++ (decimal_of number ++ 32 ∷ [])) }
 {
-    text.extend_from_slice(decimal_digits(u64::from(number)).as_bytes())?;
+    push_decimal(text, u64::from(number))?;
     text.push(b' ')?;
     Ok(())
 }
@@ -104,7 +101,7 @@ fn stretching_value(text: &[u8]) -> Option<Stretching>
     let passes = number_word(text, 0)?;
     let kib = number_word(text, 1)?;
     let lanes = number_word(text, 2)?;
-    let salt = digits_value(nth_word(text, 3)?)?;
+    let salt = lower_hex_bytes(nth_word(text, 3)?)?;
     let costs = Costs { passes, kib, lanes };
     Stretching::new(costs, salt).ok()
 }

@@ -3,6 +3,7 @@
 ghost use Rattle.std.specs.Prelude.{◌≡◌, ◌<◌, ◌≤◌, ◌^◌, [], ◌∷◌, ◌++◌, length, IfOk, IfSome, IfNone, IsOk, IsOkUnless, OnOk, OnErr, option_copied, slice_get};
 ghost use Rattle.std.specs.Iterator.Adapters.{IterYieldsInOrder};
 ghost use Rattle.std.specs.Slice.Iter.{iter_rest};
+ghost use Rattle.protector_meta.specs.declared.wraps.TheConstants.{MOST_WRAPS};
 ghost use Rattle.protector_meta.specs.declared.wraps.Wrap.{Wrap};
 ghost use Rattle.protector_meta.specs.Wraps.{AreWraps, adding_fault, dropping_fault, is_for, is_listed, wrap_for, wraps_without};
 
@@ -13,7 +14,7 @@ use std::slice;
 use thiserror::Error;
 
 /// The most wraps that a policy has.
-const WRAPS_MAX: usize = 16;
+pub const MOST_WRAPS: usize = 16;
 
 /// The key of a policy, wrapped under the key of one protector.
 #[derive(Clone, Copy, Debug, PartialEq, Eq)]
@@ -34,7 +35,7 @@ pub enum WrapFault {
     /// The protector has a wrap already.
     #[error("the protector is listed already")]
     Listed,
-    /// There are 16 wraps.
+    /// There are `MOST_WRAPS` wraps.
     #[error("the policy has 16 protectors")]
     Full,
     /// The protector has no wrap.
@@ -59,8 +60,8 @@ impl<T: Drop> From<AllocFailed<T>> for WrapFault {
     }
 }
 
-/// 1 to 16 wraps for different protectors, in the order in which they were added. In clauses it is
-/// the list of them.
+/// 1 to `MOST_WRAPS` wraps for different protectors, in the order in which they were added. In clauses
+/// it is the list of them.
 #[derive(Drop)]
 pub struct WrapList {
     wraps: Vec<Wrap>,
@@ -87,10 +88,10 @@ impl WrapList {
         Ok(WrapList { wraps })
     }
 
-    /// How many wraps there are, 1 to 16.
+    /// How many wraps there are, 1 to `MOST_WRAPS`.
     pub fn len(&self) -> usize
         ensures length { result ≡ length self.now }
-        ensures few { result ≤ 16 }
+        ensures few { result ≤ MOST_WRAPS }
     {
         self.wraps.len()
     }
@@ -127,7 +128,7 @@ impl WrapList {
     }
 
     /// Puts the wrap behind the others. Refused with `Listed` where its protector has one already,
-    /// else with `Full` where there are 16; else there may be no memory.
+    /// else with `Full` where there are `MOST_WRAPS`; else there may be no memory.
     pub fn add(&mut self, wrap: Wrap) -> Result<(), WrapFault>
         ensures added { OnOk result (self.new ≡ self.old ++ wrap ∷ []) }
         ensures kept { OnErr result (self.new ≡ self.old) }
@@ -137,7 +138,7 @@ impl WrapList {
         if is_listed(&self.wraps, &wrap.protector) {
             return Err(WrapFault::Listed);
         }
-        if self.wraps.len() >= WRAPS_MAX {
+        if self.wraps.len() >= MOST_WRAPS {
             return Err(WrapFault::Full);
         }
         self.wraps.push(wrap)?;
