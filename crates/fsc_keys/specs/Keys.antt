@@ -1,6 +1,6 @@
 -- The keys and names that Linux fscrypt draws from a raw master key (fs/crypto/hkdf.c), and the
 -- descriptor that the fscrypt tool gives a protector's key.
-use Rattle.std.specs.Prelude.{ℕ, List, [], ◌∷◌, ◌++◌, take, codes}
+use Rattle.std.specs.Prelude.{ℕ, List, [], ◌∷◌, ◌++◌, take, codes, replicate}
 use Rattle.sha2.specs.Sha512.{sha512}
 use Rattle.hex.specs.Hex.{encode_lower}
 use Rattle.hmac_kdf.specs.Hkdf.{hkdf_sha512}
@@ -39,6 +39,11 @@ mode_key_of raw Names = key.Names (derived raw 4 (4 ∷ mount_uuid) 32)
 abbrev pub key_bytes : FileKey → List ℕ
 key_bytes (key.Contents bytes) = bytes
 key_bytes (key.Names bytes) = bytes
+
+-- the key of its kind whose bytes are all zeros
+abbrev pub zeros_for : FileKey → FileKey
+zeros_for (key.Contents bytes) = key.Contents (replicate 64 0)
+zeros_for (key.Names bytes) = key.Names (replicate 32 0)
 
 -- the first 8 bytes of SHA-512 taken twice, in lower-case digits
 abbrev pub descriptor_of : List ℕ → List ℕ

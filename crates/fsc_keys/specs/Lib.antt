@@ -3,4 +3,3 @@ pub use Rattle.hmac_kdf.specs.Hmac
 pub use Rattle.hmac_kdf.specs.Hkdf
 pub mod Keys
 pub mod Draws
-pub mod Claims

@@ -2,7 +2,7 @@
 
 ghost use Rattle.std.specs.Prelude.{◌≡◌};
 ghost use Rattle.byte_words.specs.Bytes.{AreBytes};
-ghost use Rattle.fsc_keys.specs.Keys.{file_key_of, key_bytes, key_id_of, mode_key_of};
+ghost use Rattle.fsc_keys.specs.Keys.{file_key_of, key_bytes, key_id_of, mode_key_of, zeros_for};
 
 use crate::draws::{draw_file_key, draw_id, draw_mode_key, extract};
 use crate::raw_key::RawKey;
@@ -24,6 +24,18 @@ pub enum FileKey {
     Contents([u8; 64]),
     /// One key of AES-256.
     Names([u8; 32]),
+}
+
+impl FileKey {
+    /// Writes zeros over the key, where it stands: 64 for contents, 32 for names.
+    pub fn wipe(&mut self)
+        ensures { self.new ≡ zeros_for self.old }
+    {
+        match self {
+            FileKey::Contents(bytes) => *bytes = [0; 64],
+            FileKey::Names(bytes) => *bytes = [0; 32],
+        }
+    }
 }
 
 /// The identifier of a raw key, by which policies and claims name it.

@@ -1,5 +1,5 @@
 -- Keys and pins as they are cached, when one comes or goes.
-use Rattle.std.proofs.Common.{◌≡◌, ℕ, ◌+◌, ◌-◌, Bool, true, false, cond, eqb, List, [], ◌∷◌, filter, Option, Some, None, is_some, is_none, unwrap_or, Result, Ok, Err, is_err, OnOk, OnErr, sym, refl, ap, ◌∙◌, subst, ⊎_elim, arith}
+use Rattle.std.proofs.Common.{◌≡◌, ℕ, suc, ◌+◌, ◌-◌, Bool, true, false, cond, eqb, List, [], ◌∷◌, filter, length, Option, Some, None, is_some, is_none, unwrap_or, Result, Ok, Err, is_err, OnOk, OnErr, sym, refl, ap, ◌∙◌, subst, ⊎_elim, arith}
 use Rattle.std.specs.Option.{option_map}
 use Rattle.std.specs.Ordering.{nat_cmp, eq_by_cmp}
 use Rattle.std.specs.Cmp.{nat_cmp_total}
@@ -9,7 +9,7 @@ use Rattle.std.specs.List.{IsDistinct, AllByRecursion}
 use Rattle.std.proofs.lemmas.Map.Entries.{lookup-filter-keys}
 use Rattle.std.specs.Map.Calls.{RetainsPairs}
 use Rattle.std.specs.FinMap as map
-use Rattle.std.specs.FinMap.{nat_cmp-IsAntisymmetric, get-insert, get-remove, get-retain_keys, same_map}
+use Rattle.std.specs.FinMap.{nat_cmp-IsAntisymmetric, get-insert, get-remove, get-retain_keys, same_map, len-empty, len-insert}
 use Rattle.std.specs.BTreeMap as tree
 use Rattle.std.specs.BTreeMap.{BTreeMap}
 use Rattle.std.proofs.lemmas.Bool.{cases_Bool, cond-true, cond-false, true≢false, eqb-true}
@@ -163,22 +163,44 @@ lookup-filtered p q (e ∷ es) apart = ⊎_elim
     ∙ (lookup-filtered p q es apart.1 ∙ sym (ap (picked p q) (cond-false (eq_by_cmp nat_cmp q e.0) (Some e.1) (lookup (eq_by_cmp nat_cmp q) es) other))))
     (cases_Bool (eq_by_cmp nat_cmp q e.0))
 
-pub left_by_key : (m n : BTreeMap ℕ KeyBox) (p : ℕ × KeyBox → Bool) (t : ℕ → Bool) → IsDistinct (eq_by_cmp nat_cmp) (numbers m.entries) → n.entries ≡ filter p m.entries
-    → ((q : ℕ) (key : KeyBox) → map.get (keys_of m.entries) q ≡ Some key.value → p (q, key) ≡ t q) → keys_of n.entries ≡ map.retain_keys (keys_of m.entries) t
-left_by_key m n p t apart is test = same_map nat_cmp_total nat_cmp-IsAntisymmetric _ _ (λ q.
-    get-shown nat_cmp_total (λ (key : KeyBox). key.value) n.entries q
-    ∙ (ap (λ es. option_map (λ (key : KeyBox). key.value) (lookup (eq_by_cmp nat_cmp q) es)) is
-    ∙ (ap (option_map (λ (key : KeyBox). key.value)) (lookup-filtered p q m.entries apart)
-    ∙ (at q (lookup (eq_by_cmp nat_cmp q) m.entries) (get-shown nat_cmp_total (λ (key : KeyBox). key.value) m.entries q)
-    ∙ sym (get-retain_keys (keys_of m.entries) t q (λ x tie. ap t (sym (nat_cmp-IsAntisymmetric q x tie))))))))
+pub left_by_key : (es : List (ℕ × KeyBox)) (p : ℕ × KeyBox → Bool) (t : ℕ → Bool) → IsDistinct (eq_by_cmp nat_cmp) (numbers es)
+    → ((q : ℕ) (key : KeyBox) → map.get (keys_of es) q ≡ Some key.value → p (q, key) ≡ t q) → keys_of (filter p es) ≡ map.retain_keys (keys_of es) t
+left_by_key es p t apart test = same_map nat_cmp_total nat_cmp-IsAntisymmetric _ _ (λ q.
+    get-shown nat_cmp_total (λ (key : KeyBox). key.value) (filter p es) q
+    ∙ (ap (option_map (λ (key : KeyBox). key.value)) (lookup-filtered p q es apart)
+    ∙ (at q (lookup (eq_by_cmp nat_cmp q) es) (get-shown nat_cmp_total (λ (key : KeyBox). key.value) es q)
+    ∙ sym (get-retain_keys (keys_of es) t q (λ x tie. ap t (sym (nat_cmp-IsAntisymmetric q x tie)))))))
   where
-    at : (q : ℕ) (o : Option KeyBox) → map.get (keys_of m.entries) q ≡ option_map (λ key. key.value) o → option_map (λ key. key.value) (picked p q o) ≡ cond (t q) (map.get (keys_of m.entries) q) None
+    at : (q : ℕ) (o : Option KeyBox) → map.get (keys_of es) q ≡ option_map (λ key. key.value) o → option_map (λ key. key.value) (picked p q o) ≡ cond (t q) (map.get (keys_of es) q) None
     at q None none = sym (ap (λ o. cond (t q) o None) none ∙ neither (t q) None)
     at q (Some key) there = ap (λ b. option_map (λ key. key.value) (cond b (Some key) None)) (test q key there) ∙ (chosen (t q) key ∙ sym (ap (λ o. cond (t q) o None) there))
       where
         chosen : (b : Bool) (key : KeyBox) → option_map (λ key. key.value) (cond b (Some key) None) ≡ cond b (Some key.value) None
         chosen true key = refl
         chosen false key = refl
+
+-- how many are left
+one_more : (n : ℕ) → n + 1 ≡ suc n
+one_more n = omega arith
+
+len-kept : (p : ℕ × KeyBox → Bool) (es : List (ℕ × KeyBox)) → IsDistinct (eq_by_cmp nat_cmp) (numbers es) → map.len (keys_of (filter p es)) ≡ length (filter p es)
+unfolding IsDistinct
+len-kept p [] apart = len-empty nat_cmp NodeKey
+len-kept p (e ∷ es) apart = ⊎_elim
+    (λ stays. let is = cond-true (p e) (e ∷ filter p es) (filter p es) stays in
+    ap (λ l. map.len (keys_of l)) is ∙ (len-insert nat_cmp_total (keys_of (filter p es)) e.0 e.1.value
+    ∙ (cond-false (is_some (map.get (keys_of (filter p es)) e.0)) _ _ new ∙ (ap (λ n. n + 1) (len-kept p es apart.1) ∙ (one_more (length (filter p es)) ∙ ap length (sym is))))))
+    (λ goes. let is = cond-false (p e) (e ∷ filter p es) (filter p es) goes in
+    ap (λ l. map.len (keys_of l)) is ∙ (len-kept p es apart.1 ∙ ap length (sym is)))
+    (cases_Bool (p e))
+  where
+    new : is_some (map.get (keys_of (filter p es)) e.0) ≡ false
+    new = ap is_some (get-shown nat_cmp_total (λ (key : KeyBox). key.value) (filter p es) e.0
+        ∙ ap (option_map (λ (key : KeyBox). key.value)) (none_later p e.0 e.0 es refl apart.0))
+
+pub len-left : (es : List (ℕ × KeyBox)) (p : ℕ × KeyBox → Bool) (t : ℕ → Bool) → IsDistinct (eq_by_cmp nat_cmp) (numbers es)
+    → ((q : ℕ) (key : KeyBox) → map.get (keys_of es) q ≡ Some key.value → p (q, key) ≡ t q) → map.len (map.retain_keys (keys_of es) t) ≡ length (filter p es)
+len-left es p t apart test = ap map.len (sym (left_by_key es p t apart test)) ∙ len-kept p es apart
 
 -- ---- results
 

@@ -1,15 +1,17 @@
 //! The cache of keys and pins by node.
 
-ghost use Rattle.std.specs.Prelude.{◌≡◌, ◌+◌, ◌-◌, ◌<◌, ◌^◌, ◌==◌, not, false, option_copied};
+ghost use Rattle.std.specs.Prelude.{◌≡◌, ◌+◌, ◌-◌, ◌<◌, ◌^◌, ◌==◌, not, false, option_copied, length, filter};
 ghost use Rattle.std.specs.Prelude.{IsTrue, IsSome, IsOk, OnOk, OnErr};
 ghost use Rattle.policy_ctx.specs.KeyIds.{same_id};
 ghost use Rattle.std.specs.Option.{option_map};
 ghost use Rattle.std.specs.FinMap as map;
-ghost use Rattle.inode_refs.specs.Cached.{no_cache, key_at, pins_of, pins_at, with_pins};
+ghost use Rattle.inode_refs.specs.Cached.{no_cache, key_at, pins_of, pins_at, with_pins, users_of};
 ghost use Rattle.inode_refs.specs.Cached.{given, evicted, all_evicted};
-ghost use Rattle.inode_refs.specs.Kept.{keys_of, pins_in};
+ghost use Rattle.inode_refs.specs.Kept.{keys_of, pins_in, is_user};
+ghost use Rattle.std.specs.BTreeMap as tree;
+ghost use Rattle.std.specs.Ordering.{nat_cmp};
 
-use super::node_key::{NodeKey, wipe};
+use super::node_key::NodeKey;
 use fsc_keys::{FileKey, KeyId};
 use key_counts as counts;
 use std::alloc::{AllocError, Global};
@@ -22,7 +24,8 @@ type Keys = BTreeMap<u32, Box<NodeKey>>;
 /// What is cached of nodes, seen as the finite maps of their keys and of their pins. A key that goes is
 /// overwritten first.
 ///
-/// A node is found in a time that grows with the logarithm of how many are cached.
+/// A node is found in a time that grows with the logarithm of how many are cached; only counting a
+/// master key's users goes over them all.
 #[derive(Drop)]
 pub struct InodeCache {
     keys: Keys,
@@ -74,6 +77,14 @@ impl InodeCache {
             Some(kept) => Some(&kept.key),
             None => None,
         }
+    }
+
+    /// How many nodes with pins have a key that was drawn from this master key. It takes a time that
+    /// grows with how many are cached.
+    pub fn users_of(&self, id: &KeyId) -> usize
+        ensures { result ≡ users_of self.now id.now }
+    {
+        users_in(&self.keys, &self.pins, id)
     }
 
     /// Caches the key of the node, in the place of the one before. Only a node without a key takes
@@ -152,6 +163,16 @@ fn is_pinned(pins: &BTreeMap<u32, u32>, node: u32) -> bool
     counts::count_of(pins, &node) != 0
 }
 
+// How many nodes with pins have a key that was drawn from this master key.
+fn users_in(keys: &Keys, pins: &BTreeMap<u32, u32>, id: &KeyId) -> usize
+    ensures counted { result ≡ length (filter (is_user (pins_in pins.now.entries) id.now) keys.now.entries) }
+    ensures ordered { tree.IsOrdered nat_cmp keys.now }
+{
+    keys.iter()
+        .filter(|(node, kept)| is_pinned(pins, **node) && kept.id == *id)
+        .count()
+}
+
 // Whether the key was drawn from another master key. One that wasn't is overwritten.
 fn stays_for(kept: &mut Box<NodeKey>, id: &KeyId) -> bool
     ensures stays { result ≡ not (same_id kept.old.value.id id.now) }
@@ -160,7 +181,7 @@ fn stays_for(kept: &mut Box<NodeKey>, id: &KeyId) -> bool
     if kept.id != *id {
         return true;
     }
-    wipe(&mut kept.key);
+    kept.key.wipe();
     false
 }
 
@@ -168,7 +189,7 @@ fn stays_for(kept: &mut Box<NodeKey>, id: &KeyId) -> bool
 fn goes(kept: &mut Box<NodeKey>) -> bool
     ensures { result ≡ false }
 {
-    wipe(&mut kept.key);
+    kept.key.wipe();
     false
 }
 
@@ -177,7 +198,7 @@ fn forget(keys: &mut Keys, node: u32)
     ensures { keys_of keys.new.entries ≡ map.remove (keys_of keys.old.entries) node }
 {
     match keys.remove(&node) {
-        Some(mut kept) => wipe(&mut kept.key),
+        Some(mut kept) => kept.key.wipe(),
         None => {}
     }
 }
@@ -185,7 +206,7 @@ fn forget(keys: &mut Keys, node: u32)
 // Overwrites a key that isn't cached.
 fn discard(key: Option<NodeKey>) {
     if let Some(mut key) = key {
-        wipe(&mut key.key);
+        key.key.wipe();
     }
 }
 
@@ -196,14 +217,14 @@ fn keep_in(keys: &mut Keys, alloc: Global, node: u32, key: NodeKey) -> Result<()
     ensures cached { IsSome (map.get (keys_of keys.old.entries) node) → IsOk result }
 {
     if let Some(kept) = keys.get_mut(&node) {
-        wipe(&mut kept.key);
+        kept.key.wipe();
         **kept = key;
         return Ok(());
     }
     let boxed = match Box::new(alloc, key) {
         Ok(boxed) => boxed,
         Err(mut refused) => {
-            wipe(&mut refused.value.key);
+            refused.value.key.wipe();
             return Err(AllocError);
         }
     };
@@ -211,7 +232,7 @@ fn keep_in(keys: &mut Keys, alloc: Global, node: u32, key: NodeKey) -> Result<()
         Ok(_) => Ok(()),
         Err(refused) => {
             let (_, mut boxed) = refused.value;
-            wipe(&mut boxed.key);
+            boxed.key.wipe();
             Err(AllocError)
         }
     }

@@ -2,4 +2,3 @@ pub mod Holding
 pub mod Kept
 pub mod Modes
 pub mod KeptModes
-pub mod Zeros

@@ -7,7 +7,7 @@ ghost use Rattle.key_ring.specs.Modes.{no_modes, of_kind, with_kind, mode_at, us
 ghost use Rattle.key_ring.specs.Modes.{with_users, without_user, AreUsed};
 ghost use Rattle.key_ring.specs.KeptModes.{modes_of};
 
-use super::mode_key::{ModeKey, wipe};
+use super::mode_key::ModeKey;
 use fsc_keys::{FileKey, KeyId, KeyKind};
 use std::alloc::{AllocError, Global};
 use std::collections::BTreeMap;
@@ -148,14 +148,14 @@ fn hold_in(
 {
     let total = count_in(modes, id) + users;
     if let Some(mode) = modes.get_mut(id) {
-        wipe(&mut key);
+        key.wipe();
         mode.users = total;
         return Ok(());
     }
     let mode = match Box::new(alloc, ModeKey { key, users }) {
         Ok(mode) => mode,
         Err(mut refused) => {
-            wipe(&mut refused.value.key);
+            refused.value.key.wipe();
             return Err(AllocError);
         }
     };
@@ -163,7 +163,7 @@ fn hold_in(
         Ok(_) => Ok(()),
         Err(refused) => {
             let (_, mut mode) = refused.value;
-            wipe(&mut mode.key);
+            mode.key.wipe();
             Err(AllocError)
         }
     }
@@ -177,7 +177,7 @@ fn release_in(modes: &mut Kept, id: &KeyId)
     let left = count_in(modes, id) - 1;
     if left == 0 {
         if let Some(mut mode) = modes.remove(id) {
-            wipe(&mut mode.key);
+            mode.key.wipe();
         }
         return;
     }

@@ -12,7 +12,7 @@ use Rattle.inode_refs.proofs.cache.keep_in.Goals as goal
 pub returns-in-Some-clause-kept : goal.returns-in-Some-clause-kept
 returns-in-Some-clause-kept c =
     let there = subst IsSome c.get_mut.ensures.value (subst (λ r. IsSome (option_copied_mut r)) (sym c.in-Some.is) refl) in
-    let zeros : NodeKey = record { id = c.deref_mut.result.now.id; key = c.wipe.new.key } in
+    let zeros : NodeKey = record { id = c.deref_mut.result.now.id; key = c.wipe.new.self } in
     let written : KeyBox = with_value (with_value c.in-Some.kept.now zeros) c.args.key in
     key_written c.args.keys.now (c.get_mut.follows.lender written) c.args.node written ((c.get_mut.follows.holds written).3 there).0
 

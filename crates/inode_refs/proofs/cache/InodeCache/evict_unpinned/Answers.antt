@@ -17,8 +17,8 @@ pub returns : goal.returns
 returns c =
     let seen : Cache = record { keys = keys_of c.self.inside.keys.entries; pins = pins_in c.self.inside.pins.entries } in
     let left = kept_by _ (λ e. not (eqb (pins_at (pins_in c.self.inside.pins.entries) e.0) 0) || not (same_id e.1.value.id c.args.id.now)) _ (λ k v b w f' call. (search rules, (λ y. search rules), search rules)) _ _ c.retain.ensures.filtered in
-    let keys = left_by_key c.self.inside.keys c.retain.new.self (λ e. not (eqb (pins_at (pins_in c.self.inside.pins.entries) e.0) 0) || not (same_id e.1.value.id c.args.id.now))
-    (λ node. not (is_unpinned seen node && has_id seen c.args.id.now node)) (IsDistinct-from_sorted nat_cmp _ c.retain.ensures.was_ordered) left
+    let keys = ap keys_of left ∙ left_by_key c.self.inside.keys.entries (λ e. not (eqb (pins_at (pins_in c.self.inside.pins.entries) e.0) 0) || not (same_id e.1.value.id c.args.id.now))
+    (λ node. not (is_unpinned seen node && has_id seen c.args.id.now node)) (IsDistinct-from_sorted nat_cmp _ c.retain.ensures.was_ordered)
     (λ q key there. either_not (eqb (pins_at (pins_in c.self.inside.pins.entries) q) 0) (same_id key.value.id c.args.id.now)
     ∙ sym (ap (λ o. not (eqb (pins_at (pins_in c.self.inside.pins.entries) q) 0 && option_map_or (λ (k : NodeKey). same_id k.id c.args.id.now) o false)) there)) in
     (λ i. record { keys = keys i; pins = pins_in c.self.inside.pins.entries })
