@@ -8,7 +8,7 @@ use fsc_keys::{KeyId, RawKey};
 use hex::FromHexError;
 use item_list::Bytes;
 use std::alloc::{AllocError, Global};
-use text_words::hex_bytes_into;
+use text_words::{hex_bytes, hex_bytes_into};
 
 /// The most bytes of a raw key in a command. More than a raw key may have, so that the mount can
 /// refuse it.
@@ -44,11 +44,7 @@ pub fn read_key_ref(word: &[u8]) -> Option<KeyRef>
 fn read_id(digits: &[u8]) -> Option<KeyId>
     ensures { result ≡ id_of digits.now }
 {
-    let mut id = [0; 16];
-    if !hex_bytes_into(digits, &mut id) {
-        return None;
-    }
-    Some(KeyId(id))
+    hex_bytes(digits).map(KeyId)
 }
 
 fn read_raw_key(digits: &[u8]) -> Option<RawKey>

@@ -1,7 +1,6 @@
 //! The writer of scripts: the text that spells a script, with each command in its own line.
 
 ghost use Rattle.std.specs.Prelude.{◌≡◌, ◌≤◌, ◌+◌, ◌-◌, ◌^◌, ◌++◌, Ok, IfOk, OnOk, codes};
-ghost use Rattle.hex.specs.Hex.{encode_lower};
 ghost use Rattle.script_lang.specs.Keys.{key_ref_text};
 ghost use Rattle.script_lang.specs.Verbs.{verb_text};
 ghost use Rattle.script_lang.specs.Script.{parsed_script};
@@ -11,7 +10,7 @@ ghost use Rattle.script_lang.specs.Spelled.{IsSpelled};
 use crate::commands::{CommandList, KeyRef, Script, Verb};
 use item_list::Bytes;
 use std::alloc::{AllocError, Global};
-use text_words::decimal_digits;
+use text_words::{push_decimal, push_lower_hex};
 
 /// Writes a script as a text that reads back as it. Each command stands in its own line again, each
 /// caller right behind the last line before it, and the other lines are empty.
@@ -24,7 +23,7 @@ pub fn write_script(alloc: Global, script: &Script) -> Result<Bytes, AllocError>
     let mut line = 1;
     'sections: for section in script.as_slice() {
         write_caller(&mut text, section.uid)?;
-        line = write_commands(alloc, &mut text, line + 1, &section.commands)?;
+        line = write_commands(&mut text, line + 1, &section.commands)?;
     }
     Ok(Bytes::from_vec(text))
 }
@@ -34,18 +33,13 @@ fn write_caller(text: &mut Vec<u8>, uid: u32) -> Result<(), AllocError>
     ensures { OnOk result (text.new.items ≡ text.old.items ++ (caller_text uid ++ codes "\n")) }
 {
     text.extend_from_slice(b"caller ")?;
-    text.extend_from_slice(decimal_digits(u64::from(uid)).as_bytes())?;
+    push_decimal(text, u64::from(uid))?;
     text.push(b'\n')?;
     Ok(())
 }
 
 // Writes commands in their own lines. The first free line is given, and the next one comes back.
-fn write_commands(
-    alloc: Global,
-    text: &mut Vec<u8>,
-    first: u64,
-    commands: &CommandList,
-) -> Result<u64, AllocError>
+fn write_commands(text: &mut Vec<u8>, first: u64, commands: &CommandList) -> Result<u64, AllocError>
     ensures written { OnOk result (text.new.items ≡ text.old.items ++ commands_text first commands.now) }
     ensures next { IfOk result (λ next. next ≡ line_behind first commands.now) }
     ensures bound { IfOk result (λ next. next ≤ first + 2 ^ 32) }
@@ -54,7 +48,7 @@ fn write_commands(
     'commands: for command in commands.as_slice() {
         let line = u64::from(command.line);
         write_empty_lines(text, line.saturating_sub(next))?;
-        write_verb(alloc, text, &command.verb)?;
+        write_verb(text, &command.verb)?;
         text.push(b'\n')?;
         next = line + 1;
     }
@@ -72,45 +66,38 @@ fn write_empty_lines(text: &mut Vec<u8>, count: u64) -> Result<(), AllocError>
 }
 
 // Writes the words of a command.
-fn write_verb(alloc: Global, text: &mut Vec<u8>, verb: &Verb) -> Result<(), AllocError>
+fn write_verb(text: &mut Vec<u8>, verb: &Verb) -> Result<(), AllocError>
     ensures { OnOk result (text.new.items ≡ text.old.items ++ verb_text verb.now) }
 {
     match verb {
         Verb::AddKey(bytes) => {
             text.extend_from_slice(b"add-key ")?;
-            write_digits(alloc, text, bytes.as_slice())
+            push_lower_hex(text, bytes.as_slice())
         }
         Verb::RemoveKey(key) => {
             text.extend_from_slice(b"remove-key ")?;
-            write_key_ref(alloc, text, key)
+            write_key_ref(text, key)
         }
         Verb::KeyStatus(key) => {
             text.extend_from_slice(b"key-status ")?;
-            write_key_ref(alloc, text, key)
+            write_key_ref(text, key)
         }
     }
 }
 
 // Writes the word for a key.
-fn write_key_ref(alloc: Global, text: &mut Vec<u8>, key: &KeyRef) -> Result<(), AllocError>
+fn write_key_ref(text: &mut Vec<u8>, key: &KeyRef) -> Result<(), AllocError>
     ensures { OnOk result (text.new.items ≡ text.old.items ++ key_ref_text key.now) }
 {
     match key {
         KeyRef::Id(id) => {
             text.extend_from_slice(b"id:")?;
-            write_digits(alloc, text, &id.0)
+            push_lower_hex(text, &id.0)
         }
         KeyRef::Raw(raw) => {
             text.extend_from_slice(b"raw:")?;
-            write_digits(alloc, text, raw.bytes())
+            push_lower_hex(text, raw.bytes())?;
+            Ok(())
         }
     }
-}
-
-// Writes bytes in lower-case digits.
-fn write_digits(alloc: Global, text: &mut Vec<u8>, bytes: &[u8]) -> Result<(), AllocError>
-    ensures { OnOk result (text.new.items ≡ text.old.items ++ encode_lower bytes.now) }
-{
-    let digits = hex::encode(alloc, bytes)?;
-    text.extend_from_slice(digits.as_bytes())
 }
