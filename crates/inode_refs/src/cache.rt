@@ -96,7 +96,8 @@ impl InodeCache {
         id: KeyId,
         key: FileKey,
     ) -> Result<(), AllocError>
-        ensures kept { OnOk result (self.new ≡ record self.old { keys = map.insert self.old.keys node (record { id = id; key = key }) }) }
+        ensures kept { OnOk result (self.new
+            ≡ record self.old { keys = map.insert self.old.keys node (record { id = id; key = key }) }) }
         ensures as_before { OnErr result (self.new ≡ self.old) }
         ensures cached { IsSome (key_at self.old node) → IsOk result }
     {
@@ -114,7 +115,10 @@ impl InodeCache {
     /// no memory all is as before. A key that isn't cached is overwritten.
     pub fn pin(&mut self, alloc: Global, node: u32, key: Option<NodeKey>) -> Result<(), AllocError>
         requires { pins_of self.old node + 1 < 2 ^ 32 }
-        ensures pinned { OnOk result (self.new ≡ record { keys = given self.old.keys node key; pins = with_pins self.old.pins node (pins_of self.old node + 1) }) }
+        ensures pinned { OnOk result (self.new ≡ record {
+          keys = given self.old.keys node key;
+          pins = with_pins self.old.pins node (pins_of self.old node + 1);
+        }) }
         ensures kept { OnErr result (self.new ≡ self.old) }
     {
         let cached = self.keys.contains_key(&node);
@@ -131,7 +135,8 @@ impl InodeCache {
     /// Takes one pin of the node away. Its key stays. It takes no memory.
     pub fn unpin(&mut self, node: u32)
         requires { 0 < pins_of self.old node }
-        ensures { self.new ≡ record self.old { pins = with_pins self.old.pins node (pins_of self.old node - 1) } }
+        ensures { self.new
+            ≡ record self.old { pins = with_pins self.old.pins node (pins_of self.old node - 1) } }
     {
         counts::one_less(&mut self.pins, &node);
     }

@@ -19,7 +19,8 @@ pub fn count_of<K: Ord>(counts: &BTreeMap<K, u32>, key: &K) -> u32
 /// counts are as before.
 pub fn one_more<K: Ord + Drop>(counts: &mut BTreeMap<K, u32>, key: K) -> Result<(), AllocError>
     requires { unwrap_or (tree.get K.cmp counts.old key) 0 + 1 < 2 ^ 32 }
-    ensures more { OnOk result (tree.Updates K.cmp counts.old counts.new key (Some (unwrap_or (tree.get K.cmp counts.old key) 0 + 1))) }
+    ensures more { OnOk result (tree.Updates K.cmp counts.old counts.new key
+        (Some (unwrap_or (tree.get K.cmp counts.old key) 0 + 1))) }
     ensures kept { OnErr result (tree.IsUnchanged counts.old counts.new) }
 {
     let count = count_of(counts, &key);
@@ -30,7 +31,9 @@ pub fn one_more<K: Ord + Drop>(counts: &mut BTreeMap<K, u32>, key: K) -> Result<
 /// Counts the key once less. It takes no memory.
 pub fn one_less<K: Ord + Drop>(counts: &mut BTreeMap<K, u32>, key: &K)
     requires { 0 < unwrap_or (tree.get K.cmp counts.old key.now) 0 }
-    ensures { (q : K) → tree.get K.cmp counts.new q ≡ (if eq_by_cmp K.cmp key.now q then counted (unwrap_or (tree.get K.cmp counts.old key.now) 0 - 1) else tree.get K.cmp counts.old q) }
+    ensures { (q : K) → tree.get K.cmp counts.new q ≡ (if eq_by_cmp K.cmp key.now q
+        then counted (unwrap_or (tree.get K.cmp counts.old key.now) 0 - 1)
+        else tree.get K.cmp counts.old q) }
 {
     let left = count_of(counts, key) - 1;
     if left == 0 {

@@ -45,7 +45,8 @@ impl Model for ModeKeys {
 
     ghost view = { λ m. record { contents = modes_of m.contents.entries; names = modes_of m.names.entries } };
 
-    ghost invariant = { λ m. AreUsed (record { contents = modes_of m.contents.entries; names = modes_of m.names.entries }) };
+    ghost invariant = { λ m. AreUsed
+        (record { contents = modes_of m.contents.entries; names = modes_of m.names.entries }) };
 }
 
 impl ModeKeys {
@@ -72,7 +73,8 @@ impl ModeKeys {
     ) -> Result<(), AllocError>
         requires some { 1 ≤ users }
         requires fit { users_of self.old id.now + users < 2 ^ 32 }
-        ensures held { OnOk result (self.new ≡ with_kind self.old kind (with_users (of_kind self.old kind) id.now key users)) }
+        ensures held { OnOk result
+            (self.new ≡ with_kind self.old kind (with_users (of_kind self.old kind) id.now key users)) }
         ensures kept { OnErr result (self.new ≡ self.old) }
         ensures stands { IsSome (mode_at self.old id.now kind) → IsOk result }
     {
@@ -115,7 +117,8 @@ impl ModeKeys {
 
 // The mode key of the identifier.
 fn key_in<'a>(modes: &'a Kept, id: &KeyId) -> Option<&'a FileKey>
-    ensures { option_copied result ≡ option_map (λ mode. mode.key) (map.get (modes_of modes.now.entries) id.now) }
+    ensures { option_copied result
+        ≡ option_map (λ mode. mode.key) (map.get (modes_of modes.now.entries) id.now) }
 {
     match modes.get(id) {
         Some(mode) => Some(&mode.key),
@@ -142,7 +145,8 @@ fn hold_in(
     users: u32,
 ) -> Result<(), AllocError>
     requires { users_in (modes_of modes.old.entries) id.now + users < 2 ^ 32 }
-    ensures held { OnOk result (modes_of modes.new.entries ≡ with_users (modes_of modes.old.entries) id.now key users) }
+    ensures held { OnOk result
+        (modes_of modes.new.entries ≡ with_users (modes_of modes.old.entries) id.now key users) }
     ensures kept { OnErr result (modes_of modes.new.entries ≡ modes_of modes.old.entries) }
     ensures stands { IsSome (map.get (modes_of modes.old.entries) id.now) → IsOk result }
 {

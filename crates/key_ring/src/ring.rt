@@ -44,7 +44,8 @@ impl Model for KeyRing {
 
     ghost view = { λ r. record { claims = r.claims; secrets = secrets_of r.secrets.entries } };
 
-    ghost invariant = { λ r. HoldsClaimedSecrets (record { claims = r.claims; secrets = secrets_of r.secrets.entries }) };
+    ghost invariant = { λ r. HoldsClaimedSecrets
+        (record { claims = r.claims; secrets = secrets_of r.secrets.entries }) };
 }
 
 impl KeyRing {
@@ -65,7 +66,8 @@ impl KeyRing {
     pub fn add(&mut self, alloc: Global, raw: &RawKey, uid: u32) -> Result<KeyId, ClaimFault>
         ensures id { IfOk result (λ id. id ≡ key_id_of raw.now) }
         ensures claimed { OnOk result (self.new.claims ≡ with_claim self.old.claims (key_id_of raw.now) uid) }
-        ensures secret { OnOk result (self.new.secrets ≡ map.insert self.old.secrets (key_id_of raw.now) raw.now) }
+        ensures secret { OnOk result
+            (self.new.secrets ≡ map.insert self.old.secrets (key_id_of raw.now) raw.now) }
         ensures kept { OnErr result (self.new ≡ self.old) }
         ensures held { IsTrue (has_claim self.old.claims (key_id_of raw.now) uid) → IsOk result }
         ensures quota { IsErrOf result ClaimFault.Quota ↔ IsOverQuota self.old.claims (key_id_of raw.now) uid }

@@ -38,7 +38,8 @@ pub(crate) fn keep(
     id: KeyId,
     key: PreparedKey,
 ) -> Result<(), AllocError>
-    ensures taken { OnOk result (secrets_of secrets.new.entries ≡ map.insert (secrets_of secrets.old.entries) id key) }
+    ensures taken { OnOk result
+        (secrets_of secrets.new.entries ≡ map.insert (secrets_of secrets.old.entries) id key) }
     ensures kept { OnErr result (secrets_of secrets.new.entries ≡ secrets_of secrets.old.entries) }
     ensures held { IsTrue (map.contains_key (secrets_of secrets.old.entries) id) → IsOk result }
 {
