@@ -1,9 +1,11 @@
 //! The kernels by name.
+use crate::claims::ClaimCount;
 use crate::lengths::{TextLength, UnitLength};
 use crate::stretching::{ONE_PASS, THREE_PASSES};
 use crate::trees::TreeSize;
 use crate::turns::Callers;
-use crate::{ciphers, hashes, names, stretching, trees, turns};
+use crate::{ciphers, claims, hashes, names, sealing, stretching, trees, turns};
+use policy_ctx::Unit;
 use std::alloc::{AllocError, Global};
 use std::marker::Brand;
 use std::sync::Wait;
@@ -19,6 +21,7 @@ pub(crate) enum Kernel {
     Hkdf64,
     Sha512Of192,
     FileKey,
+    ModeKey,
     EncryptName,
     NoKeyText,
     Blake2b,
@@ -28,6 +31,8 @@ pub(crate) enum Kernel {
     GetNodes(TreeSize),
     GetEntries(TreeSize),
     PutEntries(TreeSize),
+    Seal(Unit),
+    MakeClaims(ClaimCount),
 }
 
 impl Kernel {
@@ -40,6 +45,10 @@ impl Kernel {
             ("hkdf", "64") => Some(Kernel::Hkdf64),
             ("sha512", "192") => Some(Kernel::Sha512Of192),
             ("file", "key") => Some(Kernel::FileKey),
+            ("mode", "key") => Some(Kernel::ModeKey),
+            ("seal", "512") => Some(Kernel::Seal(Unit::U512)),
+            ("seal", "4096") => Some(Kernel::Seal(Unit::U4096)),
+            ("claims", claims) => Some(Kernel::MakeClaims(ClaimCount::read(claims)?)),
             ("encrypt", "name-32") => Some(Kernel::EncryptName),
             ("nokey", "255") => Some(Kernel::NoKeyText),
             ("blake2b", "64m") => Some(Kernel::Blake2b),
@@ -78,6 +87,7 @@ impl Kernel {
             Kernel::Hkdf64 => Ok(hashes::hkdf_64(count)),
             Kernel::Sha512Of192 => Ok(hashes::sha512_192(count)),
             Kernel::FileKey => Ok(names::draw_file_keys(count)),
+            Kernel::ModeKey => Ok(names::draw_mode_keys(count)),
             Kernel::EncryptName => Ok(names::encrypt_names::<Brand>(Blank::new(1), count)),
             Kernel::NoKeyText => Ok(names::show_names(count)),
             Kernel::Blake2b => stretching::blake2b(alloc, stretching::message_len(), count),
@@ -87,6 +97,8 @@ impl Kernel {
             Kernel::GetNodes(size) => trees::get_nodes(alloc, size, count),
             Kernel::GetEntries(size) => trees::get_entries(alloc, size, count),
             Kernel::PutEntries(size) => trees::put_entries(alloc, size, count),
+            Kernel::Seal(unit) => sealing::seal_blocks(alloc, unit, count),
+            Kernel::MakeClaims(size) => claims::make_claims(alloc, size, count),
         }
     }
 }

@@ -2,9 +2,9 @@
 ghost use Rattle.std.specs.Prelude.{◌≡◌, ◌<◌, length, replicate};
 ghost use Rattle.std.specs.Fn.{iterate};
 ghost use Rattle.sha2.specs.Sha256.{sha256};
-ghost use Rattle.fsc_speed.specs.Runs.{next_iv, next_nonce, next_stored};
+ghost use Rattle.fsc_speed.specs.Runs.{next_iv, next_nonce, next_raw, next_stored};
 
-use fsc_keys::{FileKey, KeyKind, RawKey, file_key};
+use fsc_keys::{FileKey, KeyKind, PreparedKey, RawKey, mode_key};
 use name_crypt::{Aes256, Plain, Steps, StoredName, encrypt_name_with, nokey_text};
 use policy_ctx::Pad;
 use sha2::{Digest, Sha256};
@@ -16,7 +16,7 @@ const KEY: [u8; 32] = [0x5a; 32];
 
 const NAME: [u8; 32] = [0x61; 32];
 
-/// Draws the names key of a nonce again and again.
+/// Draws the names key of a nonce again and again, from a key that is prepared once.
 #[tactic(auto, using(crate::proofs::Repeating::iterate_more))]
 pub(crate) fn draw_file_keys(count: u32) -> [u8; 32]
     ensures { result ≡ sha256 (iterate (next_nonce RAW) count (replicate 16 0)) }
@@ -24,22 +24,47 @@ pub(crate) fn draw_file_keys(count: u32) -> [u8; 32]
     let Ok(raw) = RawKey::read(&RAW) else {
         unreachable!();
     };
+    let key = PreparedKey::new(raw);
     let mut nonce = [0; 16];
     for _ in 0..count {
-        nonce = nonce_after(&raw, &nonce);
+        nonce = nonce_after(&key, &nonce);
     }
     Sha256::digest(&nonce)
 }
 
-fn nonce_after(raw: &RawKey, nonce: &[u8; 16]) -> [u8; 16]
-    ensures { result ≡ next_nonce raw.now nonce.now }
+fn nonce_after(key: &PreparedKey, nonce: &[u8; 16]) -> [u8; 16]
+    ensures { result ≡ next_nonce key.now nonce.now }
 {
-    let FileKey::Names(key) = file_key(raw, KeyKind::Names, nonce) else {
+    let FileKey::Names(key) = key.file_key(KeyKind::Names, nonce) else {
         unreachable!();
     };
     let mut next = [0; 16];
     next.copy_from_slice(&key[..16]);
     next
+}
+
+/// Draws the mode key for contents of a raw key, which is the next raw key, again and again.
+#[tactic(auto, using(crate::proofs::Repeating::iterate_more))]
+pub(crate) fn draw_mode_keys(count: u32) -> [u8; 32]
+    ensures { result ≡ sha256 (iterate next_raw count (replicate 64 90)) }
+{
+    let mut raw = RAW;
+    for _ in 0..count {
+        raw = raw_after(&raw);
+    }
+    Sha256::digest(&raw)
+}
+
+fn raw_after(bytes: &[u8; 64]) -> [u8; 64]
+    ensures { result ≡ next_raw bytes.now }
+{
+    let Ok(raw) = RawKey::read(bytes) else {
+        unreachable!();
+    };
+    let FileKey::Contents(key) = mode_key(&raw, KeyKind::Contents) else {
+        unreachable!();
+    };
+    key
 }
 
 /// Encrypts a name of 32 bytes at padding 32 again and again, with the round keys made once.

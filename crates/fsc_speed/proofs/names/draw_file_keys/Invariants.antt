@@ -5,4 +5,4 @@ use Rattle.fsc_speed.specs.Runs.{next_nonce}
 use Rattle.fsc_speed.proofs.names.draw_file_keys.Given as goal
 
 abbrev pub invariant-loop : goal.invariant-loop
-invariant-loop l = l.nonce ≡ iterate (next_nonce l.raw) l.counter (replicate 16 0)
+invariant-loop l = l.nonce ≡ iterate (next_nonce l.key) l.counter (replicate 16 0)

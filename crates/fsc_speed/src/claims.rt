@@ -1,0 +1,57 @@
+//! The kernel of claims. It hashes how many claims stand in the end, and no contract says how many
+//! that are.
+use sha2::{Digest, Sha256};
+use std::alloc::{AllocError, Global};
+use user_claims::{Claims, KeyId};
+
+/// How many users make claims.
+const USERS: u32 = 600;
+
+/// The most claims that so many users may make.
+const MOST_MADE: u32 = 38_400;
+
+/// How many claims a run makes.
+#[derive(Clone, Copy)]
+pub(crate) struct ClaimCount {
+    claims: u32,
+}
+
+impl ClaimCount {
+    pub(crate) fn read(digits: &str) -> Option<ClaimCount> {
+        match digits.parse::<u32>() {
+            Ok(claims) if claims <= MOST_MADE => Some(ClaimCount { claims }),
+            _ => None,
+        }
+    }
+}
+
+/// Makes so many claims of 600 users, one key after another, and again from none in each run.
+pub(crate) fn make_claims(
+    alloc: Global,
+    size: ClaimCount,
+    count: u32,
+) -> Result<[u8; 32], AllocError> {
+    let mut found = 0u32;
+    for _ in 0..count {
+        let claims = claims_made(alloc, size)?;
+        found = found.wrapping_add(claims.count_of_id(&key(0)));
+    }
+    Ok(Sha256::digest(&found.to_be_bytes()))
+}
+
+fn claims_made(alloc: Global, size: ClaimCount) -> Result<Claims, AllocError> {
+    let mut claims = Claims::new(alloc);
+    for made in 0..size.claims {
+        claims
+            .claim(&key(made / USERS), made % USERS)
+            .map_err(|_| AllocError)?;
+    }
+    Ok(claims)
+}
+
+// Scattered as identifiers are.
+fn key(number: u32) -> KeyId {
+    let mut id = [0x61; 16];
+    id[..4].copy_from_slice(&number.wrapping_mul(2246822519).to_be_bytes());
+    KeyId(id)
+}

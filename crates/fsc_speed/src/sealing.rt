@@ -1,0 +1,33 @@
+//! The kernel of contents: a block that is sealed again and again, whole or in smaller units.
+ghost use Rattle.std.specs.Prelude.{◌≡◌, IfOk, length, replicate};
+ghost use Rattle.std.specs.Fn.{iterate};
+ghost use Rattle.sha2.specs.Sha256.{sha256};
+ghost use Rattle.data_crypt.specs.Units.{sealed_block};
+
+use data_crypt::{BLOCK_SIZE, seal_block};
+use policy_ctx::Unit;
+use sha2::{Digest, Sha256};
+use std::alloc::{AllocError, Global};
+use xts_mode::XtsKey;
+
+const SEAL_KEY: [u8; 64] = [0x5a; 64];
+
+/// Seals a block of contents in place again and again, its first unit with index 7.
+pub(crate) fn seal_blocks(alloc: Global, unit: Unit, count: u32) -> Result<[u8; 32], AllocError>
+    ensures { IfOk result (λ digest. digest ≡ sha256 (iterate (sealed_block SEAL_KEY unit 7) count (replicate BLOCK_SIZE 0))) }
+{
+    let mut block = vec![in alloc; 0; BLOCK_SIZE]?;
+    repeat_seal(block.as_mut_slice(), unit, count);
+    Ok(Sha256::digest(block.as_slice()))
+}
+
+#[tactic(auto, using(crate::proofs::Repeating::iterate_more))]
+fn repeat_seal(block: &mut [u8], unit: Unit, count: u32)
+    requires { length block.old ≡ BLOCK_SIZE }
+    ensures { block.new ≡ iterate (sealed_block SEAL_KEY unit 7) count block.old }
+{
+    let key = XtsKey::new(&SEAL_KEY);
+    for _ in 0..count {
+        seal_block(&key, unit, 7, block);
+    }
+}
