@@ -185,10 +185,10 @@ module _ {V C R : Type 0} (leads : History C R → V → Type 0) (numbers allowa
         holder = 0;
         words = refl;
         free = λ _. (
-            value,
-            only s.homes (some (Some (standing value v.seen))) long ∙ ap (λ (h : History C R). some (Some (standing value h)) ∷ []) (f.holds_turn turn).2,
-            subst (λ (h : History C R). leads h value) (f.holds_turn turn).2 led,
-          );
+          value,
+          only s.homes (some (Some (standing value v.seen))) long ∙ ap (λ (h : History C R). some (Some (standing value h)) ∷ []) (f.holds_turn turn).2,
+          subst (λ (h : History C R). leads h value) (f.holds_turn turn).2 led,
+        );
         taken = λ nz. absurd (nz refl);
         each = each_set (Knows numbers k.history 0 0) s.views id w
             record { begins = f.begins; told_begins = f.told_begins; holds_turn = λ t. absurd (true≢false (sym t)); below = f.below; own = f.own }

@@ -16,7 +16,7 @@ module _ {C R : Type 0} where
   abbrev pub tried : {V : Type 0} → Seated V C R → ℕ → Seated V C R → Type 0
   tried {V} m found m' =
       (found ≡ 0 → (held : Standing V C R) × IsPrefix m.0.seen held.history
-          × (m' ≡ (record m.0 { turn = true; seen = held.history }, (0, Some held) ∷ [])))
+      × (m' ≡ (record m.0 { turn = true; seen = held.history }, (0, Some held) ∷ [])))
       × (found ≢ 0 → m' ≡ m)
 
   abbrev pub counted_view : View C R → History C R → View C R

@@ -19,28 +19,28 @@ pub pieces-preserved : goal.pieces-preserved
 pieces-preserved g c = record {
   filled = omega arith;
   expands = λ key inner outer.
-    let h : Hash = hash_of g.H.BlockHash.digest_bytes g.row.B g.row.N in
-    let before = c.pieces.invariant.expands key inner outer in
-    let info = c.args.info.now in
-    let i = c.pieces.i in
-    let n = g.row.N in
-    let t = c.next_block-block.result in
-    let s = okm_blocks h key info i in
-    let size : length t ≡ n = c.next_block-block.ensures.size in
-    let begins : i * n < length c.args.out.now =
-    block_begins _ n i _ c.requires.digest c.div_ceil-i-end.ensures c.pieces-test.true in
-    let block : t ≡ okm_block h key info (i + 1) =
-    okm_block-next h key info _ t i before.last (c.next_block-block.ensures.value _ _ inner outer) in
-    let grown : s ++ t ≡ okm_blocks h key info (i + 1) = ap (λ b. s ++ b) block ∙ sym (okm_blocks-next h key info i) in
-    record {
-      last = take_all n t (omega arith) ∙ block;
-      whole = sym (ap length grown) ∙ length-more s t n i before.whole size;
-      written = c.write_at.ensures
-          ∙ ap (λ len. paste c.pieces.out (i * n) t (min (length t) (len - i * n))) c.pieces.auto.out
-          ∙ ap (λ out. paste out (i * n) t (min (length t) (length c.args.out.now - i * n))) before.written
-          ∙ written-more c.args.out.now s t n i before.whole size begins
-          ∙ ap (λ all. paste c.args.out.now 0 all (min (length c.args.out.now) ((i + 1) * n))) grown;
-    };
+      let h : Hash = hash_of g.H.BlockHash.digest_bytes g.row.B g.row.N in
+      let before = c.pieces.invariant.expands key inner outer in
+      let info = c.args.info.now in
+      let i = c.pieces.i in
+      let n = g.row.N in
+      let t = c.next_block-block.result in
+      let s = okm_blocks h key info i in
+      let size : length t ≡ n = c.next_block-block.ensures.size in
+      let begins : i * n < length c.args.out.now =
+      block_begins _ n i _ c.requires.digest c.div_ceil-i-end.ensures c.pieces-test.true in
+      let block : t ≡ okm_block h key info (i + 1) =
+      okm_block-next h key info _ t i before.last (c.next_block-block.ensures.value _ _ inner outer) in
+      let grown : s ++ t ≡ okm_blocks h key info (i + 1) = ap (λ b. s ++ b) block ∙ sym (okm_blocks-next h key info i) in
+      record {
+        last = take_all n t (omega arith) ∙ block;
+        whole = sym (ap length grown) ∙ length-more s t n i before.whole size;
+        written = c.write_at.ensures
+            ∙ ap (λ len. paste c.pieces.out (i * n) t (min (length t) (len - i * n))) c.pieces.auto.out
+            ∙ ap (λ out. paste out (i * n) t (min (length t) (length c.args.out.now - i * n))) before.written
+            ∙ written-more c.args.out.now s t n i before.whole size begins
+            ∙ ap (λ all. paste c.args.out.now 0 all (min (length c.args.out.now) ((i + 1) * n))) grown;
+      };
 }
 
 pub returns : goal.returns

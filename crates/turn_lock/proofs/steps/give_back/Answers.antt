@@ -3,6 +3,9 @@ use Rattle.turn_lock.proofs.Calls.{releases_at}
 use Rattle.turn_lock.proofs.steps.give_back.Goals as goal
 
 pub store-requires : goal.store-requires
-store-requires g c =
-    (search rules, search rules, releases_at _ _ _ _ _ _ c.args.held.value (search rules) (search rules)
-    (subst (λ h. g.M.Machine.leads h c.args.held.value) (search rules) c.requires.stands) (search rules))
+store-requires g c = (
+  search rules,
+  search rules,
+  releases_at _ _ _ _ _ _ c.args.held.value (search rules) (search rules)
+      (subst (λ h. g.M.Machine.leads h c.args.held.value) (search rules) c.requires.stands) (search rules),
+)
