@@ -14,6 +14,7 @@ use fill::{fill, last_column};
 pub use law::table_meets_the_recursion;
 use layout::Layout;
 use std::alloc::{AllocError, Global};
+pub use stretch::{LaneStretch, PlainStretch, Stretch};
 
 mod block;
 mod by_lanes;
@@ -25,6 +26,7 @@ mod law;
 mod layout;
 mod reference;
 mod segment;
+mod stretch;
 #[cfg(test)]
 mod tests;
 

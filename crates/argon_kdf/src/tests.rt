@@ -1,5 +1,6 @@
-use crate::{CostFault, Costs, argon2id, argon2id_lanes};
-use std::alloc::AllocError;
+use crate::{CostFault, Costs, LaneStretch, PlainStretch, Stretch, argon2id, argon2id_lanes};
+use std::alloc::{AllocError, Global};
+use std::thread::Threads;
 
 // RFC 9106, section 5.3.
 #[test]
@@ -79,29 +80,60 @@ fn lanes_at_once_end_with_the_tag(rt: HostRuntime) -> Result<(), AllocError> {
 
 // Segments of 137 columns, which take two address blocks, and memory that is cut to whole segments. The
 // tag is that of the program argon2 20171227.
+const LONG_SEGMENTS: Costs = Costs {
+    passes: 2,
+    kib: 1100,
+    lanes: 2,
+};
+
+const LONG_SEGMENTS_TAG: [u8; 32] = [
+    0xf1, 0x70, 0xce, 0xce, 0x94, 0xbd, 0x1c, 0x6c, 0x66, 0x65, 0xf1, 0x1d, 0xd7, 0x55, 0x63, 0x42,
+    0x3d, 0x04, 0x86, 0xa9, 0x38, 0xec, 0x38, 0x91, 0xdf, 0x54, 0xaf, 0x02, 0xe9, 0x6f, 0x19, 0xbb,
+];
+
 #[test]
 fn segments_of_more_than_128_columns(rt: HostRuntime) -> Result<(), AllocError> {
-    let want: [u8; 32] = [
-        0xf1, 0x70, 0xce, 0xce, 0x94, 0xbd, 0x1c, 0x6c, 0x66, 0x65, 0xf1, 0x1d, 0xd7, 0x55, 0x63,
-        0x42, 0x3d, 0x04, 0x86, 0xa9, 0x38, 0xec, 0x38, 0x91, 0xdf, 0x54, 0xaf, 0x02, 0xe9, 0x6f,
-        0x19, 0xbb,
-    ];
-    let costs = Costs {
-        passes: 2,
-        kib: 1100,
-        lanes: 2,
-    };
     let mut tag = [0; 32];
     argon2id(
         rt.alloc(),
-        &costs,
+        &LONG_SEGMENTS,
         b"password",
         b"somesaltsomesalt",
         b"",
         b"",
         &mut tag,
     )?;
-    assert_eq!(rt; tag, want);
+    assert_eq!(rt; tag, LONG_SEGMENTS_TAG);
+    Ok(())
+}
+
+fn stretched_by<S: Stretch, R: Threads + Sync>(
+    stretch: &S,
+    threads: &R,
+    alloc: Global,
+) -> Result<[u8; 32], AllocError> {
+    let mut tag = [0; 32];
+    stretch.stretch(
+        threads,
+        alloc,
+        &LONG_SEGMENTS,
+        b"password",
+        b"somesaltsomesalt",
+        &mut tag,
+    )?;
+    Ok(tag)
+}
+
+#[test]
+fn stretches_with_and_without_threads(rt: HostRuntime) -> Result<(), AllocError> {
+    assert_eq!(rt;
+        stretched_by(&PlainStretch, &rt, rt.alloc())?,
+        LONG_SEGMENTS_TAG
+    );
+    assert_eq!(rt;
+        stretched_by(&LaneStretch, &rt, rt.alloc())?,
+        LONG_SEGMENTS_TAG
+    );
     Ok(())
 }
 
