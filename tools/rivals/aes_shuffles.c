@@ -1,7 +1,7 @@
 // AES-256 by shuffles of 16-byte tables in registers, block after block: the rival in C of the kernel
 // `aes-block`, by the same steps as aes_core takes for one block.
 //
-//     clang -O3 -march=x86-64-v2 aes_shuffles.c -o aes_shuffles && ./aes_shuffles 400000
+//     gcc -O3 -march=x86-64-v2 aes_shuffles.c -o aes_shuffles && ./aes_shuffles 400000
 #include <stdint.h>
 #include <stdio.h>
 #include <stdlib.h>
