@@ -97,7 +97,7 @@ impl Kernel {
             Kernel::GetNodes(size) => trees::get_nodes(alloc, size, count),
             Kernel::GetEntries(size) => trees::get_entries(alloc, size, count),
             Kernel::PutEntries(size) => trees::put_entries(alloc, size, count),
-            Kernel::Seal(unit) => sealing::seal_blocks(alloc, unit, count),
+            Kernel::Seal(unit) => Ok(sealing::seal_blocks(unit, count)),
             Kernel::MakeClaims(size) => claims::make_claims(alloc, size, count),
         }
     }

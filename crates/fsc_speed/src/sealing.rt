@@ -1,5 +1,5 @@
 //! The kernel of contents: a block that is sealed again and again, whole or in smaller units.
-ghost use Rattle.std.specs.Prelude.{◌≡◌, IfOk, length, replicate};
+ghost use Rattle.std.specs.Prelude.{◌≡◌, length, replicate};
 ghost use Rattle.std.specs.Fn.{iterate};
 ghost use Rattle.sha2.specs.Sha256.{sha256};
 ghost use Rattle.data_crypt.specs.Units.{sealed_block};
@@ -7,18 +7,17 @@ ghost use Rattle.data_crypt.specs.Units.{sealed_block};
 use data_crypt::{BLOCK_SIZE, seal_block};
 use policy_ctx::Unit;
 use sha2::{Digest, Sha256};
-use std::alloc::{AllocError, Global};
 use xts_mode::XtsKey;
 
 const SEAL_KEY: [u8; 64] = [0x5a; 64];
 
 /// Seals a block of contents in place again and again, its first unit with index 7.
-pub(crate) fn seal_blocks(alloc: Global, unit: Unit, count: u32) -> Result<[u8; 32], AllocError>
-    ensures { IfOk result (λ digest. digest ≡ sha256 (iterate (sealed_block SEAL_KEY unit 7) count (replicate BLOCK_SIZE 0))) }
+pub(crate) fn seal_blocks(unit: Unit, count: u32) -> [u8; 32]
+    ensures { result ≡ sha256 (iterate (sealed_block SEAL_KEY unit 7) count (replicate BLOCK_SIZE 0)) }
 {
-    let mut block = vec![in alloc; 0; BLOCK_SIZE]?;
-    repeat_seal(block.as_mut_slice(), unit, count);
-    Ok(Sha256::digest(block.as_slice()))
+    let mut block = [0; BLOCK_SIZE];
+    repeat_seal(&mut block, unit, count);
+    Sha256::digest(&block)
 }
 
 #[tactic(auto, using(crate::proofs::Repeating::iterate_more))]
