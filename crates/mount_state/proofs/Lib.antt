@@ -1,0 +1,5 @@
+pub mod HandleLemmas
+pub mod UserLemmas
+pub mod RuleLemmas
+pub mod StandLemmas
+pub mod FirstLemmas

@@ -1,0 +1,70 @@
+-- What the contexts that lie on the disk name: a master key, and whether a node has a key of its own.
+use Rattle.std.specs.Prelude.{ℕ, Bool, true, false, List, Option, Some, None, not, ◌&&◌}
+use Rattle.policy_ctx.specs.declared.policy.KeyId.{KeyId}
+use Rattle.policy_ctx.specs.KeyIds.{same_id}
+use Rattle.policy_ctx.specs.Context.{id_in, is_by_mode_in}
+use Rattle.fsc_keys.specs.declared.file_keys.KeyKind.{KeyKind}
+use Rattle.fsc_keys.specs.declared.file_keys.KeyKind.TheVariants.{Contents, Names}
+use Rattle.fsc_keys.specs.declared.file_keys.FileKey.{FileKey}
+use Rattle.fsc_keys.specs.declared.file_keys.FileKey.TheVariants as key
+use Rattle.number_map.specs.Numbered.{get}
+use Rattle.disk_tree.specs.DiskTree.{Disk}
+use Rattle.disk_tree.specs.declared.node.StoredNode.{StoredNode}
+use Rattle.disk_tree.specs.declared.node.Body.{Body}
+use Rattle.disk_tree.specs.declared.node.Body.TheVariants.{Dir, File, Link}
+
+-- the bytes of the node's context; none where there is no node
+abbrev pub context_in : Option StoredNode → Option (List ℕ)
+context_in None = None
+context_in (Some v) = v.context
+
+-- the context names the master key; so it does without flag 8, and with it
+abbrev pub names_id : KeyId → Option (List ℕ) → Bool
+names_id id None = false
+names_id id (Some context) = same_id (id_in context) id
+
+abbrev pub has_own : KeyId → Option (List ℕ) → Bool
+has_own id None = false
+has_own id (Some context) = same_id (id_in context) id && not (is_by_mode_in context)
+
+abbrev pub has_shared : KeyId → Option (List ℕ) → Bool
+has_shared id None = false
+has_shared id (Some context) = same_id (id_in context) id && is_by_mode_in context
+
+-- ---- kinds
+
+-- the contents of a file are enciphered, of a directory its names, of a symlink its target as a name
+abbrev pub kind_of : Body → KeyKind
+kind_of (Dir entries) = Names
+kind_of (File blocks size) = Contents
+kind_of (Link target) = Names
+
+abbrev pub kind_in : Option StoredNode → KeyKind
+kind_in None = Names
+kind_in (Some v) = kind_of v.body
+
+abbrev pub is_of_kind : KeyKind → FileKey → Bool
+is_of_kind Contents (key.Contents bytes) = true
+is_of_kind Contents (key.Names bytes) = false
+is_of_kind Names (key.Contents bytes) = false
+is_of_kind Names (key.Names bytes) = true
+
+abbrev pub same_kind : KeyKind → KeyKind → Bool
+same_kind Contents Contents = true
+same_kind Contents Names = false
+same_kind Names Contents = false
+same_kind Names Names = true
+
+-- ---- nodes by number
+
+-- the node's context names the key
+abbrev pub names_key : Disk → ℕ → KeyId → Bool
+names_key disk node id = names_id id (context_in (get disk node))
+
+-- it does, and the node has a file key of its own
+abbrev pub uses_own : Disk → ℕ → KeyId → Bool
+uses_own disk node id = has_own id (context_in (get disk node))
+
+-- it does, and the node uses the mode key of this kind
+abbrev pub uses_mode : Disk → KeyId → KeyKind → ℕ → Bool
+uses_mode disk id kind node = has_shared id (context_in (get disk node)) && same_kind kind (kind_in (get disk node))

@@ -1,0 +1,38 @@
+-- The open handles, and how many each caller ever opened; what each call makes of them.
+use Rattle.std.specs.Prelude.{ℕ, ◌+◌, Bool, [], ◌∷◌, ◌++◌, length, nat_le, ◌||◌, ◌==◌}
+use Rattle.std.specs.List.{count_by}
+use Rattle.std.specs.FinMap as map
+use Rattle.number_map.specs.Numbered.{Numbered, insert}
+use Rattle.mount_model.specs.PlainMount.{HandleList, opens_of, without_handle}
+use Rattle.mount_model.specs.declared.limits.TheConstants.{MOST_HANDLES, MOST_OPENS}
+
+pub record Handles : Type 0 where
+  -- in the order of their opening
+  pub live : HandleList
+  -- how many handles each caller ever opened; nothing stands for none
+  pub opened : Numbered ℕ
+
+abbrev pub no_handles : Handles
+no_handles = record { live = []; opened = map.empty }
+
+-- a new handle of the caller: its number is how many the caller opened before
+abbrev pub with_handle : Handles → ℕ → ℕ → Handles
+with_handle handles caller node = record {
+  live = handles.live ++ record { caller = caller; number = opens_of handles.opened caller; node = node } ∷ [];
+  opened = insert handles.opened caller (opens_of handles.opened caller + 1);
+}
+
+-- the others; what was opened stays counted
+abbrev pub without : Handles → ℕ → ℕ → Handles
+without handles caller number = record handles { live = without_handle caller number handles.live }
+
+-- so many are open as may be, or the caller opened as many as a number can tell
+abbrev pub is_full : Handles → ℕ → Bool
+is_full handles caller = nat_le MOST_HANDLES (length handles.live) || nat_le MOST_OPENS (opens_of handles.opened caller)
+
+-- how many handles are on nodes that pass the test, and on this node
+abbrev pub users : (ℕ → Bool) → HandleList → ℕ
+users test live = count_by (λ h. test h.node) live
+
+abbrev pub handles_on : HandleList → ℕ → ℕ
+handles_on live node = users (λ n. n == node) live

@@ -1,0 +1,41 @@
+-- What a state holds of a master key, and what its status is.
+use Rattle.std.specs.Prelude.{◌≡◌, ℕ, Bool, true, false, List, Option, Some, None, ◌||◌, if◌then◌else◌}
+use Rattle.std.specs.List.{list_any}
+use Rattle.policy_ctx.specs.declared.policy.KeyId.{KeyId}
+use Rattle.policy_ctx.specs.KeyIds.{same_id}
+use Rattle.fsc_keys.specs.declared.file_keys.KeyKind.{KeyKind}
+use Rattle.number_map.specs.Numbered.{get}
+use Rattle.user_claims.specs.Claims.{ClaimSet, is_present}
+use Rattle.key_ring.specs.Holding.{Holding, secret_of}
+use Rattle.key_ring.specs.Modes.{Modes, mode_at}
+use Rattle.inode_refs.specs.Cached.{Cache, key_at}
+use Rattle.inode_refs.specs.declared.node_key.NodeKey.{NodeKey}
+use Rattle.policy_ctx.specs.Context.{id_in}
+use Rattle.disk_tree.specs.DiskTree.{Disk}
+use Rattle.mount_model.specs.PlainMount.{HandleList, has_handle}
+use Rattle.mount_model.specs.declared.reply.KeyState.{KeyState}
+use Rattle.mount_model.specs.declared.reply.KeyState.TheVariants.{Absent, Present, Incomplete}
+use Rattle.mount_state.specs.Contexts.{names_key, context_in}
+
+-- neither the key's secret is held, nor a file key or a mode key that was drawn from it
+pub record HoldsNothing (ring : Holding) (cache : Cache) (modes : Modes) (id : KeyId) : Type 0 where
+  pub secret : secret_of ring id ≡ None
+  pub file_keys : (node : ℕ) (key : NodeKey) → key_at cache node ≡ Some key → same_id key.id id ≡ false
+  pub mode_keys : (kind : KeyKind) → mode_at modes id kind ≡ None
+
+-- some handle is on a node whose context names the key
+abbrev pub is_busy : Disk → HandleList → KeyId → Bool
+is_busy disk live id = list_any (λ h. names_key disk h.node id) live
+
+-- Present where some user has a claim, else Incomplete where a handle needs the key
+abbrev pub key_state : Disk → ClaimSet → HandleList → KeyId → KeyState
+key_state disk claims live id =
+    if is_present claims id then Present else if is_busy disk live id then Incomplete else Absent
+
+abbrev pub is_keyed_under : ClaimSet → HandleList → ℕ → Option (List ℕ) → Bool
+is_keyed_under claims live node None = true
+is_keyed_under claims live node (Some context) = is_present claims (id_in context) || has_handle live node
+
+-- the node has no context, or the key that it names is present, or a handle is on this very node
+abbrev pub is_keyed : Disk → ClaimSet → HandleList → ℕ → Bool
+is_keyed disk claims live node = is_keyed_under claims live node (context_in (get disk node))

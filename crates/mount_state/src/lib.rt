@@ -1,0 +1,15 @@
+//! The state that stands for the one-thread mount: what is stored, the secrets, the cached keys and the
+//! open handles, in a type that keeps what must be forgotten.
+#![tactic(auto)]
+
+mod handle_fault;
+mod handle_table;
+mod looks;
+mod state;
+#[cfg(test)]
+mod tests;
+
+pub use handle_fault::HandleFault;
+pub use handle_table::HandleTable;
+pub use mount_model::{Handle, KeyId, KeyState};
+pub use state::MountState;

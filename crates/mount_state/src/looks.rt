@@ -1,0 +1,133 @@
+//! The state of an empty mount, and what a state answers of keys.
+
+ghost use Rattle.std.specs.Prelude.{◌≡◌, ◌↔◌, false, None, IfOk, is_some, option_map};
+ghost use Rattle.number_map.specs.Numbered as map;
+ghost use Rattle.user_claims.specs.Claims.{is_present};
+ghost use Rattle.key_ring.specs.Holding.{secret_of};
+ghost use Rattle.key_ring.specs.Modes.{mode_at};
+ghost use Rattle.fsc_keys.specs.declared.file_keys.KeyKind.{KeyKind};
+ghost use Rattle.policy_ctx.specs.Context.{id_in};
+ghost use Rattle.mount_model.specs.PlainMount.{PlainMount, empty_mount};
+ghost use Rattle.mount_model.specs.States as plain;
+ghost use Rattle.mount_state.specs.Contexts.{names_key, context_in};
+ghost use Rattle.mount_state.specs.Held.{HoldsNothing, is_busy, key_state, is_keyed};
+ghost use Rattle.mount_state.specs.StandsFor.{StandsFor};
+
+use super::{HandleTable, KeyId, KeyState, MountState};
+use disk_tree::{DiskTree, StoredNode};
+use inode_refs::InodeCache;
+use key_ring::{KeyRing, ModeKeys};
+use meta_files::MetaFiles;
+use std::alloc::{AllocError, Global};
+
+/// The number of the node that is made first, behind the root.
+const FIRST_NODE: u32 = 1;
+
+impl MountState {
+    /// The state of the empty mount: the root alone, no key, no record, nothing open.
+    pub fn new(alloc: Global) -> Result<MountState, AllocError>
+        ensures { IfOk result (λ state. StandsFor state empty_mount) }
+    {
+        let disk = DiskTree::new(alloc)?;
+        Ok(MountState {
+            disk,
+            next_node: FIRST_NODE,
+            ring: KeyRing::new(alloc),
+            meta: MetaFiles::new(alloc),
+            inodes: InodeCache::new(alloc),
+            handles: HandleTable::new(alloc),
+            modes: ModeKeys::new(alloc),
+        })
+    }
+
+    /// Whether the mount holds the key: Present where some user has a claim on it, else Incomplete
+    /// where something open needs it, else Absent. It is Absent exactly where nothing of the key is
+    /// held: no secret, no file key, no mode key.
+    pub fn status(&self, id: &KeyId) -> KeyState
+        ensures value { result ≡ key_state self.now.disk self.now.ring.claims self.now.handles.live id.now }
+        ensures absent { result ≡ KeyState.Absent ↔ HoldsNothing self.now.ring self.now.inodes self.now.modes id.now }
+        ensures stands { (m : PlainMount) → StandsFor self.now m → result ≡ plain.key_state_of m id.now }
+    {
+        if self.is_present(id) {
+            return KeyState::Present;
+        }
+        if self.is_busy(id) {
+            return KeyState::Incomplete;
+        }
+        KeyState::Absent
+    }
+
+    /// Whether some handle is on a node whose context names the key. Where none is, no mode key of it
+    /// stands.
+    pub fn is_busy(&self, id: &KeyId) -> bool
+        ensures value { result ≡ is_busy self.now.disk self.now.handles.live id.now }
+        ensures modes { result ≡ false → (kind : KeyKind) → mode_at self.now.modes id.now kind ≡ None }
+        ensures stands { (m : PlainMount) → StandsFor self.now m → result ≡ plain.is_busy m id.now }
+    {
+        self.modes.users_of(id) > 0 || self.has_handle_under(id)
+    }
+
+    // The same, by the handles alone.
+    fn has_handle_under(&self, id: &KeyId) -> bool
+        ensures { result ≡ is_busy self.now.disk self.now.handles.live id.now }
+    {
+        self.handles
+            .live()
+            .iter()
+            .any(|handle| names_key(&self.disk, handle.node, id))
+    }
+
+    /// Whether the node's key is at hand: it has no context, or the key that this names is present, or
+    /// a handle is open on this very node. So it is where there is no such node.
+    pub fn keyed(&self, node: u32) -> bool
+        ensures value { result ≡ is_keyed self.now.disk self.now.ring.claims self.now.handles.live node }
+        ensures stands { (m : PlainMount) → StandsFor self.now m → result ≡ plain.is_keyed m node }
+    {
+        match key_named(&self.disk, node) {
+            Some(id) => self.is_present(&id) || self.inodes.pins(node) > 0,
+            None => true,
+        }
+    }
+
+    // Whether some user has a claim on the key: exactly where its secret is held.
+    fn is_present(&self, id: &KeyId) -> bool
+        ensures claimed { result ≡ is_present self.now.ring.claims id.now }
+        ensures secret { result ≡ is_some (secret_of self.now.ring id.now) }
+    {
+        self.ring.claims().count_of_id(id) > 0
+    }
+}
+
+// Whether the node's context names the key.
+fn names_key(disk: &DiskTree, node: u32, id: &KeyId) -> bool
+    ensures { result ≡ names_key disk.now node id.now }
+{
+    match key_named(disk, node) {
+        Some(named) => named == *id,
+        None => false,
+    }
+}
+
+// The key that the node's context names; none where it has no context.
+fn key_named(disk: &DiskTree, node: u32) -> Option<KeyId>
+    ensures { result ≡ option_map id_in (context_in (map.get disk.now node)) }
+{
+    match disk.node(node) {
+        Some(
+            StoredNode {
+                context: Some(context),
+                ..
+            },
+        ) => Some(id_of(context)),
+        _ => None,
+    }
+}
+
+// The key that a context names.
+fn id_of(context: &[u8; 40]) -> KeyId
+    ensures { result ≡ id_in context.now }
+{
+    let mut id = [0; 16];
+    id.copy_from_slice(&context[8..24]);
+    KeyId(id)
+}

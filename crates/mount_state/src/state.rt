@@ -1,0 +1,32 @@
+//! The state of a mount, and what it keeps by its type.
+
+ghost use Rattle.mount_state.specs.Discipline.{Forgets};
+ghost use Rattle.mount_state.specs.Safe.{IsSafe};
+
+use super::HandleTable;
+use disk_tree::DiskTree;
+use inode_refs::InodeCache;
+use key_ring::{KeyRing, ModeKeys};
+use meta_files::MetaFiles;
+
+/// All that a mount holds: what lies on the disk, claims with their secrets, records, cached keys with
+/// pins, open handles, and mode keys. No value of it exists that holds more of a master key than it may.
+#[derive(Drop)]
+pub struct MountState {
+    /// The stored nodes.
+    pub disk: DiskTree,
+    /// The number that the next node gets.
+    pub next_node: u32,
+    /// The claims and the secrets.
+    pub ring: KeyRing,
+    /// The records.
+    pub meta: MetaFiles,
+    /// The cached file keys, and the pins of each node.
+    pub inodes: InodeCache,
+    /// The open handles.
+    pub handles: HandleTable,
+    /// The mode keys.
+    pub modes: ModeKeys,
+    pub ghost forgets: { Forgets disk ring.claims inodes modes handles.live },
+    pub ghost safe: { IsSafe disk next_node handles.live },
+}
