@@ -3,3 +3,4 @@ pub mod UserLemmas
 pub mod RuleLemmas
 pub mod StandLemmas
 pub mod FirstLemmas
+pub mod LedLemmas

@@ -6,3 +6,4 @@ pub mod Held
 pub mod Safe
 pub mod Stored
 pub mod StandsFor
+pub mod Led

@@ -4,6 +4,7 @@
 
 mod handle_fault;
 mod handle_table;
+mod in_dir;
 mod looks;
 mod state;
 #[cfg(test)]

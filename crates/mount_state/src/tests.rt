@@ -18,9 +18,11 @@ fn numbers_of_handles_are_not_given_again(rt: HostRuntime) -> Result<(), Fail> {
 }
 
 #[test]
-fn an_empty_mount_holds_no_key(rt: HostRuntime) -> Result<(), Fail> {
+fn an_empty_mount_holds_no_key_and_no_name(rt: HostRuntime) -> Result<(), Fail> {
     let state = MountState::new(rt.alloc())?;
     assert!(rt; state.status(&KeyId([7; 16])) == KeyState::Absent);
     assert!(rt; state.keyed(0));
+    assert!(rt; state.entry_by_name(0, b"letter").is_none());
+    assert!(rt; state.entry_by_text(0, b"AAAAAAAAAAA").is_none());
     Ok(())
 }

@@ -1,0 +1,35 @@
+-- Where a part leads in one directory.
+use Rattle.std.specs.Prelude.{◌≡◌, ℕ, Bool, false, None, List, length, Option, option_map, nat_le, ◌&&◌}
+use Rattle.std.specs.Str.{bytes_eq}
+use Rattle.name_crypt.specs.NoKeyText.{nokey_text_of}
+use Rattle.name_crypt.specs.declared.limits.TheConstants.{LEAST_STORED_BYTES, MOST_NAME_BYTES}
+use Rattle.plain_tree.specs.Nodes.{Name, context_at}
+use Rattle.mount_model.specs.PlainMount.{PlainMount}
+use Rattle.mount_model.specs.States.{is_keyed}
+use Rattle.mount_model.specs.Walk.{found}
+use Rattle.mount_state.specs.StandsFor.{StandsFor}
+use Rattle.mount_state.specs.declared.state.MountState.{MountState}
+
+-- the node to which the part leads in the mount's directory
+abbrev pub led_to : PlainMount → ℕ → Name → Option ℕ
+led_to m dir part = option_map (λ e. e.1) (found m dir part)
+
+-- 16 to 255 bytes
+abbrev pub is_stored : List ℕ → Bool
+is_stored bytes = nat_le LEAST_STORED_BYTES (length bytes) && nat_le (length bytes) MOST_NAME_BYTES
+
+-- the bytes are a stored name, and the text stands for it where its key is absent
+abbrev pub is_text_of : List ℕ → List ℕ → Bool
+is_text_of text stored = is_stored stored && bytes_eq text (nokey_text_of stored)
+
+-- ---- in whatever mount the state stands for
+
+-- a directory without policy leads there by the name
+abbrev pub LeadsPlain : MountState → ℕ → Name → Option ℕ → Type 0
+LeadsPlain s dir name there =
+    (m : PlainMount) → StandsFor s m → context_at m.nodes dir ≡ None → there ≡ led_to m dir name
+
+-- a locked directory leads there by the text
+abbrev pub LeadsLocked : MountState → ℕ → Name → Option ℕ → Type 0
+LeadsLocked s dir text there =
+    (m : PlainMount) → StandsFor s m → is_keyed m dir ≡ false → there ≡ led_to m dir text
