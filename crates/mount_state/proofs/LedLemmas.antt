@@ -26,7 +26,8 @@ use Rattle.mount_state.specs.StandsFor.{TreeStands}
 
 -- ---- texts
 
-decided : (b : Bool) (x y : List ℕ) → (b ≡ true → x ≡ y) → (x ≡ y → b ≡ true) → b ≡ bytes_eq x y
+-- a comparison that is told by equality
+pub decided : (b : Bool) (x y : List ℕ) → (b ≡ true → x ≡ y) → (x ≡ y → b ≡ true) → b ≡ bytes_eq x y
 decided b x y to from = elim (cases_Bool (bytes_eq x y)) [
   | inl same ↦ from ((bytes_eq-Decides x y).0 same) ∙ sym same
   | inr other ↦ elim (cases_Bool b) [
@@ -74,7 +75,7 @@ module _ (disk : Disk) (next : ℕ) (m : PlainMount) (well : IsWellFormed m) (tr
   entries_are = ap entries_in (tree.nodes dir) ∙ entries_stored m.raws dir (get m.nodes dir)
 
   -- a test of stored names that agrees with what is shown finds what the part leads to
-  led_by : (part : Name) (test : List ℕ → Bool)
+  pub led_by : (part : Name) (test : List ℕ → Bool)
       → ((name : Name) → IsNameOf (children m.nodes dir) name → test (stored_form m.raws dir (context_at m.nodes dir) name) ≡ bytes_eq part (shown m dir name))
       → lookup test (stored_entries disk dir) ≡ led_to m dir part
   led_by part test agree =
@@ -82,20 +83,21 @@ module _ (disk : Disk) (next : ℕ) (m : PlainMount) (well : IsWellFormed m) (tr
       ∙ (searches_agree (stored_form m.raws dir (context_at m.nodes dir)) test (λ name. bytes_eq part (shown m dir name)) (children m.nodes dir) agree
       ∙ value_found (λ name. bytes_eq part (shown m dir name)) (children m.nodes dir))
 
+  -- a name of the directory is one that a call may make
+  pub name_of_entry : (name : Name) → IsNameOf (children m.nodes dir) name → IsName name
+  name_of_entry name there =
+      let leads = some_value (lookup (bytes_eq name) (children m.nodes dir)) there in
+      well.nodes.names dir name leads.0 leads.1
+
   pub plain_led : (part : Name) → context_at m.nodes dir ≡ None → lookup (bytes_eq part) (stored_entries disk dir) ≡ led_to m dir part
   plain_led part none = led_by part (bytes_eq part) (λ name _.
       ap (λ o. bytes_eq part (stored_form m.raws dir o name)) none
       ∙ sym (ap (λ o. bytes_eq part (shown_under m dir name o)) none))
 
   module _ (fits : StoredNamesFit) (c : Context) (here : context_at m.nodes dir ≡ Some c) (locked : is_keyed m dir ≡ false) where
-    is_name : (name : Name) → IsNameOf (children m.nodes dir) name → IsName name
-    is_name name there =
-        let leads = some_value (lookup (bytes_eq name) (children m.nodes dir)) there in
-        well.nodes.names dir name leads.0 leads.1
-
     size_of_part : (name : Name) → IsNameOf (children m.nodes dir) name → IsPlain name
     size_of_part name there =
-        let is = is_name name there in
+        let is = name_of_entry name there in
         (is.0.size.0, is.1, is.0.nul)
 
     stored_fits : (name : Name) → IsNameOf (children m.nodes dir) name → is_stored (sealed_name m.raws dir c name) ≡ true

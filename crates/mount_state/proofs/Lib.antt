@@ -4,3 +4,4 @@ pub mod RuleLemmas
 pub mod StandLemmas
 pub mod FirstLemmas
 pub mod LedLemmas
+pub mod KeyedLemmas

@@ -45,6 +45,9 @@ module _ (disk : Disk) (next : ℕ) (m : PlainMount) (well : IsWellFormed m) (tr
       at None has c bad = let none : None ≡ Some c = bad in absurd (cc)
       at (Some d) has c same = let is : d ≡ c = (let both : Some d ≡ Some c = same in cc) in ap (λ (x : Context). length x.policy.id.0) (sym is) ∙ has.0
 
+  pub id_sized : (n : ℕ) (c : Context) → context_at m.nodes n ≡ Some c → length c.policy.id.0 ≡ 16
+  id_sized n c there = sized n (get m.nodes n) refl c there
+
   named : (id : KeyId) (o : Option Context) → ((c : Context) → o ≡ Some c → length c.policy.id.0 ≡ 16) → names_id id (option_map context_bytes o) ≡ plain.is_of_id id o
   named id None size = refl
   named id (Some c) size = ap (λ (k : KeyId). same_id k id) (id_in-context_bytes c (size c refl))

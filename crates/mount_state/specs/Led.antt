@@ -1,9 +1,10 @@
 -- Where a part leads in one directory.
-use Rattle.std.specs.Prelude.{◌≡◌, ℕ, Bool, false, None, List, length, Option, option_map, nat_le, ◌&&◌}
+use Rattle.std.specs.Prelude.{◌≡◌, ℕ, Bool, true, false, Some, None, List, length, Option, option_map, nat_le, ◌&&◌}
 use Rattle.std.specs.Str.{bytes_eq}
+use Rattle.policy_ctx.specs.declared.policy.Context.{Context}
 use Rattle.name_crypt.specs.NoKeyText.{nokey_text_of}
 use Rattle.name_crypt.specs.declared.limits.TheConstants.{LEAST_STORED_BYTES, MOST_NAME_BYTES}
-use Rattle.plain_tree.specs.Nodes.{Name, context_at}
+use Rattle.plain_tree.specs.Nodes.{Name, context_at, is_dir_at}
 use Rattle.mount_model.specs.PlainMount.{PlainMount}
 use Rattle.mount_model.specs.States.{is_keyed}
 use Rattle.mount_model.specs.Walk.{found}
@@ -33,3 +34,9 @@ LeadsPlain s dir name there =
 abbrev pub LeadsLocked : MountState → ℕ → Name → Option ℕ → Type 0
 LeadsLocked s dir text there =
     (m : PlainMount) → StandsFor s m → is_keyed m dir ≡ false → there ≡ led_to m dir text
+
+-- a keyed directory with a policy leads there by the name
+abbrev pub LeadsKeyed : MountState → ℕ → Name → Option ℕ → Type 0
+LeadsKeyed s dir name there =
+    (m : PlainMount) (c : Context) → StandsFor s m → is_dir_at m.nodes dir ≡ true → context_at m.nodes dir ≡ Some c
+    → is_keyed m dir ≡ true → there ≡ led_to m dir name

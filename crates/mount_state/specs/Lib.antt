@@ -7,3 +7,4 @@ pub mod Safe
 pub mod Stored
 pub mod StandsFor
 pub mod Led
+pub mod NamesKey

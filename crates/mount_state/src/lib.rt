@@ -5,6 +5,7 @@
 mod handle_fault;
 mod handle_table;
 mod in_dir;
+mod keyed;
 mod looks;
 mod state;
 #[cfg(test)]

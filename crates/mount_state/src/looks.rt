@@ -18,6 +18,7 @@ use disk_tree::{DiskTree, StoredNode};
 use inode_refs::InodeCache;
 use key_ring::{KeyRing, ModeKeys};
 use meta_files::MetaFiles;
+use policy_ctx::id_in;
 use std::alloc::{AllocError, Global};
 
 /// The number of the node that is made first, behind the root.
@@ -118,16 +119,7 @@ fn key_named(disk: &DiskTree, node: u32) -> Option<KeyId>
                 context: Some(context),
                 ..
             },
-        ) => Some(id_of(context)),
+        ) => Some(id_in(context)),
         _ => None,
     }
-}
-
-// The key that a context names.
-fn id_of(context: &[u8; 40]) -> KeyId
-    ensures { result ≡ id_in context.now }
-{
-    let mut id = [0; 16];
-    id.copy_from_slice(&context[8..24]);
-    KeyId(id)
 }
