@@ -5,3 +5,4 @@ pub mod StandLemmas
 pub mod FirstLemmas
 pub mod LedLemmas
 pub mod KeyedLemmas
+pub mod WalkLemmas

@@ -8,8 +8,10 @@ mod in_dir;
 mod keyed;
 mod looks;
 mod state;
+mod step;
 #[cfg(test)]
 mod tests;
+mod walk;
 
 pub use handle_fault::HandleFault;
 pub use handle_table::HandleTable;
