@@ -5,4 +5,7 @@ pub mod StandLemmas
 pub mod FirstLemmas
 pub mod LedLemmas
 pub mod KeyedLemmas
+pub mod ContextLemmas
+pub mod EntryLemmas
+pub mod KeepLemmas
 pub mod WalkLemmas

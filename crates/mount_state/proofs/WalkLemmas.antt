@@ -1,42 +1,54 @@
--- One part more of a walk.
-use Rattle.std.proofs.Common.{◌≡◌, ℕ, zero, suc, ◌+◌, ◌<◌, List, [], ◌∷◌, length, get_or, drop, Result, Ok, Err, Option, Some, None, refl, sym, ap, ◌∙◌, subst, arith}
-use Rattle.std.specs.Prelude.{All}
+-- A walk goes on from the node that it has reached.
+use Rattle.std.proofs.Common.{◌≡◌, ◌<◌, ℕ, ◌+◌, ◌-◌, zero, suc, [], ◌∷◌, length, take, drop, Some, Ok, Err, sym, ap, ◌∙◌, arith}
 use Rattle.std.specs.List.{slice_get}
-use Rattle.std.proofs.Math.Seq.{drop-cons}
-use Rattle.std.proofs.lemmas.Option.{slice_get_within}
-use Rattle.std.proofs.lemmas.List.Elements.{All-get_or}
+use Rattle.std.specs.Option.{unwrap_or}
+use Rattle.std.proofs.Math.Numerals.{add-one}
+use Rattle.std.proofs.lemmas.Option.{unwrap_or-slice_get}
 use Rattle.plain_tree.specs.Nodes.{Name}
 use Rattle.mount_model.specs.declared.reply.Refusal.{Refusal}
 use Rattle.mount_model.specs.PlainMount.{PlainMount}
-use Rattle.mount_model.specs.Carried.{IsPart}
-use Rattle.mount_model.specs.Walk.{PathParts, Walked, stepped, walked_on, walked_from}
+use Rattle.mount_state.specs.declared.state.MountState.{MountState}
+use Rattle.mount_state.specs.SameButKeys.{SameButKeys}
+use Rattle.mount_model.specs.Walk.{PathParts, Walked, looked_in, stepped, walked_on, walked_from, walked, parent, parent_parts, last_part}
 
-some_same : (x y : Name) → Some x ≡ Some y → x ≡ y
-some_same x y e = cc
+same_part : (a b : Name) → Some a ≡ Some b → a ≡ b
+same_part a b is = cc
 
-found_at : (path : PathParts) (i : ℕ) (x : Name) → slice_get path i ≡ Some x → get_or path i x ≡ x
-found_at [] i x bad = let none : None ≡ Some x = bad in absurd (cc)
-found_at (y ∷ ys) zero x is = some_same y x is
-found_at (y ∷ ys) (suc i) x is = found_at ys i x is
+-- what is left begins with the part
+at_part : (path : PathParts) (count i : ℕ) (part : Name) → Some part ≡ slice_get path i → i < count → drop i (take count path) ≡ part ∷ drop (suc i) (take count path)
+at_part [] count i part there below = absurd (cc)
+at_part (p ∷ ps) zero i part there below = absurd (omega arith)
+at_part (p ∷ ps) (suc n) zero part there below = ap (λ x. x ∷ take n ps) (sym (same_part part p there))
+at_part (p ∷ ps) (suc n) (suc i) part there below = at_part ps n i part there (omega arith)
 
--- the part that is next, and those behind it
-left_at : (path : PathParts) (i : ℕ) (x : Name) → slice_get path i ≡ Some x → drop i path ≡ x ∷ drop (i + 1) path
-left_at path i x is =
-    drop-cons path i x (slice_get_within path i x is)
-    ∙ (ap (λ y. y ∷ drop (suc i) path) (found_at path i x is) ∙ ap (λ k. x ∷ drop k path) (next_is i))
-  where
-    next_is : (i : ℕ) → suc i ≡ i + 1
-    next_is i = omega arith
+module _ (m : PlainMount) (path : PathParts) (count i node : ℕ) (part : Name) (there : Some part ≡ slice_get path i) (below : i < count) where
+  goes_on : walked_from m node (drop i (take count path)) ≡ walked_on (λ x. walked_from m x (drop (suc i) (take count path))) (stepped m node part)
+  goes_on = ap (walked_from m node) (at_part path count i part there below)
 
-pub part_at : (path : PathParts) (i : ℕ) (x : Name) → slice_get path i ≡ Some x → All IsPart path → IsPart x
-part_at path i x is all = subst (λ (y : Name). IsPart y) (found_at path i x is) (All-get_or IsPart path i x (slice_get_within path i x is) all)
+  pub one_more : {w : Walked} → (next : ℕ) → Ok next ≡ stepped m node part → walked_from m node (drop i (take count path)) ≡ w → walked_from m next (drop (i + 1) (take count path)) ≡ w
+  one_more next step on =
+      ap (λ k. walked_from m next (drop k (take count path))) (add-one i)
+      ∙ ap (walked_on (λ x. walked_from m x (drop (suc i) (take count path)))) step
+      ∙ sym goes_on ∙ on
 
-pub walk_goes_on : (m : PlainMount) (node next : ℕ) (path : PathParts) (i : ℕ) (x : Name) → slice_get path i ≡ Some x → Ok next ≡ stepped m node x
-    → walked_from m next (drop (i + 1) path) ≡ walked_from m node (drop i path)
-walk_goes_on m node next path i x is step =
-    ap (walked_on (λ y. walked_from m y (drop (i + 1) path))) step ∙ ap (walked_from m node) (sym (left_at path i x is))
+  pub stopped : {w : Walked} → (refusal : Refusal) → Err refusal ≡ stepped m node part → walked_from m node (drop i (take count path)) ≡ w → Err refusal ≡ w
+  stopped refusal step on = ap (walked_on (λ x. walked_from m x (drop (suc i) (take count path)))) step ∙ sym goes_on ∙ on
 
-pub walk_ends : (m : PlainMount) (node : ℕ) (refusal : Refusal) (path : PathParts) (i : ℕ) (x : Name) → slice_get path i ≡ Some x → Err refusal ≡ stepped m node x
-    → Err refusal ≡ walked_from m node (drop i path)
-walk_ends m node refusal path i x is step =
-    ap (walked_on (λ y. walked_from m y (drop (i + 1) path))) step ∙ ap (walked_from m node) (sym (left_at path i x is))
+-- the last part is looked up where the others lead
+pub parent_at : (m : PlainMount) (path : PathParts) (d : ℕ) → Ok d ≡ walked m (parent_parts path) → (part : Name) → part ≡ unwrap_or (slice_get path (length path - 1)) []
+    → looked_in m d part ≡ parent m path
+parent_at m path d leads part is =
+    ap (looked_in m d) (is ∙ unwrap_or-slice_get path (length path - 1) [])
+    ∙ ap (walked_on (λ x. looked_in m x (last_part path))) leads
+
+-- what two walks change, one after the other
+pub same_then : {a b c : MountState} → SameButKeys a b → SameButKeys b c → SameButKeys a c
+same_then first second = record {
+  disk = second.disk ∙ first.disk;
+  next_node = second.next_node ∙ first.next_node;
+  ring = second.ring ∙ first.ring;
+  meta = second.meta ∙ first.meta;
+  pins = second.pins ∙ first.pins;
+  handles = second.handles ∙ first.handles;
+  modes = second.modes ∙ first.modes;
+}

@@ -40,3 +40,8 @@ abbrev pub LeadsKeyed : MountState → ℕ → Name → Option ℕ → Type 0
 LeadsKeyed s dir name there =
     (m : PlainMount) (c : Context) → StandsFor s m → is_dir_at m.nodes dir ≡ true → context_at m.nodes dir ≡ Some c
     → is_keyed m dir ≡ true → there ≡ led_to m dir name
+
+-- a directory leads there by the part, whatever its policy
+abbrev pub Leads : MountState → ℕ → Name → Option ℕ → Type 0
+Leads s dir part there =
+    (m : PlainMount) → StandsFor s m → is_dir_at m.nodes dir ≡ true → there ≡ led_to m dir part

@@ -8,4 +8,4 @@ pub mod Stored
 pub mod StandsFor
 pub mod Led
 pub mod NamesKey
-pub mod Stepped
+pub mod SameButKeys

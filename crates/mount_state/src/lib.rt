@@ -5,15 +5,17 @@
 mod handle_fault;
 mod handle_table;
 mod in_dir;
+mod keeps;
 mod keyed;
 mod looks;
+mod names;
 mod state;
-mod step;
 #[cfg(test)]
 mod tests;
 mod walk;
 
 pub use handle_fault::HandleFault;
 pub use handle_table::HandleTable;
-pub use mount_model::{Handle, KeyId, KeyState};
+pub use mount_model::{Handle, KeyId, KeyState, Path, Refusal};
 pub use state::MountState;
+pub use walk::{entry_of, walked_node, walked_parent};

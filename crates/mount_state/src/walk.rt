@@ -1,33 +1,126 @@
-//! Walks along paths.
+//! Where paths lead, in the stored tree.
 
-ghost use Rattle.std.specs.Prelude.{◌≡◌, ◌+◌, ◌≤◌, length};
-ghost use Rattle.mount_state.specs.Stepped.{WalksTo};
+ghost use Rattle.std.specs.Prelude.{◌≡◌, ◌+◌, ◌≤◌, take, length, OnOk};
+ghost use Rattle.disk_tree.specs.DiskTree.{IsDirAt};
+ghost use Rattle.mount_model.specs.PlainMount.{PlainMount};
+ghost use Rattle.mount_model.specs.Walk.{looked_in, stepped, walked, parent};
+ghost use Rattle.mount_state.specs.SameButKeys.{SameButKeys, StaysFor};
+ghost use Rattle.mount_state.specs.StandsFor.{StandsFor};
 
-use super::MountState;
+use crate::keeps::keep_key;
+use crate::names::number_of;
+use crate::state::MountState;
+use mount_model::limits::MOST_NAME_BYTES;
 use mount_model::{Path, Refusal};
 use name_crypt::Steps;
+use std::alloc::Global;
 use std::sync::ledger::Ledger;
 
-/// The number of the root.
-const ROOT: u32 = 0;
-
-impl MountState {
-    /// The node to which the path leads from the root. The first part that can't be stepped by tells the
-    /// refusal: NotDir, NameTooLong or NotFound. At most one name is encrypted for each part.
-    pub fn walked_node<L: Ledger>(&self, path: &Path, steps: &mut Steps<L>) -> Result<u32, Refusal>
-        ensures stands { WalksTo self.now path.now result }
-        ensures ticks { steps.new ≤ steps.old + length path.now }
-    {
-        let mut node = ROOT;
-        'parts: for index in 0..path.len() {
-            let Some(part) = path.part(index) else {
-                unreachable!();
-            };
-            match self.step(node, part.bytes(), steps) {
-                Ok(next) => node = next,
-                Err(refusal) => return Err(refusal),
-            }
-        }
-        Ok(node)
+/// The node of the directory's entry that is shown as the part: its name where the directory is keyed,
+/// else its no-key text.
+///
+/// NotDir where the number is no directory's, then NameTooLong for a part of more than
+/// `MOST_NAME_BYTES` bytes, then NotFound. At most one name is encrypted, and where the key is absent
+/// none, nor is any deciphered.
+pub fn entry_of<L: Ledger>(
+    alloc: Global,
+    state: &mut MountState,
+    dir: u32,
+    part: &[u8],
+    steps: &mut Steps<L>,
+) -> Result<u32, Refusal>
+    ensures value { (m : PlainMount) → StandsFor state.old m → result ≡ stepped m dir part.now }
+    ensures stands { StaysFor state.old state.new }
+    ensures same { SameButKeys state.old state.new }
+    ensures ticks { steps.new ≤ steps.old + 1 }
+{
+    if let Err(refusal) = directory_for(state, dir, part) {
+        return Err(refusal);
     }
+    keep_key(alloc, state, dir);
+    match number_of(state, dir, part, steps) {
+        Some(number) => Ok(number),
+        None => Err(Refusal::NotFound),
+    }
+}
+
+/// The node to which the path leads from the root. Refused as its first refused part is. At most one
+/// name is encrypted for each part.
+pub fn walked_node<L: Ledger>(
+    alloc: Global,
+    state: &mut MountState,
+    path: &Path,
+    steps: &mut Steps<L>,
+) -> Result<u32, Refusal>
+    ensures value { (m : PlainMount) → StandsFor state.old m → result ≡ walked m path.now }
+    ensures stands { StaysFor state.old state.new }
+    ensures same { SameButKeys state.old state.new }
+    ensures ticks { steps.new ≤ steps.old + length path.now }
+{
+    walked_parts(alloc, state, path, path.len(), steps)
+}
+
+/// The directory in which the path's last part is to be looked up. Refused as the parts before it are,
+/// then NotDir, then NameTooLong for the last one. A path with no part is taken for one with an empty
+/// part.
+pub fn walked_parent<L: Ledger>(
+    alloc: Global,
+    state: &mut MountState,
+    path: &Path,
+    steps: &mut Steps<L>,
+) -> Result<u32, Refusal>
+    ensures value { (m : PlainMount) → StandsFor state.old m → result ≡ parent m path.now }
+    ensures stands { StaysFor state.old state.new }
+    ensures same { SameButKeys state.old state.new }
+    ensures ticks { steps.new ≤ steps.old + length path.now }
+{
+    let before = path.len().saturating_sub(1);
+    match walked_parts(alloc, state, path, before, steps) {
+        Ok(dir) => match path.part(before) {
+            Some(part) => directory_for(state, dir, part.bytes()),
+            None => directory_for(state, dir, b""),
+        },
+        Err(refusal) => Err(refusal),
+    }
+}
+
+// The node to which the first parts of the path lead, so many of them.
+fn walked_parts<L: Ledger>(
+    alloc: Global,
+    state: &mut MountState,
+    path: &Path,
+    count: usize,
+    steps: &mut Steps<L>,
+) -> Result<u32, Refusal>
+    requires { count ≤ length path.now }
+    ensures value { (m : PlainMount) → StandsFor state.old m → result ≡ walked m (take count path.now) }
+    ensures stands { StaysFor state.old state.new }
+    ensures same { SameButKeys state.old state.new }
+    ensures ticks { steps.new ≤ steps.old + count }
+{
+    let mut node = 0;
+    for i in 0..count {
+        let Some(part) = path.part(i) else {
+            unreachable!()
+        };
+        match entry_of(alloc, state, node, part.bytes(), steps) {
+            Ok(next) => node = next,
+            Err(refusal) => return Err(refusal),
+        }
+    }
+    Ok(node)
+}
+
+// The directory, where the part may be looked up in it.
+fn directory_for(state: &MountState, dir: u32, part: &[u8]) -> Result<u32, Refusal>
+    ensures value { (m : PlainMount) → StandsFor state.now m → result ≡ looked_in m dir part.now }
+    ensures dir { OnOk result (IsDirAt state.now.disk dir) }
+{
+    if !state.disk.is_dir(dir) {
+        return Err(Refusal::NotDir);
+    }
+    if part.len() > MOST_NAME_BYTES {
+        return Err(Refusal::NameTooLong);
+    }
+    Ok(dir)
 }

@@ -1,0 +1,66 @@
+//! The key of a directory's names is cached once a walk drew it.
+
+ghost use Rattle.std.specs.Prelude.{◌≡◌, length, false, Some, IfSome};
+ghost use Rattle.number_map.specs.Numbered as map;
+ghost use Rattle.policy_ctx.specs.declared.policy.Context.{Context};
+ghost use Rattle.policy_ctx.specs.Context.{context_bytes, HasSizes};
+ghost use Rattle.disk_tree.specs.DiskTree.{IsDirAt};
+ghost use Rattle.mount_state.specs.Contexts.{context_in};
+ghost use Rattle.mount_state.specs.SameButKeys.{SameButKeys, StaysFor};
+
+use crate::state::MountState;
+use disk_tree::DiskTree;
+use fsc_keys::KeyKind;
+use policy_ctx::{CONTEXT_LEN, Context, decode_context};
+use std::alloc::Global;
+
+/// Caches the key of the directory's names, where it is the directory's own and can be drawn. Where
+/// there is no memory for it, it isn't cached.
+pub(crate) fn keep_key(alloc: Global, state: &mut MountState, dir: u32)
+    requires { IsDirAt state.old.disk dir }
+    ensures same { SameButKeys state.old state.new }
+    ensures stands { StaysFor state.old state.new }
+{
+    let Some(context) = own_context(&state.disk, dir) else {
+        return;
+    };
+    if state.inodes.key_of(dir).is_some() {
+        return;
+    }
+    let _exact = state.ring.claims();
+    let Some(secret) = state.ring.secret_of(&context.policy.id) else {
+        return;
+    };
+    let key = secret.file_key(KeyKind::Names, &context.nonce);
+    let _cached = state
+        .inodes
+        .keep(alloc, dir, context.policy.id, key)
+        .is_ok();
+}
+
+// The context of the node, where it has a key of its own.
+fn own_context(disk: &DiskTree, node: u32) -> Option<Context>
+    ensures found { IfSome result (λ c. context_in (map.get disk.now node) ≡ Some (context_bytes c)) }
+    ensures sized { IfSome result HasSizes }
+    ensures own { IfSome result (λ c. c.policy.by_mode ≡ false) }
+{
+    let bytes = disk.node(node)?.context.as_ref()?;
+    let context = context_of(bytes)?;
+    if context.policy.by_mode {
+        return None;
+    }
+    Some(context)
+}
+
+// The context of these bytes.
+fn context_of(bytes: &[u8; CONTEXT_LEN]) -> Option<Context>
+    ensures found { IfSome result (λ c. bytes.now ≡ context_bytes c) }
+    ensures sized { IfSome result HasSizes }
+    ensures every { (c : Context) → length c.policy.id.0 ≡ 16 → bytes.now ≡ context_bytes c → result ≡ Some c }
+{
+    let _forty = *bytes;
+    match decode_context(bytes) {
+        Ok(context) => Some(context),
+        Err(_) => None,
+    }
+}
