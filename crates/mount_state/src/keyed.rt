@@ -4,7 +4,6 @@ ghost use Rattle.std.specs.Prelude.{◌≡◌, ◌+◌, ◌≤◌, true, option_
 ghost use Rattle.byte_words.specs.Bytes.{AreBytes};
 ghost use Rattle.fsc_keys.specs.Keys.{key_bytes};
 ghost use Rattle.key_ring.specs.Holding.{HoldsClaimedSecrets};
-ghost use Rattle.key_ring.specs.Zeros.{zeros_for};
 ghost use Rattle.fsc_keys.specs.declared.file_keys.KeyKind.TheVariants.{Names};
 ghost use Rattle.mount_state.specs.Contexts.{is_of_kind};
 ghost use Rattle.mount_model.specs.Sealed.{node_start};
@@ -40,7 +39,7 @@ impl MountState {
         }
         let mut key = self.drawn_key(&context)?;
         let found = entry_under(&self.disk, dir, &context, &key, name, steps);
-        wipe(&mut key);
+        key.wipe();
         found
     }
 
@@ -122,22 +121,5 @@ fn start_of(dir: u32, context: &Context) -> u64
         u64::from(dir) << 32
     } else {
         0
-    }
-}
-
-// Writes zeros over the key, where it stands.
-fn wipe(key: &mut FileKey)
-    ensures { key.new ≡ zeros_for key.old }
-{
-    *key = zeros(key);
-}
-
-// Zeros in the shape of the key.
-fn zeros(key: &FileKey) -> FileKey
-    ensures { result ≡ zeros_for key.now }
-{
-    match key {
-        FileKey::Contents(_) => FileKey::Contents([0; 64]),
-        FileKey::Names(_) => FileKey::Names([0; 32]),
     }
 }
