@@ -1,8 +1,6 @@
-use crate::{Purpose, call_of, draw};
+use crate::{Purpose, draw, id_meant};
 use fsc_keys::RawKey;
-use item_list::Bytes;
-use mount_model::Op;
-use script_lang::{Command, KeyRef, Verb};
+use script_lang::KeyRef;
 use std::alloc::{AllocError, Global};
 use std::test::Fail;
 
@@ -95,25 +93,9 @@ fn drawn(
 
 // The key of 32 bytes 07 has this identifier by Python.
 #[test]
-fn commands_make_their_calls(rt: HostRuntime) -> Result<(), Fail> {
-    let alloc = rt.alloc();
-    let add = Command {
-        line: 2,
-        verb: Verb::AddKey(Bytes::from_vec(vec![in alloc; 7; 32]?)),
-    };
-    let call = call_of(alloc, 1000, &add)?;
-    assert_eq!(rt; call.uid, 1000);
-    assert!(rt; matches!(&call.op, Op::AddKey { raw } if raw.as_slice() == [7; 32].as_slice()));
-    let remove = Command {
-        line: 3,
-        verb: Verb::RemoveKey(KeyRef::Raw(RawKey::read(&[7; 32])?)),
-    };
-    match call_of(alloc, 1000, &remove)?.op {
-        Op::RemoveKey { id } => {
-            let digits = hex::encode(alloc, id.0)?;
-            assert_eq!(rt; digits.as_str(), "1101420d499290b005fc681527257159");
-        }
-        _ => assert!(rt; false),
-    }
+fn a_raw_key_means_its_identifier(rt: HostRuntime) -> Result<(), Fail> {
+    let id = id_meant(&KeyRef::Raw(RawKey::read(&[7; 32])?));
+    let digits = hex::encode(rt.alloc(), id.0)?;
+    assert_eq!(rt; digits.as_str(), "1101420d499290b005fc681527257159");
     Ok(())
 }
