@@ -2,6 +2,7 @@
 use Rattle.std.specs.Prelude.{ℕ, ◌+◌, ◌*◌, List, [], length, map, take, Option, None, Some, slice_index_or}
 use Rattle.std.specs.Int.{div_ceil}
 use Rattle.std.specs.List.{range_with_len}
+use Rattle.mount_limits.specs.declared.TheConstants.{BLOCK_SIZE}
 use Rattle.byte_words.specs.Blocks.{block_at, first_blocks}
 use Rattle.byte_words.specs.Xor.{zero_filled}
 use Rattle.policy_ctx.specs.declared.policy.Unit.{Unit as DataUnit}
@@ -20,11 +21,11 @@ first_index seal j = seal.start + j * unit_count seal.unit
 
 -- how many blocks of 4,096 bytes the contents have; the last may be begun
 unfoldable pub block_count : List ℕ → ℕ
-block_count contents = div_ceil (length contents) 4096
+block_count contents = div_ceil (length contents) BLOCK_SIZE
 
 -- block j of the contents, the last filled with zeros
 unfoldable pub plain_block : List ℕ → ℕ → List ℕ
-plain_block contents j = zero_filled 4096 (block_at 4096 contents j)
+plain_block contents j = zero_filled BLOCK_SIZE (block_at BLOCK_SIZE contents j)
 
 -- what is stored of block j: under a key it is sealed, without one it stays plain
 unfoldable pub stored_block : Option Seal → ℕ → List ℕ → List ℕ

@@ -1,5 +1,6 @@
 -- What holds of sealed blocks and of files for every key, unit and contents.
 use Rattle.std.specs.Prelude.{◌≡◌, ℕ, ◌+◌, ◌-◌, ◌*◌, ◌<◌, ◌≤◌, List, ◌++◌, length, replicate, Option, None, Some}
+use Rattle.mount_limits.specs.declared.TheConstants.{BLOCK_SIZE}
 use Rattle.byte_words.specs.Bytes.{AreBytes}
 use Rattle.byte_words.specs.Contents.{with_bytes, bytes_from}
 use Rattle.policy_ctx.specs.declared.policy.Unit.{Unit as DataUnit}
@@ -9,7 +10,7 @@ use Rattle.data_crypt.specs.Parts.{block_with, edited, rewritten, blocks_joined,
 
 -- a block of contents: 4,096 bytes
 pub record IsContentsBlock (block : List ℕ) : Type 0 where
-  pub size : length block ≡ 4096
+  pub size : length block ≡ BLOCK_SIZE
   pub bytes : AreBytes block
 
 -- opening gives back each block that was sealed
@@ -46,20 +47,20 @@ PiecesFallIntoBlocks = (at : ℕ) (bytes contents : List ℕ) (j : ℕ) →
 -- these blocks are enough for a piece: they begin where it does or before, with no gap behind those
 -- that are there, and end where it ends
 pub record Covers (first end at count had : ℕ) : Type 0 where
-  pub begins : 4096 * first ≤ at
+  pub begins : BLOCK_SIZE * first ≤ at
   pub joins : first ≤ had
-  pub reaches : at + count ≤ 4096 * end
-  pub ends : 4096 * end < at + count + 4096
+  pub reaches : at + count ≤ BLOCK_SIZE * end
+  pub ends : BLOCK_SIZE * end < at + count + BLOCK_SIZE
 
 -- the stored blocks after a piece was written: those that it covers are stored anew
 abbrev pub WritesBlocks : Type 0
 WritesBlocks = (seal : Option Seal) (at : ℕ) (bytes contents : List ℕ) (first end : ℕ) → IsKeyOfBytes seal → AreBytes contents →
     0 < length bytes → Covers first end at (length bytes) (block_count contents) →
-    edited (rewritten (stored_block seal) (read_block seal) (block_count contents) at bytes) first end (stored_blocks seal contents ++ replicate (end - block_count contents) (replicate 4096 0))
+    edited (rewritten (stored_block seal) (read_block seal) (block_count contents) at bytes) first end (stored_blocks seal contents ++ replicate (end - block_count contents) (replicate BLOCK_SIZE 0))
     ≡ stored_blocks seal (with_bytes at bytes contents)
 
 -- a part of some stored blocks, opened, is that part of the contents
 abbrev pub ReadsParts : Type 0
 ReadsParts = (seal : Option Seal) (contents : List ℕ) (from count skip part : ℕ) → IsKeyOfBytes seal → AreBytes contents →
-    from + count ≤ block_count contents → 4096 * from + skip + part ≤ length contents → skip + part ≤ 4096 * count →
-    content_of seal from (blocks_joined (stored_blocks seal contents) from count) skip part ≡ bytes_from (4096 * from + skip) part contents
+    from + count ≤ block_count contents → BLOCK_SIZE * from + skip + part ≤ length contents → skip + part ≤ BLOCK_SIZE * count →
+    content_of seal from (blocks_joined (stored_blocks seal contents) from count) skip part ≡ bytes_from (BLOCK_SIZE * from + skip) part contents

@@ -1,17 +1,18 @@
 -- A piece that is written into a file, and a part that is read of it, block by block.
 use Rattle.std.specs.Prelude.{ℕ, ◌+◌, ◌-◌, ◌*◌, ◌/◌, ◌&&◌, List, [], length, map, take, drop, min, nat_le, nat_lt, Option, slice_index_or, if◌then◌else◌}
 use Rattle.std.specs.List.{range_with_len}
+use Rattle.mount_limits.specs.declared.TheConstants.{BLOCK_SIZE}
 use Rattle.byte_words.specs.Blocks.{block_at, first_blocks}
 use Rattle.byte_words.specs.Contents.{spliced}
 use Rattle.data_crypt.specs.Blocks.{Seal, read_block}
 
 -- where bytes that are written from byte `at` of a file on begin in its block j
 abbrev pub place_in : ℕ → ℕ → ℕ
-place_in at j = min 4096 (at - 4096 * j)
+place_in at j = min BLOCK_SIZE (at - BLOCK_SIZE * j)
 
 -- those of them that fall into the block
 abbrev pub part_in : ℕ → List ℕ → ℕ → List ℕ
-part_in at bytes j = take (4096 - place_in at j) (drop (4096 * j - at) bytes)
+part_in at bytes j = take (BLOCK_SIZE - place_in at j) (drop (BLOCK_SIZE * j - at) bytes)
 
 -- block j with its part of the bytes
 unfoldable pub block_with : ℕ → List ℕ → ℕ → List ℕ → List ℕ
@@ -33,7 +34,7 @@ blocks_joined blocks from count = first_blocks (λ i. slice_index_or blocks (fro
 
 -- what such blocks hide
 unfoldable pub opened_text : Option Seal → ℕ → List ℕ → List ℕ
-opened_text seal from text = first_blocks (λ i. read_block seal (from + i) (block_at 4096 text i)) (length text / 4096)
+opened_text seal from text = first_blocks (λ i. read_block seal (from + i) (block_at BLOCK_SIZE text i)) (length text / BLOCK_SIZE)
 
 -- a part of it
 abbrev pub content_of : Option Seal → ℕ → List ℕ → ℕ → ℕ → List ℕ

@@ -1,5 +1,6 @@
 -- A block of contents in data units: each is enciphered by itself, under an index of its own.
 use Rattle.std.specs.Prelude.{ℕ, ◌+◌, ◌/◌, List}
+use Rattle.mount_limits.specs.declared.TheConstants.{BLOCK_SIZE}
 use Rattle.byte_words.specs.Blocks.{block_at, first_blocks}
 use Rattle.xts_mode.specs.Xts.{xts_encrypted, xts_decrypted}
 use Rattle.policy_ctx.specs.declared.policy.Unit.{Unit as DataUnit}
@@ -7,7 +8,7 @@ use Rattle.policy_ctx.specs.Policy.{unit_bytes}
 
 -- how many units a block of 4,096 bytes has
 abbrev pub unit_count : DataUnit → ℕ
-unit_count unit = 4096 / unit_bytes unit
+unit_count unit = BLOCK_SIZE / unit_bytes unit
 
 -- a block of which unit i is passed through the cipher with index first + i
 unfoldable pub by_units : (ℕ → List ℕ → List ℕ) → DataUnit → ℕ → List ℕ → List ℕ

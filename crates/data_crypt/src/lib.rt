@@ -13,11 +13,9 @@ ghost use Rattle.data_crypt.specs.Parts.{block_with};
 ghost use Rattle.data_crypt.specs.Units.{opened_block, sealed_block};
 
 pub use laws::{contents_come_back, opening_undoes_sealing, parts_are_read, pieces_are_written};
+pub use mount_limits::BLOCK_SIZE;
 use policy_ctx::Unit;
 use xts_mode::XtsKey;
-
-/// How many bytes a block of contents has.
-pub const BLOCK_SIZE: usize = 4096;
 
 /// Encrypts a block of 4,096 bytes in place, by XTS-AES-256, in data units. Unit i of the block has
 /// the index `first` + i; `first` is at most 2^64 - 8.

@@ -1,6 +1,6 @@
 -- The blocks of a file: each has 4,096 bytes.
 use Rattle.std.specs.Prelude.{ℕ, ◌-◌, List, [], ◌++◌, length, take, drop, replicate, slice_set, slice_index_or}
-use Rattle.disk_tree.specs.declared.limits.TheConstants.{BLOCK_SIZE}
+use Rattle.mount_limits.specs.declared.TheConstants.{BLOCK_SIZE}
 
 abbrev pub zero_block : List ℕ
 zero_block = replicate BLOCK_SIZE 0

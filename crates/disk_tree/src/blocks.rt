@@ -3,7 +3,7 @@ ghost use Rattle.std.specs.Prelude.{◌≡◌, ◌<◌, ◌≤◌, [], ◌∷◌
 ghost use Rattle.std.specs.Borrow.{sem};
 ghost use Rattle.disk_tree.specs.Blocks.{zero_block, grown, block_of};
 
-use crate::limits::BLOCK_SIZE;
+use mount_limits::BLOCK_SIZE;
 use std::alloc::{AllocError, Global};
 use std::marker::Model;
 
@@ -15,7 +15,7 @@ pub struct Block {
 
 impl Model for Block {
     ghost use Rattle.std.specs.Prelude.{◌≡◌, ℕ, List, length};
-    ghost use Rattle.disk_tree.specs.declared.limits.TheConstants.{BLOCK_SIZE};
+    ghost use Rattle.mount_limits.specs.declared.TheConstants.{BLOCK_SIZE};
 
     ghost Value = { List ℕ };
 

@@ -7,8 +7,8 @@ ghost use Rattle.disk_tree.specs.Nodes.{entries_of, blocks_of, size_of, with_ent
 
 use crate::blocks::BlockList;
 use crate::entries::DirEntries;
-use crate::limits::BLOCK_SIZE;
 use item_list::Bytes;
+use mount_limits::BLOCK_SIZE;
 use std::alloc::{AllocError, Global};
 
 /// A node of the disk.

@@ -10,8 +10,8 @@ ghost use Rattle.disk_tree.specs.Nodes.{blocks_of, with_blocks, with_size, on_bo
 use crate::edits;
 use crate::entries::DirEntries;
 use crate::fault::DiskFault;
-use crate::limits::{BLOCK_SIZE, MOST_BLOCKS, MOST_ENTRIES, MOST_NODES};
 use crate::node::{Body, StoredNode};
+use mount_limits::{BLOCK_SIZE, MOST_BLOCKS, MOST_CHILDREN, MOST_NODES};
 use number_map::NumberMap;
 use std::alloc::{AllocError, Global};
 use std::marker::Model;
@@ -32,7 +32,7 @@ impl Model for DiskTree {
     ghost use Rattle.disk_tree.specs.contracts.node.StoredNode as stored;
     ghost use Rattle.disk_tree.specs.declared.node.StoredNode.{StoredNode as Stored};
     ghost use Rattle.disk_tree.specs.DiskTree.{block_total};
-    ghost use Rattle.disk_tree.specs.declared.limits.TheConstants.{MOST_BLOCKS};
+    ghost use Rattle.mount_limits.specs.declared.TheConstants.{MOST_BLOCKS};
 
     ghost Value = { FinMap nat_cmp Stored };
 
@@ -191,10 +191,10 @@ impl DiskTree {
         requires { IsDirAt self.old dir }
         ensures put { OnOk result (self.new ≡ entered self.old dir name.now number) }
         ensures kept { OnErr result (self.new ≡ self.old) }
-        ensures full { MOST_ENTRIES ≤ length (children self.old dir) → result ≡ Err DiskFault.NoSpace }
-        ensures no_space { IfErr result (λ fault. fault ≡ DiskFault.NoSpace → MOST_ENTRIES ≤ length (children self.old dir)) }
+        ensures full { MOST_CHILDREN ≤ length (children self.old dir) → result ≡ Err DiskFault.NoSpace }
+        ensures no_space { IfErr result (λ fault. fault ≡ DiskFault.NoSpace → MOST_CHILDREN ≤ length (children self.old dir)) }
     {
-        if self.entry_count(dir) >= MOST_ENTRIES {
+        if self.entry_count(dir) >= MOST_CHILDREN {
             return Err(DiskFault::NoSpace);
         }
         match edits::add_entry(&mut self.nodes, alloc, dir, name, number) {
@@ -238,10 +238,10 @@ impl DiskTree {
         requires there { IsSome (number_under name.now (children self.old dir)) }
         ensures moved { OnOk result (IfSome (number_under name.now (children self.old dir)) (λ number. self.new ≡ moved self.old dir name.now to new_name.now number)) }
         ensures kept { OnErr result (self.new ≡ self.old) }
-        ensures full { to ≢ dir → MOST_ENTRIES ≤ length (children self.old to) → result ≡ Err DiskFault.NoSpace }
-        ensures no_space { IfErr result (λ fault. fault ≡ DiskFault.NoSpace → (to ≢ dir) × (MOST_ENTRIES ≤ length (children self.old to))) }
+        ensures full { to ≢ dir → MOST_CHILDREN ≤ length (children self.old to) → result ≡ Err DiskFault.NoSpace }
+        ensures no_space { IfErr result (λ fault. fault ≡ DiskFault.NoSpace → (to ≢ dir) × (MOST_CHILDREN ≤ length (children self.old to))) }
     {
-        if to != dir && self.entry_count(to) >= MOST_ENTRIES {
+        if to != dir && self.entry_count(to) >= MOST_CHILDREN {
             return Err(DiskFault::NoSpace);
         }
         let Some(number) = self.entry(dir, name) else {

@@ -7,7 +7,7 @@ use Rattle.data_crypt.specs.Parts.{edited, rewritten}
 use Rattle.disk_tree.specs.Blocks.{grown}
 use Rattle.disk_tree.specs.Nodes.{size_of, on_body, with_blocks, with_size}
 use Rattle.disk_tree.specs.DiskTree.{Disk, block_total, file_blocks}
-use Rattle.disk_tree.specs.declared.limits.TheConstants.{MOST_BLOCKS}
+use Rattle.mount_limits.specs.declared.TheConstants.{BLOCK_SIZE, MOST_BLOCKS}
 use Rattle.disk_tree.specs.declared.node.Body.{Body}
 use Rattle.disk_tree.specs.declared.node.Body.TheVariants.{File}
 
@@ -17,14 +17,14 @@ file_body seal contents = File (stored_blocks seal contents) (length contents)
 
 -- one past the last block of bytes that are written from here on
 abbrev pub end_block : ℕ → List ℕ → ℕ
-end_block at bytes = div_ceil (at + length bytes) 4096
+end_block at bytes = div_ceil (at + length bytes) BLOCK_SIZE
 
 -- The blocks after a write: they grow as far as the bytes go, and those that the bytes touch, and
 -- all that are new, are stored anew. The others stay.
 unfoldable pub blocks_with : Option Seal → ℕ → List ℕ → List (List ℕ) → List (List ℕ)
 blocks_with seal at bytes blocks =
     edited (rewritten (stored_block seal) (read_block seal) (length blocks) at bytes)
-    (min (length blocks) (at / 4096)) (end_block at bytes) (grown (end_block at bytes) blocks)
+    (min (length blocks) (at / BLOCK_SIZE)) (end_block at bytes) (grown (end_block at bytes) blocks)
 
 -- the body after a write; no bytes change nothing
 abbrev pub body_written : Option Seal → ℕ → List ℕ → Body → Body

@@ -1,5 +1,7 @@
 -- What a file holds, and what a read that has begun gives.
-use Rattle.std.specs.Prelude.{◌≡◌, ℕ, ◌*◌, ◌/◌, List, [], length, Option, None, Some, option_map, nat_le, if◌then◌else◌}
+use Rattle.std.specs.Prelude.{◌≡◌, ℕ, ◌*◌, ◌/◌, List, [], length, Option}
+use Rattle.std.specs.Prelude.{None, Some, option_map, nat_le, if◌then◌else◌}
+use Rattle.mount_limits.specs.declared.TheConstants.{BLOCK_SIZE}
 use Rattle.byte_words.specs.Bytes.{AreBytes}
 use Rattle.byte_words.specs.Contents.{bytes_from}
 use Rattle.number_map.specs.Numbered.{get}
@@ -22,11 +24,11 @@ lent_content (Some read) = content_of (seal_of read.key) read.block read.text.it
 
 -- the size of a file that has a block for each of its bytes, else 0
 abbrev pub whole_size : Disk → ℕ → ℕ
-whole_size disk file = if nat_le (file_size disk file) (4096 * length (file_blocks disk file)) then file_size disk file else 0
+whole_size disk file = if nat_le (file_size disk file) (BLOCK_SIZE * length (file_blocks disk file)) then file_size disk file else 0
 
 -- the text is the stored blocks that it begins and ends with
 abbrev pub IsCopied : Disk → ℕ → LentRead → Type 0
-IsCopied disk file read = read.text.items ≡ blocks_joined (file_blocks disk file) read.block (length read.text.items / 4096)
+IsCopied disk file read = read.text.items ≡ blocks_joined (file_blocks disk file) read.block (length read.text.items / BLOCK_SIZE)
 
 -- what a read will have is the part that was asked for, whatever contents the file holds
 abbrev pub IsPart : Disk → ℕ → Option Seal → ℕ → ℕ → Option LentRead → Type 0

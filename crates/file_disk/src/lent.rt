@@ -1,5 +1,6 @@
 //! What a read has copied, before it is deciphered.
-ghost use Rattle.std.specs.Prelude.{◌≡◌, ◌+◌, ◌/◌, ◌%◌, ◌^◌, ◌<◌, ◌≤◌, length};
+ghost use Rattle.std.specs.Prelude.{◌≡◌, ◌+◌, ◌*◌, ◌/◌, ◌%◌, ◌^◌, ◌<◌, ◌≤◌, length};
+ghost use Rattle.mount_limits.specs.declared.TheConstants.{BLOCK_SIZE};
 
 use crate::key::ContentsKey;
 
@@ -17,9 +18,9 @@ pub struct LentRead {
     pub skip: u32,
     /// How many bytes it has.
     pub len: u32,
-    pub ghost near: { block + length text.items / 4096 ≤ 2 ^ 20 },
-    pub ghost whole_blocks: { length text.items % 4096 ≡ 0 },
+    pub ghost near: { block + length text.items / BLOCK_SIZE ≤ 2 ^ 20 },
+    pub ghost whole_blocks: { length text.items % BLOCK_SIZE ≡ 0 },
     pub ghost some: { 0 < length text.items },
-    pub ghost at_most_two: { length text.items ≤ 8192 },
+    pub ghost at_most_two: { length text.items ≤ 2 * BLOCK_SIZE },
     pub ghost within: { skip + len ≤ length text.items },
 }

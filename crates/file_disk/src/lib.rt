@@ -6,7 +6,6 @@ mod cipher;
 mod key;
 mod laws;
 mod lent;
-mod limits;
 mod read;
 #[cfg(test)]
 mod tests;
@@ -16,7 +15,7 @@ pub use disk_tree::{DiskFault, DiskTree};
 pub use key::ContentsKey;
 pub use laws::writes_give_the_contents;
 pub use lent::LentRead;
-pub use limits::{MOST_FILE_BYTES, MOST_READ};
+pub use mount_limits::{MOST_FILE_BYTES, MOST_READ_BYTES};
 pub use policy_ctx::Unit;
 pub use read::{begin_read, finish_read};
 pub use write::write_file;

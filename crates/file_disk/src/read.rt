@@ -1,5 +1,6 @@
 //! A part of a file's contents is read in two halves: stored blocks are copied, and then deciphered.
-ghost use Rattle.std.specs.Prelude.{◌≡◌, ◌+◌, ◌*◌, ◌/◌, ◌%◌, ◌<◌, ◌≤◌, ◌^◌, take, drop, length, IfOk, IfSome, OnOk};
+ghost use Rattle.std.specs.Prelude.{◌≡◌, ◌+◌, ◌*◌, ◌/◌, ◌%◌, ◌<◌, ◌≤◌, ◌^◌};
+ghost use Rattle.std.specs.Prelude.{take, drop, length, IfOk, IfSome, OnOk};
 ghost use Rattle.byte_words.specs.Bytes.{AreBytes};
 ghost use Rattle.data_crypt.specs.Laws.{IsKeyOfBytes};
 ghost use Rattle.data_crypt.specs.Parts.{blocks_joined, content_of, opened_text};
@@ -10,9 +11,9 @@ ghost use Rattle.file_disk.specs.Lent.{IsCopied, IsPart, whole_size};
 use crate::cipher::{cipher_of, read};
 use crate::key::{ContentsKey, FileCipher};
 use crate::lent::LentRead;
-use crate::limits::MOST_READ;
 use data_crypt::BLOCK_SIZE;
 use disk_tree::DiskTree;
+use mount_limits::MOST_READ_BYTES;
 use std::alloc::{AllocError, Global};
 
 /// Copies the stored blocks of the part that is asked for, and the key that they are sealed with;
@@ -27,7 +28,7 @@ pub fn begin_read(
     offset: u32,
     len: u32,
 ) -> Result<Option<LentRead>, AllocError>
-    requires { len ≤ MOST_READ }
+    requires { len ≤ MOST_READ_BYTES }
     ensures past { whole_size disk.now file ≤ offset → result ≡ Ok None }
     ensures none { len ≡ 0 → result ≡ Ok None }
     ensures text { IfOk result (λ lent. IfSome lent (IsCopied disk.now file)) }
@@ -93,7 +94,7 @@ fn copy_blocks(
     requires there { from + count ≤ length (file_blocks disk.now file) }
     requires near { from + count ≤ 2 ^ 20 }
     ensures copied { IfOk result (λ text. text.items ≡ blocks_joined (file_blocks disk.now file) from count) }
-    ensures size { IfOk result (λ text. length text.items ≡ 4096 * count) }
+    ensures size { IfOk result (λ text. length text.items ≡ BLOCK_SIZE * count) }
 {
     let mut text = Vec::new(alloc);
     'each: for i in 0..count {
@@ -128,8 +129,8 @@ fn are_bytes(bytes: &[u8])
 
 // Opens each block of the text; the first is block `first` of the file.
 fn open_text(cipher: &Option<FileCipher>, first: u32, text: &mut [u8])
-    requires near { first + length text.old / 4096 ≤ 2 ^ 20 }
-    requires whole_blocks { length text.old % 4096 ≡ 0 }
+    requires near { first + length text.old / BLOCK_SIZE ≤ 2 ^ 20 }
+    requires whole_blocks { length text.old % BLOCK_SIZE ≡ 0 }
     ensures { text.new ≡ opened_text (seal_by cipher.now) first text.old }
 {
     'each: for i in 0..text.len() / BLOCK_SIZE {

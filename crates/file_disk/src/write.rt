@@ -6,9 +6,9 @@ ghost use Rattle.file_disk.specs.Keys.{seal_by, seal_of};
 
 use crate::cipher::{cipher_of, read, store};
 use crate::key::{ContentsKey, FileCipher};
-use crate::limits::MOST_FILE_BYTES;
 use data_crypt::{BLOCK_SIZE, put_part};
 use disk_tree::{DiskFault, DiskTree};
+use mount_limits::MOST_FILE_BYTES;
 use std::alloc::Global;
 
 /// Writes the bytes into the file from byte `offset` on. A gap before them is zeros, sealed as all

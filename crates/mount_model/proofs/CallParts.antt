@@ -15,7 +15,8 @@ use Rattle.byte_words.specs.Contents.{with_bytes}
 use Rattle.byte_words.proofs.ContentsLemmas.{length-with_bytes, AreBytes-with_bytes}
 use Rattle.number_map.specs.Numbered.{get}
 use Rattle.plain_tree.specs.Nodes.{Name, Body, Dir, File, Link, Node, with_contents, children, context_at}
-use Rattle.mount_model.specs.declared.limits.TheConstants.{MOST_FILE_BYTES, MOST_BLOCKS, MOST_NAME_BYTES}
+use Rattle.mount_limits.specs.declared.TheConstants.{MOST_FILE_BYTES, MOST_BLOCKS}
+use Rattle.name_crypt.specs.declared.limits.TheConstants.{MOST_NAME_BYTES}
 use Rattle.mount_model.specs.Carried.{IsTarget, AreFewBytes}
 use Rattle.mount_model.specs.PlainMount.{PlainMount, raw_in}
 use Rattle.mount_model.specs.PolicyAnswers.{policy_in, may_use}

@@ -14,7 +14,7 @@ use Rattle.meta_files.specs.Records.{record_of}
 use Rattle.byte_words.specs.Contents.{with_bytes}
 use Rattle.mount_model.specs.declared.reply.Reply.{Reply}
 use Rattle.mount_model.specs.declared.reply.Reply.TheVariants.{Done, Opened, Refused}
-use Rattle.mount_model.specs.declared.limits.TheConstants.{MOST_NAME_BYTES}
+use Rattle.name_crypt.specs.declared.limits.TheConstants.{MOST_NAME_BYTES}
 use Rattle.mount_model.specs.declared.reply.Refusal.{Refusal}
 use Rattle.mount_model.specs.declared.reply.Refusal.TheVariants.{NoKey, Access, Quota, Inval, Exists, NotFound, NotDir, IsDir, NotEmpty, XDev, NoData, BadHandle, NameTooLong, TooBig, NoSpace, NoKeyClash, Changed}
 use Rattle.mount_model.specs.PlainMount.{PlainMount, node_of}

@@ -16,7 +16,7 @@ use Rattle.plain_tree.specs.Changes.{first_nodes}
 use Rattle.plain_tree.specs.Facts.{EachNode}
 use Rattle.plain_tree.proofs.FactLemmas.{each_inserted}
 use Rattle.plain_tree.proofs.FirstLemmas.{first_children, first_tree, first_sealed}
-use Rattle.mount_model.specs.declared.limits.TheConstants.{MOST_BLOCKS}
+use Rattle.mount_limits.specs.declared.TheConstants.{MOST_BLOCKS}
 use Rattle.mount_model.specs.PlainMount.{Raws, opens_of, empty_mount}
 use Rattle.mount_model.specs.Sealed.{texts}
 use Rattle.mount_model.specs.FileAnswers.{block_count, block_total}

@@ -10,7 +10,7 @@ use Rattle.plain_tree.specs.Nodes.{Name, Children, Body, Dir, File, Link, Node, 
 use Rattle.plain_tree.specs.Changes.{on_children, on_contents, named_as, with_context, name_put, name_taken, made, dropped, gone, moved, written, encrypted}
 use Rattle.plain_tree.proofs.ReadLemmas.{read_changed}
 use Rattle.plain_tree.proofs.MadeLemmas.{still_free}
-use Rattle.mount_model.specs.declared.limits.TheConstants.{MOST_BLOCKS}
+use Rattle.mount_limits.specs.declared.TheConstants.{MOST_BLOCKS}
 use Rattle.mount_model.specs.FileAnswers.{is_link_at, contents_at, block_count, block_total}
 
 -- ---- symlinks

@@ -10,7 +10,7 @@ use Rattle.plain_tree.proofs.DroppedLemmas.{dropped_nameless}
 use Rattle.mount_model.specs.declared.call.Op.{Op}
 use Rattle.mount_model.specs.declared.call.Op.TheVariants as op
 use Rattle.mount_model.specs.declared.reply.Reply.TheVariants.{Done}
-use Rattle.mount_model.specs.declared.limits.TheConstants.{MOST_BLOCKS}
+use Rattle.mount_limits.specs.declared.TheConstants.{MOST_BLOCKS}
 use Rattle.mount_model.specs.Carried.{IsPath}
 use Rattle.mount_model.specs.Fits.{OpFits}
 use Rattle.mount_model.specs.PlainMount.{PlainMount, Raws, with_raw, has_handle, without_handle}

@@ -20,7 +20,8 @@ use Rattle.plain_tree.proofs.EditedLemmas.{written_tree, encrypted_tree}
 use Rattle.plain_tree.proofs.SealedLemmas.{made_sealed, dropped_sealed, gone_sealed, moved_sealed}
 use Rattle.plain_tree.proofs.SealLemmas.{written_sealed, encrypted_sealed}
 use Rattle.plain_tree.proofs.FactLemmas.{IsOfBodies, each_made, each_dropped, each_gone, each_moved, each_written, each_encrypted, names_made, names_dropped, names_gone, names_moved, names_written, names_encrypted}
-use Rattle.mount_model.specs.declared.limits.TheConstants.{LAST_NODE, MOST_BLOCKS}
+use Rattle.mount_model.specs.declared.limits.TheConstants.{LAST_NODE}
+use Rattle.mount_limits.specs.declared.TheConstants.{MOST_BLOCKS}
 use Rattle.mount_model.specs.PlainMount.{Raws}
 use Rattle.mount_model.specs.Sealed.{texts}
 use Rattle.mount_model.specs.FileAnswers.{contents_at, block_count, block_total}

@@ -12,7 +12,7 @@ use Rattle.std.proofs.lemmas.Map.Made.{is_some-lookup}
 use Rattle.plain_tree.proofs.ChildLemmas.{same_name, itself}
 use Rattle.meta_files.specs.Records.{RecordList, record_of, version_of, with_record}
 use Rattle.meta_files.proofs.RecordLemmas.{record_of-with_record, record_of-with_record_other}
-use Rattle.mount_model.specs.declared.limits.TheConstants.{MOST_RECORDS, MOST_RECORD_BYTES, LAST_VERSION}
+use Rattle.meta_files.specs.declared.files.TheConstants.{MOST_RECORDS, MOST_RECORD_BYTES, LAST_VERSION}
 use Rattle.mount_model.specs.PlainMount.{PlainMount}
 use Rattle.mount_model.specs.RecordAnswers.{is_out_of_records}
 use Rattle.mount_model.specs.WellFormed.{IsRecord, HasRecords}

@@ -12,7 +12,7 @@ use Rattle.plain_tree.specs.Nodes.{Name, Children, Body, Dir, File, Link, Node, 
 use Rattle.plain_tree.specs.Seals.{has_text}
 use Rattle.plain_tree.specs.Laws.{IsNew, CanBeMade, CanBeMoved}
 use Rattle.plain_tree.specs.SealLaws.{FitsInto, MovesInto}
-use Rattle.plain_tree.specs.declared.TheConstants.{MOST_NODES, MOST_CHILDREN}
+use Rattle.mount_limits.specs.declared.TheConstants.{MOST_NODES, MOST_CHILDREN}
 use Rattle.plain_tree.proofs.ChildLemmas.{same_name}
 use Rattle.plain_tree.proofs.FoundLemmas.{found_entry}
 use Rattle.mount_model.specs.declared.limits.TheConstants.{LAST_NODE}

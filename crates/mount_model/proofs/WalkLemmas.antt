@@ -6,7 +6,7 @@ use Rattle.std.proofs.lemmas.Bool.{cases_Bool, not-false, ltb-false, eqb-false, 
 use Rattle.plain_tree.specs.Nodes.{Name, children, is_dir_at, entry}
 use Rattle.plain_tree.specs.Tree.{IsReached, IsReachedWithout}
 use Rattle.plain_tree.proofs.FoundLemmas.{found_entry}
-use Rattle.mount_model.specs.declared.limits.TheConstants.{MOST_NAME_BYTES}
+use Rattle.name_crypt.specs.declared.limits.TheConstants.{MOST_NAME_BYTES}
 use Rattle.mount_model.specs.declared.reply.Refusal.{Refusal}
 use Rattle.mount_model.specs.declared.reply.Refusal.TheVariants.{NotFound, NotDir, NameTooLong}
 use Rattle.mount_model.specs.PlainMount.{PlainMount}

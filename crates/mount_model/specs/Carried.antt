@@ -1,7 +1,8 @@
 -- What a call may carry.
 use Rattle.std.specs.Prelude.{◌≢◌, ◌≤◌, ℕ, List, [], ◌∷◌, length, All, Contains}
 use Rattle.byte_words.specs.Bytes.{AreBytes}
-use Rattle.mount_model.specs.declared.limits.TheConstants.{MOST_PARTS, MOST_PART_BYTES, MOST_TARGET_BYTES}
+use Rattle.mount_limits.specs.declared.TheConstants.{MOST_PARTS, MOST_PART_BYTES}
+use Rattle.mount_model.specs.declared.limits.TheConstants.{MOST_TARGET_BYTES}
 
 -- at least one byte and at most so many
 abbrev pub HasLength : List ℕ → ℕ → Type 0

@@ -9,7 +9,8 @@ use Rattle.number_map.specs.Numbered.{get, insert, entries}
 use Rattle.plain_tree.specs.Nodes.{Node, Nodes, contents_of, is_link, is_dir_at, is_named}
 use Rattle.plain_tree.specs.Changes.{gone, written}
 use Rattle.mount_model.specs.declared.handle.Handle.{Handle}
-use Rattle.mount_model.specs.declared.limits.TheConstants.{BLOCK_BYTES, MOST_BLOCKS, MOST_FILE_BYTES, MOST_READ_BYTES, MOST_HANDLES, MOST_OPENS}
+use Rattle.mount_limits.specs.declared.TheConstants.{BLOCK_SIZE, MOST_BLOCKS, MOST_FILE_BYTES, MOST_READ_BYTES}
+use Rattle.mount_model.specs.declared.limits.TheConstants.{MOST_HANDLES, MOST_OPENS}
 use Rattle.mount_model.specs.declared.reply.Reply.{Reply}
 use Rattle.mount_model.specs.declared.reply.Reply.TheVariants.{Opened, Content}
 use Rattle.mount_model.specs.declared.reply.Refusal.TheVariants.{NoKey, Inval, IsDir, BadHandle, TooBig, NoSpace}
@@ -68,7 +69,7 @@ answer_to_read m caller handle offset len = at_handle m (λ n.
 
 -- how many blocks contents have, the last of them perhaps begun
 abbrev pub block_count : List ℕ → ℕ
-block_count contents = div_ceil (length contents) BLOCK_BYTES
+block_count contents = div_ceil (length contents) BLOCK_SIZE
 
 -- the blocks of all files
 unfoldable pub block_total : Nodes → ℕ

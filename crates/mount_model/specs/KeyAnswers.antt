@@ -4,7 +4,7 @@ use Rattle.std.specs.Prelude.{ℕ, Bool, false, List, length, not, ◌==◌, ◌
 use Rattle.policy_ctx.specs.declared.policy.KeyId.{KeyId}
 use Rattle.fsc_keys.specs.Keys.{key_id_of}
 use Rattle.user_claims.specs.Claims.{has_claim, is_present, count_of_user, count_of_id, with_claim, without_claim, without_id}
-use Rattle.mount_model.specs.declared.limits.TheConstants.{LEAST_KEY_BYTES, MOST_KEY_BYTES}
+use Rattle.fsc_keys.specs.declared.raw_key.TheConstants.{LEAST_RAW_KEY_BYTES, MOST_RAW_KEY_BYTES}
 use Rattle.user_claims.specs.declared.claims.TheConstants.{MOST_CLAIMS}
 use Rattle.mount_model.specs.declared.reply.Reply.{Reply}
 use Rattle.mount_model.specs.declared.reply.Reply.TheVariants.{Added, Removed, Status}
@@ -17,7 +17,7 @@ use Rattle.mount_model.specs.Answered.{Answer, refused, told}
 
 -- 32 to 64 bytes
 abbrev pub is_raw_key : List ℕ → Bool
-is_raw_key raw = nat_le LEAST_KEY_BYTES (length raw) && nat_le (length raw) MOST_KEY_BYTES
+is_raw_key raw = nat_le LEAST_RAW_KEY_BYTES (length raw) && nat_le (length raw) MOST_RAW_KEY_BYTES
 
 -- the claim is new, and the user has 64
 abbrev pub is_over_quota : PlainMount → ℕ → List ℕ → Bool

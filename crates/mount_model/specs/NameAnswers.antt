@@ -7,8 +7,9 @@ use Rattle.user_claims.specs.Claims.{is_present}
 use Rattle.plain_tree.specs.Nodes.{Name, Body, Dir, File, Link, Node, Nodes, children, context_at, is_dir_at, entry}
 use Rattle.plain_tree.specs.Changes.{made, dropped, gone, moved}
 use Rattle.plain_tree.specs.Seals.{has_text}
-use Rattle.plain_tree.specs.declared.TheConstants.{MOST_NODES, MOST_CHILDREN}
-use Rattle.mount_model.specs.declared.limits.TheConstants.{MOST_NAME_BYTES, LAST_NODE}
+use Rattle.mount_limits.specs.declared.TheConstants.{MOST_NODES, MOST_CHILDREN}
+use Rattle.name_crypt.specs.declared.limits.TheConstants.{MOST_NAME_BYTES}
+use Rattle.mount_model.specs.declared.limits.TheConstants.{LAST_NODE}
 use Rattle.mount_model.specs.declared.reply.Refusal.TheVariants.{NoKey, Inval, Exists, NotDir, IsDir, NotEmpty, XDev, NameTooLong, NoSpace, NoKeyClash}
 use Rattle.mount_model.specs.PlainMount.{PlainMount, has_handle}
 use Rattle.mount_model.specs.Sealed.{texts}

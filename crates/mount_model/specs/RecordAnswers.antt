@@ -2,7 +2,7 @@
 -- mount that it leaves.
 use Rattle.std.specs.Prelude.{ℕ, ◌+◌, Bool, List, length, Option, Some, None, is_none, not, ◌==◌, ◌&&◌, ◌||◌, nat_le, nat_lt, if◌then◌else◌}
 use Rattle.meta_files.specs.Records.{record_of, version_of, with_record}
-use Rattle.mount_model.specs.declared.limits.TheConstants.{MOST_RECORDS, MOST_RECORD_BYTES, LAST_VERSION}
+use Rattle.meta_files.specs.declared.files.TheConstants.{MOST_RECORDS, MOST_RECORD_BYTES, LAST_VERSION}
 use Rattle.mount_model.specs.declared.reply.Reply.TheVariants.{Held, Stored}
 use Rattle.mount_model.specs.declared.reply.Refusal.TheVariants.{NotFound, TooBig, NoSpace, Changed}
 use Rattle.mount_model.specs.PlainMount.{PlainMount}

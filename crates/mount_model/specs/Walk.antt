@@ -4,7 +4,7 @@ use Rattle.std.specs.List.{list_any}
 use Rattle.std.specs.Str.{bytes_eq}
 use Rattle.std.specs.Map.{lookup_entry}
 use Rattle.plain_tree.specs.Nodes.{Name, children, is_dir_at}
-use Rattle.mount_model.specs.declared.limits.TheConstants.{MOST_NAME_BYTES}
+use Rattle.name_crypt.specs.declared.limits.TheConstants.{MOST_NAME_BYTES}
 use Rattle.mount_model.specs.declared.reply.Refusal.{Refusal}
 use Rattle.mount_model.specs.declared.reply.Refusal.TheVariants.{NotFound, NotDir, NameTooLong}
 use Rattle.mount_model.specs.PlainMount.{PlainMount}

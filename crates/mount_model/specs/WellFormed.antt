@@ -16,7 +16,10 @@ use Rattle.plain_tree.specs.Tree.{IsTree}
 use Rattle.plain_tree.specs.Seals.{IsSealed}
 use Rattle.meta_files.specs.Records.{RecordList, record_of}
 use Rattle.mount_model.specs.declared.handle.Handle.{Handle}
-use Rattle.mount_model.specs.declared.limits.TheConstants.{LAST_NODE, MOST_NAME_BYTES, MOST_FILE_BYTES, MOST_BLOCKS, MOST_HANDLES, MOST_OPENS, MOST_RECORDS, MOST_RECORD_BYTES, LAST_VERSION}
+use Rattle.mount_model.specs.declared.limits.TheConstants.{LAST_NODE, MOST_HANDLES, MOST_OPENS}
+use Rattle.name_crypt.specs.declared.limits.TheConstants.{MOST_NAME_BYTES}
+use Rattle.mount_limits.specs.declared.TheConstants.{MOST_FILE_BYTES, MOST_BLOCKS}
+use Rattle.meta_files.specs.declared.files.TheConstants.{MOST_RECORDS, MOST_RECORD_BYTES, LAST_VERSION}
 use Rattle.mount_model.specs.PlainMount.{PlainMount, Raws, HandleList, raw_in, is_handle, has_handle, opens_of}
 use Rattle.mount_model.specs.Sealed.{texts}
 use Rattle.mount_model.specs.KeyAnswers.{is_raw_key}

@@ -8,7 +8,7 @@ use Rattle.number_map.proofs.NumberedLemmas.{len_changed, changed_here, changed_
 use Rattle.plain_tree.specs.Nodes.{Name, Node, Nodes, children_in, context_in, is_named_in, is_dir_in, without_child, children, context_at, is_named, is_dir_at, entry}
 use Rattle.plain_tree.specs.Changes.{on_children, named_as, name_taken, dropped}
 use Rattle.plain_tree.specs.Tree.{HasNames, IsTree}
-use Rattle.plain_tree.specs.declared.TheConstants.{MOST_NODES, MOST_CHILDREN}
+use Rattle.mount_limits.specs.declared.TheConstants.{MOST_NODES, MOST_CHILDREN}
 use Rattle.plain_tree.proofs.ReadLemmas.{read_changed}
 use Rattle.plain_tree.proofs.EditLemmas.{edit_context, edit_named, edit_dir, edit_there, edit_others, taken_children, taken_names, taken_count, taken_from, taken_kept}
 use Rattle.plain_tree.proofs.ReachedLemmas.{childless, reached_beside}

@@ -9,7 +9,7 @@ use Rattle.number_map.proofs.NumberedLemmas.{len_changed, changed_other}
 use Rattle.plain_tree.specs.Nodes.{Name, Body, Dir, File, Link, Node, Nodes, children_of, children_in, context_in, is_named_in, is_dir, is_dir_in, with_contents, children, context_at, is_named, is_dir_at, entry}
 use Rattle.plain_tree.specs.Changes.{on_contents, with_context, written, encrypted}
 use Rattle.plain_tree.specs.Tree.{HasNames, IsTree}
-use Rattle.plain_tree.specs.declared.TheConstants.{MOST_NODES, MOST_CHILDREN}
+use Rattle.mount_limits.specs.declared.TheConstants.{MOST_NODES, MOST_CHILDREN}
 use Rattle.plain_tree.proofs.ReadLemmas.{read_changed}
 use Rattle.plain_tree.proofs.ReachedLemmas.{reached_kept}
 

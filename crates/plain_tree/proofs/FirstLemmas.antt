@@ -12,7 +12,7 @@ use Rattle.plain_tree.specs.Nodes.{Name, Children, Dir, Node, Nodes, children_in
 use Rattle.plain_tree.specs.Changes.{first_nodes}
 use Rattle.plain_tree.specs.Tree.{IsReached, IsTree}
 use Rattle.plain_tree.specs.Seals.{Texts, IsSealed}
-use Rattle.plain_tree.specs.declared.TheConstants.{MOST_CHILDREN}
+use Rattle.mount_limits.specs.declared.TheConstants.{MOST_CHILDREN}
 
 abbrev none_yet : Nodes
 none_yet = empty

@@ -8,7 +8,7 @@ use Rattle.number_map.proofs.NumberedLemmas.{len_removed, remove_same, remove_he
 use Rattle.plain_tree.specs.Nodes.{Name, Node, Nodes, children_in, context_in, is_named_in, is_dir_in, children, is_named, entry}
 use Rattle.plain_tree.specs.Changes.{gone}
 use Rattle.plain_tree.specs.Tree.{HasNames, IsTree}
-use Rattle.plain_tree.specs.declared.TheConstants.{MOST_CHILDREN}
+use Rattle.mount_limits.specs.declared.TheConstants.{MOST_CHILDREN}
 use Rattle.plain_tree.proofs.ReadLemmas.{read_removed}
 use Rattle.plain_tree.proofs.ReachedLemmas.{reached_kept}
 

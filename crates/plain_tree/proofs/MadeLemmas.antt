@@ -9,7 +9,7 @@ use Rattle.plain_tree.specs.Nodes.{Name, Node, Nodes, children_in, context_in, i
 use Rattle.plain_tree.specs.Changes.{on_children, name_put, made}
 use Rattle.plain_tree.specs.Tree.{IsReached, HasRoot, HasRoom, IsTree}
 use Rattle.plain_tree.specs.Laws.{IsNew, CanBeMade}
-use Rattle.plain_tree.specs.declared.TheConstants.{MOST_CHILDREN}
+use Rattle.mount_limits.specs.declared.TheConstants.{MOST_CHILDREN}
 use Rattle.plain_tree.proofs.ReadLemmas.{read_inserted}
 use Rattle.plain_tree.proofs.EditLemmas.{edit_context, edit_named, edit_dir, edit_there, edit_others, put_here, put_kept, put_from, put_apart_names, put_count}
 use Rattle.plain_tree.proofs.ReachedLemmas.{reached_named, reached_kept}

@@ -7,7 +7,7 @@ use Rattle.plain_tree.specs.Nodes.{Name, Nodes, with_child, without_child, child
 use Rattle.plain_tree.specs.Changes.{on_children, name_taken, moved}
 use Rattle.plain_tree.specs.Tree.{IsReached, IsTree}
 use Rattle.plain_tree.specs.Laws.{CanBeMoved}
-use Rattle.plain_tree.specs.declared.TheConstants.{MOST_NODES, MOST_CHILDREN}
+use Rattle.mount_limits.specs.declared.TheConstants.{MOST_NODES, MOST_CHILDREN}
 use Rattle.plain_tree.proofs.EditLemmas.{edit_context, edit_named, edit_dir, edit_there, edit_others, taken_names, taken_count, taken_fewer, taken_from, taken_kept, put_here, put_kept, put_from, put_apart_names, put_count}
 use Rattle.plain_tree.proofs.ReachedLemmas.{childless, reached_named, reached_anyhow, reached_outside, reached_again}
 

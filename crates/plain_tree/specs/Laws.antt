@@ -5,7 +5,7 @@ use Rattle.number_map.specs.Numbered.{len}
 use Rattle.plain_tree.specs.Nodes.{Name, Node, Nodes, children_of, children, is_named, is_dir_at, entry}
 use Rattle.plain_tree.specs.Changes.{made, dropped, gone, moved, written, encrypted}
 use Rattle.plain_tree.specs.Tree.{IsTree, IsReached, IsReachedWithout}
-use Rattle.plain_tree.specs.declared.TheConstants.{MOST_NODES, MOST_CHILDREN}
+use Rattle.mount_limits.specs.declared.TheConstants.{MOST_NODES, MOST_CHILDREN}
 
 -- a new node is named and has no entries
 pub record IsNew (v : Node) : Type 0 where
