@@ -1,6 +1,9 @@
-use crate::{Purpose, draw, id_meant};
+use crate::{Purpose, call_of, draw, id_meant};
+use byte_words::slice_is_bytes;
 use fsc_keys::RawKey;
-use script_lang::KeyRef;
+use item_list::Bytes;
+use mount_model::Op;
+use script_lang::{Command, KeyRef, Verb};
 use std::alloc::{AllocError, Global};
 use std::test::Fail;
 
@@ -97,5 +100,35 @@ fn a_raw_key_means_its_identifier(rt: HostRuntime) -> Result<(), Fail> {
     let id = id_meant(&KeyRef::Raw(RawKey::read(&[7; 32])?));
     let digits = hex::encode(rt.alloc(), id.0)?;
     assert_eq!(rt; digits.as_str(), "1101420d499290b005fc681527257159");
+    Ok(())
+}
+
+// A command asks for what it says; the key of 32 bytes 07 has this identifier by Python.
+#[test]
+fn commands_make_their_calls(rt: HostRuntime) -> Result<(), Fail> {
+    let alloc = rt.alloc();
+    let bytes = Bytes::from_vec(vec![in alloc; 7; 32]?);
+    assert_eq!(rt; bytes.len(), 32);
+    slice_is_bytes(bytes.as_slice());
+    let add = Command {
+        line: 2,
+        verb: Verb::AddKey(bytes),
+    };
+    let call = call_of(alloc, 1000, &add)?;
+    assert_eq!(rt; call.uid, 1000);
+    assert!(rt; matches!(&call.op, Op::AddKey { raw } if raw.as_slice() == [7; 32].as_slice()));
+    let raw = RawKey::read(&[7; 32])?;
+    slice_is_bytes(raw.bytes());
+    let remove = Command {
+        line: 3,
+        verb: Verb::RemoveKey(KeyRef::Raw(raw)),
+    };
+    match call_of(alloc, 1000, &remove)?.op {
+        Op::RemoveKey { id } => {
+            let digits = hex::encode(alloc, id.0)?;
+            assert_eq!(rt; digits.as_str(), "1101420d499290b005fc681527257159");
+        }
+        _ => assert!(rt; false),
+    }
     Ok(())
 }
