@@ -2,11 +2,13 @@
 use Rattle.std.specs.Prelude.{ℕ, ◌+◌, List, [], ◌∷◌, ◌++◌, length, take, drop}
 use Rattle.byte_words.specs.Xor.{zero_filled}
 
--- the list with the piece in place of what stood from a place on, and longer where the piece goes past its end
+-- the list with the piece in place of what stood from a place on, and longer where the piece goes past
+-- its end
 unfoldable pub spliced : List ℕ → ℕ → List ℕ → List ℕ
 spliced xs at piece = take at xs ++ (piece ++ drop (at + length piece) xs)
 
--- the contents after bytes were written from a place on: a gap before them is zeros, and no bytes change nothing
+-- the contents after bytes were written from a place on: a gap before them is zeros, and no bytes
+-- change nothing
 unfoldable pub with_bytes : ℕ → List ℕ → List ℕ → List ℕ
 with_bytes at [] contents = contents
 with_bytes at (b ∷ bs) contents = spliced (zero_filled at contents) at (b ∷ bs)

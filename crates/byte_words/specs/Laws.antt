@@ -4,7 +4,8 @@ use Rattle.byte_words.specs.Contents.{with_bytes, bytes_from}
 
 -- what was written is read
 abbrev pub WrittenBytesAreRead : Type 0
-WrittenBytesAreRead = (at : ℕ) (bytes contents : List ℕ) → bytes_from at (length bytes) (with_bytes at bytes contents) ≡ bytes
+WrittenBytesAreRead =
+    (at : ℕ) (bytes contents : List ℕ) → bytes_from at (length bytes) (with_bytes at bytes contents) ≡ bytes
 
 -- each other byte is as it was, or a zero where the contents had none
 abbrev pub OtherBytesStay : Type 0

@@ -1,5 +1,6 @@
 -- Why a record can't be stored: the first that holds.
-use Rattle.std.specs.Prelude.{ℕ, List, length, Option, Some, None, is_none, not, ◌&&◌, ◌==◌, nat_lt, nat_le, if◌then◌else◌}
+use Rattle.std.specs.Prelude.{ℕ, List, length, Option, Some, None, is_none}
+use Rattle.std.specs.Prelude.{not, ◌&&◌, ◌==◌, nat_lt, nat_le, if◌then◌else◌}
 use Rattle.meta_files.specs.declared.files.TheConstants.{MOST_RECORD_BYTES, MOST_RECORDS, LAST_VERSION}
 use Rattle.meta_files.specs.declared.fault.StoreFault.{StoreFault}
 use Rattle.meta_files.specs.declared.fault.StoreFault.TheVariants.{TooBig, Changed, NoSpace}

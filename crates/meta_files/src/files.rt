@@ -1,6 +1,7 @@
 //! The records themselves, in the order in which they were first stored.
 
-ghost use Rattle.std.specs.Prelude.{◌≡◌, ◌+◌, ℕ, List, [], ◌∷◌, ◌++◌, length, IfSome, IfNone, IfOk, IsOk, IsOkUnless, OnErr, None};
+ghost use Rattle.std.specs.Prelude.{◌≡◌, ◌+◌, ℕ, List, [], ◌∷◌, ◌++◌, length, IfSome};
+ghost use Rattle.std.specs.Prelude.{IfNone, IfOk, IsOk, IsOkUnless, OnErr, None};
 ghost use Rattle.meta_files.specs.Records.{record_of, version_of, with_record};
 ghost use Rattle.meta_files.specs.Faults.{store_fault};
 ghost use Rattle.meta_files.specs.Kept.{rewrite_fault, append_fault};
@@ -88,7 +89,8 @@ impl MetaFiles {
         ensures stored { IfOk result (λ version. self.new ≡ with_record self.old name.now version bytes.now) }
         ensures kept { OnErr result (self.new ≡ self.old) }
         ensures refused { IfSome (store_fault self.old name.now expected bytes.now) (λ fault. result ≡ Err fault) }
-        ensures accepted { IfNone (store_fault self.old name.now expected bytes.now) (IsOkUnless result StoreFault.NoMemory) }
+        ensures accepted { IfNone (store_fault self.old name.now expected bytes.now)
+            (IsOkUnless result StoreFault.NoMemory) }
     {
         if bytes.len() > MOST_RECORD_BYTES {
             return Err(StoreFault::TooBig);
@@ -135,7 +137,8 @@ fn append(
 ) -> Result<u32, StoreFault>
     requires indexed { IsIndexed records.old.items index.old.entries }
     requires absent { place_in records.old.items name.now ≡ None }
-    ensures written { IfOk result (λ version. records.new.items ≡ records.old.items ++ record { name = name.now; version = version; bytes = bytes.now } ∷ []) }
+    ensures written { IfOk result (λ version. records.new.items
+        ≡ records.old.items ++ record { name = name.now; version = version; bytes = bytes.now } ∷ []) }
     ensures version { IfOk result (λ version. version ≡ 1) }
     ensures indexed { IsIndexed records.new.items index.new.entries }
     ensures kept { OnErr result (records.new.items ≡ records.old.items) }

@@ -23,7 +23,8 @@ pub(crate) fn add_name(
     name: &[u8],
     place: usize,
 ) -> Result<(), AllocError>
-    ensures put { OnOk result ((other : List ℕ) → indexed index.new.entries other ≡ if bytes_eq name.now other then Some place else indexed index.old.entries other) }
+    ensures put { OnOk result ((other : List ℕ) → indexed index.new.entries other
+        ≡ if bytes_eq name.now other then Some place else indexed index.old.entries other) }
     ensures kept { OnErr result (index.new.entries ≡ index.old.entries) }
 {
     index.insert(Vec::from_slice(alloc, name)?, place)?;
@@ -32,7 +33,8 @@ pub(crate) fn add_name(
 
 // Forgets the name.
 pub(crate) fn drop_name(index: &mut Index, name: &[u8])
-    ensures { (other : List ℕ) → indexed index.new.entries other ≡ if bytes_eq name.now other then None else indexed index.old.entries other }
+    ensures { (other : List ℕ) → indexed index.new.entries other
+        ≡ if bytes_eq name.now other then None else indexed index.old.entries other }
 {
     index.remove(name);
 }

@@ -1,6 +1,7 @@
 //! At most `N` bytes in the value: no memory is taken, and a copy is a copy of the bytes.
 
-ghost use Rattle.std.specs.Prelude.{◌≡◌, ℕ, ◌+◌, ◌≤◌, [], ◌++◌, length, replicate, nat_eq, IsSome, IfSome, IsTrue, ◌↔◌};
+ghost use Rattle.std.specs.Prelude.{◌≡◌, ℕ, ◌+◌, ◌≤◌, [], ◌++◌, length, replicate};
+ghost use Rattle.std.specs.Prelude.{nat_eq, IsSome, IfSome, IsTrue, ◌↔◌};
 ghost use Rattle.std.specs.Cmp.{on_equiv, on_per, partial_equiv_from_equiv};
 ghost use Rattle.std.specs.Cmp.Lexicographic.{pointwise, nat_list_eq_equiv};
 ghost use Rattle.std.specs.Cmp.Rules.{hashing};
@@ -29,12 +30,17 @@ impl<const N: usize> Model for Filled<N> {
 
     ghost view = { λ f. take f.len f.places };
 
-    ghost invariant = { λ f. (f.len ≤ N) × (length f.places ≡ N) × (f.places ≡ take f.len f.places ++ replicate (N - f.len) 0) × AreBytes f.places };
+    ghost invariant = { λ f. (f.len ≤ N) × (length f.places ≡ N)
+        × (f.places ≡ take f.len f.places ++ replicate (N - f.len) 0) × AreBytes f.places };
 
-    ghost inverse = { λ bytes. record { places = bytes ++ replicate (N - length bytes) 0; len = length bytes } };
+    ghost inverse = { λ bytes. record {
+      places = bytes ++ replicate (N - length bytes) 0;
+      len = length bytes;
+    } };
 
     ghost inverse_ok = { λ f h i. record {
-      places = (ap (λ n. take f.len f.places ++ replicate (N - n) 0) (length-take-le f.len f.places (omega (arith, h.0, h.1))) ∙ sym h.2) i;
+      places = (ap (λ n. take f.len f.places ++ replicate (N - n) 0)
+          (length-take-le f.len f.places (omega (arith, h.0, h.1))) ∙ sym h.2) i;
       len = length-take-le f.len f.places (omega (arith, h.0, h.1)) i;
     } };
 }

@@ -1,5 +1,6 @@
 -- Hexadecimal digits as text: two for each byte, the high four bits first.
-use Rattle.std.specs.Prelude.{ℕ, ◌≡◌, Bool, true, false, ◌&&◌, ◌||◌, nat_le, ◌==◌, ◌*◌, List, length, Option, None, if◌then◌else◌, MatchOption}
+use Rattle.std.specs.Prelude.{ℕ, ◌≡◌, Bool, true, false, ◌&&◌, ◌||◌, nat_le, ◌==◌, ◌*◌}
+use Rattle.std.specs.Prelude.{List, length, Option, None, if◌then◌else◌, MatchOption}
 use Rattle.std.specs.List.{list_all}
 use Rattle.std.specs.Result.{result_ok}
 use Rattle.hex.specs.Hex.{decode_of}
@@ -18,7 +19,8 @@ is_lower_hex_digit c = nat_le 48 c && nat_le c 57 || nat_le 97 c && nat_le c 102
 
 -- the n bytes that digits spell, where no upper-case letter stands among them
 abbrev pub lower_hex_bytes_of_length : ℕ → List ℕ → Option (List ℕ)
-lower_hex_bytes_of_length n text = if list_all is_lower_hex_digit text then hex_bytes_of_length n text else None
+lower_hex_bytes_of_length n text =
+    if list_all is_lower_hex_digit text then hex_bytes_of_length n text else None
 
 -- a reader answers whether there are such bytes, and writes them over the old ones; else the old ones stay
 abbrev pub ReadsInto : Option (List ℕ) → List ℕ → List ℕ → Bool → Type 0

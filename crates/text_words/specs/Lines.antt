@@ -1,4 +1,5 @@
--- Lines of a text: each is ended by a line feed, and what follows the last line feed is a piece that nothing ended.
+-- Lines of a text: each is ended by a line feed, and what follows the last line feed is a piece that
+-- nothing ended.
 use Rattle.std.specs.Prelude.{ℕ, ◌==◌, ◌+◌, ◌-◌, Bool, true, List, length, slice_get, count_by, if◌then◌else◌}
 use Rattle.std.specs.List.{slice_split}
 use Rattle.std.specs.Option.{option_map_or}

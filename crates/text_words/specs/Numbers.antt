@@ -1,5 +1,6 @@
 -- Decimal numbers as text: digits alone, and no zero in front but in the number zero.
-use Rattle.std.specs.Prelude.{ℕ, ◌≡◌, Bool, ◌&&◌, ◌||◌, not, nat_lt, ◌==◌, List, length, slice_index, Option, Some, None, if◌then◌else◌}
+use Rattle.std.specs.Prelude.{ℕ, ◌≡◌, Bool, ◌&&◌, ◌||◌, not, nat_lt, ◌==◌, List}
+use Rattle.std.specs.Prelude.{length, slice_index, Option, Some, None, if◌then◌else◌}
 use Rattle.std.specs.Fmt.{decimal}
 use Rattle.std.specs.List.{list_all}
 use Rattle.std.specs.Char.{is_ascii_digit}
@@ -9,7 +10,8 @@ use Rattle.std.specs.Str.Parse.{IsNumeral, digits_value}
 abbrev pub decimal_of : ℕ → List ℕ
 decimal_of n = decimal n
 
--- the text is a numeral of the number n: one digit or more, of which the first is 0 only where it stands alone
+-- the text is a numeral of the number n: one digit or more, of which the first is 0 only where it
+-- stands alone
 pub record IsDecimal (text : List ℕ) (n : ℕ) : Type 0 where
   pub numeral : IsNumeral 10 text
   pub no_leading_zero : slice_index text 0 ≡ 48 → length text ≡ 1
@@ -18,7 +20,8 @@ pub record IsDecimal (text : List ℕ) (n : ℕ) : Type 0 where
 -- whether the text is a numeral at all
 abbrev pub is_decimal : List ℕ → Bool
 is_decimal text =
-    nat_lt 0 (length text) && list_all is_ascii_digit text && (not (slice_index text 0 == 48) || length text == 1)
+    nat_lt 0 (length text) && list_all is_ascii_digit text
+    && (not (slice_index text 0 == 48) || length text == 1)
 
 -- the number below the limit whose numeral the text is
 abbrev pub number_below : ℕ → List ℕ → Option ℕ

@@ -6,6 +6,7 @@ use Rattle.std.specs.List.{slice_split}
 abbrev pub is_space : ℕ → Bool
 is_space b = b == 32
 
--- the words: what stands before, between and after the spaces. Two spaces in a row have an empty word between them
+-- the words: what stands before, between and after the spaces. Two spaces in a row have an empty word
+-- between them
 abbrev pub words_of : List ℕ → List (List ℕ)
 words_of line = slice_split is_space line

@@ -4,7 +4,8 @@ ghost use Rattle.std.specs.Prelude.{◌≡◌, ◌↔◌, ◌*◌, ℕ, List, tr
 ghost use Rattle.std.specs.Bool.{OnTrue};
 ghost use Rattle.std.specs.List.{list_all, AllPass};
 ghost use Rattle.hex.specs.Hex.{encode_lower, is_hex_digit, IsBytes};
-ghost use Rattle.text_words.specs.Digits.{hex_bytes_of_length, lower_hex_bytes_of_length, is_lower_hex_digit, ReadsInto};
+ghost use Rattle.text_words.specs.Digits.{hex_bytes_of_length, lower_hex_bytes_of_length};
+ghost use Rattle.text_words.specs.Digits.{is_lower_hex_digit, ReadsInto};
 
 /// Reads the bytes that digits of either case spell into `out`. False, and `out` as it was, where
 /// the text is not just two digits for each byte of `out`.
@@ -20,7 +21,8 @@ pub fn hex_bytes_into(text: &[u8], out: &mut [u8]) -> bool
 pub fn lower_hex_bytes_into(text: &[u8], out: &mut [u8]) -> bool
     ensures value { ReadsInto (lower_hex_bytes_of_length (length out.old) text.now) out.old out.new result }
     ensures written { OnTrue result (text.now ≡ encode_lower out.new) }
-    ensures every { (bytes : List ℕ) → IsBytes bytes → length bytes ≡ length out.old → text.now ≡ encode_lower bytes → result ≡ true }
+    ensures every { (bytes : List ℕ) → IsBytes bytes → length bytes ≡ length out.old
+        → text.now ≡ encode_lower bytes → result ≡ true }
 {
     read_lower_digits(text, out)
 }

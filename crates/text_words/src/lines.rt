@@ -22,7 +22,8 @@ pub fn next_line(text: &[u8]) -> Line<'_>
     ensures ended { IsTrue result.ended ↔ (position_or_len is_line_feed text.now < length text.now) }
     ensures rest { result.rest.now ≡ after_first is_line_feed text.now }
     ensures whole { text.now ≡ result.bytes.now ++ (if result.ended then 10 ∷ result.rest.now else []) }
-    ensures pieces { pieces_of text.now ≡ result.bytes.now ∷ (if result.ended then pieces_of result.rest.now else []) }
+    ensures pieces { pieces_of text.now
+        ≡ result.bytes.now ∷ (if result.ended then pieces_of result.rest.now else []) }
 {
     let end = line_end(text);
     if end < text.len() {
