@@ -13,13 +13,16 @@ use Rattle.argon_kdf.specs.Filling.{with_passes}
 -- (step 1)
 abbrev pub first_input : Costs → List ℕ → List ℕ → List ℕ → List ℕ → List ℕ
 first_input costs password salt secret extra =
-    little_endian_bytes 4 costs.lanes ++ little_endian_bytes 4 32 ++ little_endian_bytes 4 costs.kib ++ little_endian_bytes 4 costs.passes ++ little_endian_bytes 4 0x13 ++ little_endian_bytes 4 2
+    little_endian_bytes 4 costs.lanes ++ little_endian_bytes 4 32
+    ++ little_endian_bytes 4 costs.kib ++ little_endian_bytes 4 costs.passes
+    ++ little_endian_bytes 4 0x13 ++ little_endian_bytes 4 2
     ++ little_endian_bytes 4 (length password) ++ password ++ little_endian_bytes 4 (length salt) ++ salt
     ++ little_endian_bytes 4 (length secret) ++ secret ++ little_endian_bytes 4 (length extra) ++ extra
 
 -- H_0
 unfoldable pub first_digest : Costs → List ℕ → List ℕ → List ℕ → List ℕ → List ℕ
-first_digest costs password salt secret extra = blake2b_digest 64 (first_input costs password salt secret extra)
+first_digest costs password salt secret extra =
+    blake2b_digest 64 (first_input costs password salt secret extra)
 
 -- the blocks of a column of the first n lanes, xored
 unfoldable pub lanes_xored : (ℕ → ℕ → List ℕ) → ℕ → ℕ → List ℕ
@@ -29,7 +32,8 @@ lanes_xored blocks column (suc n) = xored (lanes_xored blocks column n) (blocks 
 -- the tag: H' of the last column of the last pass, its lanes xored (steps 7 and 8)
 unfoldable pub tag_of : Shape → List ℕ → List ℕ
 tag_of x h0 =
-    long_digest 32 (bytes_of_words (lanes_xored (with_passes x h0 x.passes (x.passes - 1)) (columns x - 1) x.lanes))
+    let last_pass = with_passes x h0 x.passes (x.passes - 1) in
+    long_digest 32 (bytes_of_words (lanes_xored last_pass (columns x - 1) x.lanes))
 
 unfoldable pub argon2id_tag : Costs → List ℕ → List ℕ → List ℕ → List ℕ → List ℕ
 argon2id_tag costs password salt secret extra =

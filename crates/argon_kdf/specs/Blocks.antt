@@ -1,6 +1,7 @@
 -- Blocks of 1,024 bytes, as 128 words, and the compression function G (RFC 9106, 3.5). G sees a block
 -- as a square of 8 rows of 8 registers, each of two words.
-use Rattle.std.specs.Prelude.{ℕ, zero, suc, ◌+◌, ◌*◌, ◌/◌, ◌%◌, List, ◌++◌, take, drop, bit_xor, slice_index, map, replicate}
+use Rattle.std.specs.Prelude.{ℕ, zero, suc, ◌+◌, ◌*◌, ◌/◌, ◌%◌, List, ◌++◌}
+use Rattle.std.specs.Prelude.{take, drop, bit_xor, slice_index, map, replicate}
 use Rattle.std.specs.List.{range_with_len}
 use Rattle.blake2_core.specs.Words.{word_at}
 use Rattle.argon_kdf.specs.Permutation.{permuted}
@@ -36,7 +37,8 @@ rows_permuted block = first_rows_permuted block 8
 
 -- the square with its rows and columns of registers exchanged
 unfoldable pub transposed : List ℕ → List ℕ
-transposed block = map (λ n. slice_index block (16 * (n % 16 / 2) + (2 * (n / 16) + n % 2))) (range_with_len 0 128)
+transposed block =
+    map (λ n. slice_index block (16 * (n % 16 / 2) + (2 * (n / 16) + n % 2))) (range_with_len 0 128)
 
 -- G: the two blocks xored; of that the rows permuted, then the columns; and the two results xored (3.5)
 unfoldable pub joined : List ℕ → List ℕ → List ℕ

@@ -10,7 +10,8 @@ use Rattle.argon_kdf.specs.Tables.{Table, empty_table, put, latest}
 
 -- the first two blocks of a lane, from the digest H_0 (steps 3 and 4)
 unfoldable pub first_block : List ℕ → ℕ → ℕ → List ℕ
-first_block h0 lane column = block_of (long_digest 1024 ((h0 ++ little_endian_bytes 4 column) ++ little_endian_bytes 4 lane))
+first_block h0 lane column =
+    block_of (long_digest 1024 ((h0 ++ little_endian_bytes 4 column) ++ little_endian_bytes 4 lane))
 
 -- G of the block before a place and the block that it refers to, among the blocks `now` as they stand
 unfoldable pub joined_block : Shape → Place → (ℕ → ℕ → List ℕ) → List ℕ
@@ -35,12 +36,14 @@ with_block x h0 table at = put table at.pass at.lane (column_of x at) (new_block
 -- with the first n blocks of a segment made
 unfoldable pub with_places : Shape → List ℕ → Table → ℕ → ℕ → ℕ → ℕ → Table
 with_places x h0 table pass slice lane zero = table
-with_places x h0 table pass slice lane (suc n) = with_block x h0 (with_places x h0 table pass slice lane n) (place pass slice lane n)
+with_places x h0 table pass slice lane (suc n) =
+    with_block x h0 (with_places x h0 table pass slice lane n) (place pass slice lane n)
 
 -- with the segments of the first n lanes
 unfoldable pub with_lanes : Shape → List ℕ → Table → ℕ → ℕ → ℕ → Table
 with_lanes x h0 table pass slice zero = table
-with_lanes x h0 table pass slice (suc n) = with_places x h0 (with_lanes x h0 table pass slice n) pass slice n x.width
+with_lanes x h0 table pass slice (suc n) =
+    with_places x h0 (with_lanes x h0 table pass slice n) pass slice n x.width
 
 -- with the first n slices of a pass
 unfoldable pub with_slices : Shape → List ℕ → Table → ℕ → ℕ → Table

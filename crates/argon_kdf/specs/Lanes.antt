@@ -1,6 +1,7 @@
 -- The segments of a slice, each made from the memory before the slice and its own blocks. These words
 -- describe the code and not the standard.
-use Rattle.std.specs.Prelude.{ℕ, ◌+◌, ◌-◌, ◌*◌, ◌<◌, ◌≤◌, ◌⊎◌, ◌==◌, nat_lt, List, [], slice_index_or, if◌then◌else◌}
+use Rattle.std.specs.Prelude.{ℕ, ◌+◌, ◌-◌, ◌*◌, ◌<◌, ◌≤◌, ◌⊎◌, ◌==◌, nat_lt}
+use Rattle.std.specs.Prelude.{List, [], slice_index_or, if◌then◌else◌}
 use Rattle.argon_kdf.specs.declared.layout.Place.{Place}
 use Rattle.argon_kdf.specs.Shapes.{Shape, columns}
 
@@ -10,7 +11,8 @@ unfoldable pub seen_block : Shape → List (List ℕ) → List (List ℕ) → Pl
 seen_block x memory segment at lane column =
     if lane == at.lane then
     if nat_lt column (at.slice * x.width) then slice_index_or memory (lane * columns x + column) []
-    else if nat_lt column (at.slice * x.width + at.index) then slice_index_or segment (column - at.slice * x.width) []
+    else if nat_lt column (at.slice * x.width + at.index)
+    then slice_index_or segment (column - at.slice * x.width) []
     else slice_index_or memory (lane * columns x + column) []
     else slice_index_or memory (lane * columns x + column) []
 

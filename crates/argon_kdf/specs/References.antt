@@ -1,5 +1,6 @@
 -- Which block is taken in beside the one before (RFC 9106, 3.4).
-use Rattle.std.specs.Prelude.{ℕ, ◌+◌, ◌-◌, ◌*◌, ◌/◌, ◌%◌, ◌^◌, ◌==◌, nat_lt, List, [], ◌∷◌, ◌++◌, slice_index, replicate, if◌then◌else◌}
+use Rattle.std.specs.Prelude.{ℕ, ◌+◌, ◌-◌, ◌*◌, ◌/◌, ◌%◌, ◌^◌, ◌==◌, nat_lt, List}
+use Rattle.std.specs.Prelude.{[], ◌∷◌, ◌++◌, slice_index, replicate, if◌then◌else◌}
 use Rattle.argon_kdf.specs.declared.layout.Place.{Place}
 use Rattle.argon_kdf.specs.Blocks.{zero_block, joined}
 use Rattle.argon_kdf.specs.Shapes.{Shape, columns, block_count}

@@ -8,5 +8,6 @@ use Rattle.argon_kdf.specs.Tables.{Table, latest}
 
 -- in its own lane, and in each column that is not one of the slice's, the segment sees the latest block
 pub record Begun (x : Shape) (memory segment : List (List ℕ)) (table : Table) (at : Place) : Type 0 where
-  pub shows : (lane column : ℕ) → lane < x.lanes → column < columns x → (lane ≡ at.lane) ⊎ IsOutside x at.slice column
+  pub shows : (lane column : ℕ) → lane < x.lanes → column < columns x
+      → (lane ≡ at.lane) ⊎ IsOutside x at.slice column
       → seen_block x memory segment at lane column ≡ latest x table at lane column

@@ -20,7 +20,8 @@ block_count x = x.lanes * columns x
 
 -- as many blocks as the costs allow, in segments of one width
 abbrev pub shape_of_costs : Costs → Shape
-shape_of_costs costs = record { passes = costs.passes; lanes = costs.lanes; width = costs.kib / (4 * costs.lanes) }
+shape_of_costs costs =
+    record { passes = costs.passes; lanes = costs.lanes; width = costs.kib / (4 * costs.lanes) }
 
 -- what a layout of the program is
 abbrev pub shape : Layout → Shape

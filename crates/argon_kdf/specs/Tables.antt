@@ -15,7 +15,9 @@ empty_table pass lane column = zero_block
 -- the table with a block put into it
 unfoldable pub put : Table → ℕ → ℕ → ℕ → List ℕ → Table
 put table pass lane column block p l c =
-    if p == pass then if l == lane then if c == column then block else table p l c else table p l c else table p l c
+    if p == pass
+    then if l == lane then if c == column then block else table p l c else table p l c
+    else table p l c
 
 -- how many columns of a lane are made in this pass, where it has come to a place: slice by slice, in a
 -- slice lane by lane, in a lane column by column

@@ -1,41 +1,17 @@
 // Blocks of 1,024 bytes, and the function that makes a block of two (RFC 9106, 3.5 and 3.6).
 
-ghost use Rattle.std.specs.Prelude.{◌≡◌, ℕ, ◌+◌, ◌*◌, ◌/◌, ◌%◌, ◌^◌, ◌<◌, ◌≤◌, length, slice_index, map};
-ghost use Rattle.std.specs.List.{range_with_len};
-ghost use Rattle.byte_words.specs.Words.{bytes_of_words};
+ghost use Rattle.std.specs.Prelude.{◌≡◌, ◌<◌};
 ghost use Rattle.argon_kdf.specs.Permutation.{mixed, permuted, product_sum};
-ghost use Rattle.argon_kdf.specs.Blocks.{block_of, joined, row, row_permuted, rows_permuted, transposed, xored};
-
-use byte_words::{read_word, write_words};
+ghost use Rattle.argon_kdf.specs.Blocks.{joined, row, row_permuted, rows_permuted, transposed, xored};
 
 /// 1,024 bytes, as words.
 pub type Block = [u64; 128];
 
-/// A block has this many words.
-pub const BLOCK_WORDS: usize = 128;
+// A block has this many words.
+pub(crate) const BLOCK_WORDS: usize = 128;
 
-/// The block of zeros.
-pub const ZERO_BLOCK: Block = [0; BLOCK_WORDS];
-
-/// The block of these bytes, each word with the low byte first.
-pub fn from_bytes(bytes: &[u8; 1024]) -> Block
-    ensures { result ≡ block_of bytes.now }
-{
-    let mut block = ZERO_BLOCK;
-    'words: for i in 0..BLOCK_WORDS {
-        block[i] = read_word(bytes, i);
-    }
-    block
-}
-
-/// The bytes of a block.
-pub fn to_bytes(block: &Block) -> [u8; 1024]
-    ensures { result ≡ bytes_of_words block.now }
-{
-    let mut bytes = [0; 1024];
-    write_words(block, &mut bytes);
-    bytes
-}
+// The block of zeros.
+pub(crate) const ZERO_BLOCK: Block = [0; BLOCK_WORDS];
 
 fn write_xor(block: &mut Block, x: &Block, y: &Block)
     ensures { block.new ≡ xored x.now y.now }
@@ -45,8 +21,8 @@ fn write_xor(block: &mut Block, x: &Block, y: &Block)
     }
 }
 
-/// Xors a block into another, word by word.
-pub fn xor_into(block: &mut Block, other: &Block)
+// Xors a block into another, word by word.
+pub(crate) fn xor_into(block: &mut Block, other: &Block)
     ensures { block.new ≡ xored block.old other.now }
 {
     'words: for i in 0..BLOCK_WORDS {
@@ -237,10 +213,10 @@ fn permute_columns(block: &mut Block)
     }
 }
 
-/// G: writes the block that two blocks make. It stays out of line, so that its loops are compiled by
-/// themselves, whoever calls.
+// G: writes the block that two blocks make. It stays out of line, so that its loops are compiled by
+// themselves, whoever calls.
 #[inline(never)]
-pub fn join(block: &mut Block, x: &Block, y: &Block)
+pub(crate) fn join(block: &mut Block, x: &Block, y: &Block)
     ensures { block.new ≡ joined x.now y.now }
 {
     write_xor(block, x, y);

@@ -9,6 +9,7 @@ use crate::digest::{first_digest, write_tag};
 use crate::fill::last_column;
 use crate::lanes::fill_by_lanes;
 use crate::layout::Layout;
+use crate::limits::{LEAST_SALT_BYTES, MOST_TEXT_BYTES};
 use crate::{Costs, zero_blocks};
 use std::alloc::{AllocError, Global};
 use std::thread::Threads;
@@ -41,11 +42,11 @@ pub fn argon2id_lanes<R: Threads + Sync>(
     tag: &mut [u8; 32],
 ) -> Result<(), AllocError>
     requires costs { checked_costs costs.now ≡ Ok tt }
-    requires password { length password.now ≤ 1024 }
-    requires salt_least { 8 ≤ length salt.now }
-    requires salt { length salt.now ≤ 1024 }
-    requires secret { length secret.now ≤ 1024 }
-    requires extra { length extra.now ≤ 1024 }
+    requires password { length password.now ≤ MOST_TEXT_BYTES }
+    requires salt_least { LEAST_SALT_BYTES ≤ length salt.now }
+    requires salt { length salt.now ≤ MOST_TEXT_BYTES }
+    requires secret { length secret.now ≤ MOST_TEXT_BYTES }
+    requires extra { length extra.now ≤ MOST_TEXT_BYTES }
     ensures tag { OnOk result (tag.new ≡ argon2id_tag costs.now password.now salt.now secret.now extra.now) }
     ensures kept { OnErr result (tag.new ≡ tag.old) }
 {

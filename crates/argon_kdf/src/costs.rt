@@ -2,16 +2,17 @@
 
 ghost use Rattle.std.specs.Prelude.{◌≡◌};
 
+use crate::limits::{LEAST_KIB_A_LANE, MOST_KIB, MOST_LANES, MOST_PASSES};
 use thiserror::Error;
 
 /// How often Argon2id goes through its memory, how much that is, and in how many lanes.
 #[derive(Clone, Copy, Debug, PartialEq, Eq)]
 pub struct Costs {
-    /// 1 to 16.
+    /// 1 to 16 (`MOST_PASSES`).
     pub passes: u32,
-    /// KiB of memory, 8 for each lane at least, and at most 65,536.
+    /// KiB of memory, 8 for each lane at least (`LEAST_KIB_A_LANE`), and at most 65,536 (`MOST_KIB`).
     pub kib: u32,
-    /// 1 to 8.
+    /// 1 to 8 (`MOST_LANES`).
     pub lanes: u32,
 }
 
@@ -34,13 +35,13 @@ impl Costs {
     pub fn check(&self) -> Result<(), CostFault>
         ensures { result ≡ checked_costs self.now }
     {
-        if !(1..=16).contains(&self.passes) {
+        if !(1..=MOST_PASSES).contains(&self.passes) {
             return Err(CostFault::Passes);
         }
-        if !(1..=8).contains(&self.lanes) {
+        if !(1..=MOST_LANES).contains(&self.lanes) {
             return Err(CostFault::Lanes);
         }
-        if !(8 * self.lanes..=65_536).contains(&self.kib) {
+        if !(LEAST_KIB_A_LANE * self.lanes..=MOST_KIB).contains(&self.kib) {
             return Err(CostFault::Kib);
         }
         Ok(())

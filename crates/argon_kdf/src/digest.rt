@@ -11,7 +11,9 @@ ghost use Rattle.argon_kdf.specs.Filling.{first_block};
 ghost use Rattle.argon_kdf.specs.Argon2id.{first_digest};
 
 use crate::Costs;
-use crate::block::{Block, from_bytes, to_bytes};
+use crate::block::Block;
+use crate::block_bytes::{from_bytes, to_bytes};
+use crate::limits::{MOST_LANES, MOST_TEXT_BYTES};
 use blake2_core::Blake2b;
 
 const VERSION: u32 = 0x13;
@@ -30,9 +32,10 @@ fn update_number(hasher: &mut Blake2b, number: u32)
 }
 
 fn update_counted(hasher: &mut Blake2b, text: &[u8])
-    requires { length text.now ≤ 1024 }
+    requires { length text.now ≤ MOST_TEXT_BYTES }
     ensures length { output_length hasher.new ≡ output_length hasher.old }
-    ensures added { (m : List ℕ) → Holds hasher.old m → Holds hasher.new (m ++ little_endian_bytes 4 (length text.now) ++ text.now) }
+    ensures added { (m : List ℕ) → Holds hasher.old m
+        → Holds hasher.new (m ++ little_endian_bytes 4 (length text.now) ++ text.now) }
 {
     update_number(hasher, text.len() as u32);
     hasher.update(text);
@@ -47,18 +50,18 @@ fn finish(hasher: Blake2b) -> [u8; 64]
     digest
 }
 
-/// H_0, of all that goes in.
-pub fn first_digest(
+// H_0, of all that goes in.
+pub(crate) fn first_digest(
     costs: &Costs,
     password: &[u8],
     salt: &[u8],
     secret: &[u8],
     extra: &[u8],
 ) -> [u8; 64]
-    requires password { length password.now ≤ 1024 }
-    requires salt { length salt.now ≤ 1024 }
-    requires secret { length secret.now ≤ 1024 }
-    requires extra { length extra.now ≤ 1024 }
+    requires password { length password.now ≤ MOST_TEXT_BYTES }
+    requires salt { length salt.now ≤ MOST_TEXT_BYTES }
+    requires secret { length secret.now ≤ MOST_TEXT_BYTES }
+    requires extra { length extra.now ≤ MOST_TEXT_BYTES }
     ensures { result ≡ first_digest costs.now password.now salt.now secret.now extra.now }
 {
     let mut hasher = Blake2b::new(64);
@@ -76,7 +79,8 @@ pub fn first_digest(
 }
 
 fn first_value(h0: &[u8; 64], lane: u32, column: u32) -> [u8; 64]
-    ensures { result ≡ chained_digest 1024 ((h0.now ++ little_endian_bytes 4 column) ++ little_endian_bytes 4 lane) 0 }
+    ensures { result
+        ≡ chained_digest 1024 ((h0.now ++ little_endian_bytes 4 column) ++ little_endian_bytes 4 lane) 0 }
 {
     let mut hasher = Blake2b::new(64);
     update_number(&mut hasher, BLOCK_LEN);
@@ -120,17 +124,17 @@ fn stretched(mut value: [u8; 64]) -> [u8; 1024]
     bytes
 }
 
-/// One of the first two blocks of a lane.
-pub fn first_block(h0: &[u8; 64], lane: usize, column: usize) -> Block
-    requires lane { lane < 8 }
+// One of the first two blocks of a lane.
+pub(crate) fn first_block(h0: &[u8; 64], lane: usize, column: usize) -> Block
+    requires lane { lane < MOST_LANES }
     requires column { column < 2 }
     ensures { result ≡ first_block h0.now lane column }
 {
     from_bytes(&stretched(first_value(h0, lane as u32, column as u32)))
 }
 
-/// The tag of the last column, whose lanes are xored.
-pub fn write_tag(sum: &Block, tag: &mut [u8; 32])
+// The tag of the last column, whose lanes are xored.
+pub(crate) fn write_tag(sum: &Block, tag: &mut [u8; 32])
     ensures { tag.new ≡ long_digest 32 (bytes_of_words sum.now) }
 {
     let mut hasher = Blake2b::new(32);

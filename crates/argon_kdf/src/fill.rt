@@ -6,7 +6,8 @@ ghost use Rattle.argon_kdf.specs.Blocks.{zero_block};
 ghost use Rattle.argon_kdf.specs.Shapes.{IsWithin, block_count, column_of, columns, place, shape};
 ghost use Rattle.argon_kdf.specs.References.{address_block};
 ghost use Rattle.argon_kdf.specs.Tables.{Table, latest};
-ghost use Rattle.argon_kdf.specs.Filling.{joined_block, new_block, with_block, with_lanes, with_passes, with_places, with_slices};
+ghost use Rattle.argon_kdf.specs.Filling.{joined_block, new_block, with_block, with_lanes};
+ghost use Rattle.argon_kdf.specs.Filling.{with_passes, with_places, with_slices};
 ghost use Rattle.argon_kdf.specs.Argon2id.{lanes_xored};
 ghost use Rattle.argon_kdf.specs.Memory.{Stands};
 
@@ -89,7 +90,8 @@ fn fill_segment(
     requires lane { lane < layout.lanes }
     requires whole { length memory.old ≡ block_count (shape layout) }
     ensures { (table : Table) → Stands (shape layout) memory.old table (place pass slice lane 0)
-        → Stands (shape layout) memory.new (with_places (shape layout) h0.now table pass slice lane layout.width)
+        → Stands (shape layout) memory.new
+        (with_places (shape layout) h0.now table pass slice lane layout.width)
         (place pass slice (lane + 1) 0) }
 {
     let mut block = ZERO_BLOCK;
@@ -121,26 +123,28 @@ fn fill_slice(layout: Layout, h0: &[u8; 64], memory: &mut [Block], pass: usize, 
 fn fill_pass(layout: Layout, h0: &[u8; 64], memory: &mut [Block], pass: usize)
     requires { length memory.old ≡ block_count (shape layout) }
     ensures { (table : Table) → Stands (shape layout) memory.old table (place pass 0 0 0)
-        → Stands (shape layout) memory.new (with_slices (shape layout) h0.now table pass 4) (place (pass + 1) 0 0 0) }
+        → Stands (shape layout) memory.new
+        (with_slices (shape layout) h0.now table pass 4) (place (pass + 1) 0 0 0) }
 {
     'slices: for slice in 0..4 {
         fill_slice(layout, h0, memory, pass, slice);
     }
 }
 
-/// Makes every block of every pass, in memory that is full of zeros.
-pub fn fill(layout: Layout, h0: &[u8; 64], memory: &mut [Block])
+// Makes every block of every pass, in memory that is full of zeros.
+pub(crate) fn fill(layout: Layout, h0: &[u8; 64], memory: &mut [Block])
     requires whole { length memory.old ≡ block_count (shape layout) }
     requires zero { (n : ℕ) → n < block_count (shape layout) → slice_index_or memory.old n [] ≡ zero_block }
-    ensures { Stands (shape layout) memory.new (with_passes (shape layout) h0.now layout.passes) (place layout.passes 0 0 0) }
+    ensures { Stands (shape layout) memory.new
+        (with_passes (shape layout) h0.now layout.passes) (place layout.passes 0 0 0) }
 {
     'passes: for pass in 0..layout.passes {
         fill_pass(layout, h0, memory, pass);
     }
 }
 
-/// The last column, its lanes xored.
-pub fn last_column(layout: Layout, memory: &[Block]) -> Block
+// The last column, its lanes xored.
+pub(crate) fn last_column(layout: Layout, memory: &[Block]) -> Block
     requires { length memory.now ≡ block_count (shape layout) }
     ensures { (table : Table) → Stands (shape layout) memory.now table (place layout.passes 0 0 0)
         → result ≡ lanes_xored (table (layout.passes - 1)) (columns (shape layout) - 1) layout.lanes }

@@ -1,6 +1,7 @@
 // The blocks with the segments of each slice made at the same time, one thread a lane.
 
-ghost use Rattle.std.specs.Prelude.{◌≡◌, ◌⊎◌, ℕ, ◌+◌, ◌-◌, ◌*◌, ◌/◌, ◌<◌, ◌≤◌, All, List, [], length, slice_index_or};
+ghost use Rattle.std.specs.Prelude.{◌≡◌, ◌⊎◌, ℕ, ◌+◌, ◌-◌, ◌*◌, ◌/◌, ◌<◌, ◌≤◌};
+ghost use Rattle.std.specs.Prelude.{All, List, [], length, slice_index_or};
 ghost use borrow.Rule.Slice.PartMut.{put_mid};
 ghost use Rattle.argon_kdf.specs.Blocks.{zero_block};
 ghost use Rattle.argon_kdf.specs.Shapes.{block_count, columns, place, shape};
@@ -32,7 +33,8 @@ fn make_in(
     ensures whole { length segment.new.items ≡ layout.width }
     ensures made { (table : Table) → Stands (shape layout) memory.now table (place pass slice 0 0)
         → (k : ℕ) → k < layout.width → slice_index_or segment.new.items k []
-        ≡ with_places (shape layout) h0.now table pass slice lane layout.width pass lane (slice * layout.width + k) }
+        ≡ with_places (shape layout) h0.now table pass slice lane layout.width
+        pass lane (slice * layout.width + k) }
 {
     make_segment(layout, h0, memory, segment, pass, slice, lane);
 }
@@ -55,7 +57,8 @@ fn make_segments<R: Threads + Sync>(
     ensures made { (table : Table) → Stands (shape layout) memory.now table (place pass slice 0 0)
         → (i : ℕ) (d : _) (k : ℕ) → i < layout.lanes → k < layout.width
         → slice_index_or (slice_index_or segments.new i d).items k []
-        ≡ with_places (shape layout) h0.now table pass slice i layout.width pass i (slice * layout.width + k) }
+        ≡ with_places (shape layout) h0.now table pass slice i layout.width
+        pass i (slice * layout.width + k) }
 {
     thread::for_each_mut(
         threads,
@@ -71,7 +74,8 @@ fn place_segment(layout: Layout, memory: &mut [Block], segment: &[Block], slice:
     requires lane { lane < layout.lanes }
     requires whole { length memory.old ≡ block_count (shape layout) }
     requires segment { length segment.now ≡ layout.width }
-    ensures { memory.new ≡ put_mid (lane * columns (shape layout) + slice * layout.width) layout.width memory.old segment.now }
+    ensures { memory.new
+        ≡ put_mid (lane * columns (shape layout) + slice * layout.width) layout.width memory.old segment.now }
 {
     let at = layout.offset(lane, slice * layout.width);
     memory[at..at + layout.width].copy_from_slice(segment);
@@ -86,7 +90,8 @@ fn place_segments(layout: Layout, memory: &mut [Block], segments: &[Vec<Block>],
     ensures placed { (i : ℕ) (d : _) (k : ℕ) → i < layout.lanes → k < layout.width
         → slice_index_or memory.new (i * columns (shape layout) + (slice * layout.width + k)) []
         ≡ slice_index_or (slice_index_or segments.now i d).items k [] }
-    ensures kept { (i z : ℕ) → i < layout.lanes → z < columns (shape layout) → IsOutside (shape layout) slice z
+    ensures kept { (i z : ℕ) → i < layout.lanes → z < columns (shape layout)
+        → IsOutside (shape layout) slice z
         → slice_index_or memory.new (i * columns (shape layout) + z) []
         ≡ slice_index_or memory.old (i * columns (shape layout) + z) [] }
 {
@@ -112,7 +117,8 @@ fn fill_slice<R: Threads + Sync>(
     ensures lanes { length segments.new ≡ layout.lanes }
     ensures parts { All (λ v. length v.items ≡ layout.width) segments.new }
     ensures filled { (table : Table) → Stands (shape layout) memory.old.items table (place pass slice 0 0)
-        → Stands (shape layout) memory.new.items (with_lanes (shape layout) h0.now table pass slice layout.lanes)
+        → Stands (shape layout) memory.new.items
+        (with_lanes (shape layout) h0.now table pass slice layout.lanes)
         (place pass (slice + 1) 0 0) }
 {
     make_segments(threads, layout, h0, memory, segments, pass, slice);
@@ -134,16 +140,17 @@ fn fill_pass<R: Threads + Sync>(
     ensures lanes { length segments.new ≡ layout.lanes }
     ensures parts { All (λ v. length v.items ≡ layout.width) segments.new }
     ensures filled { (table : Table) → Stands (shape layout) memory.old.items table (place pass 0 0 0)
-        → Stands (shape layout) memory.new.items (with_slices (shape layout) h0.now table pass 4) (place (pass + 1) 0 0 0) }
+        → Stands (shape layout) memory.new.items
+        (with_slices (shape layout) h0.now table pass 4) (place (pass + 1) 0 0 0) }
 {
     'slices: for slice in 0..4 {
         fill_slice(threads, layout, h0, memory, segments, pass, slice);
     }
 }
 
-/// Makes every block of every pass, in memory that is full of zeros. The segments of a slice are made at
-/// the same time, each in one of the vectors, which have as many blocks as a segment.
-pub fn fill_by_lanes<R: Threads + Sync>(
+// Makes every block of every pass, in memory that is full of zeros. The segments of a slice are made at
+// the same time, each in one of the vectors, which have as many blocks as a segment.
+pub(crate) fn fill_by_lanes<R: Threads + Sync>(
     threads: &R,
     layout: Layout,
     h0: &[u8; 64],
@@ -151,11 +158,13 @@ pub fn fill_by_lanes<R: Threads + Sync>(
     segments: &mut [Vec<Block>],
 )
     requires whole { length memory.old.items ≡ block_count (shape layout) }
-    requires zero { (n : ℕ) → n < block_count (shape layout) → slice_index_or memory.old.items n [] ≡ zero_block }
+    requires zero { (n : ℕ) → n < block_count (shape layout)
+        → slice_index_or memory.old.items n [] ≡ zero_block }
     requires lanes { length segments.old ≡ layout.lanes }
     requires parts { All (λ v. length v.items ≡ layout.width) segments.old }
     ensures whole { length memory.new.items ≡ block_count (shape layout) }
-    ensures filled { Stands (shape layout) memory.new.items (with_passes (shape layout) h0.now layout.passes) (place layout.passes 0 0 0) }
+    ensures filled { Stands (shape layout) memory.new.items
+        (with_passes (shape layout) h0.now layout.passes) (place layout.passes 0 0 0) }
 {
     'passes: for pass in 0..layout.passes {
         fill_pass(threads, layout, h0, memory, segments, pass);

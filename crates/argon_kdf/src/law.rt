@@ -11,10 +11,12 @@ ghost use Rattle.argon_kdf.specs.Filling.{new_block, with_passes};
 /// the latest blocks of that very table. In the first pass a reference goes to a block that is made, and
 /// never does one go into another lane's segment of the same slice, so that lanes may be filled at once.
 pub fn table_meets_the_recursion()
-    ensures recursion { (x : Shape) (h0 : List ℕ) (at : Place) → 2 ≤ x.width → at.pass < x.passes → IsWithin x at
+    ensures recursion { (x : Shape) (h0 : List ℕ) (at : Place) → 2 ≤ x.width → at.pass < x.passes
+        → IsWithin x at
         → let table = with_passes x h0 x.passes in
         table at.pass at.lane (column_of x at) ≡ new_block x h0 at (latest x table at) }
-    ensures made { (x : Shape) (at : Place) (word : ℕ) → 2 ≤ x.width → IsWithin x at → at.pass ≡ 0 → 2 ≤ column_of x at
+    ensures made { (x : Shape) (at : Place) (word : ℕ) → 2 ≤ x.width → IsWithin x at → at.pass ≡ 0
+        → 2 ≤ column_of x at
         → let lane = reference_lane x at (word / 2 ^ 32) in
         reference_column x at lane (word % 2 ^ 32) < columns_made x at lane }
     ensures apart { (x : Shape) (at : Place) (word : ℕ) → 2 ≤ x.width → IsWithin x at

@@ -2,6 +2,7 @@
 
 ghost use Rattle.std.specs.Prelude.{◌≡◌, ◌+◌, ◌*◌, ◌<◌, ◌≤◌, Ok};
 ghost use Rattle.argon_kdf.specs.CostLimits.{checked_costs};
+ghost use Rattle.argon_kdf.specs.declared.limits.TheConstants.{MOST_KIB, MOST_LANES, MOST_PASSES};
 
 use crate::Costs;
 
@@ -12,11 +13,11 @@ pub struct Layout {
     pub lanes: usize,
     pub width: usize,
     ghost some_pass: { 1 ≤ passes },
-    ghost few_passes: { passes ≤ 16 },
+    ghost few_passes: { passes ≤ MOST_PASSES },
     ghost some_lane: { 1 ≤ lanes },
-    ghost few_lanes: { lanes ≤ 8 },
+    ghost few_lanes: { lanes ≤ MOST_LANES },
     ghost wide: { 2 ≤ width },
-    ghost narrow: { lanes * (4 * width) ≤ 65536 },
+    ghost narrow: { lanes * (4 * width) ≤ MOST_KIB },
 }
 
 /// The place of a block in the order in which blocks are made: the pass, the slice of the pass, the
@@ -30,10 +31,11 @@ pub struct Place {
 }
 
 impl Layout {
-    ghost use Rattle.argon_kdf.specs.Shapes.{block_count, column_before, column_of, columns, shape, shape_of_costs};
+    ghost use Rattle.argon_kdf.specs.Shapes.{block_count, column_before, column_of};
+    ghost use Rattle.argon_kdf.specs.Shapes.{columns, shape, shape_of_costs};
 
-    /// As many blocks as the costs allow.
-    pub fn new(costs: &Costs) -> Layout
+    // As many blocks as the costs allow.
+    pub(crate) fn new(costs: &Costs) -> Layout
         requires { checked_costs costs.now ≡ Ok tt }
         ensures { shape result ≡ shape_of_costs costs.now }
     {
@@ -44,22 +46,22 @@ impl Layout {
         }
     }
 
-    /// How many columns a lane has.
-    pub fn columns(self) -> usize
+    // How many columns a lane has.
+    pub(crate) fn columns(self) -> usize
         ensures { result ≡ columns (shape self) }
     {
         4 * self.width
     }
 
-    /// How many blocks there are.
-    pub fn block_count(self) -> usize
+    // How many blocks there are.
+    pub(crate) fn block_count(self) -> usize
         ensures { result ≡ block_count (shape self) }
     {
         self.lanes * self.columns()
     }
 
-    /// Where the buffer has the block of a lane and a column.
-    pub fn offset(self, lane: usize, column: usize) -> usize
+    // Where the buffer has the block of a lane and a column.
+    pub(crate) fn offset(self, lane: usize, column: usize) -> usize
         requires lane { lane < self.lanes }
         requires column { column < columns (shape self) }
         ensures value { result ≡ lane * columns (shape self) + column }
@@ -68,8 +70,8 @@ impl Layout {
         lane * self.columns() + column
     }
 
-    /// The column of a place.
-    pub fn column_of(self, at: Place) -> usize
+    // The column of a place.
+    pub(crate) fn column_of(self, at: Place) -> usize
         requires slice { at.slice < 4 }
         requires index { at.index < self.width }
         ensures value { result ≡ column_of (shape self) at }
@@ -78,8 +80,8 @@ impl Layout {
         at.slice * self.width + at.index
     }
 
-    /// The column before that of a place. Before the first column stands the last.
-    pub fn column_before(self, at: Place) -> usize
+    // The column before that of a place. Before the first column stands the last.
+    pub(crate) fn column_before(self, at: Place) -> usize
         requires slice { at.slice < 4 }
         requires index { at.index < self.width }
         ensures value { result ≡ column_before (shape self) at }

@@ -1,7 +1,8 @@
 //! The password hash Argon2id, version 0x13 (RFC 9106).
 #![tactic(auto)]
 
-ghost use Rattle.std.specs.Prelude.{◌≡◌, ℕ, ◌*◌, ◌<◌, ◌≤◌, List, [], length, slice_index_or, IfOk, OnOk, OnErr, Ok};
+ghost use Rattle.std.specs.Prelude.{◌≡◌, ℕ, ◌*◌, ◌<◌, ◌≤◌, List, [], length};
+ghost use Rattle.std.specs.Prelude.{slice_index_or, IfOk, OnOk, OnErr, Ok};
 ghost use Rattle.argon_kdf.specs.Blocks.{zero_block};
 ghost use Rattle.argon_kdf.specs.CostLimits.{checked_costs};
 ghost use Rattle.argon_kdf.specs.Argon2id.{argon2id_tag};
@@ -13,10 +14,14 @@ use digest::{first_digest, write_tag};
 use fill::{fill, last_column};
 pub use law::table_meets_the_recursion;
 use layout::Layout;
+pub use limits::{
+    LEAST_KIB_A_LANE, LEAST_SALT_BYTES, MOST_KIB, MOST_LANES, MOST_PASSES, MOST_TEXT_BYTES,
+};
 use std::alloc::{AllocError, Global};
 pub use stretch::{LaneStretch, PlainStretch, Stretch};
 
 mod block;
+mod block_bytes;
 mod by_lanes;
 mod costs;
 mod digest;
@@ -24,6 +29,7 @@ mod fill;
 mod lanes;
 mod law;
 mod layout;
+mod limits;
 mod reference;
 mod segment;
 mod stretch;
@@ -32,9 +38,10 @@ mod tests;
 
 // Memory full of zeros.
 fn zero_blocks(alloc: Global, count: usize) -> Result<Vec<Block>, AllocError>
-    requires { count ≤ 65536 }
+    requires { count ≤ MOST_KIB }
     ensures whole { IfOk result (λ memory. length memory.items ≡ count) }
-    ensures zero { IfOk result (λ memory. (n : ℕ) → n < count → slice_index_or memory.items n [] ≡ zero_block) }
+    ensures zero { IfOk result (λ memory. (n : ℕ) → n < count
+        → slice_index_or memory.items n [] ≡ zero_block) }
 {
     let memory = vec![in alloc; ZERO_BLOCK; count]?;
     Ok(memory)
@@ -54,11 +61,11 @@ pub fn argon2id(
     tag: &mut [u8; 32],
 ) -> Result<(), AllocError>
     requires costs { checked_costs costs.now ≡ Ok tt }
-    requires password { length password.now ≤ 1024 }
-    requires salt_least { 8 ≤ length salt.now }
-    requires salt { length salt.now ≤ 1024 }
-    requires secret { length secret.now ≤ 1024 }
-    requires extra { length extra.now ≤ 1024 }
+    requires password { length password.now ≤ MOST_TEXT_BYTES }
+    requires salt_least { LEAST_SALT_BYTES ≤ length salt.now }
+    requires salt { length salt.now ≤ MOST_TEXT_BYTES }
+    requires secret { length secret.now ≤ MOST_TEXT_BYTES }
+    requires extra { length extra.now ≤ MOST_TEXT_BYTES }
     ensures tag { OnOk result (tag.new ≡ argon2id_tag costs.now password.now salt.now secret.now extra.now) }
     ensures kept { OnErr result (tag.new ≡ tag.old) }
 {

@@ -2,10 +2,12 @@
 
 ghost use Rattle.std.specs.Prelude.{◌≡◌, ℕ, ◌+◌, ◌-◌, ◌*◌, ◌/◌, ◌%◌, ◌^◌, ◌<◌, ◌≤◌, slice_index};
 ghost use Rattle.argon_kdf.specs.Shapes.{column_of, columns, shape};
-ghost use Rattle.argon_kdf.specs.References.{address_block, address_input, choice, choices, finished, oldest, reference_column, reference_lane, reference_word};
+ghost use Rattle.argon_kdf.specs.References.{address_block, address_input, choice, choices, finished};
+ghost use Rattle.argon_kdf.specs.References.{oldest, reference_column, reference_lane, reference_word};
 
 use crate::block::{Block, ZERO_BLOCK, join};
 use crate::layout::{Layout, Place};
+use crate::limits::MOST_KIB;
 
 // The type of Argon2id, and of no other Argon2.
 const TYPE: u64 = 2;
@@ -34,8 +36,8 @@ fn write_addresses(addresses: &mut Block, layout: Layout, at: Place, counter: us
     join(addresses, &ZERO_BLOCK, &inner);
 }
 
-/// Keeps the address block that a place needs: each serves 128 places of a segment.
-pub fn refresh(addresses: &mut Block, layout: Layout, at: Place)
+// Keeps the address block that a place needs: each serves 128 places of a segment.
+pub(crate) fn refresh(addresses: &mut Block, layout: Layout, at: Place)
     ensures { at.pass ≡ 0 → at.slice < 2
         → (0 < at.index → addresses.old ≡ address_block (shape layout) at ((at.index - 1) / 128 + 1))
         → addresses.new ≡ address_block (shape layout) at (at.index / 128 + 1) }
@@ -45,10 +47,11 @@ pub fn refresh(addresses: &mut Block, layout: Layout, at: Place)
     }
 }
 
-/// J_2 and J_1 of a place, as one word.
+// J_2 and J_1 of a place, as one word.
 #[tactic(auto, unfolding(crate::specs::References::reference_word))]
-pub fn reference_word(addresses: &Block, at: Place, previous: &Block) -> u64
-    ensures { (layout : Layout) → (at.pass ≡ 0 → at.slice < 2 → addresses.now ≡ address_block (shape layout) at (at.index / 128 + 1))
+pub(crate) fn reference_word(addresses: &Block, at: Place, previous: &Block) -> u64
+    ensures { (layout : Layout) → (at.pass ≡ 0 → at.slice < 2
+        → addresses.now ≡ address_block (shape layout) at (at.index / 128 + 1))
         → result ≡ reference_word (shape layout) at previous.now }
 {
     if at.pass == 0 && at.slice < 2 {
@@ -58,9 +61,9 @@ pub fn reference_word(addresses: &Block, at: Place, previous: &Block) -> u64
     }
 }
 
-/// The lane that is referred to.
+// The lane that is referred to.
 #[tactic(auto, unfolding(crate::specs::References::reference_lane))]
-pub fn reference_lane(layout: Layout, at: Place, j2: u64) -> usize
+pub(crate) fn reference_lane(layout: Layout, at: Place, j2: u64) -> usize
     requires { at.lane < layout.lanes }
     ensures value { result ≡ reference_lane (shape layout) at j2 }
     ensures within { result < layout.lanes }
@@ -108,7 +111,7 @@ fn choices(layout: Layout, at: Place, lane: usize) -> usize
 
 fn choice(count: usize, j1: u64) -> usize
     requires some { 1 ≤ count }
-    requires most { count ≤ 65536 }
+    requires most { count ≤ MOST_KIB }
     requires low { j1 < 2 ^ 32 }
     ensures value { result ≡ choice count j1 }
     ensures within { result < count }
@@ -130,9 +133,9 @@ fn oldest(layout: Layout, at: Place) -> usize
     }
 }
 
-/// The column that is referred to, in a lane that `reference_lane` gave.
+// The column that is referred to, in a lane that `reference_lane` gave.
 #[tactic(auto, unfolding(crate::specs::References::reference_column))]
-pub fn reference_column(layout: Layout, at: Place, lane: usize, j1: u64) -> usize
+pub(crate) fn reference_column(layout: Layout, at: Place, lane: usize, j1: u64) -> usize
     requires slice { at.slice < 4 }
     requires index { at.index < layout.width }
     requires begun { at.pass ≡ 0 → 2 ≤ column_of (shape layout) at }

@@ -1,7 +1,8 @@
 // A segment made beside the others of its slice: from the memory before the slice, and from its own
 // blocks. No reference goes into another lane's segment of the slice (RFC 9106, 3.4).
 
-ghost use Rattle.std.specs.Prelude.{◌≡◌, ◌⊎◌, ℕ, ◌+◌, ◌-◌, ◌*◌, ◌/◌, ◌<◌, ◌≤◌, List, [], length, slice_index_or};
+ghost use Rattle.std.specs.Prelude.{◌≡◌, ◌⊎◌, ℕ, ◌+◌, ◌-◌, ◌*◌, ◌/◌, ◌<◌};
+ghost use Rattle.std.specs.Prelude.{◌≤◌, List, [], length, slice_index_or};
 ghost use Rattle.argon_kdf.specs.Shapes.{IsWithin, block_count, column_of, columns, place, shape};
 ghost use Rattle.argon_kdf.specs.Lanes.{seen_block};
 ghost use Rattle.argon_kdf.specs.References.{address_block};
@@ -103,8 +104,8 @@ fn write_new(
     }
 }
 
-/// Makes the segment of a slice and a lane, in a buffer of its own, from the memory before the slice.
-pub fn make_segment(
+// Makes the segment of a slice and a lane, in a buffer of its own, from the memory before the slice.
+pub(crate) fn make_segment(
     layout: Layout,
     h0: &[u8; 64],
     memory: &[Block],
@@ -120,7 +121,8 @@ pub fn make_segment(
     ensures whole { length segment.new ≡ layout.width }
     ensures made { (table : Table) → Stands (shape layout) memory.now table (place pass slice 0 0)
         → (k : ℕ) → k < layout.width → slice_index_or segment.new k []
-        ≡ with_places (shape layout) h0.now table pass slice lane layout.width pass lane (slice * layout.width + k) }
+        ≡ with_places (shape layout) h0.now table pass slice lane layout.width
+        pass lane (slice * layout.width + k) }
 {
     let mut block = ZERO_BLOCK;
     let mut addresses = ZERO_BLOCK;

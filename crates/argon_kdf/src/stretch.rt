@@ -5,6 +5,7 @@ ghost use Rattle.std.specs.Thread.{IsSync};
 ghost use Rattle.argon_kdf.specs.CostLimits.{checked_costs};
 ghost use Rattle.argon_kdf.specs.Argon2id.{argon2id_tag};
 
+use crate::limits::{LEAST_SALT_BYTES, MOST_TEXT_BYTES};
 use crate::{Costs, argon2id, argon2id_lanes};
 use std::alloc::{AllocError, Global};
 use std::thread::Threads;
@@ -27,9 +28,9 @@ pub trait Stretch {
     ) -> Result<(), AllocError>
         requires threads { IsSync R.row }
         requires costs { checked_costs costs.now ≡ Ok tt }
-        requires password { length password.now ≤ 1024 }
-        requires salt_least { 8 ≤ length salt.now }
-        requires salt { length salt.now ≤ 1024 }
+        requires password { length password.now ≤ MOST_TEXT_BYTES }
+        requires salt_least { LEAST_SALT_BYTES ≤ length salt.now }
+        requires salt { length salt.now ≤ MOST_TEXT_BYTES }
         ensures tag { OnOk result (tag.new ≡ argon2id_tag costs.now password.now salt.now [] []) }
         ensures kept { OnErr result (tag.new ≡ tag.old) };
 }

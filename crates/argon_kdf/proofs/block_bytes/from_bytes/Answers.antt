@@ -3,7 +3,7 @@ use Rattle.std.proofs.lemmas.List.{length-set}
 use Rattle.blake2_core.specs.Words.{word_at}
 use Rattle.argon_kdf.specs.Blocks.{block_of}
 use Rattle.argon_kdf.proofs.Loops.{mapped_more, mapped_all}
-use Rattle.argon_kdf.proofs.block.from_bytes.Goals as goal
+use Rattle.argon_kdf.proofs.block_bytes.from_bytes.Goals as goal
 
 pub words-preserved : goal.words-preserved
 words-preserved c = record {
