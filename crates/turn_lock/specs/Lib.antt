@@ -1,3 +1,4 @@
+pub mod Home
 pub mod Passes
 pub mod Seats
 pub mod Standing

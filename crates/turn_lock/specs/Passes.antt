@@ -1,8 +1,10 @@
 -- What a pass knows, and what becomes of that at a call, a split and a join.
-use Rattle.std.specs.Prelude.{ℕ, ◌+◌, ◌-◌, [], ◌∷◌, ◌++◌, length, filter, if◌then◌else◌, nat_lt, nat_le}
+use Rattle.std.specs.Prelude.{◌≡◌, ℕ, ◌<◌, ◌+◌, ◌-◌, [], ◌∷◌, ◌++◌, length}
+use Rattle.std.specs.Prelude.{filter, if◌then◌else◌, nat_lt, nat_le}
 use Rattle.atomic_table.specs.Seated.{TableId}
 use Rattle.call_history.specs.declared.entry.Entry.{Entry}
 use Rattle.call_history.specs.Entries.{History, PlacedList, by, merged}
+use Rattle.call_history.specs.Prefix.{IsPrefix}
 
 -- a shared machine: which one it is, and what it was started with
 pub record SharedView : Type 0 where
@@ -31,11 +33,23 @@ module _ {C R : Type 0} where
   merged_entries pass = merged (pass.past ++ pass.mine)
 
   abbrev pub first_pass : TableId → ℕ → ℕ → PassView C R
-  first_pass table numbers allowance = record { table = table; who = 0; high = numbers; left = allowance; seen = []; mine = []; past = [] }
+  first_pass table numbers allowance =
+      record { table = table; who = 0; high = numbers; left = allowance; seen = []; mine = []; past = [] }
 
   -- after a call that found this history before it
   abbrev pub after_call : PassView C R → History C R → Entry C R → PassView C R
-  after_call pass before entry = record pass { left = pass.left - 1; seen = before ++ entry ∷ []; mine = pass.mine ++ (length before, entry) ∷ [] }
+  after_call pass before entry = record pass {
+    left = pass.left - 1;
+    seen = before ++ entry ∷ [];
+    mine = pass.mine ++ (length before, entry) ∷ [];
+  }
+
+  -- a pass with a call left made this entry: its place is the length of a history that begins with all
+  -- that the pass had seen
+  abbrev pub IsMadeAt : PassView C R → PassView C R → ℕ → Entry C R → Type 0
+  IsMadeAt old new place entry =
+      (0 < old.left) × ((before : History C R) × IsPrefix old.seen before × (place ≡ length before)
+      × (new ≡ after_call old before entry))
 
   -- the entries of callers below a number, and of the others
   abbrev pub under : ℕ → PlacedList C R → PlacedList C R
@@ -56,4 +70,9 @@ module _ {C R : Type 0} where
 
   -- a pass that took in another: its entries are now past
   abbrev pub with_other : PassView C R → PassView C R → PassView C R
-  with_other pass other = record pass { high = other.high; left = pass.left + other.left; seen = longer pass.seen other.seen; past = pass.past ++ (other.past ++ other.mine) }
+  with_other pass other = record pass {
+    high = other.high;
+    left = pass.left + other.left;
+    seen = longer pass.seen other.seen;
+    past = pass.past ++ (other.past ++ other.mine);
+  }

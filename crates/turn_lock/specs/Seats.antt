@@ -10,7 +10,15 @@ use Rattle.turn_lock.specs.Turns.{Owns}
 module _ {C R : Type 0} where
   -- what contracts see of a seat
   abbrev pub pass_view : TableId → View C R → PassView C R
-  pass_view table v = record { table = table; who = v.who; high = v.high; left = v.left; seen = v.seen; mine = v.mine; past = v.past }
+  pass_view table v = record {
+    table = table;
+    who = v.who;
+    high = v.high;
+    left = v.left;
+    seen = v.seen;
+    mine = v.mine;
+    past = v.past;
+  }
 
   -- a seat that has no turn, and the numbers and counts that its pass stores
   pub record IsPass {V : Type 0} (me : Seated V C R) (who high left made : ℕ) : Type 0 where

@@ -1,5 +1,6 @@
 -- What each atomic step tells the seat that makes it, and what a split and a join make of views.
-use Rattle.std.specs.Prelude.{◌≡◌, ◌≢◌, ℕ, ◌+◌, ◌-◌, ◌^◌, ◌≤◌, true, false, [], ◌∷◌, ◌++◌, length, if◌then◌else◌, nat_le, Option, Some}
+use Rattle.std.specs.Prelude.{◌≡◌, ◌≢◌, ℕ, ◌+◌, ◌-◌, ◌^◌, ◌≤◌, true, false, [], ◌∷◌}
+use Rattle.std.specs.Prelude.{◌++◌, length, if◌then◌else◌, nat_le, Option, Some}
 use Rattle.atomic_table.specs.Table.{Me}
 use Rattle.call_history.specs.Entries.{History, numbered, by, entries_by}
 use Rattle.call_history.specs.Prefix.{IsPrefix}
@@ -20,12 +21,18 @@ module _ {C R : Type 0} where
       × (found ≢ 0 → m' ≡ m)
 
   abbrev pub counted_view : View C R → History C R → View C R
-  counted_view v said = record v { left = v.left - 1; seen = v.seen ++ said; mine = v.mine ++ numbered (length v.seen) said }
+  counted_view v said = record v {
+    left = v.left - 1;
+    seen = v.seen ++ said;
+    mine = v.mine ++ numbered (length v.seen) said;
+  }
 
-  -- the entry is counted: its place is the number of entries before it, and the caller's entries are those in its past and its own
+  -- the entry is counted: its place is the number of entries before it, and the caller's entries are
+  -- those in its past and its own
   abbrev pub counted : {V : Type 0} → History C R → Seated V C R → ℕ → Seated V C R → Type 0
   counted said m found m' =
-      (found ≡ length m.0.seen) × (m' ≡ (counted_view m.0 said, m.1)) × (by m'.0.who (m'.0.past ++ m'.0.mine) ≡ entries_by m'.0.who m'.0.seen)
+      (found ≡ length m.0.seen) × (m' ≡ (counted_view m.0 said, m.1))
+      × (by m'.0.who (m'.0.past ++ m'.0.mine) ≡ entries_by m'.0.who m'.0.seen)
 
   -- the value goes home and the turn is free
   abbrev pub released : {V : Type 0} → Seated V C R → ℕ → Seated V C R → Type 0
@@ -41,8 +48,13 @@ module _ {C R : Type 0} where
   shorter g h = if nat_le (length g) (length h) then g else h
 
   abbrev pub joined_view : View C R → View C R → View C R
-  joined_view v w =
-      record v { high = w.high; left = v.left + w.left; seen = longer v.seen w.seen; told = shorter v.seen w.seen; past = v.past ++ (w.past ++ w.mine) }
+  joined_view v w = record v {
+    high = w.high;
+    left = v.left + w.left;
+    seen = longer v.seen w.seen;
+    told = shorter v.seen w.seen;
+    past = v.past ++ (w.past ++ w.mine);
+  }
 
   -- nothing changes; of two views that were joined, the shorter list begins the longer, and the calls fit
   abbrev pub looked : {V : Type 0} → Seated V C R → ℕ → Seated V C R → Type 0

@@ -1,5 +1,6 @@
 -- The rule of the turn: how the two words, the value's history and what each seat knows fit together.
-use Rattle.std.specs.Prelude.{◌≡◌, ◌≢◌, ℕ, ◌+◌, ◌^◌, ◌<◌, ◌≤◌, true, false, List, [], ◌∷◌, ◌++◌, length, sum_by, Option, Some}
+use Rattle.std.specs.Prelude.{◌≡◌, ◌≢◌, ℕ, ◌+◌, ◌^◌, ◌<◌, ◌≤◌, true, false, List}
+use Rattle.std.specs.Prelude.{[], ◌∷◌, ◌++◌, length, sum_by, Option, Some}
 use mathlib.Core.Option.{some}
 use lib.ListN.{get_elem?}
 use Rattle.atomic_table.specs.Table.{State}
@@ -28,23 +29,40 @@ module _ {C R : Type 0} where
   abbrev pub all_left : List (View C R) → ℕ
   all_left views = sum_by (λ v. v.left) views
 
-  -- Word 0 is the turn, word 1 counts the calls. While the turn is free a value is at home, and it stands after the whole history
-  pub record Kept {V : Type 0} (leads : History C R → V → Type 0) (numbers allowance : ℕ) (s : TurnState V C R) : Type 0 where
+  -- no number is owned by both
+  abbrev pub AreApart : View C R → View C R → Type 0
+  AreApart v w = (caller : ℕ) → Owns v caller → Owns w caller → ⊥
+
+  -- Word 0 is the turn, word 1 counts the calls. While the turn is free a value is at home, and it
+  -- stands after the whole history
+  pub record Kept {V : Type 0} (leads : History C R → V → Type 0) (numbers allowance : ℕ)
+      (s : TurnState V C R) : Type 0 where
     pub history : History C R
     pub turn : ℕ
     pub holder : ℕ
     pub words : s.words ≡ turn ∷ length history ∷ []
-    pub free : turn ≡ 0 → (value : V) × (s.homes ≡ some (Some (standing value history)) ∷ []) × leads history value
+    pub free : turn ≡ 0 → (value : V) × (s.homes ≡ some (Some (standing value history)) ∷ [])
+        × leads history value
     pub taken : turn ≢ 0 → (v : View C R) × (get_elem? s.views holder ≡ some v) × (v.turn ≡ true)
     pub each : (j : ℕ) (v : View C R) → get_elem? s.views j ≡ some v → Knows numbers history turn holder j v
-    pub apart : (i j : ℕ) (v w : View C R) → get_elem? s.views i ≡ some v → get_elem? s.views j ≡ some w → i ≢ j → (caller : ℕ) → Owns v caller → Owns w caller → ⊥
+    pub apart : (i j : ℕ) (v w : View C R) → get_elem? s.views i ≡ some v → get_elem? s.views j ≡ some w
+        → i ≢ j → AreApart v w
     pub callers : (caller : ℕ) → numbers ≤ caller → entries_by caller history ≡ []
     pub room : all_left s.views + length history ≤ allowance
     pub small : allowance ≤ 2 ^ 40
 
   -- what the first seat knows, and what a seat knows that another took in
   abbrev pub first_view : ℕ → ℕ → View C R
-  first_view numbers allowance = record { who = 0; high = numbers; left = allowance; turn = false; seen = []; told = []; mine = []; past = [] }
+  first_view numbers allowance = record {
+    who = 0;
+    high = numbers;
+    left = allowance;
+    turn = false;
+    seen = [];
+    told = [];
+    mine = [];
+    past = [];
+  }
 
   abbrev pub spent_view : View C R
   spent_view = first_view 0 0

@@ -26,13 +26,15 @@ pub trait Machine: Drop {
     /// taken here.
     fn begin(&mut self, who: u32, call: &Self::Call) -> Self::Lent
         requires { fits call.now }
-        ensures { (history : History Self.Call Self.Reply) → leads history self.old → leads (history ++ entry who call.now (reply result) ∷ []) self.new };
+        ensures { (history : History Self.Call Self.Reply) → leads history self.old
+            → leads (history ++ entry who call.now (reply result) ∷ []) self.new };
 
     /// Gives the reply, when the machine may already be at work for another caller.
     fn finish(lent: Self::Lent) -> Self::Reply
         ensures { result ≡ reply lent };
 
-    ghost leads_lawful: { (history : History Self.Call Self.Reply) (value : Self) → leads history value → lawful history };
+    ghost leads_lawful: { (history : History Self.Call Self.Reply) (value : Self) → leads history value
+        → lawful history };
 }
 
 /// A reply with its place in the history, which counts from 0.

@@ -1,7 +1,8 @@
 //! What each atomic step on the table tells the seat that makes it.
 ghost use Rattle.std.specs.Prelude.{ℕ};
 ghost use Rattle.turn_lock.specs.Turns.{spent_view};
-ghost use Rattle.turn_lock.specs.Steps.{tried, counted, released, looked, lower_view, upper_view, joined_view};
+ghost use Rattle.turn_lock.specs.Steps.{tried, counted, released, looked};
+ghost use Rattle.turn_lock.specs.Steps.{lower_view, upper_view, joined_view};
 
 use crate::held::Held;
 use crate::machine::Machine;

@@ -45,7 +45,8 @@ impl<C, R> Model for Recorder<C, R> {
 
     ghost view = { λ r. r.seat.me.0 };
 
-    ghost invariant = { λ r. (r.seat.table_id ≡ r.table.shared.table_id) × (r.table.shared.table_id.words ≡ 1) };
+    ghost invariant = { λ r.
+        (r.seat.table_id ≡ r.table.shared.table_id) × (r.table.shared.table_id.words ≡ 1) };
 }
 
 impl<C, R> Recorder<C, R> {
@@ -56,7 +57,7 @@ impl<C, R> Recorder<C, R> {
         Ok(Recorder { table, seat })
     }
 
-    /// Adds what `K` says.
+    // Adds what `K` says.
     pub(crate) fn add<K: Said<C, R>>(&mut self)
         ensures { self.new ≡ self.old ++ K.said }
     {

@@ -2,7 +2,8 @@
 ghost use Rattle.std.specs.Prelude.{◌≡◌, ℕ, ◌<◌, ◌≤◌, ◌^◌, [], ◌∷◌, ◌++◌, length, OnOk, OnErr, IfOk, IfErr};
 ghost use Rattle.call_history.specs.Entries.{History, by, entry, entries_by, IsComplete};
 ghost use Rattle.call_history.specs.Prefix.{IsPrefix};
-ghost use Rattle.turn_lock.specs.Passes.{past_of, merged_entries, first_pass, after_call, lower_part, upper_part, with_other};
+ghost use Rattle.turn_lock.specs.Passes.{past_of, merged_entries, first_pass, IsMadeAt};
+ghost use Rattle.turn_lock.specs.Passes.{lower_part, upper_part, with_other};
 
 use crate::held::Held;
 use crate::machine::{At, Machine, Worn};
@@ -27,7 +28,11 @@ impl<M: Machine> Model for Shared<M> {
 
     ghost Value = { SharedView };
 
-    ghost view = { λ s. record { table = s.table.shared.table_id; numbers = s.table.shared.key.numbers; allowance = s.table.shared.key.allowance } };
+    ghost view = { λ s. record {
+      table = s.table.shared.table_id;
+      numbers = s.table.shared.key.numbers;
+      allowance = s.table.shared.key.allowance;
+    } };
 
     ghost invariant = { λ s. (s.table.shared.table_id.words ≡ 2) × (s.table.shared.table_id.slots ≡ 1) };
 }
@@ -76,10 +81,12 @@ impl<M: Machine> Shared<M> {
     ) -> Result<At<M::Reply>, Worn>
         requires belongs { pass.old.table ≡ self.now.table }
         requires fits { M.fits call }
-        ensures at { IfOk result (λ r. (0 < pass.old.left) × ((before : History M.Call M.Reply) × IsPrefix pass.old.seen before × (r.place ≡ length before) × (pass.new ≡ after_call pass.old before (entry pass.old.who call r.reply)))) }
+        ensures at { IfOk result (λ r. IsMadeAt pass.old pass.new r.place (entry pass.old.who call r.reply)) }
         ensures lawful { OnOk result (M.lawful pass.new.seen) }
-        ensures own { OnOk result (entries_by pass.old.who pass.new.seen ≡ past_of pass.old pass.old.who ++ pass.new.mine) }
-        ensures worn { IfErr result (λ worn. (pass.old.left ≡ 0) × (worn.made ≡ length pass.old.mine) × (pass.new ≡ pass.old)) }
+        ensures own { OnOk result (
+            entries_by pass.old.who pass.new.seen ≡ past_of pass.old pass.old.who ++ pass.new.mine) }
+        ensures worn { IfErr result (λ worn.
+            (pass.old.left ≡ 0) × (worn.made ≡ length pass.old.mine) × (pass.new ≡ pass.old)) }
     {
         if pass.left == 0 {
             return Err(Worn { made: pass.made });
@@ -131,9 +138,11 @@ impl<M: Machine> Shared<M> {
         requires next { other.who ≡ pass.old.high }
         ensures after { pass.new ≡ with_other pass.old other }
         ensures seen { IsPrefix pass.old.seen pass.new.seen × IsPrefix other.seen pass.new.seen }
-        ensures same { (caller : ℕ) → pass.old.who ≤ caller → caller < pass.old.high → past_of pass.new caller ≡ past_of pass.old caller }
+        ensures same { (caller : ℕ) → pass.old.who ≤ caller → caller < pass.old.high
+            → past_of pass.new caller ≡ past_of pass.old caller }
         ensures first { past_of pass.new other.who ≡ past_of other other.who ++ other.mine }
-        ensures others { (caller : ℕ) → other.who < caller → caller < other.high → past_of pass.new caller ≡ past_of other caller }
+        ensures others { (caller : ℕ) → other.who < caller → caller < other.high
+            → past_of pass.new caller ≡ past_of other caller }
     {
         let Pass {
             seat,
@@ -153,7 +162,8 @@ impl<M: Machine> Shared<M> {
         requires belongs { pass.table ≡ self.table }
         requires all { (pass.who ≡ 0) × (pass.high ≡ self.numbers) }
         ensures complete { IsComplete (pass.past ++ pass.mine) }
-        ensures callers { (caller : ℕ) → entries_by caller (merged_entries pass) ≡ by caller (pass.past ++ pass.mine) }
+        ensures callers { (caller : ℕ) →
+            entries_by caller (merged_entries pass) ≡ by caller (pass.past ++ pass.mine) }
         ensures seen { IsPrefix pass.seen (merged_entries pass) }
         ensures leads { M.leads (merged_entries pass) result }
     {
