@@ -1,5 +1,6 @@
 -- Why a call outside failed: the count of faults of what was called tells it.
-use Rattle.std.specs.Prelude.{ℕ, ◌≡◌, ◌+◌, ◌-◌, ◌^◌, ◌≤◌, min, Result, Option, IfOk, OnOk, OnErr, IfSome, List}
+use Rattle.std.specs.Prelude.{ℕ, ◌≡◌, ◌+◌, ◌-◌, ◌^◌, ◌≤◌, min, Result}
+use Rattle.std.specs.Prelude.{Option, IfOk, OnOk, OnErr, IfSome, List}
 
 -- the count rose, or stands at the end of its type
 abbrev pub Rose : ℕ → ℕ → Type 0

@@ -2,7 +2,8 @@
 use Rattle.std.specs.Prelude.{ℕ, ◌-◌, ◌≤◌, ◌<◌, ◌⊎◌, min, List, ◌++◌, length, take, Contains}
 use Rattle.fsc_outside.specs.Causes.{one_more}
 
--- a sink in memory: the bytes got, the most that it holds, the most that a call takes, the numbers of the calls that fail, how many calls were made, and how many failed
+-- a sink in memory: the bytes got, the most that it holds, the most that a call takes, the numbers of
+-- the calls that fail, how many calls were made, and how many failed
 pub record Tank : Type 0 where
   pub got : List ℕ
   pub room : ℕ

@@ -2,7 +2,8 @@
 use Rattle.std.specs.Prelude.{ℕ, min, List, length, drop, Contains}
 use Rattle.fsc_outside.specs.Causes.{one_more}
 
--- a source in memory: the bytes left, the most that a call gives, the numbers of the calls that fail, how many calls were made, and how many failed
+-- a source in memory: the bytes left, the most that a call gives, the numbers of the calls that fail,
+-- how many calls were made, and how many failed
 pub record Feed : Type 0 where
   pub left : List ℕ
   pub piece : ℕ

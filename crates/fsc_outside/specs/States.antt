@@ -1,4 +1,5 @@
--- What is known of a thing outside: what it holds for whoever calls it, where it tells that, and counts that never fall.
+-- What is known of a thing outside: what it holds for whoever calls it, where it tells that, and
+-- counts that never fall.
 use Rattle.std.specs.Prelude.{ℕ, List, Option}
 
 -- a source: the bytes left, where it tells them, and how often a call failed

@@ -7,6 +7,7 @@ ghost use Rattle.std.specs.Prelude.{◌↔◌, IsTrue, Contains};
 use thiserror::Error;
 
 mod input;
+mod laws;
 mod random;
 mod seed;
 mod sink;
@@ -16,6 +17,7 @@ mod whole;
 
 pub use input::{InputFault, InputLimits, read_all};
 use item_list::Items;
+pub use laws::a_count_rises_in_place_only_at_its_end;
 pub use random::RuntimeSeed;
 pub use seed::{FixedSeed, SeedSource};
 pub use sink::{MemSink, Sink, SteadySink};

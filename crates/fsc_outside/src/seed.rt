@@ -70,7 +70,8 @@ impl SeedSource for FixedSeed {
         ensures cause { HasCause self.old.faults self.new.faults result }
         ensures given { result_ok result ≡ self.old.next }
         ensures kept { self.new.next ≡ self.old.next }
-        ensures counted { self.new.faults ≡ (if is_some self.old.next then self.old.faults else one_more self.old.faults) }
+        ensures counted { self.new.faults
+            ≡ (if is_some self.old.next then self.old.faults else one_more self.old.faults) }
     {
         self.asked = self.asked.saturating_add(1);
         match self.seed {

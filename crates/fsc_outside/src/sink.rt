@@ -1,6 +1,7 @@
 //! Sinks of bytes: the trait, and two sinks in memory.
 
-ghost use Rattle.std.specs.Prelude.{◌≡◌, ℕ, ◌≤◌, ◌<◌, ◌↔◌, List, [], length, take, Option, None, Some, IfOk, IsErr, IsTrue, OnErr, vec_len, vec_capacity};
+ghost use Rattle.std.specs.Prelude.{◌≡◌, ℕ, ◌≤◌, ◌<◌, ◌↔◌, List, [], length, take, Option, None};
+ghost use Rattle.std.specs.Prelude.{Some, IfOk, IsErr, IsTrue, OnErr, vec_len, vec_capacity};
 ghost use Rattle.std.specs.Io.{WritesAtMost};
 ghost use Rattle.std.specs.Io.KnownBytes.{WriteAppends};
 ghost use Rattle.fsc_outside.specs.Causes.{HasCause};
@@ -43,7 +44,14 @@ impl Model for MemSink {
 
     ghost Value = { Tank };
 
-    ghost view = { λ s. record { got = s.got.items; room = s.room; piece = s.piece; fails = s.fails; calls = s.calls; faults = s.faults } };
+    ghost view = { λ s. record {
+      got = s.got.items;
+      room = s.room;
+      piece = s.piece;
+      fails = s.fails;
+      calls = s.calls;
+      faults = s.faults;
+    } };
 
     // The room was taken when the sink was made, so that no write needs memory.
     ghost invariant = { λ s. (1 ≤ s.piece) × (vec_len s.got ≤ s.room) × (s.room ≤ vec_capacity s.got) };
@@ -59,7 +67,8 @@ impl MemSink {
         fails: CallList,
     ) -> Result<MemSink, AllocError>
         requires { 1 ≤ piece }
-        ensures { IfOk result (λ sink. sink ≡ record { got = []; room = room; piece = piece; fails = fails; calls = 0; faults = 0 }) }
+        ensures { IfOk result (λ sink.
+            sink ≡ record { got = []; room = room; piece = piece; fails = fails; calls = 0; faults = 0 }) }
     {
         let got = Vec::with_capacity(alloc, room)?;
         Ok(MemSink {
@@ -90,7 +99,8 @@ impl Sink for MemSink {
         ensures cause { HasCause self.old.faults self.new.faults result }
         ensures fails { IsErr result ↔ RefusesNext self.old (length piece.now) }
         ensures failed { OnErr result (self.new ≡ failed_write self.old) }
-        ensures took { IfOk result (λ n. (n ≡ next_taken self.old (length piece.now)) × (self.new ≡ after_write self.old piece.now n)) }
+        ensures took { IfOk result (λ n. (n ≡ next_taken self.old (length piece.now))
+            × (self.new ≡ after_write self.old piece.now n)) }
     {
         let call = self.calls;
         self.calls = call.saturating_add(1);

@@ -1,6 +1,7 @@
 //! Sources of bytes: the trait, and two sources in memory.
 
-ghost use Rattle.std.specs.Prelude.{◌≡◌, ℕ, ◌≤◌, ◌<◌, ◌↔◌, List, [], length, take, drop, Option, Some, IfOk, IsErr, OnErr, min, vec_len};
+ghost use Rattle.std.specs.Prelude.{◌≡◌, ℕ, ◌≤◌, ◌<◌, ◌↔◌, List, [], length, take, drop};
+ghost use Rattle.std.specs.Prelude.{Option, Some, IfOk, IsErr, OnErr, min, vec_len};
 ghost use Rattle.std.specs.Io.{ReadsAtMost};
 ghost use Rattle.std.specs.Io.KnownBytes.{ReadConsumes};
 ghost use Rattle.fsc_outside.specs.Causes.{HasCause};
@@ -42,7 +43,13 @@ impl Model for MemSource {
 
     ghost Value = { Feed };
 
-    ghost view = { λ s. record { left = drop s.at s.bytes.items; piece = s.piece; fails = s.fails; calls = s.calls; faults = s.faults } };
+    ghost view = { λ s. record {
+      left = drop s.at s.bytes.items;
+      piece = s.piece;
+      fails = s.fails;
+      calls = s.calls;
+      faults = s.faults;
+    } };
 
     ghost invariant = { λ s. (1 ≤ s.piece) × (s.at ≤ vec_len s.bytes) };
 }
@@ -52,7 +59,8 @@ impl MemSource {
     /// those in `fails` fail.
     pub fn new(bytes: Vec<u8>, piece: usize, fails: CallList) -> MemSource
         requires { 1 ≤ piece }
-        ensures { result ≡ record { left = bytes.items; piece = piece; fails = fails; calls = 0; faults = 0 } }
+        ensures { result
+            ≡ record { left = bytes.items; piece = piece; fails = fails; calls = 0; faults = 0 } }
     {
         MemSource {
             bytes,
@@ -74,7 +82,8 @@ impl Source for MemSource {
         ensures cause { HasCause self.old.faults self.new.faults result }
         ensures fails { IsErr result ↔ FailsNext self.old }
         ensures failed { OnErr result (self.new ≡ failed_read self.old) }
-        ensures gave { IfOk result (λ n. (n ≡ next_count self.old (length piece.old)) × (self.new ≡ after_read self.old n)) }
+        ensures gave { IfOk result (λ n. (n ≡ next_count self.old (length piece.old))
+            × (self.new ≡ after_read self.old n)) }
     {
         let call = self.calls;
         self.calls = call.saturating_add(1);
