@@ -1,5 +1,6 @@
 -- The mixing function G and the compression function F (RFC 7693, 3.1 and 3.2).
-use Rattle.std.specs.Prelude.{ℕ, zero, suc, ◌+◌, ◌/◌, ◌%◌, ◌^◌, Bool, List, [], ◌∷◌, ◌++◌, bit_xor, slice_index, map, if◌then◌else◌}
+use Rattle.std.specs.Prelude.{ℕ, zero, suc, ◌+◌, ◌/◌, ◌%◌, ◌^◌, Bool, List, []}
+use Rattle.std.specs.Prelude.{◌∷◌, ◌++◌, bit_xor, slice_index, map, if◌then◌else◌}
 use Rattle.std.specs.Int.{w64, bit_not, rotate_right}
 use Rattle.std.specs.List.{range_with_len}
 use Rattle.blake2_core.specs.Words.{word_sum, block_words}
@@ -23,14 +24,22 @@ mixed a b c d x y =
 unfoldable pub mixed_round : List ℕ → List ℕ → ℕ → List ℕ
 mixed_round words v r =
     let word = λ (turn : ℕ). slice_index words (word_number r turn) in
-    let p = mixed (slice_index v 0) (slice_index v 4) (slice_index v 8) (slice_index v 12) (word 0) (word 1) in
-    let q = mixed (slice_index v 1) (slice_index v 5) (slice_index v 9) (slice_index v 13) (word 2) (word 3) in
-    let s = mixed (slice_index v 2) (slice_index v 6) (slice_index v 10) (slice_index v 14) (word 4) (word 5) in
-    let t = mixed (slice_index v 3) (slice_index v 7) (slice_index v 11) (slice_index v 15) (word 6) (word 7) in
-    let e = mixed (slice_index p 0) (slice_index q 1) (slice_index s 2) (slice_index t 3) (word 8) (word 9) in
-    let f = mixed (slice_index q 0) (slice_index s 1) (slice_index t 2) (slice_index p 3) (word 10) (word 11) in
-    let g = mixed (slice_index s 0) (slice_index t 1) (slice_index p 2) (slice_index q 3) (word 12) (word 13) in
-    let h = mixed (slice_index t 0) (slice_index p 1) (slice_index q 2) (slice_index s 3) (word 14) (word 15) in
+    let p = mixed (slice_index v 0) (slice_index v 4) (slice_index v 8) (slice_index v 12)
+    (word 0) (word 1) in
+    let q = mixed (slice_index v 1) (slice_index v 5) (slice_index v 9) (slice_index v 13)
+    (word 2) (word 3) in
+    let s = mixed (slice_index v 2) (slice_index v 6) (slice_index v 10) (slice_index v 14)
+    (word 4) (word 5) in
+    let t = mixed (slice_index v 3) (slice_index v 7) (slice_index v 11) (slice_index v 15)
+    (word 6) (word 7) in
+    let e = mixed (slice_index p 0) (slice_index q 1) (slice_index s 2) (slice_index t 3)
+    (word 8) (word 9) in
+    let f = mixed (slice_index q 0) (slice_index s 1) (slice_index t 2) (slice_index p 3)
+    (word 10) (word 11) in
+    let g = mixed (slice_index s 0) (slice_index t 1) (slice_index p 2) (slice_index q 3)
+    (word 12) (word 13) in
+    let h = mixed (slice_index t 0) (slice_index p 1) (slice_index q 2) (slice_index s 3)
+    (word 14) (word 15) in
     slice_index e 0 ∷ slice_index f 0 ∷ slice_index g 0 ∷ slice_index h 0
     ∷ slice_index h 1 ∷ slice_index e 1 ∷ slice_index f 1 ∷ slice_index g 1
     ∷ slice_index g 2 ∷ slice_index h 2 ∷ slice_index e 2 ∷ slice_index f 2
@@ -45,7 +54,8 @@ rounds words v (suc n) = mixed_round words (rounds words v n) n
 -- block, a mark in it (3.2)
 abbrev pub work_vector : List ℕ → ℕ → Bool → List ℕ
 work_vector state count last =
-    state ++ (slice_index initial_vector 0 ∷ slice_index initial_vector 1 ∷ slice_index initial_vector 2 ∷ slice_index initial_vector 3
+    state ++ (slice_index initial_vector 0 ∷ slice_index initial_vector 1
+    ∷ slice_index initial_vector 2 ∷ slice_index initial_vector 3
     ∷ bit_xor (slice_index initial_vector 4) (count % 2 ^ 64)
     ∷ bit_xor (slice_index initial_vector 5) (count / 2 ^ 64 % 2 ^ 64)
     ∷ (if last then bit_not w64 (slice_index initial_vector 6) else slice_index initial_vector 6)
@@ -53,8 +63,11 @@ work_vector state count last =
 
 -- the state with both halves of the work vector xored into it (3.2)
 abbrev pub folded : List ℕ → List ℕ → List ℕ
-folded state v = map (λ i. bit_xor (bit_xor (slice_index state i) (slice_index v i)) (slice_index v (i + 8))) (range_with_len 0 8)
+folded state v =
+    map (λ i. bit_xor (bit_xor (slice_index state i) (slice_index v i)) (slice_index v (i + 8)))
+    (range_with_len 0 8)
 
 -- F: the state after a block of 128 bytes (3.2)
 unfoldable pub compressed : List ℕ → List ℕ → ℕ → Bool → List ℕ
-compressed state block count last = folded state (rounds (block_words block) (work_vector state count last) 12)
+compressed state block count last =
+    folded state (rounds (block_words block) (work_vector state count last) 12)

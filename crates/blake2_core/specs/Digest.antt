@@ -1,5 +1,6 @@
 -- The BLAKE2b digest of a message, without a key (RFC 7693, 3.3).
-use Rattle.std.specs.Prelude.{ℕ, zero, suc, ◌-◌, ◌*◌, ◌/◌, true, false, List, bit_xor, slice_index, slice_set, length, take}
+use Rattle.std.specs.Prelude.{ℕ, zero, suc, ◌-◌, ◌*◌, ◌/◌, true, false, List}
+use Rattle.std.specs.Prelude.{bit_xor, slice_index, slice_set, length, take}
 use Rattle.byte_words.specs.Blocks.{block_at}
 use Rattle.byte_words.specs.Xor.{zero_filled}
 use Rattle.blake2_core.specs.Words.{bytes_of_words}
@@ -9,7 +10,8 @@ use Rattle.blake2_core.specs.Compression.{compressed}
 -- the state at the start, for a digest of `size` bytes: IV with the parameter word in its first word
 -- (2.5: no key, fan-out and depth 1)
 abbrev pub initial_state : ℕ → List ℕ
-initial_state size = slice_set initial_vector 0 (bit_xor (bit_xor (slice_index initial_vector 0) 0x01010000) size)
+initial_state size =
+    slice_set initial_vector 0 (bit_xor (bit_xor (slice_index initial_vector 0) 0x01010000) size)
 
 -- the state after the first n blocks of a message, none of which is its last
 unfoldable pub state_after : ℕ → List ℕ → ℕ → List ℕ
@@ -25,4 +27,5 @@ last_block message = (length message - 1) / 128
 unfoldable pub blake2b_digest : ℕ → List ℕ → List ℕ
 blake2b_digest size message =
     let n = last_block message in
-    take size (bytes_of_words (compressed (state_after size message n) (zero_filled 128 (block_at 128 message n)) (length message) true))
+    let block = zero_filled 128 (block_at 128 message n) in
+    take size (bytes_of_words (compressed (state_after size message n) block (length message) true))

@@ -1,6 +1,7 @@
 // The compression function of BLAKE2b (RFC 7693, 3.1 and 3.2), one block of 128 bytes at a time.
 
-ghost use Rattle.std.specs.Prelude.{◌≡◌, ℕ, ◌+◌, ◌*◌, ◌/◌, ◌%◌, ◌^◌, ◌<◌, ◌≤◌, List, length, slice_index, if◌then◌else◌};
+ghost use Rattle.std.specs.Prelude.{◌≡◌, ℕ, ◌+◌, ◌*◌, ◌/◌, ◌%◌, ◌^◌, ◌<◌, ◌≤◌};
+ghost use Rattle.std.specs.Prelude.{List, length, slice_index, if◌then◌else◌};
 ghost use Rattle.std.specs.Int.{w64, bit_not};
 ghost use Rattle.blake2_core.specs.Words.{block_words};
 ghost use Rattle.blake2_core.specs.Constants.{initial_vector, word_number};
@@ -8,8 +9,8 @@ ghost use Rattle.blake2_core.specs.Compression.{compressed, folded, mixed, mixed
 
 use byte_words::read_word;
 
-/// The initialization vector (RFC 7693, 2.6).
-pub const INITIAL_VECTOR: [u64; 8] = [
+// The initialization vector (RFC 7693, 2.6).
+pub(crate) const INITIAL_VECTOR: [u64; 8] = [
     0x6a09_e667_f3bc_c908,
     0xbb67_ae85_84ca_a73b,
     0x3c6e_f372_fe94_f82b,
@@ -120,7 +121,8 @@ fn mix_round(m: &[u64; 16], v: [u64; 16], r: usize) -> [u64; 16]
 
 // The word of the work vector that carries the mark of the last block.
 fn mark(last: bool) -> u64
-    ensures { result ≡ (if last then bit_not w64 (slice_index initial_vector 6) else slice_index initial_vector 6) }
+    ensures { result
+        ≡ (if last then bit_not w64 (slice_index initial_vector 6) else slice_index initial_vector 6) }
 {
     if last {
         !INITIAL_VECTOR[6]
@@ -169,9 +171,9 @@ fn fold(state: &[u64; 8], v: &[u64; 16]) -> [u64; 8]
     ]
 }
 
-/// Takes a block of 128 bytes into the state. `count` is the number of message bytes up to its end,
-/// and `last` marks the last block.
-pub fn compress(state: &mut [u64; 8], block: &[u8], count: u128, last: bool)
+// Takes a block of 128 bytes into the state. `count` is the number of message bytes up to its end,
+// and `last` marks the last block.
+pub(crate) fn compress(state: &mut [u64; 8], block: &[u8], count: u128, last: bool)
     requires { length block.now ≡ 128 }
     ensures { state.new ≡ compressed state.old block.now count last }
 {

@@ -29,7 +29,8 @@ blocks_with seal at bytes blocks =
 -- the body after a write; no bytes change nothing
 abbrev pub body_written : Option Seal → ℕ → List ℕ → Body → Body
 body_written seal at [] body = body
-body_written seal at (b ∷ bs) body = with_size (max (size_of body) (at + length (b ∷ bs))) (with_blocks (blocks_with seal at (b ∷ bs)) body)
+body_written seal at (b ∷ bs) body =
+    with_size (max (size_of body) (at + length (b ∷ bs))) (with_blocks (blocks_with seal at (b ∷ bs)) body)
 
 -- the blocks that all files would have after a write
 abbrev pub blocks_after : Disk → ℕ → ℕ → List ℕ → ℕ
@@ -50,4 +51,4 @@ stored_anew seal had at bytes j block = rewritten (stored_block seal) (read_bloc
 -- some blocks of the file stored anew
 abbrev pub blocks_rewritten : Disk → ℕ → Option Seal → ℕ → ℕ → List ℕ → ℕ → ℕ → Disk
 blocks_rewritten disk file seal had at bytes first end =
-    changed disk file (on_body (with_blocks (edited (rewritten (stored_block seal) (read_block seal) had at bytes) first end)))
+    changed disk file (on_body (with_blocks (edited (stored_anew seal had at bytes) first end)))

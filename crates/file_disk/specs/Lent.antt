@@ -24,12 +24,17 @@ lent_content (Some read) = content_of (seal_of read.key) read.block read.text.it
 
 -- the size of a file that has a block for each of its bytes, else 0
 abbrev pub whole_size : Disk → ℕ → ℕ
-whole_size disk file = if nat_le (file_size disk file) (BLOCK_SIZE * length (file_blocks disk file)) then file_size disk file else 0
+whole_size disk file =
+    if nat_le (file_size disk file) (BLOCK_SIZE * length (file_blocks disk file))
+    then file_size disk file else 0
 
 -- the text is the stored blocks that it begins and ends with
 abbrev pub IsCopied : Disk → ℕ → LentRead → Type 0
-IsCopied disk file read = read.text.items ≡ blocks_joined (file_blocks disk file) read.block (length read.text.items / BLOCK_SIZE)
+IsCopied disk file read =
+    read.text.items ≡ blocks_joined (file_blocks disk file) read.block (length read.text.items / BLOCK_SIZE)
 
 -- what a read will have is the part that was asked for, whatever contents the file holds
 abbrev pub IsPart : Disk → ℕ → Option Seal → ℕ → ℕ → Option LentRead → Type 0
-IsPart disk file seal offset len lent = (contents : List ℕ) → IsStored disk file seal contents → lent_content lent ≡ bytes_from offset len contents
+IsPart disk file seal offset len lent =
+    (contents : List ℕ) → IsStored disk file seal contents
+    → lent_content lent ≡ bytes_from offset len contents

@@ -31,8 +31,10 @@ pub fn write_file(
     ensures kept { OnErr result (disk.new ≡ disk.old) }
     ensures empty { length bytes.now ≡ 0 → IsOk result }
     ensures inside { end_block offset bytes.now ≤ length (file_blocks disk.old file) → IsOk result }
-    ensures full { 0 < length bytes.now → ExceedsDisk disk.old file offset bytes.now → result ≡ Err DiskFault.NoSpace }
-    ensures no_space { IfErr result (λ fault. fault ≡ DiskFault.NoSpace → ExceedsDisk disk.old file offset bytes.now) }
+    ensures full { 0 < length bytes.now → ExceedsDisk disk.old file offset bytes.now
+        → result ≡ Err DiskFault.NoSpace }
+    ensures no_space { IfErr result (λ fault. fault ≡ DiskFault.NoSpace
+        → ExceedsDisk disk.old file offset bytes.now) }
 {
     if bytes.is_empty() {
         return Ok(());

@@ -56,8 +56,10 @@ impl<H> Keyed<H> {
         H: BlockHash<B, N>,
         requires digest_in_block { N ≤ B }
         requires small { B < 2 ^ 63 }
-        ensures inner { H.holds result.inner (xor_each 0x36 (block_key (hash_of H.digest_bytes B N) key.now)) }
-        ensures outer { H.holds result.outer (xor_each 0x5c (block_key (hash_of H.digest_bytes B N) key.now)) }
+        ensures inner { H.holds result.inner
+            (xor_each 0x36 (block_key (hash_of H.digest_bytes B N) key.now)) }
+        ensures outer { H.holds result.outer
+            (xor_each 0x5c (block_key (hash_of H.digest_bytes B N) key.now)) }
     {
         if key.len() > B {
             let digest: [u8; N] = H::digest(key);

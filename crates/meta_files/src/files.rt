@@ -88,7 +88,8 @@ impl MetaFiles {
         ensures version { IfOk result (λ version. version ≡ version_of self.old name.now + 1) }
         ensures stored { IfOk result (λ version. self.new ≡ with_record self.old name.now version bytes.now) }
         ensures kept { OnErr result (self.new ≡ self.old) }
-        ensures refused { IfSome (store_fault self.old name.now expected bytes.now) (λ fault. result ≡ Err fault) }
+        ensures refused { IfSome (store_fault self.old name.now expected bytes.now)
+            (λ fault. result ≡ Err fault) }
         ensures accepted { IfNone (store_fault self.old name.now expected bytes.now)
             (IsOkUnless result StoreFault.NoMemory) }
     {
@@ -142,8 +143,10 @@ fn append(
     ensures version { IfOk result (λ version. version ≡ 1) }
     ensures indexed { IsIndexed records.new.items index.new.entries }
     ensures kept { OnErr result (records.new.items ≡ records.old.items) }
-    ensures refused { IfSome (append_fault (length records.old.items) expected) (λ fault. result ≡ Err fault) }
-    ensures accepted { IfNone (append_fault (length records.old.items) expected) (IsOkUnless result StoreFault.NoMemory) }
+    ensures refused { IfSome (append_fault (length records.old.items) expected)
+        (λ fault. result ≡ Err fault) }
+    ensures accepted { IfNone (append_fault (length records.old.items) expected)
+        (IsOkUnless result StoreFault.NoMemory) }
 {
     if expected != 0 {
         return Err(StoreFault::Changed { version: 0 });

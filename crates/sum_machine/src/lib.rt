@@ -7,6 +7,8 @@ ghost use Rattle.sum_machine.specs.Sums.{sum_after, HasSums};
 use turn_lock::Machine;
 
 #[cfg(test)]
+mod signals;
+#[cfg(test)]
 mod tests;
 
 /// The sum of the numbers so far, modulo 2^64.

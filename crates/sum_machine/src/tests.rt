@@ -5,10 +5,8 @@ ghost use Rattle.sum_machine.specs.Sums.{HasSums};
 
 use crate::Sum;
 use std::alloc::{AllocError, Global};
-use std::sync::atomic::{AtomicU64, Ordering};
-use std::sync::{Arc, Wait};
+use std::sync::Wait;
 use std::test::Fail;
-use std::thread;
 use std::thread::{Threads, join};
 use turn_lock::{Machine, Pass, Shared};
 
@@ -21,7 +19,8 @@ fn add<W: Wait>(
 ) -> Result<(u64, u64), u64>
     requires belongs { pass.old.table ≡ shared.now.table }
     requires small { number < 1000 }
-    ensures { (pass.new.table ≡ pass.old.table) × (pass.new.who ≡ pass.old.who) × (pass.new.high ≡ pass.old.high) }
+    ensures { (pass.new.table ≡ pass.old.table) × (pass.new.who ≡ pass.old.who)
+        × (pass.new.high ≡ pass.old.high) }
 {
     match shared.call(rt, pass, number) {
         Ok(at) => Ok((at.place, at.reply)),
@@ -77,7 +76,8 @@ fn run_one<M: NumberMachine, W: Wait>(
     calls: u64,
 ) -> Result<Vec<u64>, AllocError>
     requires { pass.old.table ≡ shared.now.table }
-    ensures { (pass.new.table ≡ pass.old.table) × (pass.new.who ≡ pass.old.who) × (pass.new.high ≡ pass.old.high) }
+    ensures { (pass.new.table ≡ pass.old.table) × (pass.new.who ≡ pass.old.who)
+        × (pass.new.high ≡ pass.old.high) }
 {
     let mut places = Vec::new(alloc);
     for n in 0..calls {
@@ -115,11 +115,13 @@ fn run_all<M: NumberMachine + Send, R: Threads + Wait + Sync>(
         rt,
         move || -> (Pass<M>, Told)
             requires { IsSync R.row × (pass.table ≡ shared.now.table) }
-            ensures { (result.0.table ≡ pass.table) × (result.0.who ≡ pass.who) × (result.0.high ≡ pass.high) }
+            ensures { (result.0.table ≡ pass.table) × (result.0.who ≡ pass.who)
+                × (result.0.high ≡ pass.high) }
         { run_all(rt, alloc, shared, pass, calls) },
         move || -> (Pass<M>, Told)
             requires { IsSync R.row × (upper.table ≡ shared.now.table) }
-            ensures { (result.0.table ≡ upper.table) × (result.0.who ≡ upper.who) × (result.0.high ≡ upper.high) }
+            ensures { (result.0.table ≡ upper.table) × (result.0.who ≡ upper.who)
+                × (result.0.high ≡ upper.high) }
         { run_all(rt, alloc, shared, upper, calls) },
     );
     shared.join(&mut lower, upper);
@@ -186,109 +188,5 @@ fn eight_threads_agree_on_places(rt: HostRuntime) -> Result<(), Fail> {
         once,
         "the places are 0 to 79,999, each once, and each caller's rise"
     );
-    Ok(())
-}
-
-// What two callers tell each other while they call.
-#[derive(Drop)]
-struct Flags {
-    begun: AtomicU64,
-    answered: AtomicU64,
-    ran_out: AtomicU64,
-}
-
-// Looks at the flag until it is raised, a hundred million times at most.
-fn is_raised(flag: &AtomicU64) -> bool {
-    for _ in 0..100_000_000u32 {
-        if flag.load(Ordering::SeqCst) == 1 {
-            return true;
-        }
-        thread::yield_now();
-    }
-    false
-}
-
-/// A machine whose `finish` for caller 0 waits until caller 1 is answered.
-#[derive(Drop)]
-struct Signals {
-    flags: Arc<Flags, Global>,
-}
-
-impl Machine for Signals {
-    type Call = ();
-
-    type Lent = (u32, Option<Arc<Flags, Global>>);
-
-    type Reply = u32;
-
-    ghost fits = { λ _. Unit {0} };
-
-    ghost reply = { λ lent. lent.0 };
-
-    ghost lawful = { λ _. Unit {0} };
-
-    ghost leads = { λ _ _. Unit {0} };
-
-    fn begin(&mut self, who: u32, _call: &()) -> (u32, Option<Arc<Flags, Global>>) {
-        if who == 0 {
-            self.flags.begun.store(1, Ordering::SeqCst);
-        }
-        (who, Arc::try_clone(&self.flags).ok())
-    }
-
-    fn finish(lent: (u32, Option<Arc<Flags, Global>>)) -> u32 {
-        let (who, flags) = lent;
-        if let Some(flags) = flags
-            && who == 0
-            && !is_raised(&flags.answered)
-        {
-            flags.ran_out.store(1, Ordering::SeqCst);
-        }
-        who
-    }
-
-    ghost leads_lawful = { λ _ _ _. tt };
-}
-
-// Caller 1 begins once caller 0 has begun, and says when it is answered.
-fn call_second<W: Wait>(
-    rt: &W,
-    shared: &Shared<Signals>,
-    pass: &mut Pass<Signals>,
-    flags: &Flags,
-) -> Option<(bool, u64)>
-    requires { pass.old.table ≡ shared.now.table }
-{
-    let began = is_raised(&flags.begun);
-    let answer = shared.call(rt, pass, ());
-    flags.answered.store(1, Ordering::SeqCst);
-    match answer {
-        Ok(at) => Some((began, at.place)),
-        Err(_) => None,
-    }
-}
-
-#[test]
-fn finish_runs_after_release(rt: HostRuntime) -> Result<(), Fail> {
-    let flags = Arc::new(
-        rt.alloc(),
-        Flags {
-            begun: AtomicU64::new(0),
-            answered: AtomicU64::new(0),
-            ran_out: AtomicU64::new(0),
-        },
-    )?;
-    let watched = Arc::try_clone(&flags)?;
-    let told = &*watched;
-    let (shared, mut first) = Shared::start(rt.alloc(), Signals { flags }, 2, 2)?;
-    let mut second = shared.split(&mut first, 1, 1)?;
-    let (zero, one) = join(
-        &rt,
-        || shared.call(&rt, &mut first, ()).map(|at| at.place),
-        || call_second(&rt, &shared, &mut second, told),
-    );
-    assert_eq!(rt; zero.ok(), Some(0));
-    assert_eq!(rt; one, Some((true, 1)));
-    assert_eq!(rt; told.ran_out.load(Ordering::SeqCst), 0);
     Ok(())
 }
