@@ -8,7 +8,8 @@ times_x b = if nat_lt b 128 then 2 * b else bit_xor (2 * b - 256) 0x1b
 -- the sum, and the product of b by the polynomial a, of which n coefficients are left
 unfoldable pub sum_with_product : ℕ → ℕ → ℕ → ℕ → ℕ
 sum_with_product zero a b sum = sum
-sum_with_product (suc n) a b sum = sum_with_product n (a / 2) (times_x b) (if nat_eq (a % 2) 1 then bit_xor sum b else sum)
+sum_with_product (suc n) a b sum =
+    sum_with_product n (a / 2) (times_x b) (if nat_eq (a % 2) 1 then bit_xor sum b else sum)
 
 -- the product of two bytes (4.2)
 unfoldable pub field_product : ℕ → ℕ → ℕ

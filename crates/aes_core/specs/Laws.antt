@@ -11,15 +11,21 @@ pub record IsBlock (xs : List ℕ) : Type 0 where
 
 -- decryption gives back each block that was encrypted
 abbrev pub DecryptionUndoes : Type 0
-DecryptionUndoes = (key block : List ℕ) → AreBytes key → IsBlock block → decrypted_block key (encrypted_block key block) ≡ block
+DecryptionUndoes =
+    (key block : List ℕ) → AreBytes key → IsBlock block
+    → decrypted_block key (encrypted_block key block) ≡ block
 
 -- encryption gives back each block that was decrypted
 abbrev pub EncryptionUndoes : Type 0
-EncryptionUndoes = (key block : List ℕ) → AreBytes key → IsBlock block → encrypted_block key (decrypted_block key block) ≡ block
+EncryptionUndoes =
+    (key block : List ℕ) → AreBytes key → IsBlock block
+    → encrypted_block key (decrypted_block key block) ≡ block
 
 -- both make 16 bytes of whatever they are given
 abbrev pub MakesSixteen : Type 0
-MakesSixteen = (key block : List ℕ) → (length (encrypted_block key block) ≡ 16) × (length (decrypted_block key block) ≡ 16)
+MakesSixteen =
+    (key block : List ℕ) → (length (encrypted_block key block) ≡ 16)
+    × (length (decrypted_block key block) ≡ 16)
 
 -- both make blocks of blocks
 abbrev pub EncryptsToBlocks : Type 0

@@ -1,6 +1,7 @@
 -- The key schedule of AES-256 (FIPS 197, 5.2): Nk = 8 words of four bytes from the key, and 60 in
 -- all. A schedule is the bytes of its words, one after the other.
-use Rattle.std.specs.Prelude.{ℕ, zero, suc, ◌+◌, ◌-◌, ◌*◌, ◌/◌, ◌%◌, List, [], ◌∷◌, ◌++◌, bit_xor, nat_eq, slice_index, if◌then◌else◌}
+use Rattle.std.specs.Prelude.{ℕ, zero, suc, ◌+◌, ◌-◌, ◌*◌, ◌/◌, ◌%◌, List, [], ◌∷◌}
+use Rattle.std.specs.Prelude.{◌++◌, bit_xor, nat_eq, slice_index, if◌then◌else◌}
 use Rattle.aes_core.specs.Field.{times_x}
 use Rattle.aes_core.specs.Substitution.{substitute_byte}
 
@@ -25,7 +26,9 @@ round_constant j k = if nat_eq k 0 then power_of_x (j - 1) else 0
 -- changed by the round constant, and at 4 modulo 8 substituted alone
 unfoldable pub changed_word : List ℕ → ℕ → List ℕ
 changed_word w i =
-    if nat_eq (i % 8) 0 then word_of (λ k. bit_xor (substitute_byte (word_byte w (i - 1) ((k + 1) % 4))) (round_constant (i / 8) k))
+    if nat_eq (i % 8) 0
+    then word_of (λ k.
+    bit_xor (substitute_byte (word_byte w (i - 1) ((k + 1) % 4))) (round_constant (i / 8) k))
     else if nat_eq (i % 8) 4 then word_of (λ k. substitute_byte (word_byte w (i - 1) k))
     else word_of (λ k. word_byte w (i - 1) k)
 

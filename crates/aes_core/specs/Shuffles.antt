@@ -1,5 +1,6 @@
 -- What the code's shuffles give, byte by byte. These words describe the code and not the standard.
-use Rattle.std.specs.Prelude.{ℕ, ◌/◌, Bool, ◌||◌, List, bit_and, bit_xor, nat_le, nat_lt, slice_index, if◌then◌else◌, IsTrue}
+use Rattle.std.specs.Prelude.{ℕ, ◌/◌, Bool, ◌||◌, List, bit_and, bit_xor, nat_le}
+use Rattle.std.specs.Prelude.{nat_lt, slice_index, if◌then◌else◌, IsTrue}
 
 -- whether a byte has the highest bit, or is a place of a table of 16 bytes
 abbrev pub is_place : ℕ → Bool
@@ -30,8 +31,10 @@ half_sum b = bit_xor (high_half b) (low_half b)
 -- the two parts of an inverse, from the halves, by a table of inverses and one of scaled inverses
 unfoldable pub first_part : List ℕ → List ℕ → ℕ → ℕ
 first_part inverses scaled b =
-    bit_xor (found_in inverses (bit_xor (found_in inverses (high_half b)) (found_in scaled (low_half b)))) (half_sum b)
+    bit_xor (found_in inverses (bit_xor (found_in inverses (high_half b)) (found_in scaled (low_half b))))
+    (half_sum b)
 
 unfoldable pub second_part : List ℕ → List ℕ → ℕ → ℕ
 second_part inverses scaled b =
-    bit_xor (found_in inverses (bit_xor (found_in inverses (half_sum b)) (found_in scaled (low_half b)))) (high_half b)
+    bit_xor (found_in inverses (bit_xor (found_in inverses (half_sum b)) (found_in scaled (low_half b))))
+    (high_half b)

@@ -39,7 +39,7 @@ fn decrypt_planes(keys: &RoundKeys, blocks: Square) -> Square
     add_plane_round_key(keys, 0, moved_back)
 }
 
-/// Each of the eight blocks encrypted.
+// Each of the eight blocks encrypted.
 pub(crate) fn encrypt_eight(keys: &RoundKeys, blocks: [u8x16; 8]) -> [u8x16; 8]
     ensures { (b : ℕ) → b < 8
         → slice_index_or result b [] ≡ encrypted_with keys.now (slice_index_or blocks b []) }
@@ -47,7 +47,7 @@ pub(crate) fn encrypt_eight(keys: &RoundKeys, blocks: [u8x16; 8]) -> [u8x16; 8]
     transpose(encrypt_planes(keys, transpose(blocks)))
 }
 
-/// Each of the eight blocks decrypted.
+// Each of the eight blocks decrypted.
 pub(crate) fn decrypt_eight(keys: &RoundKeys, blocks: [u8x16; 8]) -> [u8x16; 8]
     ensures { (b : ℕ) → b < 8
         → slice_index_or result b [] ≡ decrypted_with keys.now (slice_index_or blocks b []) }

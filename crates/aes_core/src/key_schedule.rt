@@ -13,8 +13,8 @@ const KEY_WORDS: usize = 8;
 
 const WORDS: usize = 60;
 
-/// The round keys of a key.
-pub fn round_keys(key: &[u8; 32]) -> RoundKeys
+// The round keys of a key.
+pub(crate) fn round_keys(key: &[u8; 32]) -> RoundKeys
     ensures { result ≡ round_keys key.now }
 {
     let mut keys = [0; 240];

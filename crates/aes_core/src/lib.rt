@@ -17,7 +17,8 @@ mod vectors;
 
 ghost use Rattle.std.specs.Prelude.{◌≡◌, ◌<◌, List, [], ℕ, slice_index_or, take};
 ghost use Rattle.aes_core.specs.Aes.{decrypted_block, encrypted_block};
-ghost use Rattle.aes_core.specs.Laws.{DecryptionUndoes, DecryptsToBlocks, EncryptionUndoes, EncryptsToBlocks, InverseIsOne, MakesSixteen};
+ghost use Rattle.aes_core.specs.Laws.{DecryptionUndoes, DecryptsToBlocks, EncryptionUndoes};
+ghost use Rattle.aes_core.specs.Laws.{EncryptsToBlocks, InverseIsOne, MakesSixteen};
 ghost use Rattle.aes_core.specs.RoundKeys.{round_keys};
 
 use crate::rounds::{

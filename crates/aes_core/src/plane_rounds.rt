@@ -7,7 +7,8 @@ ghost use Rattle.aes_core.specs.Field.{times_x};
 ghost use Rattle.aes_core.specs.Lanes.{row_on};
 ghost use Rattle.aes_core.specs.Planes.{AllBlocks, plane, planes};
 ghost use Rattle.std.specs.Int.{bit_at};
-ghost use Rattle.aes_core.specs.Steps.{add_round_key, inverse_mix_columns, inverse_shift_rows, mix_columns, shift_rows};
+ghost use Rattle.aes_core.specs.Steps.{add_round_key, inverse_mix_columns};
+ghost use Rattle.aes_core.specs.Steps.{inverse_shift_rows, mix_columns, shift_rows};
 
 use crate::rounds::{
     RoundKeys, inverse_shift_rows, next_row, round_key, second_row_on, shift_rows,
@@ -146,7 +147,7 @@ fn key_plane(key: u8x16, bit: u8) -> u8x16
         .select(u8x16::splat(255), u8x16::splat(0))
 }
 
-/// Xors round key `round` into the state of each block.
+// Xors round key `round` into the state of each block.
 #[inline(always)]
 pub(crate) fn add_plane_round_key(keys: &RoundKeys, round: usize, state: Square) -> Square
     requires { round ≤ 14 }

@@ -4,7 +4,8 @@
 ghost use Rattle.std.specs.Prelude.{◌≡◌, ◌≤◌, map};
 ghost use Rattle.aes_core.specs.Field.{times_x};
 ghost use Rattle.aes_core.specs.Lanes.{round_key, row_on};
-ghost use Rattle.aes_core.specs.Steps.{add_round_key, inverse_mix_columns, inverse_shift_rows, inverse_substitute_bytes, mix_columns, shift_rows, substitute_bytes};
+ghost use Rattle.aes_core.specs.Steps.{add_round_key, inverse_mix_columns, inverse_shift_rows};
+ghost use Rattle.aes_core.specs.Steps.{inverse_substitute_bytes, mix_columns, shift_rows, substitute_bytes};
 
 use crate::shuffles::{inverse_substitute, substitute};
 use crate::vectors::xor;
@@ -40,7 +41,7 @@ pub(crate) fn inverse_shift_rows(state: u8x16) -> u8x16
     state.swizzle([0, 13, 10, 7, 4, 1, 14, 11, 8, 5, 2, 15, 12, 9, 6, 3])
 }
 
-/// The product of each byte by x in the field of bytes.
+// The product of each byte by x in the field of bytes.
 #[inline(always)]
 fn times_x(bytes: u8x16) -> u8x16
     ensures { result ≡ map times_x bytes }
@@ -93,7 +94,7 @@ pub(crate) fn round_key(keys: &RoundKeys, round: usize) -> u8x16
     u8x16::from_slice(&keys[16 * round..16 * round + 16])
 }
 
-/// Xors round key `round` into the state.
+// Xors round key `round` into the state.
 #[inline(always)]
 pub(crate) fn add_round_key(keys: &RoundKeys, round: usize, state: u8x16) -> u8x16
     requires { round ≤ 14 }

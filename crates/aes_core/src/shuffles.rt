@@ -4,7 +4,8 @@
 
 ghost use Rattle.std.specs.Prelude.{◌≡◌, map};
 ghost use Rattle.std.specs.Simd.Lanes.{Each1};
-ghost use Rattle.aes_core.specs.Shuffles.{IsPlace, first_part, found_in, half_bytes, high_half, low_half, second_part};
+ghost use Rattle.aes_core.specs.Shuffles.{IsPlace, first_part, found_in, half_bytes};
+ghost use Rattle.aes_core.specs.Shuffles.{high_half, low_half, second_part};
 ghost use Rattle.aes_core.specs.Substitution.{inverse_substitute_byte, substitute_byte};
 
 use crate::vectors::xor;
@@ -111,7 +112,7 @@ fn inverse_parts(bytes: u8x16) -> (u8x16, u8x16)
     (first, second)
 }
 
-/// The S-box on each byte.
+// The S-box on each byte.
 #[inline(always)]
 pub(crate) fn substitute(bytes: u8x16) -> u8x16
     ensures { result ≡ map substitute_byte bytes }
@@ -122,7 +123,7 @@ pub(crate) fn substitute(bytes: u8x16) -> u8x16
     xor(linear, u8x16::splat(AFFINE_CONSTANT))
 }
 
-/// The inverse S-box on each byte.
+// The inverse S-box on each byte.
 #[inline(always)]
 pub(crate) fn inverse_substitute(bytes: u8x16) -> u8x16
     ensures { result ≡ map inverse_substitute_byte bytes }

@@ -62,7 +62,7 @@ fn exchange_singles(first: u8x16, second: u8x16) -> (u8x16, u8x16)
     )
 }
 
-/// Bit k of lane p of row r becomes bit r of lane p of row k.
+// Bit k of lane p of row r becomes bit r of lane p of row k.
 #[inline(always)]
 pub(crate) fn transpose(rows: Square) -> Square
     ensures given { (r : ℕ) → r < 8 → IsBlock (slice_index_or rows r []) }

@@ -10,7 +10,8 @@ use aes_core::Aes256;
 // Enciphers the text, and tells the last block, or the iv where there is none.
 pub(crate) fn chain(key: &Aes256, iv: [u8; 16], text: &mut [u8]) -> [u8; 16]
     requires whole_blocks { length text.old % 16 ≡ 0 }
-    ensures blocks { text.new ≡ first_blocks (λ j. cbc_block (encrypted_block key.now) iv text.old (suc j)) (length text.old / 16) }
+    ensures blocks { text.new ≡ first_blocks
+        (λ j. cbc_block (encrypted_block key.now) iv text.old (suc j)) (length text.old / 16) }
     ensures last { result ≡ cbc_block (encrypted_block key.now) iv text.old (length text.old / 16) }
 {
     let mut previous = iv;
@@ -24,7 +25,8 @@ pub(crate) fn chain(key: &Aes256, iv: [u8; 16], text: &mut [u8]) -> [u8; 16]
 // Deciphers the text.
 pub(crate) fn unchain(key: &Aes256, iv: [u8; 16], text: &mut [u8])
     requires whole_blocks { length text.old % 16 ≡ 0 }
-    ensures { text.new ≡ first_blocks (plain_block (decrypted_block key.now) iv text.old) (length text.old / 16) }
+    ensures { text.new
+        ≡ first_blocks (plain_block (decrypted_block key.now) iv text.old) (length text.old / 16) }
 {
     let mut previous = iv;
     for j in 0..text.len() / 16 {

@@ -8,7 +8,7 @@ ghost use lib.Seq.{paste};
 use crate::hash::BlockHash;
 use crate::keyed::{Keyed, mac};
 
-/// HKDF: extract, then expand, into the whole of `out`.
+// HKDF: extract, then expand, into the whole of `out`.
 #[tactic(auto, unfolding(crate::specs::Hkdf::hkdf_with))]
 pub(crate) fn derive<H, const B: usize, const N: usize>(
     salt: &[u8],
@@ -29,7 +29,7 @@ where
     expand::<H, B, N>(&keyed, info, out);
 }
 
-/// HKDF-Extract. An empty salt stands for none.
+// HKDF-Extract. An empty salt stands for none.
 pub(crate) fn extract<H, const B: usize, const N: usize>(salt: &[u8], ikm: &[u8]) -> [u8; N]
 where
     H: BlockHash<B, N>,
@@ -40,8 +40,8 @@ where
     mac::<H, B, N>(salt, ikm, &[])
 }
 
-/// HKDF-Expand under the key that the two hashers have taken: the blocks T(1), T(2) and so on, the
-/// last of them cut where `out` ends.
+// HKDF-Expand under the key that the two hashers have taken: the blocks T(1), T(2) and so on, the
+// last of them cut where `out` ends.
 pub(crate) fn expand<H, const B: usize, const N: usize>(
     keyed: &Keyed<H>,
     info: &[u8],

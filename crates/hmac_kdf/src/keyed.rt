@@ -11,7 +11,7 @@ const INNER_PAD: u8 = 0x36;
 
 const OUTER_PAD: u8 = 0x5c;
 
-/// HMAC of the message `first ++ second`.
+// HMAC of the message `first ++ second`.
 #[tactic(auto, unfolding(crate::specs::Hmac::hmac_with))]
 pub(crate) fn mac<H, const B: usize, const N: usize>(
     key: &[u8],
@@ -30,7 +30,7 @@ where
     keyed.finish::<B, N>()
 }
 
-/// A key's block, each byte xored with one byte of padding. The key has at most `B` bytes.
+// A key's block, each byte xored with one byte of padding. The key has at most `B` bytes.
 fn padded_key<const B: usize>(key: &[u8], byte: u8) -> [u8; B]
     requires { length key.now ≤ B }
     ensures { result ≡ xor_each byte (zero_filled B key.now) }
@@ -50,7 +50,7 @@ pub(crate) struct Keyed<H> {
 }
 
 impl<H> Keyed<H> {
-    /// An HMAC that has taken its key, and nothing of a message.
+    // An HMAC that has taken its key, and nothing of a message.
     pub(crate) fn new<const B: usize, const N: usize>(key: &[u8]) -> Keyed<H>
     where
         H: BlockHash<B, N>,
@@ -84,7 +84,7 @@ impl<H> Keyed<H> {
         }
     }
 
-    /// Takes the next piece of the message.
+    // Takes the next piece of the message.
     pub(crate) fn update<const B: usize, const N: usize>(&mut self, piece: &[u8])
     where
         H: BlockHash<B, N>,
@@ -94,7 +94,7 @@ impl<H> Keyed<H> {
         self.inner.update(piece);
     }
 
-    /// The HMAC of the message.
+    // The HMAC of the message.
     pub(crate) fn finish<const B: usize, const N: usize>(self) -> [u8; N]
     where
         H: BlockHash<B, N>,
@@ -106,7 +106,7 @@ impl<H> Keyed<H> {
         outer.finalize()
     }
 
-    /// A second HMAC with the same key and message so far.
+    // A second HMAC with the same key and message so far.
     pub(crate) fn copy<const B: usize, const N: usize>(&self) -> Keyed<H>
     where
         H: BlockHash<B, N>,

@@ -4,7 +4,9 @@ use Rattle.key_wrap.specs.Wrapping.{wrapped_secret, opened_secret}
 
 -- what was wrapped opens to the secret
 abbrev pub OpensAgain : Type 0
-OpensAgain = (key iv secret : List ℕ) → opened_secret key iv (wrapped_secret key iv secret).0 (wrapped_secret key iv secret).1 ≡ Some secret
+OpensAgain =
+    (key iv secret : List ℕ)
+    → opened_secret key iv (wrapped_secret key iv secret).0 (wrapped_secret key iv secret).1 ≡ Some secret
 
 -- the ciphertext is as long as the secret
 abbrev pub LengthStays : Type 0

@@ -32,4 +32,5 @@ wrapped_secret key iv secret = (ciphered key iv secret, tag_of key iv (ciphered 
 
 -- the secret, where the tag is that of the iv and the ciphertext; else nothing
 unfoldable pub opened_secret : List ℕ → List ℕ → List ℕ → List ℕ → Option (List ℕ)
-opened_secret key iv ciphertext tag = if bytes_eq tag (tag_of key iv ciphertext) then Some (ciphered key iv ciphertext) else None
+opened_secret key iv ciphertext tag =
+    if bytes_eq tag (tag_of key iv ciphertext) then Some (ciphered key iv ciphertext) else None

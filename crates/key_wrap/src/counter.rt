@@ -9,7 +9,7 @@ ghost use Rattle.key_wrap.specs.CounterMode.{counter_mode};
 use aes_core::Aes256;
 use byte_words::xor_into;
 
-/// Enciphers the text, or deciphers it, which is the same.
+// Enciphers the text, or deciphers it, which is the same.
 pub(crate) fn xor_keystream(cipher: &Aes256, iv: &[u8; 16], text: &mut [u8])
     requires { length text.old ≤ 64 }
     ensures { text.new ≡ counter_mode (encrypted_block cipher.now) iv.now text.old }

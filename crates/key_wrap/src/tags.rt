@@ -3,8 +3,8 @@
 ghost use Rattle.std.specs.Prelude.{◌≡◌};
 ghost use Rattle.std.specs.Str.{bytes_eq};
 
-/// Whether two tags are the same. It looks at every byte of both, whichever differs first, so that
-/// there is no exit at the first difference.
+// Whether two tags are the same. It looks at every byte of both, whichever differs first, so that
+// there is no exit at the first difference.
 pub(crate) fn is_same_tag(one: &[u8; 32], other: &[u8; 32]) -> bool
     ensures { result ≡ bytes_eq one.now other.now }
 {

@@ -10,16 +10,23 @@ pub record IsUnit (unit : List ℕ) : Type 0 where
 
 -- decryption gives back each unit that was encrypted
 abbrev pub DecryptionUndoes : Type 0
-DecryptionUndoes = (key : List ℕ) (index : ℕ) (unit : List ℕ) → AreBytes key → IsUnit unit → xts_decrypted key index (xts_encrypted key index unit) ≡ unit
+DecryptionUndoes =
+    (key : List ℕ) (index : ℕ) (unit : List ℕ) → AreBytes key → IsUnit unit
+    → xts_decrypted key index (xts_encrypted key index unit) ≡ unit
 
 -- encryption gives back each unit that was decrypted
 abbrev pub EncryptionUndoes : Type 0
-EncryptionUndoes = (key : List ℕ) (index : ℕ) (unit : List ℕ) → AreBytes key → IsUnit unit → xts_encrypted key index (xts_decrypted key index unit) ≡ unit
+EncryptionUndoes =
+    (key : List ℕ) (index : ℕ) (unit : List ℕ) → AreBytes key → IsUnit unit
+    → xts_encrypted key index (xts_decrypted key index unit) ≡ unit
 
 -- both keep the length, and make bytes
 abbrev pub KeepsLength : Type 0
 KeepsLength = (key : List ℕ) (index : ℕ) (unit : List ℕ) → length unit % 16 ≡ 0 →
-    (length (xts_encrypted key index unit) ≡ length unit) × (length (xts_decrypted key index unit) ≡ length unit)
+    (length (xts_encrypted key index unit) ≡ length unit)
+    × (length (xts_decrypted key index unit) ≡ length unit)
 
 abbrev pub MakesUnits : Type 0
-MakesUnits = (key : List ℕ) (index : ℕ) (unit : List ℕ) → AreBytes key → IsUnit unit → IsUnit (xts_encrypted key index unit) × IsUnit (xts_decrypted key index unit)
+MakesUnits =
+    (key : List ℕ) (index : ℕ) (unit : List ℕ) → AreBytes key → IsUnit unit
+    → IsUnit (xts_encrypted key index unit) × IsUnit (xts_decrypted key index unit)

@@ -8,8 +8,8 @@ ghost use Rattle.xts_mode.specs.Xts.{times_alpha, tweaked};
 use aes_core::Aes256;
 use byte_words::xor_into;
 
-/// Half of a key, from byte `at` on.
-pub fn half_of(key: &[u8; 64], at: usize) -> [u8; 32]
+// Half of a key, from byte `at` on.
+pub(crate) fn half_of(key: &[u8; 64], at: usize) -> [u8; 32]
     requires { at ≤ 32 }
     ensures { result ≡ take 32 (drop at key.now) }
 {
@@ -18,8 +18,8 @@ pub fn half_of(key: &[u8; 64], at: usize) -> [u8; 32]
     half
 }
 
-/// Block `j` of a unit.
-pub fn block_at(unit: &[u8], j: usize) -> [u8; 16]
+// Block `j` of a unit.
+pub(crate) fn block_at(unit: &[u8], j: usize) -> [u8; 16]
     requires { 16 * j + 16 ≤ length unit.now }
     ensures { result ≡ block_at 16 unit.now j }
 {
@@ -28,16 +28,16 @@ pub fn block_at(unit: &[u8], j: usize) -> [u8; 16]
     block
 }
 
-/// A tweak times α: the tweak of the next block.
+// A tweak times α: the tweak of the next block.
 #[inline]
-pub fn times_alpha(tweak: u128) -> u128
+pub(crate) fn times_alpha(tweak: u128) -> u128
     ensures { result ≡ times_alpha tweak }
 {
     (tweak << 1) ^ ((tweak >> 127) * 0x87)
 }
 
-/// Encrypts a block between two additions of its tweak.
-pub fn encrypt_tweaked(key: &Aes256, tweak: u128, block: [u8; 16]) -> [u8; 16]
+// Encrypts a block between two additions of its tweak.
+pub(crate) fn encrypt_tweaked(key: &Aes256, tweak: u128, block: [u8; 16]) -> [u8; 16]
     ensures { result ≡ tweaked (encrypted_block key.now) tweak block }
 {
     let mask = tweak.to_le_bytes();
@@ -48,8 +48,8 @@ pub fn encrypt_tweaked(key: &Aes256, tweak: u128, block: [u8; 16]) -> [u8; 16]
     sealed
 }
 
-/// Decrypts a block between two additions of its tweak.
-pub fn decrypt_tweaked(key: &Aes256, tweak: u128, block: [u8; 16]) -> [u8; 16]
+// Decrypts a block between two additions of its tweak.
+pub(crate) fn decrypt_tweaked(key: &Aes256, tweak: u128, block: [u8; 16]) -> [u8; 16]
     ensures { result ≡ tweaked (decrypted_block key.now) tweak block }
 {
     let mask = tweak.to_le_bytes();

@@ -101,8 +101,8 @@ fn write_masked(group: &mut [u8], blocks: &[u8x16; 8], masks: &Masks)
     }
 }
 
-/// Encrypts eight blocks in place, of which the first has this tweak. Returns the tweak of the block
-/// after them.
+// Encrypts eight blocks in place, of which the first has this tweak. Returns the tweak of the block
+// after them.
 pub(crate) fn encrypt_group(key: &Aes256, tweak: u128, group: &mut [u8]) -> u128
     requires whole { length group.old ≡ GROUP_BYTES }
     ensures group { group.new ≡ group_of (encrypted_block key.now) tweak group.old }
@@ -114,8 +114,8 @@ pub(crate) fn encrypt_group(key: &Aes256, tweak: u128, group: &mut [u8]) -> u128
     after_group(tweak)
 }
 
-/// Decrypts eight blocks in place, of which the first has this tweak. Returns the tweak of the block
-/// after them.
+// Decrypts eight blocks in place, of which the first has this tweak. Returns the tweak of the block
+// after them.
 pub(crate) fn decrypt_group(key: &Aes256, tweak: u128, group: &mut [u8]) -> u128
     requires whole { length group.old ≡ GROUP_BYTES }
     ensures group { group.new ≡ group_of (decrypted_block key.now) tweak group.old }

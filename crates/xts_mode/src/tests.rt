@@ -97,8 +97,8 @@ fn checksum(bytes: &[u8]) -> u64 {
     sum
 }
 
-// A unit of 4,096 bytes that count up, whose ciphertext by Python's `cryptography` has this checksum; and units that
-// are its beginning, whose ciphertexts are the beginning of that one.
+// A unit of 4,096 bytes that count up, whose ciphertext by Python's `cryptography` has this checksum;
+// and units that are its beginning, whose ciphertexts are the beginning of that one.
 #[test]
 fn units_of_every_length_encrypt_and_decrypt(rt: HostRuntime) {
     let mut plain = [0u8; 4096];
