@@ -1,5 +1,5 @@
 -- Nodes stay well formed where a raw key is added that agrees with what was added before.
-use Rattle.std.proofs.Common.{◌≡◌, ℕ, ◌*◌, ◌^◌, Bool, true, false, cond, List, [], ◌++◌, replicate, Option, Some, None, is_some, sym, refl, ap, ◌∙◌, subst, ⊎_elim}
+use Rattle.std.proofs.Common.{◌≡◌, ℕ, true, cond, List, [], Option, Some, None, is_some, sym, refl, ap, ◌∙◌, subst, ⊎_elim}
 use Rattle.std.specs.Option.{unwrap_or}
 use Rattle.std.proofs.lemmas.Bool.{cond-true, cond-false, cases_Bool, true≢false}
 use Rattle.policy_ctx.specs.declared.policy.KeyId.{KeyId}
@@ -11,7 +11,7 @@ use Rattle.fsc_keys.specs.Keys.{key_id_of, file_key_of, mode_key_of, key_bytes}
 use Rattle.name_crypt.specs.StoredName.{stored_name}
 use Rattle.name_crypt.specs.NoKeyText.{nokey_text_of}
 use Rattle.number_map.specs.Numbered.{get}
-use Rattle.plain_tree.specs.Nodes.{Name, Node, Nodes, context_in, context_at}
+use Rattle.plain_tree.specs.Nodes.{Name, Node, Nodes, context_in}
 use Rattle.plain_tree.proofs.SealLemmas.{same_texts}
 use Rattle.mount_model.specs.PlainMount.{Raws, raw_in, with_raw}
 use Rattle.mount_model.specs.Sealed.{node_start, sealed_name, texts}

@@ -1,11 +1,9 @@
 -- What the refusals of the calls on policies and contents leave: that the nodes stay as they may be.
-use Rattle.std.proofs.Common.{nat_lt, ◌≡◌, ◌≢◌, ℕ, zero, suc, ◌+◌, ◌-◌, ◌<◌, ◌≤◌, Bool, true, false, cond, List, [], ◌∷◌, length, take, drop, max, eqb, Option, Some, None, is_some, inl, inr, refl, sym, ap, subst, ◌∙◌, arith}
-use Rattle.std.proofs.lemmas.Bool.{cases_Bool, true≢false, ltb-false, eqb-true, eqb-false}
+use Rattle.std.proofs.Common.{nat_lt, ◌≡◌, ℕ, ◌+◌, ◌-◌, ◌≤◌, true, false, cond, List, [], ◌∷◌, length, take, drop, max, eqb, Some, is_some, inl, inr, refl, sym, ap, subst, ◌∙◌, arith}
+use Rattle.std.proofs.lemmas.Bool.{cases_Bool, true≢false, ltb-false, eqb-true}
 use Rattle.std.proofs.lemmas.List.{length-take-le}
 use Rattle.std.proofs.Common.{length-drop}
 use Rattle.policy_ctx.specs.declared.policy.KeyId.{KeyId}
-use Rattle.policy_ctx.specs.declared.policy.Context.{Context}
-use Rattle.policy_ctx.specs.declared.fault.CtxFault.{CtxFault}
 use Rattle.policy_ctx.specs.declared.fault.CtxFault.TheVariants.{Length}
 use Rattle.policy_ctx.specs.Policy.{header_fault, policy_fault}
 use Rattle.user_claims.specs.Claims.{has_claim, is_present}
@@ -13,11 +11,10 @@ use Rattle.user_claims.proofs.PresentLemmas.{holder}
 use Rattle.byte_words.specs.Bytes.{AreBytes}
 use Rattle.byte_words.specs.Contents.{with_bytes}
 use Rattle.byte_words.proofs.ContentsLemmas.{length-with_bytes, AreBytes-with_bytes}
-use Rattle.number_map.specs.Numbered.{get}
-use Rattle.plain_tree.specs.Nodes.{Name, Body, Dir, File, Link, Node, with_contents, children, context_at}
-use Rattle.mount_limits.specs.declared.TheConstants.{MOST_FILE_BYTES, MOST_BLOCKS}
+use Rattle.plain_tree.specs.Nodes.{Body, Dir, File, Link, with_contents}
+use Rattle.mount_limits.specs.declared.TheConstants.{MOST_FILE_BYTES}
 use Rattle.name_crypt.specs.declared.limits.TheConstants.{MOST_NAME_BYTES}
-use Rattle.mount_model.specs.Carried.{IsTarget, AreFewBytes}
+use Rattle.mount_model.specs.Carried.{IsTarget}
 use Rattle.mount_model.specs.PlainMount.{PlainMount, raw_in}
 use Rattle.mount_model.specs.PolicyAnswers.{policy_in, may_use}
 use Rattle.mount_model.specs.NameAnswers.{is_long_target}

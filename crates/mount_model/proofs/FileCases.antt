@@ -1,38 +1,21 @@
 -- The answers to the calls that look at nodes, open them, read and write, and to those on records, case
 -- by case.
-use Rattle.std.proofs.Common.{nat_lt, ◌≡◌, ◌+◌, ℕ, Bool, true, false, cond, not, ◌&&◌, ◌||◌, List, [], ◌∷◌, length, eqb, Option, Some, None, is_some, Result, Ok, Err, refl, sym, ap, ◌∙◌}
-use Rattle.std.specs.Map.{lookup_entry}
-use Rattle.std.proofs.lemmas.Bool.{cond_both, or_parts, not_from_false}
+use Rattle.std.proofs.Common.{nat_lt, ◌≡◌, ◌+◌, ℕ, false, not, List, length, Option, Some, None, Ok, refl}
 use Rattle.number_map.specs.Numbered.{get}
-use Rattle.policy_ctx.specs.declared.policy.KeyId.{KeyId}
-use Rattle.policy_ctx.specs.declared.policy.Context.{Context}
-use Rattle.policy_ctx.specs.Policy.{policy_fault}
-use Rattle.plain_tree.specs.Nodes.{Name, Body, Dir, File, Link, Node, Nodes, children, context_at, is_dir_at, entry}
-use Rattle.plain_tree.specs.Changes.{encrypted, written}
-use Rattle.user_claims.specs.Claims.{has_claim, is_present}
+use Rattle.plain_tree.specs.Nodes.{Body, Dir, File, Link, Node, is_dir_at}
+use Rattle.plain_tree.specs.Changes.{written}
 use Rattle.meta_files.specs.Records.{record_of}
 use Rattle.byte_words.specs.Contents.{with_bytes}
-use Rattle.mount_model.specs.declared.reply.Reply.{Reply}
-use Rattle.mount_model.specs.declared.reply.Reply.TheVariants.{Done, Opened, Refused}
-use Rattle.name_crypt.specs.declared.limits.TheConstants.{MOST_NAME_BYTES}
 use Rattle.mount_limits.specs.declared.TheConstants.{MOST_FILE_BYTES, MOST_READ_BYTES}
 use Rattle.meta_files.specs.declared.files.TheConstants.{MOST_RECORD_BYTES}
-use Rattle.mount_model.specs.declared.reply.Refusal.{Refusal}
-use Rattle.mount_model.specs.declared.reply.Refusal.TheVariants.{NoKey, Access, Quota, Inval, Exists, NotFound, NotDir, IsDir, NotEmpty, XDev, NoData, BadHandle, NameTooLong, TooBig, NoSpace, NoKeyClash, Changed}
+use Rattle.mount_model.specs.declared.reply.Refusal.TheVariants.{NoKey, Inval, NotFound, NotDir, IsDir, TooBig, NoSpace, Changed}
 use Rattle.mount_model.specs.PlainMount.{PlainMount, node_of}
-use Rattle.mount_model.specs.States.{is_keyed}
-use Rattle.mount_model.specs.Answered.{Answer, refused, told, done, at_node, at_entry}
-use Rattle.mount_model.specs.Walk.{PathParts, Walked, found, led, looked_in, stepped, walked_on, walked_from, walked, is_root, parent, parent_parts, last_part, is_at_or_above}
-use Rattle.mount_model.specs.KeyAnswers.{is_raw_key, is_over_quota, is_absent, added, removed, all_removed, answer_to_add_key, answer_to_remove_key, answer_to_remove_key_all}
-use Rattle.mount_model.specs.PolicyAnswers.{policy_in, may_use, answer_to_encrypt, answer_to_set_policy, policy_told, answer_to_get_policy, is_same_policy}
-use Rattle.mount_model.specs.NameAnswers.{lacks_key, clashes, is_full, is_long_target, new_node, with_node, without_name, answer_to_make_in, answer_to_make, answer_to_unlink, answer_to_rmdir}
-use Rattle.mount_model.specs.RenameAnswer.{may_hold, is_full_elsewhere, with_moved, answer_to_move, answer_to_rename}
+use Rattle.mount_model.specs.Answered.{Answer, done}
+use Rattle.mount_model.specs.Walk.{PathParts, walked}
 use Rattle.mount_model.specs.LookAnswers.{target_told, answer_to_read_link, page_of, answer_to_list, node_told, answer_to_stat}
-use Rattle.mount_model.specs.FileAnswers.{with_handle, opened_on, is_out_of_handles, is_link_at, answer_to_open, at_handle, contents_at, content_of, answer_to_read, lacks_blocks, answer_to_write, with_closed, answer_to_close}
+use Rattle.mount_model.specs.FileAnswers.{opened_on, is_out_of_handles, is_link_at, answer_to_open, contents_at, content_of, answer_to_read, lacks_blocks, answer_to_write, with_closed, answer_to_close}
 use Rattle.mount_model.specs.RecordAnswers.{record_told, answer_to_meta_load, is_out_of_records, stored, answer_to_meta_store}
-use Rattle.mount_model.specs.History.{is_want_of_memory}
-use Rattle.mount_model.proofs.CaseLemmas.{is_so, Covers, when, walked_from_due, parent_due, at_walk, at_found, at_open}
-use Rattle.mount_model.specs.ClaimHistory.{is_refused}
+use Rattle.mount_model.proofs.CaseLemmas.{Covers, when, walked_from_due, at_walk, at_open}
 
 -- ---- looking
 

@@ -1,5 +1,5 @@
 -- The empty mount is well formed.
-use Rattle.std.proofs.Common.{◌≡◌, ℕ, ◌+◌, ◌≤◌, true, false, List, [], length, Option, Some, None, is_some, sym, refl, ap, ◌∙◌, arith}
+use Rattle.std.proofs.Common.{◌≡◌, ℕ, ◌≤◌, true, false, [], Option, Some, None, is_some, sym, refl, ap, ◌∙◌, arith}
 use Rattle.std.specs.Option.{unwrap_or}
 use Rattle.std.specs.Map.{lookup}
 use Rattle.std.specs.Str.{bytes_eq}
@@ -7,17 +7,16 @@ use Rattle.std.specs.List.{IsDistinct}
 use Rattle.std.specs.FinMap as map
 use Rattle.std.specs.FinMap.{get-empty}
 use Rattle.std.specs.Ordering.{nat_cmp}
-use Rattle.std.proofs.lemmas.Bool.{true≢false, cases_eq}
-use Rattle.number_map.specs.Numbered.{Numbered, empty, get, insert}
-use Rattle.number_map.proofs.NumberedLemmas.{insert_here, insert_other}
+use Rattle.std.proofs.lemmas.Bool.{true≢false}
+use Rattle.number_map.specs.Numbered.{empty, get}
 use Rattle.number_map.proofs.TotalLemmas.{total_added, total_empty}
-use Rattle.plain_tree.specs.Nodes.{Name, Dir, Node, Nodes, contents_of, children, is_named_in, is_named, entry}
+use Rattle.plain_tree.specs.Nodes.{Dir, Node, Nodes, contents_of, is_named_in}
 use Rattle.plain_tree.specs.Changes.{first_nodes}
 use Rattle.plain_tree.specs.Facts.{EachNode}
 use Rattle.plain_tree.proofs.FactLemmas.{each_inserted}
 use Rattle.plain_tree.proofs.FirstLemmas.{first_children, first_tree, first_sealed}
 use Rattle.mount_limits.specs.declared.TheConstants.{MOST_BLOCKS}
-use Rattle.mount_model.specs.PlainMount.{Raws, opens_of, empty_mount}
+use Rattle.mount_model.specs.PlainMount.{opens_of, empty_mount}
 use Rattle.mount_model.specs.Sealed.{texts}
 use Rattle.mount_model.specs.FileAnswers.{block_count, block_total}
 use Rattle.mount_model.specs.WellFormed.{IsBody, HasRaw, HasNodes, HasHandles, is_same_handle, IsWellFormed}

@@ -1,30 +1,22 @@
 -- Handles stay well formed: after each kind of change of the nodes, after one is opened, and after one is
 -- closed.
-use Rattle.std.proofs.Common.{◌≡◌, ◌≢◌, ℕ, ◌+◌, ◌<◌, ◌≤◌, Bool, true, false, cond, not, ◌&&◌, ◌||◌, List, [], ◌∷◌, ◌++◌, length, eqb, Option, Some, None, option_map, is_some, inl, inr, refl, sym, ap, subst, ◌∙◌, arith}
-use Rattle.std.specs.Option.{unwrap_or}
-use Rattle.std.specs.List.{list_any, find, filter, IsDistinct, AllByRecursion}
-use Rattle.std.proofs.lemmas.Bool.{cases_eq, cases_Bool, and_parts, or_cases, or_parts, not-true, not-false, eqb-true, eqb-false, eq-eqb, ne_eqb}
-use Rattle.std.proofs.lemmas.List.Folds.{list_any-append}
-use Rattle.std.proofs.lemmas.Map.Keys.{IsDistinct-push}
-use Rattle.std.specs.Cmp.{IsEquivalence}
+use Rattle.std.proofs.Common.{◌≡◌, ◌≢◌, ℕ, Bool, true, false, cond, not, ◌&&◌, List, Option, is_some, inl, inr, refl, sym, ap, ◌∙◌}
+use Rattle.std.proofs.lemmas.Bool.{cases_eq, and_parts}
 use Rattle.policy_ctx.specs.declared.policy.Context.{Context}
-use Rattle.number_map.specs.Numbered.{Numbered, get, insert}
-use Rattle.number_map.proofs.NumberedLemmas.{insert_here, insert_other, remove_here, remove_other, changed_other}
-use Rattle.plain_tree.specs.Nodes.{Name, Node, Nodes, is_named_in, with_child, is_named, is_dir_at, entry}
+use Rattle.number_map.specs.Numbered.{Numbered, get}
+use Rattle.number_map.proofs.NumberedLemmas.{remove_here, remove_other}
+use Rattle.plain_tree.specs.Nodes.{Name, Node, Nodes, is_named_in, with_child, is_named}
 use Rattle.plain_tree.specs.Changes.{on_contents, with_context, name_put, made, dropped, gone, moved, written, encrypted}
 use Rattle.plain_tree.specs.Tree.{IsTree}
 use Rattle.plain_tree.specs.Laws.{IsNew, CanBeMade}
-use Rattle.plain_tree.proofs.ReadLemmas.{read_changed}
 use Rattle.plain_tree.proofs.EditLemmas.{edit_named, edit_there}
 use Rattle.plain_tree.proofs.MadeLemmas.{made_before, made_here, next_free}
-use Rattle.plain_tree.proofs.DroppedLemmas.{dropped_there, dropped_others, dropped_nameless}
+use Rattle.plain_tree.proofs.DroppedLemmas.{dropped_there, dropped_others}
 use Rattle.plain_tree.proofs.MovedLemmas.{moved_there, moved_named}
 use Rattle.plain_tree.proofs.EditedLemmas.{edited_there, edited_named, leaves_contents, leaves_context}
-use Rattle.mount_model.specs.declared.handle.Handle.{Handle}
-use Rattle.mount_model.specs.declared.limits.TheConstants.{MOST_HANDLES, MOST_OPENS}
-use Rattle.mount_model.specs.PlainMount.{HandleList, is_handle, node_of, has_handle, without_handle, opens_of}
-use Rattle.mount_model.specs.FileAnswers.{is_link_at, kept_by}
-use Rattle.mount_model.specs.WellFormed.{is_openable, is_live, is_same_handle, HasHandles}
+use Rattle.mount_model.specs.PlainMount.{HandleList, has_handle}
+use Rattle.mount_model.specs.FileAnswers.{is_link_at}
+use Rattle.mount_model.specs.WellFormed.{is_openable, HasHandles}
 use Rattle.mount_model.proofs.NodeParts.{link_in, link_edited, link_dropped, link_moved, link_written, link_encrypted}
 
 unfoldable pub openable_in : Option Node → Bool

@@ -1,23 +1,22 @@
 -- Claims and raw keys stay well formed.
-use Rattle.std.proofs.Common.{◌≡◌, ℕ, ◌+◌, ◌<◌, ◌≤◌, Bool, true, false, cond, not, ◌&&◌, ◌||◌, nat_le, eqb, List, length, Option, Some, None, is_some, sym, refl, ap, ◌∙◌, subst, ⊎_elim, arith}
+use Rattle.std.proofs.Common.{◌≡◌, ℕ, ◌+◌, ◌<◌, ◌≤◌, true, false, cond, not, ◌&&◌, ◌||◌, nat_le, eqb, List, Some, None, is_some, sym, refl, ap, ◌∙◌, subst, ⊎_elim, arith}
 use Rattle.std.specs.FinMap as map
 use Rattle.std.specs.FinMap.{get-insert, get-empty}
 use Rattle.std.specs.Ordering.{nat_cmp}
 use Rattle.std.proofs.lemmas.Map.Text.{is_eq-slice_cmp}
 use Rattle.std.specs.Cmp.Lexicographic.{slice_cmp, nat_list_cmp_total}
-use Rattle.std.proofs.lemmas.Bool.{cond_both, cond-true, cond-false, cases_Bool, true≢false, or_parts, and_cases, and_parts, both_ways, not_from_false, leb-false}
+use Rattle.std.proofs.lemmas.Bool.{cond-true, cond-false, cases_Bool, true≢false, and_cases, and_parts, both_ways, not_from_false, leb-false}
 use Rattle.policy_ctx.specs.declared.policy.KeyId.{KeyId}
 use Rattle.policy_ctx.specs.KeyIds.{same_id}
-use Rattle.policy_ctx.proofs.KeyIdLemmas.{same_id-refl, same_id-eq}
+use Rattle.policy_ctx.proofs.KeyIdLemmas.{same_id-eq}
 use Rattle.fsc_keys.specs.Keys.{key_id_of}
 use Rattle.user_claims.specs.Claims.{ClaimSet, no_claims, has_claim, count_of_user, with_claim, without_claim, without_id}
-use Rattle.user_claims.proofs.ClaimLemmas.{has_claim-none, has_claim-with_claim, has_claim-without_claim, has_claim-without_id, count_of_user-none, count_of_user-with_claim-le, count_of_user-without_claim-le, same_claim, same_claim-eq}
+use Rattle.user_claims.proofs.ClaimLemmas.{has_claim-none, has_claim-with_claim, has_claim-without_claim, has_claim-without_id, count_of_user-none, count_of_user-with_claim-le, count_of_user-without_claim-le, same_claim}
 use Rattle.user_claims.proofs.PresentLemmas.{count_of_user-without_id-le}
 use Rattle.user_claims.specs.declared.claims.TheConstants.{MOST_CLAIMS}
-use Rattle.mount_model.specs.PlainMount.{PlainMount, Raws, raw_in, with_raw}
-use Rattle.mount_model.specs.KeyAnswers.{is_raw_key, is_over_quota}
+use Rattle.mount_model.specs.PlainMount.{Raws, raw_in, with_raw}
+use Rattle.mount_model.specs.KeyAnswers.{is_raw_key}
 use Rattle.mount_model.specs.WellFormed.{HasKeys}
-use Rattle.mount_model.proofs.CaseLemmas.{is_so}
 
 -- the raw keys once one was added
 pub raw_in-with_raw : (raws : Raws) (id : KeyId) (raw : List ℕ) (q : KeyId) → raw_in (with_raw raws id raw) q ≡ cond (same_id q id) (Some raw) (raw_in raws q)

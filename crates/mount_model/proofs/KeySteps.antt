@@ -1,5 +1,5 @@
 -- Each step leaves a well-formed mount.
-use Rattle.std.proofs.Common.{◌≡◌, ℕ, List, [], ◌∷◌, refl}
+use Rattle.std.proofs.Common.{ℕ, [], refl}
 use Rattle.plain_tree.specs.Nodes.{Dir, File, Link}
 use Rattle.mount_model.specs.declared.call.Op.{Op}
 use Rattle.mount_model.specs.declared.call.Op.TheVariants as op

@@ -1,8 +1,5 @@
 -- Legal histories are lawful, and so are beginnings of lawful histories whose raw keys agree.
-use Rattle.std.proofs.Common.{◌≡◌, ℕ, Bool, true, false, cond, List, [], ◌∷◌, ◌++◌, sym, refl, ap, ◌∙◌, subst, ⊎_elim}
-use Rattle.std.specs.Prelude.{Contains, ⊤}
-use Rattle.std.proofs.lemmas.List.Elements.{Contains-append_left}
-use Rattle.fsc_keys.specs.Keys.{key_id_of}
+use Rattle.std.proofs.Common.{ℕ, cond, [], ◌∷◌, ◌++◌, sym, refl, subst, ⊎_elim}
 use Rattle.user_claims.specs.Claims.{ClaimSet, no_claims}
 use Rattle.user_claims.proofs.PresentLemmas.{is_present-without_id}
 use Rattle.mount_model.specs.declared.call.Op.{Op}
@@ -17,7 +14,7 @@ use Rattle.mount_model.specs.Answer.{answer_to}
 use Rattle.mount_model.specs.Step.{IsMountStep}
 use Rattle.mount_model.specs.History.{MountEntry, History, mount_left, IsLegalFrom, IsLegal}
 use Rattle.mount_model.specs.ClaimHistory.{is_refused, claims_made, claims_left}
-use Rattle.mount_model.specs.Lawful.{raw_of, raws_added, KeysAgree, TellsBy, TellsClaim, TellsClaimsFrom, TellsClaims, IsLawful}
+use Rattle.mount_model.specs.Lawful.{KeysAgree, TellsBy, TellsClaim, TellsClaimsFrom, IsLawful}
 use Rattle.mount_model.proofs.CaseLemmas.{at_add_key, at_remove_key, at_remove_key_all}
 use Rattle.mount_model.proofs.StepLemmas.{claims_left-step}
 

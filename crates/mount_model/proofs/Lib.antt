@@ -24,3 +24,4 @@ pub mod LawfulLemmas
 pub mod ShownLemmas
 pub mod RemovalLemmas
 pub mod OrderLemmas
+pub mod PolicyLemmas

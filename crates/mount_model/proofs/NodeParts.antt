@@ -1,12 +1,11 @@
 -- Which nodes are symlinks, and how many blocks there are, after each kind of change.
-use Rattle.std.proofs.Common.{◌≡◌, ◌≢◌, ℕ, ◌+◌, ◌-◌, ◌≤◌, Bool, true, false, List, [], length, Option, Some, None, option_map, is_some, refl, sym, ap, subst, ◌∙◌, arith}
+use Rattle.std.proofs.Common.{◌≡◌, ℕ, ◌-◌, ◌≤◌, Bool, true, false, List, [], Option, Some, None, refl, sym, ap, subst, ◌∙◌, arith}
 use Rattle.std.specs.Option.{option_map_or}
-use Rattle.std.specs.List.{sum_by}
 use Rattle.policy_ctx.specs.declared.policy.Context.{Context}
-use Rattle.number_map.specs.Numbered.{get, changed, entries}
+use Rattle.number_map.specs.Numbered.{get, changed}
 use Rattle.number_map.proofs.NumberedLemmas.{remove_same, changed_None}
 use Rattle.number_map.proofs.TotalLemmas.{total_added, total_removed, total_changed, total_changed_to}
-use Rattle.plain_tree.specs.Nodes.{Name, Children, Body, Dir, File, Link, Node, Nodes, contents_of, children_in, is_dir_at, is_link, with_children, with_contents, with_child, without_child}
+use Rattle.plain_tree.specs.Nodes.{Name, Children, Body, Dir, File, Link, Node, Nodes, contents_of, is_dir_at, is_link, with_children, with_contents, with_child, without_child}
 use Rattle.plain_tree.specs.Changes.{on_children, on_contents, named_as, with_context, name_put, name_taken, made, dropped, gone, moved, written, encrypted}
 use Rattle.plain_tree.proofs.ReadLemmas.{read_changed}
 use Rattle.plain_tree.proofs.MadeLemmas.{still_free}

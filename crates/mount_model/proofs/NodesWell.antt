@@ -1,17 +1,12 @@
 -- Nodes stay well formed: after a node is made, loses its name, goes, is moved, is written or gets its
 -- policy.
-use Rattle.std.proofs.Common.{◌≡◌, ◌≢◌, ℕ, ◌+◌, ◌-◌, ◌<◌, ◌≤◌, Bool, true, false, List, [], length, Option, Some, None, option_map, is_some, inl, inr, refl, sym, ap, subst, ◌∙◌, arith}
-use Rattle.std.proofs.lemmas.Bool.{cases_eq}
+use Rattle.std.proofs.Common.{◌≡◌, ◌≢◌, ℕ, ◌+◌, ◌-◌, ◌<◌, ◌≤◌, false, List, [], Some, None, arith}
 use Rattle.policy_ctx.specs.declared.policy.Context.{Context}
-use Rattle.number_map.specs.Numbered.{get, len}
-use Rattle.plain_tree.specs.Nodes.{Name, Children, Body, Dir, File, Link, Node, Nodes, children_of, contents_of, context_in, with_children, with_contents, children, context_at, is_named, is_dir_at, entry}
-use Rattle.plain_tree.specs.Changes.{on_children, on_contents, with_context, named_as, made, dropped, gone, moved, written, encrypted}
-use Rattle.plain_tree.specs.Tree.{IsTree}
+use Rattle.number_map.specs.Numbered.{get}
+use Rattle.plain_tree.specs.Nodes.{Name, Children, Body, Dir, File, Link, Node, Nodes, contents_of, with_children, with_contents, children, context_at, is_named, entry}
+use Rattle.plain_tree.specs.Changes.{made, dropped, gone, moved, written, encrypted}
 use Rattle.plain_tree.specs.Laws.{IsNew, CanBeMade, CanBeMoved}
-use Rattle.plain_tree.specs.Seals.{IsSealed}
 use Rattle.plain_tree.specs.SealLaws.{FitsInto, MovesInto}
-use Rattle.plain_tree.specs.Facts.{EachNode, EachName}
-use Rattle.plain_tree.proofs.FirstLemmas.{first_tree, first_sealed}
 use Rattle.plain_tree.proofs.MadeLemmas.{made_tree, next_free}
 use Rattle.plain_tree.proofs.DroppedLemmas.{dropped_tree}
 use Rattle.plain_tree.proofs.GoneLemmas.{gone_tree}

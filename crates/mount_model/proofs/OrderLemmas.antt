@@ -1,17 +1,17 @@
 -- Which refusal comes first where several would hold.
-use Rattle.std.proofs.Common.{◌≡◌, ◌≢◌, ℕ, Bool, true, false, cond, not, ◌||◌, List, [], ◌∷◌, length, eqb, eqb-true, Result, Ok, Err, Option, Some, None, is_some, refl, sym, ap, ◌∙◌, arith}
-use Rattle.std.proofs.lemmas.Bool.{cond-true, cond-false, cases_Bool}
+use Rattle.std.proofs.Common.{◌≡◌, ◌≢◌, ℕ, Bool, true, false, cond, not, ◌||◌, List, [], ◌∷◌, length, eqb, eqb-true, Option, Some, None, is_some, refl, ap, ◌∙◌, arith}
+use Rattle.std.proofs.lemmas.Bool.{cond-true, cond-false}
 use Rattle.policy_ctx.specs.declared.policy.Context.{Context}
 use Rattle.policy_ctx.specs.Policy.{policy_fault}
 use Rattle.user_claims.specs.Claims.{is_present}
-use Rattle.plain_tree.specs.Nodes.{Body, children, context_at, is_dir_at}
+use Rattle.plain_tree.specs.Nodes.{children, context_at, is_dir_at}
 use Rattle.mount_model.specs.declared.reply.Refusal.TheVariants.{NoKey, Inval, Exists, NotDir, NotEmpty}
-use Rattle.mount_model.specs.PlainMount.{PlainMount, has_handle}
-use Rattle.mount_model.specs.States.{is_keyed, is_keyed_under}
-use Rattle.mount_model.specs.Walk.{PathParts, walked, is_root, last_part, parent}
+use Rattle.mount_model.specs.PlainMount.{PlainMount}
+use Rattle.mount_model.specs.States.{is_keyed_under}
+use Rattle.mount_model.specs.Walk.{is_root, last_part, parent}
 use Rattle.mount_model.specs.Answered.{Answer, refused, at_node}
-use Rattle.mount_model.specs.PolicyAnswers.{policy_in, answer_to_encrypt, answer_to_set_policy}
-use Rattle.mount_model.specs.NameAnswers.{lacks_key, answer_to_make_in, answer_to_make}
+use Rattle.mount_model.specs.PolicyAnswers.{policy_in, answer_to_encrypt}
+use Rattle.mount_model.specs.NameAnswers.{lacks_key, answer_to_make_in}
 use Rattle.mount_model.specs.OrderLaws.{HandlesKeepNodesKeyed, CreationsNeedTheKey, OnlyEmptyOnesAreEncrypted}
 
 pub handles_keep_keyed : HandlesKeepNodesKeyed

@@ -1,10 +1,10 @@
 -- What a name is shown as leads to exactly its entry.
-use Rattle.std.proofs.Common.{◌≡◌, ℕ, Bool, true, false, cond, List, [], ◌∷◌, Option, Some, None, is_some, inl, inr, refl, sym, ap, ◌∙◌}
+use Rattle.std.proofs.Common.{◌≡◌, ℕ, Bool, true, false, cond, [], ◌∷◌, Option, Some, None, is_some, inl, inr, refl, sym, ap, ◌∙◌}
 use Rattle.std.specs.Str.{bytes_eq}
 use Rattle.std.specs.Map.{lookup, lookup_entry}
 use Rattle.std.proofs.lemmas.Bool.{cases_Bool, true≢false}
 use Rattle.policy_ctx.specs.declared.policy.Context.{Context}
-use Rattle.plain_tree.specs.Nodes.{Name, Children, children, context_at, policy_at, entry}
+use Rattle.plain_tree.specs.Nodes.{Name, Children, children, context_at, entry}
 use Rattle.plain_tree.proofs.ChildLemmas.{same_name}
 use Rattle.plain_tree.proofs.FoundLemmas.{found_passes, found_entry}
 use Rattle.plain_tree.proofs.SealLemmas.{text_leads}
@@ -13,7 +13,7 @@ use Rattle.mount_model.specs.Sealed.{texts}
 use Rattle.mount_model.specs.States.{is_keyed, shown, shown_under}
 use Rattle.mount_model.specs.Walk.{found}
 use Rattle.mount_model.specs.WellFormed.{IsWellFormed}
-use Rattle.mount_model.specs.NameLaws.{PoliciesAreInherited, TextsDiffer, ShownNamesLead, OnlyShownNamesLead}
+use Rattle.mount_model.specs.NameLaws.{PoliciesAreInherited, TextsDiffer}
 
 pub inherited : PoliciesAreInherited
 inherited m d name x c well has led = well.nodes.sealed.inherits d name x c has led

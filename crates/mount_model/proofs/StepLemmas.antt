@@ -1,5 +1,5 @@
 -- What a step of the mount does to it.
-use Rattle.std.proofs.Common.{◌≡◌, ◌≢◌, ℕ, Bool, true, false, cond, List, [], sym, refl, ap, ◌∙◌, ⊎_elim}
+use Rattle.std.proofs.Common.{◌≡◌, ◌≢◌, ℕ, true, false, cond, [], sym, refl, ap, ◌∙◌, ⊎_elim}
 use Rattle.std.proofs.lemmas.Bool.{cond-true, cond-false, true≢false}
 use Rattle.plain_tree.specs.Nodes.{Dir, File, Link}
 use Rattle.user_claims.specs.Claims.{ClaimSet}
@@ -12,7 +12,7 @@ use Rattle.mount_model.specs.declared.reply.Reply.TheVariants as reply
 use Rattle.mount_model.specs.declared.reply.Refusal.{Refusal}
 use Rattle.mount_model.specs.declared.reply.Refusal.TheVariants.{NoMemory}
 use Rattle.mount_model.specs.PlainMount.{PlainMount}
-use Rattle.mount_model.specs.Answered.{Answer, refused, told}
+use Rattle.mount_model.specs.Answered.{Answer, told}
 use Rattle.mount_model.specs.KeyAnswers.{status_of}
 use Rattle.mount_model.specs.Answer.{answer_to, answer_of}
 use Rattle.mount_model.specs.Step.{takes_memory, IsMountStep}

@@ -1,29 +1,26 @@
 -- What the refusals of a call leave: that its change of the tree can be made.
-use Rattle.std.proofs.Common.{nat_lt, nat_le, ◌≡◌, ◌≢◌, ℕ, zero, suc, ◌+◌, ◌-◌, ◌<◌, ◌≤◌, Bool, true, false, cond, not, ◌&&◌, ◌||◌, List, [], ◌∷◌, length, take, drop, min, eqb, Option, Some, None, option_map, is_some, inl, inr, ◌⊎◌, Result, Ok, refl, sym, ap, subst, ◌∙◌, arith}
-use Rattle.std.specs.List.{list_any, All}
+use Rattle.std.proofs.Common.{nat_lt, nat_le, ◌≡◌, ◌≢◌, ℕ, zero, suc, ◌-◌, ◌<◌, ◌≤◌, true, false, not, ◌&&◌, ◌||◌, List, [], ◌∷◌, length, eqb, Option, Some, None, option_map, is_some, inl, inr, refl, sym, ap, ◌∙◌, arith}
 use Rattle.std.specs.Str.{bytes_eq}
-use Rattle.std.proofs.lemmas.Bool.{cases_eq, cases_Bool, or_parts, true≢false, leb-false, ltb-true, ltb-false, eqb-true, eqb-false, ne_eqb}
+use Rattle.std.proofs.lemmas.Bool.{cases_Bool, or_parts, true≢false, leb-false, ltb-true, ltb-false, eqb-true, eqb-false, ne_eqb}
 use Rattle.policy_ctx.specs.declared.policy.Policy.{Policy}
 use Rattle.policy_ctx.specs.declared.policy.Context.{Context}
 use Rattle.policy_ctx.specs.Policy.{policy_bytes}
 use Rattle.policy_ctx.proofs.Encodings.{policy_bytes-injective}
 use Rattle.number_map.specs.Numbered.{get, len}
-use Rattle.plain_tree.specs.Nodes.{Name, Children, Body, Dir, File, Link, Node, Nodes, children_of, children_in, contents_of, is_dir, is_dir_in, context_in, children, context_at, policy_at, is_dir_at, entry}
-use Rattle.plain_tree.specs.Seals.{has_text}
-use Rattle.plain_tree.specs.Laws.{IsNew, CanBeMade, CanBeMoved}
-use Rattle.plain_tree.specs.SealLaws.{FitsInto, MovesInto}
+use Rattle.plain_tree.specs.Nodes.{Name, Body, Dir, File, Link, Node, Nodes, children_of, children_in, contents_of, is_dir, is_dir_in, context_in, children, context_at, entry}
+use Rattle.plain_tree.specs.Laws.{CanBeMoved}
+use Rattle.plain_tree.specs.SealLaws.{MovesInto}
 use Rattle.mount_limits.specs.declared.TheConstants.{MOST_NODES, MOST_CHILDREN}
 use Rattle.plain_tree.proofs.ChildLemmas.{same_name}
 use Rattle.plain_tree.proofs.FoundLemmas.{found_entry}
 use Rattle.mount_model.specs.declared.limits.TheConstants.{LAST_NODE}
-use Rattle.mount_model.specs.Carried.{IsPart, IsPath}
+use Rattle.mount_model.specs.Carried.{IsPath}
 use Rattle.mount_model.specs.PlainMount.{PlainMount, Raws}
 use Rattle.mount_model.specs.Sealed.{texts}
 use Rattle.mount_model.specs.States.{shown}
-use Rattle.mount_model.specs.Walk.{PathParts, found, is_root, last_part, parent, is_at_or_above}
-use Rattle.mount_model.specs.PolicyAnswers.{is_same_policy}
-use Rattle.mount_model.specs.NameAnswers.{has_text_of, clashes, inherited, new_node, is_full}
-use Rattle.mount_model.specs.RenameAnswer.{has_policy, may_hold, is_full_elsewhere}
+use Rattle.mount_model.specs.Walk.{PathParts, found, is_root, last_part}
+use Rattle.mount_model.specs.NameAnswers.{has_text_of, inherited, new_node}
+use Rattle.mount_model.specs.RenameAnswer.{has_policy, may_hold}
 use Rattle.mount_model.specs.WellFormed.{IsName, IsBody, HasRaw, HasNodes}
 use Rattle.mount_model.proofs.NameCases.{CanMake, CanGo, CanMove}
 use Rattle.mount_model.proofs.WalkLemmas.{IsParent, parent_ok, reached_without}

@@ -1,9 +1,9 @@
 -- Where walks end: at nodes that are reached from the root by names.
-use Rattle.std.proofs.Common.{nat_lt, ◌≡◌, ◌≢◌, ℕ, ◌≤◌, Bool, true, false, cond, not, ◌||◌, List, [], ◌∷◌, length, eqb, Option, Some, None, Result, Ok, Err, inl, inr, refl, sym, ap, subst, ◌∙◌}
+use Rattle.std.proofs.Common.{nat_lt, ◌≡◌, ◌≢◌, ℕ, ◌≤◌, true, false, cond, not, [], ◌∷◌, length, eqb, Option, Some, None, Ok, Err, inl, inr, refl, sym, ap, subst, ◌∙◌}
 use Rattle.std.specs.List.{list_any}
 use Rattle.std.specs.Str.{bytes_eq}
 use Rattle.std.proofs.lemmas.Bool.{cases_Bool, not-false, ltb-false, eqb-false, or_parts}
-use Rattle.plain_tree.specs.Nodes.{Name, children, is_dir_at, entry}
+use Rattle.plain_tree.specs.Nodes.{Name, is_dir_at, entry}
 use Rattle.plain_tree.specs.Tree.{IsReached, IsReachedWithout}
 use Rattle.plain_tree.proofs.FoundLemmas.{found_entry}
 use Rattle.name_crypt.specs.declared.limits.TheConstants.{MOST_NAME_BYTES}

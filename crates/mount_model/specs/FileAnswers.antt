@@ -1,14 +1,13 @@
 -- The calls on open files and directories: what each answers, its refusals in the order in which they
 -- are tried, and the mount that it leaves.
-use Rattle.std.specs.Prelude.{ℕ, ◌+◌, ◌-◌, Bool, false, List, [], ◌∷◌, ◌++◌, length, Option, Some, None, not, ◌==◌, ◌||◌, nat_le, nat_lt, if◌then◌else◌}
+use Rattle.std.specs.Prelude.{ℕ, ◌+◌, ◌-◌, Bool, false, List, [], ◌∷◌, ◌++◌, length, Option, Some, None, not, ◌||◌, nat_le, nat_lt, if◌then◌else◌}
 use Rattle.std.specs.Option.{option_map_or}
 use Rattle.std.specs.List.{sum_by}
 use Rattle.std.specs.Int.{div_ceil}
 use Rattle.byte_words.specs.Contents.{with_bytes, bytes_from}
 use Rattle.number_map.specs.Numbered.{get, insert, entries}
-use Rattle.plain_tree.specs.Nodes.{Node, Nodes, contents_of, is_link, is_dir_at, is_named}
+use Rattle.plain_tree.specs.Nodes.{Nodes, contents_of, is_link, is_dir_at, is_named}
 use Rattle.plain_tree.specs.Changes.{gone, written}
-use Rattle.mount_model.specs.declared.handle.Handle.{Handle}
 use Rattle.mount_limits.specs.declared.TheConstants.{BLOCK_SIZE, MOST_BLOCKS, MOST_FILE_BYTES, MOST_READ_BYTES}
 use Rattle.mount_model.specs.declared.limits.TheConstants.{MOST_HANDLES, MOST_OPENS}
 use Rattle.mount_model.specs.declared.reply.Reply.{Reply}
@@ -90,7 +89,8 @@ answer_to_write m caller handle offset bytes = at_handle m (λ n.
     if is_dir_at m.nodes n then refused m IsDir else
     if nat_lt MOST_FILE_BYTES (offset + length bytes) then refused m TooBig else
     if lacks_blocks_for m n offset bytes then refused m NoSpace else
-    done (record m { nodes = written m.nodes n (with_bytes offset bytes) })) (node_of m.handles caller handle)
+    done (record m { nodes = written m.nodes n (with_bytes offset bytes) }))
+    (node_of m.handles caller handle)
 
 -- ---- Close
 

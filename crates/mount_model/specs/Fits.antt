@@ -2,7 +2,7 @@
 use Rattle.std.specs.Prelude.{◌≤◌, ⊤, Bool, true, false, length, IsTrue}
 use Rattle.mount_model.specs.declared.call.Call.{Call}
 use Rattle.mount_model.specs.declared.call.Op.{Op}
-use Rattle.mount_model.specs.declared.call.Op.TheVariants.{AddKey, RemoveKey, KeyStatus, SetPolicy, GetPolicy, Mkdir, Create, Symlink, ReadLink, Unlink, Rmdir, Rename, OpenNode, Write, MetaLoad, MetaStore}
+use Rattle.mount_model.specs.declared.call.Op.TheVariants.{AddKey, RemoveKey, RemoveKeyAll, KeyStatus, SetPolicy, GetPolicy, Mkdir, Create, Symlink, ReadLink, Unlink, Rmdir, Rename, OpenNode, Write, Close, DropCaches, MetaLoad, MetaStore}
 use Rattle.mount_model.specs.declared.call.Op.TheVariants as op
 use Rattle.mount_limits.specs.declared.TheConstants.{MOST_RAW_BYTES}
 use Rattle.mount_model.specs.declared.limits.TheConstants.{MOST_WRITE_BYTES, MOST_RECORD_NAME_BYTES, MOST_CARRIED_BYTES}
@@ -32,6 +32,16 @@ OpFits other = ⊤
 
 abbrev pub Fits : Call → Type 0
 Fits call = OpFits call.op
+
+-- whether the operation carries a path, or bytes of any length
+abbrev pub carries_bytes : Op → Bool
+carries_bytes (RemoveKey id) = false
+carries_bytes (RemoveKeyAll id) = false
+carries_bytes (KeyStatus id) = false
+carries_bytes (op.Read handle offset len) = false
+carries_bytes (Close handle) = false
+carries_bytes DropCaches = false
+carries_bytes other = true
 
 -- the calls that stand behind a mount already: the three on single keys
 abbrev pub is_built : Op → Bool

@@ -36,7 +36,8 @@ mount_after history = mount_from empty_mount history
 -- each entry is a step at the mount that the earlier entries leave
 abbrev pub IsLegalFrom : PlainMount → History → Type 0
 IsLegalFrom m [] = ⊤
-IsLegalFrom m (e ∷ es) = IsMountStep m e.who e.call e.reply (mount_left m e) × IsLegalFrom (mount_left m e) es
+IsLegalFrom m (e ∷ es) =
+    IsMountStep m e.who e.call e.reply (mount_left m e) × IsLegalFrom (mount_left m e) es
 
 abbrev pub IsLegal : History → Type 0
 IsLegal history = IsLegalFrom empty_mount history

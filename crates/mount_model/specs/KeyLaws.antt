@@ -1,12 +1,14 @@
 -- What removals leave of claims, and what is told of a key without claims.
-use Rattle.std.specs.Prelude.{◌≡◌, ℕ, false, ◌&&◌, ◌==◌, if◌then◌else◌}
+use Rattle.std.specs.Prelude.{◌≡◌, ◌≢◌, ℕ, Bool, true, false, ◌&&◌, ◌==◌, if◌then◌else◌}
 use Rattle.policy_ctx.specs.declared.policy.KeyId.{KeyId}
 use Rattle.policy_ctx.specs.KeyIds.{same_id}
 use Rattle.user_claims.specs.Claims.{has_claim, is_present}
+use Rattle.mount_model.specs.declared.reply.KeyState.{KeyState}
 use Rattle.mount_model.specs.declared.reply.KeyState.TheVariants.{Absent, Incomplete}
-use Rattle.mount_model.specs.PlainMount.{PlainMount}
-use Rattle.mount_model.specs.States.{is_busy, key_state_of}
-use Rattle.mount_model.specs.KeyAnswers.{answer_to_remove_key}
+use Rattle.mount_model.specs.declared.reply.Reply.TheVariants.{Status}
+use Rattle.mount_model.specs.PlainMount.{PlainMount, has_handle}
+use Rattle.mount_model.specs.States.{is_busy, key_state_of, names_key}
+use Rattle.mount_model.specs.KeyAnswers.{answer_to_remove_key, answer_to_key_status}
 
 -- a removal by one user leaves each claim but that user's on that key
 abbrev pub OtherClaimsStay : Type 0
@@ -19,3 +21,9 @@ OtherClaimsStay = (m : PlainMount) (uid : ℕ) (id other : KeyId) (user : ℕ)
 abbrev pub OpenHandlesKeepKeys : Type 0
 OpenHandlesKeepKeys = (m : PlainMount) (id : KeyId) → is_present m.claims id ≡ false
     → key_state_of m id ≡ (if is_busy m id then Incomplete else Absent)
+
+-- while a handle is open on a node whose policy names the key, no status that is told is Absent
+abbrev pub OpenHandlesAreTold : Type 0
+OpenHandlesAreTold = (m : PlainMount) (n : ℕ) (id : KeyId) → has_handle m.handles n ≡ true
+    → names_key m.nodes n id ≡ true → (uid : ℕ) (state : KeyState) (by_self : Bool) (users : ℕ)
+    → (answer_to_key_status m uid id).reply ≡ Status state by_self users → state ≢ Absent

@@ -1,6 +1,5 @@
 -- What is asked of a history whatever raw keys were added, and what where they agree.
 use Rattle.std.specs.Prelude.{◌≡◌, ⊤, ℕ, false, Some, List, [], ◌∷◌, ◌++◌, All, Contains, if◌then◌else◌}
-use Rattle.policy_ctx.specs.declared.policy.KeyId.{KeyId}
 use Rattle.fsc_keys.specs.Keys.{key_id_of}
 use Rattle.user_claims.specs.Claims.{ClaimSet, no_claims, has_claim, is_present, count_of_id}
 use Rattle.mount_model.specs.declared.call.Op.{Op}

@@ -19,6 +19,7 @@ pub mod WellFormed
 pub mod Carried
 pub mod NameLaws
 pub mod KeyLaws
+pub mod PolicyLaws
 pub mod OrderLaws
 pub mod Fits
 pub mod Numbers

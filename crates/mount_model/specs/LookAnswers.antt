@@ -1,9 +1,9 @@
 -- The calls that look at nodes by path: what each answers. None changes the mount.
-use Rattle.std.specs.Prelude.{ℕ, ◌+◌, Bool, List, [], ◌∷◌, length, map, take, drop, Option, Some, None, is_some, not, nat_lt, if◌then◌else◌}
+use Rattle.std.specs.Prelude.{ℕ, ◌+◌, List, [], ◌∷◌, length, map, take, drop, Option, Some, None, is_some, not, nat_lt, if◌then◌else◌}
 use Rattle.std.specs.Ordering.{nat_cmp, is_gt}
 use Rattle.std.specs.Cmp.Lexicographic.{slice_cmp}
 use Rattle.number_map.specs.Numbered.{get}
-use Rattle.plain_tree.specs.Nodes.{Name, Body, Dir, File, Link, Node, children, context_at, is_dir_at}
+use Rattle.plain_tree.specs.Nodes.{Name, Body, Dir, File, Link, Node, children, is_dir_at}
 use Rattle.mount_model.specs.declared.limits.TheConstants.{MOST_LISTED}
 use Rattle.mount_model.specs.declared.reply.NodeKind.{NodeKind}
 use Rattle.mount_model.specs.declared.reply.NodeKind.TheVariants as kind
@@ -46,7 +46,8 @@ listed m d = in_order (map (λ e. shown m d e.0) (children m.nodes d))
 -- at most 128 names from number start on, and whether further ones follow
 abbrev pub page_of : PlainMount → ℕ → ℕ → Reply
 page_of m d start =
-    reply.Names (take MOST_LISTED (drop start (listed m d))) (nat_lt (start + MOST_LISTED) (length (listed m d)))
+    reply.Names (take MOST_LISTED (drop start (listed m d)))
+    (nat_lt (start + MOST_LISTED) (length (listed m d)))
 
 abbrev pub answer_to_list : PlainMount → PathParts → ℕ → Answer
 answer_to_list m path start = at_node m (λ d.

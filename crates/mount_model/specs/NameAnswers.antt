@@ -1,21 +1,19 @@
 -- The calls that make, move and take away names: what each answers, its refusals in the order in which
 -- they are tried, and the mount that it leaves.
-use Rattle.std.specs.Prelude.{ℕ, ◌+◌, Bool, true, false, List, [], length, Option, Some, None, is_some, not, ◌==◌, ◌&&◌, ◌||◌, nat_le, nat_lt, if◌then◌else◌}
+use Rattle.std.specs.Prelude.{ℕ, ◌+◌, Bool, true, false, List, length, Option, Some, None, is_some, not, ◌==◌, ◌||◌, nat_le, nat_lt, if◌then◌else◌}
 use Rattle.policy_ctx.specs.declared.policy.Context.{Context}
 use Rattle.number_map.specs.Numbered.{len}
 use Rattle.user_claims.specs.Claims.{is_present}
 use Rattle.plain_tree.specs.Nodes.{Name, Body, Dir, File, Link, Node, Nodes, children, context_at, is_dir_at, entry}
-use Rattle.plain_tree.specs.Changes.{made, dropped, gone, moved}
+use Rattle.plain_tree.specs.Changes.{made, dropped, gone}
 use Rattle.plain_tree.specs.Seals.{has_text}
 use Rattle.mount_limits.specs.declared.TheConstants.{MOST_NODES, MOST_CHILDREN}
 use Rattle.name_crypt.specs.declared.limits.TheConstants.{MOST_NAME_BYTES}
 use Rattle.mount_model.specs.declared.limits.TheConstants.{LAST_NODE}
-use Rattle.mount_model.specs.declared.reply.Refusal.TheVariants.{NoKey, Inval, Exists, NotDir, IsDir, NotEmpty, XDev, NameTooLong, NoSpace, NoKeyClash}
+use Rattle.mount_model.specs.declared.reply.Refusal.TheVariants.{NoKey, Inval, Exists, NotDir, IsDir, NotEmpty, NameTooLong, NoSpace, NoKeyClash}
 use Rattle.mount_model.specs.PlainMount.{PlainMount, has_handle}
 use Rattle.mount_model.specs.Sealed.{texts}
-use Rattle.mount_model.specs.States.{is_keyed}
-use Rattle.mount_model.specs.Walk.{PathParts, found, is_root, last_part, parent, is_at_or_above}
-use Rattle.mount_model.specs.PolicyAnswers.{is_same_policy}
+use Rattle.mount_model.specs.Walk.{PathParts, found, is_root, last_part, parent}
 use Rattle.mount_model.specs.Answered.{Answer, refused, done, at_node, at_entry}
 
 -- ---- names in encrypted directories
@@ -50,7 +48,8 @@ new_node m d nonce body = record {
 -- the directory, the mount, or the numbers are used up
 abbrev pub is_full : PlainMount → ℕ → Bool
 is_full m d =
-    nat_le MOST_CHILDREN (length (children m.nodes d)) || (nat_le MOST_NODES (len m.nodes) || (m.next == LAST_NODE))
+    nat_le MOST_CHILDREN (length (children m.nodes d))
+    || (nat_le MOST_NODES (len m.nodes) || (m.next == LAST_NODE))
 
 -- a symlink's target of more than 255 bytes
 abbrev pub is_long_target : Body → Bool

@@ -1,5 +1,5 @@
 -- Which refusal comes first where several would hold, and that a handle keeps its node's key at hand.
-use Rattle.std.specs.Prelude.{◌≡◌, ◌≢◌, ℕ, true, false, List, [], Ok, Some, None, is_some}
+use Rattle.std.specs.Prelude.{◌≡◌, ◌≢◌, ℕ, true, false, List, [], Ok, None, is_some}
 use Rattle.policy_ctx.specs.Policy.{policy_fault}
 use Rattle.plain_tree.specs.Nodes.{Body, children, context_at, is_dir_at}
 use Rattle.mount_model.specs.declared.reply.Refusal.TheVariants.{NoKey, NotEmpty}
@@ -16,8 +16,8 @@ HandlesKeepNodesKeyed = (m : PlainMount) (n : ℕ) → has_handle m.handles n �
 
 -- a creation where the key isn't present is NoKey, also where the name is there
 abbrev pub CreationsNeedTheKey : Type 0
-CreationsNeedTheKey = (m : PlainMount) (path : PathParts) (nonce : List ℕ) (body : Body) (d : ℕ) → is_root path ≡ false
-    → parent m path ≡ Ok d → lacks_key m (context_at m.nodes d) ≡ true
+CreationsNeedTheKey = (m : PlainMount) (path : PathParts) (nonce : List ℕ) (body : Body) (d : ℕ)
+    → is_root path ≡ false → parent m path ≡ Ok d → lacks_key m (context_at m.nodes d) ≡ true
     → answer_to_make m path nonce body ≡ refused m NoKey
 
 -- a policy for a directory with entries is NotEmpty, whatever the user holds

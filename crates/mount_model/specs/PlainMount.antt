@@ -1,6 +1,6 @@
 -- The one-thread mount as plain data: nodes, claims with the raw keys, open handles, records. Nothing
 -- of what is stored, cached or enciphered stands in it.
-use Rattle.std.specs.Prelude.{ℕ, ◌+◌, Bool, List, [], ◌∷◌, ◌++◌, Option, ◌==◌, ◌&&◌, not, filter}
+use Rattle.std.specs.Prelude.{ℕ, Bool, List, [], Option, ◌==◌, ◌&&◌, not, filter}
 use Rattle.std.specs.Option.{option_map, unwrap_or}
 use Rattle.std.specs.List.{find, list_any}
 use Rattle.std.specs.Ordering.{nat_cmp}

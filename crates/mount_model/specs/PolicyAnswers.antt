@@ -1,6 +1,6 @@
 -- The calls on policies: what each answers, its refusals in the order in which they are tried, and the
 -- mount that it leaves.
-use Rattle.std.specs.Prelude.{ℕ, ◌%◌, Bool, List, length, slice_index, bit_and, Option, Some, None, is_some, not, ◌==◌, if◌then◌else◌}
+use Rattle.std.specs.Prelude.{ℕ, ◌%◌, Bool, List, length, slice_index, Option, Some, None, is_some, not, ◌==◌, if◌then◌else◌}
 use Rattle.std.specs.Option.{unwrap_or}
 use Rattle.std.specs.Str.{bytes_eq}
 use Rattle.policy_ctx.specs.declared.policy.KeyId.{KeyId}

@@ -4,7 +4,7 @@ use Rattle.std.specs.Prelude.{ℕ, ◌*◌, ◌^◌, List, [], if◌then◌else�
 use Rattle.std.specs.Option.{unwrap_or}
 use Rattle.policy_ctx.specs.declared.policy.Context.{Context}
 use Rattle.fsc_keys.specs.declared.file_keys.KeyKind.{KeyKind}
-use Rattle.fsc_keys.specs.declared.file_keys.KeyKind.TheVariants.{Contents, Names}
+use Rattle.fsc_keys.specs.declared.file_keys.KeyKind.TheVariants.{Names}
 use Rattle.fsc_keys.specs.declared.file_keys.FileKey.{FileKey}
 use Rattle.fsc_keys.specs.Keys.{file_key_of, mode_key_of, key_bytes}
 use Rattle.name_crypt.specs.StoredName.{stored_name}

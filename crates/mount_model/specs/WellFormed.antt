@@ -1,16 +1,15 @@
 -- What holds of every mount that a history leaves, part by part.
-use Rattle.std.specs.Prelude.{◌≡◌, ⊤, ℕ, ◌<◌, ◌≤◌, Bool, true, false, List, length, Option, Some, None, is_some, not, ◌==◌, ◌&&◌}
+use Rattle.std.specs.Prelude.{◌≡◌, ⊤, ℕ, ◌<◌, ◌≤◌, Bool, true, false, List, length, Option, Some, None, is_some, not, ◌&&◌}
 use Rattle.std.specs.List.{list_any, IsDistinct}
 use Rattle.std.specs.Map.{keys_of}
 use Rattle.std.specs.Str.{bytes_eq}
-use Rattle.std.specs.FinMap as map
 use Rattle.policy_ctx.specs.declared.policy.KeyId.{KeyId}
 use Rattle.policy_ctx.specs.declared.policy.Context.{Context}
 use Rattle.fsc_keys.specs.Keys.{key_id_of}
 use Rattle.user_claims.specs.Claims.{ClaimSet, has_claim, count_of_user}
 use Rattle.user_claims.specs.declared.claims.TheConstants.{MOST_CLAIMS}
 use Rattle.number_map.specs.Numbered.{Numbered, get}
-use Rattle.plain_tree.specs.Nodes.{Name, Body, Dir, File, Link, Node, Nodes, is_named}
+use Rattle.plain_tree.specs.Nodes.{Name, Body, Dir, File, Link, Nodes, is_named}
 use Rattle.plain_tree.specs.Facts.{EachNode, EachName}
 use Rattle.plain_tree.specs.Tree.{IsTree}
 use Rattle.plain_tree.specs.Seals.{IsSealed}

@@ -1,8 +1,8 @@
 //! What a mount can be asked.
 
-ghost use Rattle.std.specs.Prelude.{◌≡◌, ◌↔◌, IsTrue, IfOk};
+ghost use Rattle.std.specs.Prelude.{◌≡◌, ◌↔◌, false, IsTrue, IsOk, IfOk};
 ghost use Rattle.mount_model.specs.Carried.{AreFewBytes, HasLength, IsTarget};
-ghost use Rattle.mount_model.specs.Fits.{OpFits, CanBeAsked, is_built};
+ghost use Rattle.mount_model.specs.Fits.{OpFits, CanBeAsked, carries_bytes, is_built};
 
 use super::limits::{
     MOST_CARRIED_BYTES, MOST_RAW_BYTES, MOST_RECORD_NAME_BYTES, MOST_TARGET_BYTES, MOST_WRITE_BYTES,
@@ -136,9 +136,11 @@ impl Call {
         self.op.fits() && self.op.is_built()
     }
 
-    /// An equal call, in memory of its own: for who hands a call to a port and keeps it too.
+    /// An equal call, in memory of its own: for who hands a call to a port and keeps it too. A call
+    /// that carries neither a path nor bytes takes none.
     pub fn copy(&self, alloc: Global) -> Result<Call, AllocError>
-        ensures { IfOk result (λ copy. copy ≡ self.now) }
+        ensures equal { IfOk result (λ copy. copy ≡ self.now) }
+        ensures takes_none { carries_bytes self.now.op ≡ false → IsOk result }
     {
         let op = self.op.copy(alloc)?;
         Ok(Call { uid: self.uid, op })

@@ -1,6 +1,7 @@
 //! Copies of what a call asks for.
 
-ghost use Rattle.std.specs.Prelude.{◌≡◌, IfOk};
+ghost use Rattle.std.specs.Prelude.{◌≡◌, false, IsOk, IfOk};
+ghost use Rattle.mount_model.specs.Fits.{carries_bytes};
 
 use super::Op;
 use std::alloc::{AllocError, Global};
@@ -8,7 +9,8 @@ use std::alloc::{AllocError, Global};
 impl Op {
     // The same, in memory of its own.
     pub(crate) fn copy(&self, alloc: Global) -> Result<Op, AllocError>
-        ensures { IfOk result (λ copy. copy ≡ self.now) }
+        ensures equal { IfOk result (λ copy. copy ≡ self.now) }
+        ensures takes_none { carries_bytes self.now ≡ false → IsOk result }
     {
         Ok(match self {
             Op::AddKey { raw } => Op::AddKey {

@@ -9,8 +9,9 @@ ghost use Rattle.mount_model.specs.Fits.{Fits};
 ghost use Rattle.mount_model.specs.Lawful.{KeysAgree, KeyAgrees, AllFit, IsLawful};
 ghost use Rattle.mount_model.specs.WellFormed.{IsWellFormed};
 ghost use Rattle.mount_model.specs.NameLaws.{PoliciesAreInherited, TextsDiffer, ShownNamesLead, OnlyShownNamesLead};
+ghost use Rattle.mount_model.specs.PolicyLaws.{PoliciesAreReadBack};
 ghost use Rattle.mount_model.specs.OrderLaws.{HandlesKeepNodesKeyed, CreationsNeedTheKey, OnlyEmptyOnesAreEncrypted};
-ghost use Rattle.mount_model.specs.KeyLaws.{OtherClaimsStay, OpenHandlesKeepKeys};
+ghost use Rattle.mount_model.specs.KeyLaws.{OtherClaimsStay, OpenHandlesKeepKeys, OpenHandlesAreTold};
 
 use super::{Call, Refusal, Reply};
 
@@ -73,10 +74,11 @@ pub fn names_lead_as_they_are_shown()
 {}
 
 /// A removal by one user leaves every other claim. Without a claim a key is Incomplete exactly
-/// where something open still needs it.
+/// where something open still needs it; so no status is Absent while something does.
 pub fn removals_leave_other_claims()
     ensures others { OtherClaimsStay }
     ensures state { OpenHandlesKeepKeys }
+    ensures told { OpenHandlesAreTold }
 {}
 
 /// A handle keeps its node keyed. A creation where the key isn't present is NoKey before it is
@@ -85,4 +87,9 @@ pub fn refusals_come_in_their_order()
     ensures keyed { HandlesKeepNodesKeyed }
     ensures create { CreationsNeedTheKey }
     ensures encrypt { OnlyEmptyOnesAreEncrypted }
+{}
+
+/// The policy that a call's bytes spell is the one whose bytes they are: what `policy_ctx` decodes.
+pub fn policies_are_read_back()
+    ensures { PoliciesAreReadBack }
 {}

@@ -1,7 +1,6 @@
 -- What lies in a slice of bytes are bytes.
-use Rattle.std.proofs.Common.{◌≤◌, ◌<◌, IsTrue, length, slice_index, arith}
+use Rattle.std.proofs.Common.{length, arith}
 use Rattle.std.proofs.lemmas.Bool.{leb-true, le-leb}
-use Rattle.byte_words.specs.Bytes.{AreBytes}
 use Rattle.mount_model.proofs.call.are_few.Goals as goal
 
 pub returns : goal.returns
