@@ -1,0 +1,44 @@
+-- What a call answers at the node to which a walk led.
+use Rattle.std.proofs.Common.{◌≡◌, ℕ, Ok, Option, Some, None, inl, inr, refl, sym, subst}
+use Rattle.plain_tree.specs.Nodes.{Node, Body, Dir, File, Link}
+use Rattle.policy_ctx.specs.declared.policy.Context.{Context}
+use Rattle.mount_model.specs.declared.reply.Reply.{Reply}
+use Rattle.mount_model.specs.PlainMount.{PlainMount}
+use Rattle.mount_model.specs.Answered.{Answer, at_node}
+use Rattle.mount_model.specs.LookAnswers.{node_told, target_told}
+use Rattle.mount_model.specs.PolicyAnswers.{policy_told}
+use Rattle.mount_model.specs.Walk.{Walked}
+use Rattle.mount_state.specs.StandsFor.{StandsFor}
+use Rattle.mount_state.specs.declared.state.MountState.{MountState}
+use Rattle.mount_names.specs.Given.{IsGiven, IsGivenOrNoMemory, IsToldOrNoMemory}
+
+-- ---- answers that leave the mount
+
+pub node_leaves : (m : PlainMount) (n : ℕ) (o : Option Node) → (node_told m n o).mount ≡ m
+node_leaves m n None = refl
+node_leaves m n (Some v) = refl
+
+pub policy_leaves : (m : PlainMount) (o : Option Context) → (policy_told m o).mount ≡ m
+policy_leaves m None = refl
+policy_leaves m (Some c) = refl
+
+pub target_leaves : (m : PlainMount) (n : ℕ) (o : Option Node) → (target_told m n o).mount ≡ m
+target_leaves m n None = refl
+target_leaves m n (Some v) = at v.body
+  where
+    at : (b : Body) → (target_told m n (Some (record v { body = b }))).mount ≡ m
+    at (Dir children) = refl
+    at (File contents) = refl
+    at (Link target) = refl
+
+-- ---- at the node
+
+module _ (m : PlainMount) (f : ℕ → Answer) (leaves : (n : ℕ) → (f n).mount ≡ m) (w : Walked) (n : ℕ) (led : Ok n ≡ w) (new : MountState) (stands : StandsFor new m) where
+  pub given_at : (reply : Reply) → reply ≡ (f n).reply → IsGiven (at_node m f w) reply new
+  given_at reply is = subst (λ (x : Walked). IsGiven (at_node m f x) reply new) led (is, subst (StandsFor new) (sym (leaves n)) stands)
+
+  pub told_at : (reply : Reply) → IsToldOrNoMemory (f n).reply reply → IsGivenOrNoMemory m (at_node m f w) reply new
+  told_at reply told = elim told [
+    | inl is ↦ inl (given_at reply is)
+    | inr wanting ↦ inr (wanting, stands)
+  ]

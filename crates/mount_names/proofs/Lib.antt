@@ -1,0 +1,4 @@
+pub mod ReadLemmas
+pub mod CipherLemmas
+pub mod ShownLemmas
+pub mod GivenLemmas

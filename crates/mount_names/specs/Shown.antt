@@ -1,0 +1,56 @@
+-- How stored names and targets are read, and when a name must be enciphered to be found.
+use Rattle.std.specs.Prelude.{◌≡◌, ◌≢◌, ◌≤◌, ℕ, Bool, true, List, [], length, Option, Some, is_some, ◌&&◌}
+use Rattle.byte_words.specs.Bytes.{AreBytes}
+use Rattle.policy_ctx.specs.declared.policy.Context.{Context}
+use Rattle.fsc_keys.specs.Keys.{key_bytes}
+use Rattle.fsc_keys.specs.declared.file_keys.KeyKind.TheVariants.{Names}
+use Rattle.fsc_keys.specs.declared.file_keys.FileKey.{FileKey}
+use Rattle.name_crypt.specs.declared.cipher.NameCipher.{NameCipher}
+use Rattle.name_crypt.specs.declared.limits.TheConstants.{MOST_NAME_BYTES}
+use Rattle.name_crypt.specs.Plain.{IsPlain, IsStored}
+use Rattle.name_crypt.specs.StoredName.{plain_name}
+use Rattle.name_crypt.specs.NoKeyText.{nokey_text_of}
+use Rattle.number_map.specs.Numbered.{get}
+use Rattle.plain_tree.specs.Nodes.{Name, context_at}
+use Rattle.mount_model.specs.PlainMount.{PlainMount, Raws}
+use Rattle.mount_model.specs.Sealed.{node_key, node_start}
+use Rattle.mount_model.specs.States.{is_keyed, shown}
+use Rattle.mount_state.specs.Contexts.{context_in}
+use Rattle.mount_state.specs.Held as held
+use Rattle.mount_state.specs.Stored.{stored_form}
+use Rattle.mount_state.specs.StandsFor.{StandsFor, kind_in}
+use Rattle.mount_state.specs.declared.state.MountState.{MountState}
+use Rattle.mount_names.specs.declared.reading.Reading.{Reading}
+use Rattle.mount_names.specs.declared.reading.Reading.TheVariants.{Plain, Keyed, Locked}
+
+-- the cipher of node n's names under the key
+abbrev pub cipher_with : ℕ → Context → FileKey → NameCipher
+cipher_with n c key = record { key = key_bytes key; start = node_start n c }
+
+-- the cipher of the names of node n, which has this context
+abbrev pub names_cipher : Raws → ℕ → Context → NameCipher
+names_cipher raws n c = cipher_with n c (node_key raws c Names)
+
+-- read so, the stored bytes are shown as the name
+abbrev pub ShowsAs : Reading → List ℕ → Name → Type 0
+ShowsAs Plain stored name = (name ≡ stored) × (length stored ≤ MOST_NAME_BYTES)
+ShowsAs (Keyed cipher) stored name = (name ≡ plain_name cipher.key cipher.start stored) × (name ≢ []) × IsStored stored
+ShowsAs Locked stored name = (name ≡ nokey_text_of stored) × IsStored stored
+
+-- a directory or a symlink of the mount: a node whose names or whose target are enciphered
+abbrev pub HasNames : PlainMount → ℕ → Type 0
+HasNames m n = kind_in (get m.nodes n) ≡ Names
+
+-- in whatever mount the state stands for, the stored form of each name or target is shown as it is there
+abbrev pub ReadsAs : MountState → ℕ → Reading → Type 0
+ReadsAs s n reading = (m : PlainMount) (name : Name) → StandsFor s m → HasNames m n → IsPlain name → AreBytes name
+    → ShowsAs reading (stored_form m.raws n (context_at m.nodes n) name) (shown m n name)
+
+-- in whatever mount the state stands for, it is the cipher of the keyed node's names
+abbrev pub IsCipherOf : MountState → ℕ → Context → Option NameCipher → Type 0
+IsCipherOf s n c cipher = (m : PlainMount) → StandsFor s m → HasNames m n → context_at m.nodes n ≡ Some c → is_keyed m n ≡ true
+    → cipher ≡ Some (names_cipher m.raws n c)
+
+-- the directory has a policy and is keyed: then a name is enciphered to be found
+abbrev pub enciphers : MountState → ℕ → Bool
+enciphers s dir = is_some (context_in (get s.disk dir)) && held.is_keyed s.disk s.ring.claims s.handles.live dir

@@ -1,0 +1,113 @@
+//! The cipher of a node's names: of a directory's entries, or of a symlink's target.
+
+ghost use Rattle.std.specs.Prelude.{◌≡◌, true, Some, IfSome, option_copied, option_map};
+ghost use Rattle.byte_words.specs.Bytes.{AreBytes};
+ghost use Rattle.disk_tree.specs.DiskTree.{IsDirAt};
+ghost use Rattle.fsc_keys.specs.declared.file_keys.KeyKind.TheVariants.{Names};
+ghost use Rattle.key_ring.specs.Holding.{HoldsClaimedSecrets};
+ghost use Rattle.mount_model.specs.Sealed.{node_start};
+ghost use Rattle.mount_state.specs.Contexts.{is_of_kind};
+ghost use Rattle.mount_state.specs.NamesKey.{cached_key, drawn_key};
+ghost use Rattle.mount_names.specs.Shown.{IsCipherOf, cipher_with};
+
+use fsc_keys::{FileKey, KeyKind};
+use mount_state::MountState;
+use name_crypt::NameCipher;
+use policy_ctx::Context;
+
+/// The cipher of the names of the directory, or of the target of the symlink; none where its key is not
+/// at hand.
+pub(crate) fn cipher_of(state: &MountState, number: u32, context: &Context) -> Option<NameCipher>
+    ensures keyed { IsCipherOf state.now number context.now result }
+    ensures ranged { IfSome result (λ cipher. AreBytes cipher.key) }
+{
+    if state.disk.is_dir(number) {
+        return dir_cipher(state, number, context);
+    }
+    drawn_cipher(state, number, context)
+}
+
+// That of a directory: under the key that is cached for it, else under one that is drawn.
+fn dir_cipher(state: &MountState, dir: u32, context: &Context) -> Option<NameCipher>
+    requires { IsDirAt state.now.disk dir }
+    ensures keyed { IsCipherOf state.now dir context.now result }
+    ensures ranged { IfSome result (λ cipher. AreBytes cipher.key) }
+{
+    match cached_key(state, dir, context) {
+        Some(key) => cipher_under(key, dir, context),
+        None => drawn_cipher(state, dir, context),
+    }
+}
+
+// That under a key which is drawn from the secret; none where no user has a claim.
+fn drawn_cipher(state: &MountState, number: u32, context: &Context) -> Option<NameCipher>
+    ensures value { result ≡ option_map (cipher_with number context.now) (drawn_key state.now.ring context.now) }
+    ensures claimed { HoldsClaimedSecrets state.now.ring }
+    ensures ranged { IfSome result (λ cipher. AreBytes cipher.key) }
+{
+    match drawn_key(state, context) {
+        Some(mut key) => {
+            let cipher = cipher_under(&key, number, context);
+            key.wipe();
+            cipher
+        }
+        None => None,
+    }
+}
+
+// The key that is cached: the mode key under flag 8, else the node's own.
+fn cached_key<'a>(state: &'a MountState, number: u32, context: &Context) -> Option<&'a FileKey>
+    ensures { option_copied result ≡ cached_key state.now.inodes state.now.modes number context.now }
+{
+    if context.policy.by_mode {
+        return state.modes.key_of(&context.policy.id, KeyKind::Names);
+    }
+    state.inodes.key_of(number)
+}
+
+// The same key drawn from the secret, where a user has a claim.
+fn drawn_key(state: &MountState, context: &Context) -> Option<FileKey>
+    ensures value { result ≡ drawn_key state.now.ring context.now }
+    ensures kind { IfSome result (λ key. is_of_kind Names key ≡ true) }
+    ensures claimed { HoldsClaimedSecrets state.now.ring }
+{
+    let _claims = state.ring.claims();
+    match state.ring.secret_of(&context.policy.id) {
+        Some(secret) if context.policy.by_mode => Some(secret.mode_key(KeyKind::Names)),
+        Some(secret) => Some(secret.file_key(KeyKind::Names, &context.nonce)),
+        None => None,
+    }
+}
+
+// The cipher under the key. A contents key enciphers no name.
+pub(crate) fn cipher_under(key: &FileKey, number: u32, context: &Context) -> Option<NameCipher>
+    ensures value { is_of_kind Names key.now ≡ true
+        → result ≡ Some (cipher_with number context.now key.now) }
+    ensures ranged { IfSome result (λ cipher. AreBytes cipher.key) }
+{
+    match key {
+        FileKey::Names(bytes) => {
+            are_bytes(&bytes[..]);
+            Some(NameCipher::new(bytes, start_of(number, context)))
+        }
+        FileKey::Contents(_) => None,
+    }
+}
+
+// Each number of a slice of bytes lies below 256.
+fn are_bytes(bytes: &[u8])
+    ensures { AreBytes bytes.now }
+{
+    let _len = bytes.len();
+}
+
+// Where the node's names count their units from.
+fn start_of(number: u32, context: &Context) -> u64
+    ensures { result ≡ node_start number context.now }
+{
+    if context.policy.by_mode {
+        u64::from(number) << 32
+    } else {
+        0
+    }
+}

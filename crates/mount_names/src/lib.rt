@@ -1,0 +1,15 @@
+//! The calls on the tree, each answered over a state as the one-thread mount answers it.
+#![tactic(auto)]
+
+mod ciphers;
+mod contexts;
+mod links;
+mod looks;
+mod lookups;
+mod reading;
+#[cfg(test)]
+mod tests;
+
+pub use links::read_link;
+pub use looks::{get_policy, stat};
+pub use lookups::lookup;

@@ -1,0 +1,65 @@
+//! What a symlink tells.
+
+ghost use Rattle.std.specs.Prelude.{◌+◌, ◌≤◌, length};
+ghost use Rattle.number_map.specs.Numbered.{get};
+ghost use Rattle.mount_model.specs.PlainMount.{PlainMount};
+ghost use Rattle.mount_model.specs.LookAnswers.{answer_to_read_link, target_told};
+ghost use Rattle.mount_state.specs.SameButKeys.{SameButKeys};
+ghost use Rattle.mount_state.specs.StandsFor.{StandsFor};
+ghost use Rattle.mount_names.specs.Given.{IsGivenOrNoMemory, IsToldOrNoMemory};
+
+use crate::reading::reading_of;
+use disk_tree::{Body, StoredNode};
+use item_list::Bytes;
+use mount_model::{Path, Refusal, Reply};
+use mount_state::{MountState, walked_node};
+use name_crypt::Steps;
+use std::alloc::Global;
+use std::sync::ledger::Ledger;
+
+/// Answers the target of the symlink at the end of the path; where the symlink is locked, the no-key text
+/// of the target. Refused as the walk is, then Inval where the node is no symlink; NoMemory where there
+/// is no memory for the bytes.
+pub fn read_link<L: Ledger>(
+    alloc: Global,
+    state: &mut MountState,
+    path: &Path,
+    steps: &mut Steps<L>,
+) -> Reply
+    ensures stands { (m : PlainMount) → StandsFor state.old m
+        → IsGivenOrNoMemory m (answer_to_read_link m path.now) result state.new }
+    ensures same { SameButKeys state.old state.new }
+    ensures ticks { steps.new ≤ steps.old + length path.now }
+{
+    match walked_node(alloc, state, path, steps) {
+        Ok(number) => link_told(alloc, state, number),
+        Err(refusal) => Reply::Refused(refusal),
+    }
+}
+
+// What the node tells as a symlink.
+fn link_told(alloc: Global, state: &MountState, number: u32) -> Reply
+    ensures { (m : PlainMount) → StandsFor state.now m
+        → IsToldOrNoMemory (target_told m number (get m.nodes number)).reply result }
+{
+    let Some(node) = state.disk.node(number) else {
+        return Reply::Refused(Refusal::NotFound);
+    };
+    match &node.body {
+        Body::Link(target) => {
+            let shown = reading_of(state, number).shown(target.as_slice());
+            copied(alloc, shown.bytes())
+        }
+        _ => Reply::Refused(Refusal::Inval),
+    }
+}
+
+// The bytes as a target.
+fn copied(alloc: Global, bytes: &[u8]) -> Reply
+    ensures { IsToldOrNoMemory (Reply.Target bytes.now) result }
+{
+    match Vec::from_slice(alloc, bytes) {
+        Ok(copy) => Reply::Target(Bytes::from_vec(copy)),
+        Err(_) => Reply::Refused(Refusal::NoMemory),
+    }
+}

@@ -1,0 +1,125 @@
+//! What a node is, and its policy.
+
+ghost use Rattle.std.specs.Prelude.{◌≡◌, ◌+◌, ◌<◌, ◌^◌, ◌≤◌, ℕ, Some, length};
+ghost use Rattle.number_map.specs.Numbered.{get};
+ghost use Rattle.plain_tree.specs.Nodes.{Node, context_at};
+ghost use Rattle.mount_model.specs.PlainMount.{PlainMount};
+ghost use Rattle.mount_model.specs.LookAnswers as look;
+ghost use Rattle.mount_model.specs.LookAnswers.{answer_to_stat};
+ghost use Rattle.mount_model.specs.PolicyAnswers as policy;
+ghost use Rattle.mount_model.specs.PolicyAnswers.{answer_to_get_policy};
+ghost use Rattle.mount_state.specs.SameButKeys.{SameButKeys};
+ghost use Rattle.mount_state.specs.StandsFor.{StandsFor};
+ghost use Rattle.mount_state.specs.Stored.{stored_body};
+ghost use Rattle.mount_names.specs.Given.{IsGiven};
+
+use crate::contexts::context_of;
+use crate::reading::reading_of;
+use disk_tree::Body;
+use mount_model::{NodeKind, Path, Refusal, Reply};
+use mount_state::{MountState, walked_node};
+use name_crypt::Steps;
+use policy_ctx::encode_policy;
+use std::alloc::Global;
+use std::sync::ledger::Ledger;
+
+/// Answers what the node at the end of the path is: its kind, its number, its size (a directory's number
+/// of entries, a file's length, the length of what `read_link` tells), whether it has a policy, and
+/// whether its key is at hand. Refused as the walk is.
+///
+/// It takes no memory that can be wanting.
+pub fn stat<L: Ledger>(
+    alloc: Global,
+    state: &mut MountState,
+    path: &Path,
+    steps: &mut Steps<L>,
+) -> Reply
+    ensures stands { (m : PlainMount) → StandsFor state.old m
+        → IsGiven (answer_to_stat m path.now) result state.new }
+    ensures same { SameButKeys state.old state.new }
+    ensures ticks { steps.new ≤ steps.old + length path.now }
+{
+    match walked_node(alloc, state, path, steps) {
+        Ok(number) => node_told(state, number),
+        Err(refusal) => Reply::Refused(refusal),
+    }
+}
+
+/// Answers the policy of the node at the end of the path, in the 24 bytes that Linux has for it. Refused
+/// as the walk is, then NoData where there is no policy.
+///
+/// It takes no memory that can be wanting.
+pub fn get_policy<L: Ledger>(
+    alloc: Global,
+    state: &mut MountState,
+    path: &Path,
+    steps: &mut Steps<L>,
+) -> Reply
+    ensures stands { (m : PlainMount) → StandsFor state.old m
+        → IsGiven (answer_to_get_policy m path.now) result state.new }
+    ensures same { SameButKeys state.old state.new }
+    ensures ticks { steps.new ≤ steps.old + length path.now }
+{
+    match walked_node(alloc, state, path, steps) {
+        Ok(number) => policy_told(state, number),
+        Err(refusal) => Reply::Refused(refusal),
+    }
+}
+
+// What is told of the policy of the node.
+fn policy_told(state: &MountState, number: u32) -> Reply
+    ensures { (m : PlainMount) → StandsFor state.now m
+        → result ≡ (policy.policy_told m (context_at m.nodes number)).reply }
+{
+    match context_of(state, number) {
+        Some(context) => Reply::PolicyIs(encode_policy(&context.policy)),
+        None => Reply::Refused(Refusal::NoData),
+    }
+}
+
+// What is told of the node.
+fn node_told(state: &MountState, number: u32) -> Reply
+    ensures { (m : PlainMount) → StandsFor state.now m
+        → result ≡ (look.node_told m number (get m.nodes number)).reply }
+{
+    let Some(node) = state.disk.node(number) else {
+        return Reply::Refused(Refusal::NotFound);
+    };
+    Reply::Stat {
+        kind: kind_of(&node.body),
+        node: number,
+        size: size_of(state, number, &node.body),
+        encrypted: node.context.is_some(),
+        keyed: state.keyed(number),
+    }
+}
+
+fn kind_of(body: &Body) -> NodeKind
+    ensures { (m : PlainMount) (number : ℕ) (v : Node) → body.now ≡ stored_body m.raws number v.context v.body
+        → result ≡ look.kind_of v.body }
+{
+    match body {
+        Body::Dir(_) => NodeKind::Dir,
+        Body::File { .. } => NodeKind::File,
+        Body::Link(_) => NodeKind::Link,
+    }
+}
+
+// The size of the node that has this body.
+fn size_of(state: &MountState, number: u32, body: &Body) -> u32
+    ensures { (m : PlainMount) (v : Node) → StandsFor state.now m → get m.nodes number ≡ Some v
+        → body.now ≡ stored_body m.raws number v.context v.body → result ≡ look.size_of m number v.body }
+{
+    match body {
+        Body::Dir(entries) => told(entries.len()),
+        Body::File { size, .. } => *size,
+        Body::Link(target) => told(reading_of(state, number).shown(target.as_slice()).len()),
+    }
+}
+
+// A length, as it is told.
+fn told(length: usize) -> u32
+    ensures { length < 2 ^ 32 → result ≡ length }
+{
+    u32::try_from(length).unwrap_or(u32::MAX)
+}

@@ -1,0 +1,46 @@
+//! Looking one part up in a directory.
+
+ghost use Rattle.std.specs.Prelude.{◌≡◌, ◌+◌, ◌≤◌, false, length};
+ghost use Rattle.disk_tree.specs.DiskTree.{IsDirAt};
+ghost use Rattle.mount_model.specs.PlainMount.{PlainMount};
+ghost use Rattle.mount_state.specs.Led.{led_to};
+ghost use Rattle.mount_state.specs.SameButKeys.{SameButKeys, StaysFor};
+ghost use Rattle.mount_state.specs.StandsFor.{StandsFor};
+ghost use Rattle.mount_names.specs.Shown.{enciphers};
+ghost use Rattle.name_crypt.specs.declared.limits.TheConstants.{MOST_NAME_BYTES};
+
+use mount_model::Part;
+use mount_state::{MountState, entry_of};
+use name_crypt::Steps;
+use std::alloc::Global;
+use std::sync::ledger::Ledger;
+
+/// The node of the directory's entry that is shown as the part: by its name where the directory is
+/// keyed, by its no-key text where it is locked. `None` exactly where no entry is shown so.
+///
+/// The part has at most `MOST_NAME_BYTES` bytes. At most one name is encrypted, and none where the
+/// directory has no policy or is locked; nothing is deciphered.
+pub fn lookup<L: Ledger>(
+    alloc: Global,
+    state: &mut MountState,
+    dir: u32,
+    part: &Part,
+    steps: &mut Steps<L>,
+) -> Option<u32>
+    requires dir { IsDirAt state.old.disk dir }
+    requires short { length part.now ≤ MOST_NAME_BYTES }
+    ensures value { (m : PlainMount) → StandsFor state.old m → result ≡ led_to m dir part.now }
+    ensures stands { StaysFor state.old state.new }
+    ensures same { SameButKeys state.old state.new }
+    ensures ticks { steps.new ≤ steps.old + 1 }
+    ensures untouched { enciphers state.old dir ≡ false → steps.new ≡ steps.old }
+{
+    let node = state.disk.node(dir)?;
+    if node.context.is_none() {
+        return state.entry_by_name(dir, part.bytes());
+    }
+    if !state.keyed(dir) {
+        return state.entry_by_text(dir, part.bytes());
+    }
+    entry_of(alloc, state, dir, part.bytes(), steps).ok()
+}

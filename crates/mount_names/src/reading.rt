@@ -1,0 +1,87 @@
+//! How the names of a directory, and the target of a symlink, are read.
+
+ghost use Rattle.std.specs.Prelude.{◌≡◌, ◌≢◌, ◌≤◌, ℕ, List, [], length};
+ghost use Rattle.name_crypt.specs.Plain.{IsStored};
+ghost use Rattle.name_crypt.specs.StoredName.{plain_name};
+ghost use Rattle.name_crypt.specs.NoKeyText.{nokey_text_of};
+ghost use Rattle.mount_names.specs.Shown.{ReadsAs, ShowsAs};
+
+use crate::ciphers::cipher_of;
+use crate::contexts::context_of;
+use mount_state::MountState;
+use name_crypt::{MOST_NAME_BYTES, NameCipher, StoredName, names_come_back, nokey_text};
+use short_bytes::Filled;
+
+/// How stored names are read: as they are, deciphered, or by their no-key texts.
+#[derive(Drop)]
+pub(crate) enum Reading {
+    Plain,
+    Keyed(NameCipher),
+    Locked,
+}
+
+/// How the names of the directory, or the target of the symlink, are read.
+pub(crate) fn reading_of(state: &MountState, number: u32) -> Reading
+    ensures { ReadsAs state.now number result }
+{
+    // That each stored name is deciphered to the name.
+    names_come_back();
+    let Some(context) = context_of(state, number) else {
+        return Reading::Plain;
+    };
+    if !state.keyed(number) {
+        return Reading::Locked;
+    }
+    match cipher_of(state, number, &context) {
+        Some(cipher) => Reading::Keyed(cipher),
+        None => Reading::Locked,
+    }
+}
+
+impl Reading {
+    /// The name as which stored bytes are shown, which some name is stored as. Of bytes that are no
+    /// stored name none is left.
+    pub(crate) fn shown(&self, stored: &[u8]) -> Filled<MOST_NAME_BYTES>
+        ensures { (name : List ℕ) → ShowsAs self.now stored.now name → result ≡ name }
+    {
+        match self {
+            Reading::Plain => as_it_is(stored),
+            Reading::Keyed(cipher) => deciphered(cipher, stored),
+            Reading::Locked => text_of(stored),
+        }
+    }
+}
+
+// The bytes themselves.
+fn as_it_is(stored: &[u8]) -> Filled<MOST_NAME_BYTES>
+    ensures { length stored.now ≤ MOST_NAME_BYTES → result ≡ stored.now }
+{
+    match Filled::read(stored) {
+        Some(name) => name,
+        None => Filled::new(),
+    }
+}
+
+// The name of a stored one; its no-key text where it is deciphered to none.
+fn deciphered(cipher: &NameCipher, stored: &[u8]) -> Filled<MOST_NAME_BYTES>
+    ensures { IsStored stored.now → plain_name cipher.now.key cipher.now.start stored.now ≢ []
+        → result ≡ plain_name cipher.now.key cipher.now.start stored.now }
+{
+    let Ok(name) = StoredName::read(stored) else {
+        return Filled::new();
+    };
+    match cipher.decrypt(&name) {
+        Ok(plain) => as_it_is(plain.bytes()),
+        Err(_) => text_of(stored),
+    }
+}
+
+// The no-key text of a stored name.
+fn text_of(stored: &[u8]) -> Filled<MOST_NAME_BYTES>
+    ensures { IsStored stored.now → result ≡ nokey_text_of stored.now }
+{
+    match StoredName::read(stored) {
+        Ok(name) => as_it_is(nokey_text(&name).bytes()),
+        Err(_) => Filled::new(),
+    }
+}
