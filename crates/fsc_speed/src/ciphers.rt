@@ -2,8 +2,8 @@
 ghost use Rattle.std.specs.Prelude.{◌≡◌, ◌≤◌, ◌%◌, IfOk, length, replicate};
 ghost use Rattle.std.specs.Fn.{iterate};
 ghost use Rattle.sha2.specs.Sha256.{sha256};
-ghost use Rattle.aes_core.specs.Aes.{encrypted_block};
-ghost use Rattle.xts_mode.specs.Xts.{xts_encrypted};
+ghost use Rattle.aes_core.specs.Aes.{decrypted_block, encrypted_block};
+ghost use Rattle.xts_mode.specs.Xts.{xts_decrypted, xts_encrypted};
 ghost use Rattle.cts_mode.specs.Cts.{cts_encrypted};
 
 use aes_core::Aes256;
@@ -31,6 +31,19 @@ pub(crate) fn aes_block(count: u32) -> [u8; 32]
     Sha256::digest(&block)
 }
 
+/// Decrypts a block again and again, with the round keys made once.
+#[tactic(auto, using(crate::proofs::Repeating::iterate_more))]
+pub(crate) fn aes_block_back(count: u32) -> [u8; 32]
+    ensures { result ≡ sha256 (iterate (decrypted_block KEY) count (replicate 16 0)) }
+{
+    let key = Aes256::new(&KEY);
+    let mut block = [0; 16];
+    for _ in 0..count {
+        block = key.decrypt_block(block);
+    }
+    Sha256::digest(&block)
+}
+
 /// Enciphers a unit of `length` bytes in place again and again, as the unit with index 7.
 pub(crate) fn xts(alloc: Global, length: usize, count: u32) -> Result<[u8; 32], AllocError>
     requires { length % 16 ≡ 0 }
@@ -49,6 +62,28 @@ fn repeat_xts(unit: &mut [u8], count: u32)
     let key = XtsKey::new(&UNIT_KEY);
     for _ in 0..count {
         key.encrypt_unit(7, unit);
+    }
+}
+
+/// Deciphers a unit of `length` bytes in place again and again, as the unit with index 7.
+pub(crate) fn xts_back(alloc: Global, length: usize, count: u32) -> Result<[u8; 32], AllocError>
+    requires { length % 16 ≡ 0 }
+    ensures { IfOk result (λ digest. digest
+        ≡ sha256 (iterate (xts_decrypted UNIT_KEY 7) count (replicate length 0))) }
+{
+    let mut unit = vec![in alloc; 0; length]?;
+    repeat_xts_back(unit.as_mut_slice(), count);
+    Ok(Sha256::digest(unit.as_slice()))
+}
+
+#[tactic(auto, using(crate::proofs::Repeating::iterate_more))]
+fn repeat_xts_back(unit: &mut [u8], count: u32)
+    requires { length unit.old % 16 ≡ 0 }
+    ensures { unit.new ≡ iterate (xts_decrypted UNIT_KEY 7) count unit.old }
+{
+    let key = XtsKey::new(&UNIT_KEY);
+    for _ in 0..count {
+        key.decrypt_unit(7, unit);
     }
 }
 

@@ -16,7 +16,9 @@ use std::thread::Threads;
 #[derive(Clone, Copy)]
 pub(crate) enum Kernel {
     AesBlock,
+    AesBlockBack,
     Xts(UnitLength),
+    XtsBack(UnitLength),
     Cts(TextLength),
     Hkdf64,
     Sha512Of192,
@@ -27,6 +29,7 @@ pub(crate) enum Kernel {
     Blake2b,
     Argon2idOnePass,
     Argon2idThreePasses,
+    Argon2idLanes,
     Turn(Callers),
     GetNodes(TreeSize),
     GetEntries(TreeSize),
@@ -40,7 +43,8 @@ impl Kernel {
     pub(crate) fn named(name: &str) -> Option<Kernel> {
         match name.split_once('-')? {
             ("aes", "block") => Some(Kernel::AesBlock),
-            ("xts", length) => Some(Kernel::Xts(UnitLength::read(length)?)),
+            ("aes", "block-back") => Some(Kernel::AesBlockBack),
+            ("xts", length) => Kernel::of_units(length),
             ("cts", length) => Some(Kernel::Cts(TextLength::read(length)?)),
             ("hkdf", "64") => Some(Kernel::Hkdf64),
             ("sha512", "192") => Some(Kernel::Sha512Of192),
@@ -54,6 +58,7 @@ impl Kernel {
             ("blake2b", "64m") => Some(Kernel::Blake2b),
             ("argon2id", "1-65536-1") => Some(Kernel::Argon2idOnePass),
             ("argon2id", "3-65536-4") => Some(Kernel::Argon2idThreePasses),
+            ("argon2id", "lanes-3-65536-4") => Some(Kernel::Argon2idLanes),
             ("turn", callers) => Some(Kernel::Turn(Callers::read(callers)?)),
             ("node", size) => Some(Kernel::GetNodes(TreeSize::read(
                 size.strip_prefix("get-")?,
@@ -61,6 +66,14 @@ impl Kernel {
             )?)),
             ("entry", call) => Kernel::of_entries(call),
             _ => None,
+        }
+    }
+
+    // A unit's length, with `back-` before it where the unit is deciphered.
+    fn of_units(length: &str) -> Option<Kernel> {
+        match length.strip_prefix("back-") {
+            Some(length) => Some(Kernel::XtsBack(UnitLength::read(length)?)),
+            None => Some(Kernel::Xts(UnitLength::read(length)?)),
         }
     }
 
@@ -82,7 +95,9 @@ impl Kernel {
     ) -> Result<[u8; 32], AllocError> {
         match self {
             Kernel::AesBlock => Ok(ciphers::aes_block(count)),
+            Kernel::AesBlockBack => Ok(ciphers::aes_block_back(count)),
             Kernel::Xts(length) => ciphers::xts(alloc, length.bytes(), count),
+            Kernel::XtsBack(length) => ciphers::xts_back(alloc, length.bytes(), count),
             Kernel::Cts(length) => ciphers::cts(alloc, length.bytes(), count),
             Kernel::Hkdf64 => Ok(hashes::hkdf_64(count)),
             Kernel::Sha512Of192 => Ok(hashes::sha512_192(count)),
@@ -93,6 +108,9 @@ impl Kernel {
             Kernel::Blake2b => stretching::blake2b(alloc, stretching::message_len(), count),
             Kernel::Argon2idOnePass => stretching::argon2id_tags(alloc, &ONE_PASS, count),
             Kernel::Argon2idThreePasses => stretching::argon2id_tags(alloc, &THREE_PASSES, count),
+            Kernel::Argon2idLanes => {
+                stretching::argon2id_tags_by_lanes(rt, alloc, &THREE_PASSES, count)
+            }
             Kernel::Turn(callers) => turns::add_sevens(rt, alloc, callers, count),
             Kernel::GetNodes(size) => trees::get_nodes(alloc, size, count),
             Kernel::GetEntries(size) => trees::get_entries(alloc, size, count),

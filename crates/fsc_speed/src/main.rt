@@ -17,8 +17,13 @@ use kernel::Kernel;
 use std::process::ExitCode;
 use std::{env, io};
 
-const USAGE: &str =
-    "fsc_speed NAME COUNT; names: aes-block, xts-LENGTH (whole blocks up to 65536 bytes), cts-LENGTH (16 to 65536 bytes), hkdf-64, sha512-192, file-key, mode-key, encrypt-name-32, nokey-255, blake2b-64m, argon2id-1-65536-1, argon2id-3-65536-4, turn-1, turn-2, turn-4, node-get-NODES (to 65536), entry-get-ENTRIES, entry-put-ENTRIES (to 4096), seal-512, seal-4096, claims-CLAIMS (to 38400)";
+const USAGE: &str = "\
+fsc_speed NAME COUNT; names: \
+    aes-block, aes-block-back, xts-LENGTH and xts-back-LENGTH (whole blocks up to 65536 \
+    bytes), cts-LENGTH (16 to 65536 bytes), hkdf-64, sha512-192, file-key, mode-key, \
+    encrypt-name-32, nokey-255, blake2b-64m, argon2id-1-65536-1, argon2id-3-65536-4, \
+    argon2id-lanes-3-65536-4, turn-1, turn-2, turn-4, node-get-NODES (to 65536), \
+    entry-get-ENTRIES, entry-put-ENTRIES (to 4096), seal-512, seal-4096, claims-CLAIMS (to 38400)";
 
 fn main(rt: HostRuntime) -> io::Result<ExitCode> {
     let mut words = env::args(&rt)?.skip(1);

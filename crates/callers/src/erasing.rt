@@ -1,0 +1,25 @@
+//! A caller of `disk_tree`.
+
+ghost use Rattle.std.specs.Prelude.{◌≡◌, None, IfSome};
+ghost use Rattle.number_map.specs.Numbered as map;
+ghost use Rattle.disk_tree.specs.DiskTree.{children, dropped};
+ghost use Rattle.disk_tree.specs.Entries.{number_under};
+
+use disk_tree::DiskTree;
+
+/// Takes the name out of the directory, and the node that it led to off the disk. Whether there was
+/// such a name.
+pub fn erase(disk: &mut DiskTree, dir: u32, name: &[u8]) -> bool
+    ensures gone { IfSome (number_under name.now (children disk.old dir))
+        (λ number. disk.new ≡ map.remove (dropped disk.old dir name.now number) number) }
+    ensures kept { number_under name.now (children disk.old dir) ≡ None → disk.new ≡ disk.old }
+{
+    match disk.entry(dir, name) {
+        Some(number) => {
+            disk.drop_entry(dir, name);
+            disk.remove_node(number);
+            true
+        }
+        None => false,
+    }
+}

@@ -1,0 +1,14 @@
+//! Callers of the libraries, one of each, as their pages CALLING.md show them.
+#![tactic(auto)]
+
+mod copying;
+mod erasing;
+mod letting_go;
+mod showing;
+mod taking_turns;
+
+pub use copying::copy;
+pub use erasing::erase;
+pub use letting_go::let_go;
+pub use showing::shown;
+pub use taking_turns::{ask_twice, begun};

@@ -1,0 +1,8 @@
+-- So many runs are done.
+use Rattle.std.proofs.Common.{◌≡◌, replicate}
+use Rattle.std.specs.Fn.{iterate}
+use Rattle.aes_core.specs.Aes.{decrypted_block}
+use Rattle.fsc_speed.proofs.ciphers.aes_block_back.Given as goal
+
+abbrev pub invariant-loop : goal.invariant-loop
+invariant-loop l = l.block ≡ iterate (decrypted_block l.key) l.counter (replicate 16 0)

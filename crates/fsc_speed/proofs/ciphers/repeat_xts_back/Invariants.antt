@@ -1,0 +1,8 @@
+-- So many runs are done.
+use Rattle.std.proofs.Common.{◌≡◌}
+use Rattle.std.specs.Fn.{iterate}
+use Rattle.xts_mode.specs.Xts.{xts_decrypted}
+use Rattle.fsc_speed.proofs.ciphers.repeat_xts_back.Given as goal
+
+abbrev pub invariant-loop : goal.invariant-loop
+invariant-loop l = l.unit ≡ iterate (xts_decrypted l.key 7) l.counter l.fn.unit
