@@ -16,11 +16,14 @@ pub(crate) const GROUP_BYTES: usize = 128;
 /// What is added to each block of a group: its tweak, low byte first.
 type Masks = [u8x16; 8];
 
+// By its two halves of 8 bytes, since 16 single bytes would go into the vector one by one.
 #[inline(always)]
 fn mask_of(tweak: u128) -> u8x16
     ensures { result ≡ little_endian_bytes 16 tweak }
 {
-    u8x16::from_array(tweak.to_le_bytes())
+    let low = (tweak % (1 << 64)) as u64;
+    let high = (tweak >> 64) as u64;
+    u64x2::from_array([low, high]).to_le_bytes()
 }
 
 // The masks of the eight blocks from this tweak on.
