@@ -1,6 +1,7 @@
 //! Counts under keys. A key whose count falls to 0 goes.
 
-ghost use Rattle.std.specs.Prelude.{◌≡◌, ◌+◌, ◌-◌, ◌<◌, ◌^◌, Some, OnOk, OnErr, unwrap_or, if◌then◌else◌};
+ghost use Rattle.std.specs.Prelude.{◌≡◌, ◌+◌, ◌-◌, ◌<◌, ◌^◌, Some, unwrap_or, if◌then◌else◌};
+ghost use Rattle.std.specs.Prelude.{IsSome, IsOk, OnOk, OnErr};
 ghost use Rattle.std.specs.BTreeMap as tree;
 ghost use Rattle.std.specs.Ordering.{eq_by_cmp};
 ghost use Rattle.key_counts.specs.Counted.{counted};
@@ -22,6 +23,7 @@ pub fn one_more<K: Ord + Drop>(counts: &mut BTreeMap<K, u32>, key: K) -> Result<
     ensures more { OnOk result (tree.Updates K.cmp counts.old counts.new key
         (Some (unwrap_or (tree.get K.cmp counts.old key) 0 + 1))) }
     ensures kept { OnErr result (tree.IsUnchanged counts.old counts.new) }
+    ensures again { IsSome (tree.get K.cmp counts.old key) → IsOk result }
 {
     let count = count_of(counts, &key);
     counts.insert(key, count + 1)?;
