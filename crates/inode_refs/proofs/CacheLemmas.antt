@@ -76,6 +76,13 @@ module _ (m : BTreeMap ℕ ℕ) (node : ℕ) where
   pub pins_seen : unwrap_or (tree.get nat_cmp m node) 0 ≡ pins_at (pins_in m.entries) node
   pins_seen = sym (ap (λ o. unwrap_or o 0) (get-shown nat_cmp_total (λ count. count) m.entries node ∙ same_option (tree.get nat_cmp m node)))
 
+  pub pins_there : eqb (pins_at (pins_in m.entries) node) 0 ≡ false → is_some (tree.get nat_cmp m node) ≡ true
+  pins_there some = at (tree.get nat_cmp m node) (ap (λ n. eqb n 0) pins_seen ∙ some)
+    where
+      at : (o : Option ℕ) → eqb (unwrap_or o 0) 0 ≡ false → is_some o ≡ true
+      at None bad = absurd (true≢false bad)
+      at (Some x) some = refl
+
   pub pins_more : (n : BTreeMap ℕ ℕ) → ((q : ℕ) → tree.get nat_cmp n q ≡ cond (eq_by_cmp nat_cmp node q) (Some (unwrap_or (tree.get nat_cmp m node) 0 + 1)) (tree.get nat_cmp m q))
       → pins_in n.entries ≡ with_pins (pins_in m.entries) node (pins_at (pins_in m.entries) node + 1)
   pins_more n updates = shown-inserted nat_cmp_total (λ count. count) nat_cmp-IsAntisymmetric m n node (unwrap_or (tree.get nat_cmp m node) 0 + 1) updates

@@ -1,5 +1,6 @@
 -- What is cached of nodes: keys by their numbers, and the pins of each.
-use Rattle.std.specs.Prelude.{ℕ, Bool, false, not, ◌&&◌, ◌==◌, Option, Some, None, unwrap_or, is_none, if◌then◌else◌}
+use Rattle.std.specs.Prelude.{ℕ, Bool, false, not, ◌&&◌, ◌==◌, if◌then◌else◌}
+use Rattle.std.specs.Prelude.{Option, Some, None, unwrap_or, is_none}
 use Rattle.std.specs.Option.{option_map_or}
 use Rattle.std.specs.Ordering.{nat_cmp}
 use Rattle.std.specs.FinMap as map
@@ -58,4 +59,5 @@ all_evicted cache = map.retain_keys cache.keys (λ node. not (is_unpinned cache 
 
 -- how many nodes with pins have a key that was drawn from the master key
 abbrev pub users_of : Cache → KeyId → ℕ
-users_of cache id = map.len (map.retain_keys cache.keys (λ node. not (is_unpinned cache node) && has_id cache id node))
+users_of cache id =
+    map.len (map.retain_keys cache.keys (λ node. not (is_unpinned cache node) && has_id cache id node))

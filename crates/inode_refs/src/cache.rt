@@ -1,35 +1,33 @@
 //! The cache of keys and pins by node.
 
-ghost use Rattle.std.specs.Prelude.{◌≡◌, ◌+◌, ◌-◌, ◌<◌, ◌^◌, ◌==◌, not, false, option_copied, length, filter};
-ghost use Rattle.std.specs.Prelude.{IsTrue, IsSome, IsOk, OnOk, OnErr};
-ghost use Rattle.policy_ctx.specs.KeyIds.{same_id};
+ghost use Rattle.std.specs.Prelude.{◌≡◌, ◌+◌, ◌-◌, ◌<◌, ◌^◌, ◌||◌, true, false};
+ghost use Rattle.std.specs.Prelude.{option_copied, is_some, is_none, IsSome, IsOk, OnOk, OnErr};
 ghost use Rattle.std.specs.Option.{option_map};
 ghost use Rattle.std.specs.FinMap as map;
-ghost use Rattle.inode_refs.specs.Cached.{no_cache, key_at, pins_of, pins_at, with_pins, users_of};
+ghost use Rattle.inode_refs.specs.Cached.{no_cache, key_at, pins_of, with_pins, users_of, is_unpinned};
 ghost use Rattle.inode_refs.specs.Cached.{given, evicted, all_evicted};
-ghost use Rattle.inode_refs.specs.Kept.{keys_of, pins_in, is_user};
-ghost use Rattle.std.specs.BTreeMap as tree;
-ghost use Rattle.std.specs.Ordering.{nat_cmp};
+ghost use Rattle.inode_refs.specs.Users.{id_at, user_at, coming, leaving};
 
-use super::node_key::NodeKey;
+use crate::kept::{Keys, discard, forget, goes, is_pinned, keep_in, pin_in, stays_for, users_in};
+use crate::node_key::NodeKey;
+use crate::users::Users;
 use fsc_keys::{FileKey, KeyId};
 use key_counts as counts;
 use std::alloc::{AllocError, Global};
 use std::collections::BTreeMap;
 use std::marker::Model;
 
-/// The keys of nodes, each in a box of its own.
-type Keys = BTreeMap<u32, Box<NodeKey>>;
-
 /// What is cached of nodes, seen as the finite maps of their keys and of their pins. A key that goes is
 /// overwritten first.
 ///
-/// A node is found in a time that grows with the logarithm of how many are cached; only counting a
-/// master key's users goes over them all.
+/// A node is found, and a master key's users are told, in a time that grows with the logarithm of how many
+/// there are; only an eviction goes over all nodes with a key.
 #[derive(Drop)]
 pub struct InodeCache {
     keys: Keys,
     pins: BTreeMap<u32, u32>,
+    // How many nodes with pins have a key of each master key.
+    users: Users,
 }
 
 impl Model for InodeCache {
@@ -37,8 +35,9 @@ impl Model for InodeCache {
     ghost use Rattle.std.specs.Coded.{code_by, coded×, coded_ℕ};
     ghost use Rattle.std.specs.FinMap.{code};
     ghost use Rattle.inode_refs.specs.contracts.node_key.NodeKey as key;
-    ghost use Rattle.inode_refs.specs.Cached.{Cache, KeyMap, PinMap};
+    ghost use Rattle.inode_refs.specs.Cached.{Cache, KeyMap, PinMap, users_of};
     ghost use Rattle.inode_refs.specs.Kept.{keys_of, pins_in};
+    ghost use Rattle.inode_refs.specs.Users.{AreCounted};
 
     ghost Value = { Cache };
 
@@ -49,6 +48,9 @@ impl Model for InodeCache {
         (λ _. refl) };
 
     ghost view = { λ c. record { keys = keys_of c.keys.entries; pins = pins_in c.pins.entries } };
+
+    ghost invariant = { λ c. AreCounted c.users
+        (users_of (record { keys = keys_of c.keys.entries; pins = pins_in c.pins.entries })) };
 }
 
 impl InodeCache {
@@ -59,6 +61,7 @@ impl InodeCache {
         InodeCache {
             keys: BTreeMap::new(alloc),
             pins: BTreeMap::new(alloc),
+            users: Users::new(alloc),
         }
     }
 
@@ -79,12 +82,58 @@ impl InodeCache {
         }
     }
 
-    /// How many nodes with pins have a key that was drawn from this master key. It takes a time that
-    /// grows with how many are cached.
+    /// How many nodes with pins have a key that was drawn from this master key.
     pub fn users_of(&self, id: &KeyId) -> usize
         ensures { result ≡ users_of self.now id.now }
     {
-        users_in(&self.keys, &self.pins, id)
+        match self.users.count(id) {
+            Some(count) => count as usize,
+            None => users_in(&self.keys, &self.pins, id),
+        }
+    }
+
+    // The identifier of the node's key.
+    fn id_at(&self, node: u32) -> Option<KeyId>
+        ensures { result ≡ id_at self.now node }
+    {
+        match self.keys.get(&node) {
+            Some(kept) => Some(kept.id),
+            None => None,
+        }
+    }
+
+    // The identifier for which the node counts.
+    fn user_at(&self, node: u32) -> Option<KeyId>
+        ensures { result ≡ user_at self.now node }
+    {
+        if self.pins(node) == 0 {
+            return None;
+        }
+        self.id_at(node)
+    }
+
+    // The identifier for which the node counts from its next pin on, with the key that comes with that.
+    fn coming(&self, node: u32, key: &Option<NodeKey>) -> Option<KeyId>
+        ensures { result ≡ coming self.now node key.now }
+    {
+        if self.user_at(node).is_some() {
+            return None;
+        }
+        match (self.id_at(node), key) {
+            (Some(id), _) => Some(id),
+            (None, Some(key)) => Some(key.id),
+            (None, None) => None,
+        }
+    }
+
+    // The identifier for which the node counts no longer once a pin goes.
+    fn leaving(&self, node: u32) -> Option<KeyId>
+        ensures { result ≡ leaving self.now node }
+    {
+        if self.pins(node) != 1 {
+            return None;
+        }
+        self.id_at(node)
     }
 
     /// Caches the key of the node, in the place of the one before. Only a node without a key takes
@@ -101,18 +150,48 @@ impl InodeCache {
         ensures as_before { OnErr result (self.new ≡ self.old) }
         ensures cached { IsSome (key_at self.old node) → IsOk result }
     {
-        keep_in(&mut self.keys, alloc, node, NodeKey { id, key })
+        let key = NodeKey { id, key };
+        if self.pins(node) == 0 {
+            return keep_in(&mut self.keys, alloc, node, key);
+        }
+        self.keep_counted(alloc, node, key)
+    }
+
+    // The same where the node has pins.
+    fn keep_counted(&mut self, alloc: Global, node: u32, key: NodeKey) -> Result<(), AllocError>
+        requires { is_unpinned self.old node ≡ false }
+        ensures kept { OnOk result (self.new ≡ record self.old { keys = map.insert self.old.keys node key }) }
+        ensures as_before { OnErr result (self.new ≡ self.old) }
+        ensures cached { IsSome (key_at self.old node) → IsOk result }
+    {
+        if let Some(older) = self.id_at(node) {
+            self.users.exchange(older, key.id);
+            return keep_in(&mut self.keys, alloc, node, key);
+        }
+        let id = Some(key.id);
+        if self.users.more(id).is_err() {
+            discard(Some(key));
+            return Err(AllocError);
+        }
+        if keep_in(&mut self.keys, alloc, node, key).is_err() {
+            self.users.less(id);
+            return Err(AllocError);
+        }
+        Ok(())
     }
 
     /// Overwrites the key of the node and lets it go. It takes no memory.
     pub fn drop_key(&mut self, node: u32)
         ensures { self.new ≡ record self.old { keys = map.remove self.old.keys node } }
     {
+        let user = self.user_at(node);
+        self.users.less(user);
         forget(&mut self.keys, node);
     }
 
     /// Pins the node once more, and caches the key that is handed in where it has none. Where there is
-    /// no memory all is as before. A key that isn't cached is overwritten.
+    /// no memory all is as before. A key that isn't cached is overwritten. A node with pins takes no memory
+    /// where no key comes to it.
     pub fn pin(&mut self, alloc: Global, node: u32, key: Option<NodeKey>) -> Result<(), AllocError>
         requires { pins_of self.old node + 1 < 2 ^ 32 }
         ensures pinned { OnOk result (self.new ≡ record {
@@ -120,13 +199,16 @@ impl InodeCache {
           pins = with_pins self.old.pins node (pins_of self.old node + 1);
         }) }
         ensures kept { OnErr result (self.new ≡ self.old) }
+        ensures again { is_unpinned self.old node ≡ false
+            → (is_some (key_at self.old node) || is_none key) ≡ true → IsOk result }
     {
-        let cached = self.keys.contains_key(&node);
-        give_in(&mut self.keys, alloc, node, key)?;
-        if counts::one_more(&mut self.pins, node).is_err() {
-            if !cached {
-                forget(&mut self.keys, node);
-            }
+        let user = self.coming(node, &key);
+        if self.users.more(user).is_err() {
+            discard(key);
+            return Err(AllocError);
+        }
+        if pin_in(&mut self.keys, &mut self.pins, alloc, node, key).is_err() {
+            self.users.less(user);
             return Err(AllocError);
         }
         Ok(())
@@ -138,6 +220,8 @@ impl InodeCache {
         ensures { self.new
             ≡ record self.old { pins = with_pins self.old.pins node (pins_of self.old node - 1) } }
     {
+        let user = self.leaving(node);
+        self.users.less(user);
         counts::one_less(&mut self.pins, &node);
     }
 
@@ -158,107 +242,5 @@ impl InodeCache {
         let pins = &self.pins;
         self.keys
             .retain(|node, kept| is_pinned(pins, *node) || goes(kept));
-    }
-}
-
-// Whether the node has pins.
-fn is_pinned(pins: &BTreeMap<u32, u32>, node: u32) -> bool
-    ensures { result ≡ not (pins_at (pins_in pins.now.entries) node == 0) }
-{
-    counts::count_of(pins, &node) != 0
-}
-
-// How many nodes with pins have a key that was drawn from this master key.
-fn users_in(keys: &Keys, pins: &BTreeMap<u32, u32>, id: &KeyId) -> usize
-    ensures counted { result ≡ length (filter (is_user (pins_in pins.now.entries) id.now) keys.now.entries) }
-    ensures ordered { tree.IsOrdered nat_cmp keys.now }
-{
-    keys.iter()
-        .filter(|(node, kept)| is_pinned(pins, **node) && kept.id == *id)
-        .count()
-}
-
-// Whether the key was drawn from another master key. One that wasn't is overwritten.
-fn stays_for(kept: &mut Box<NodeKey>, id: &KeyId) -> bool
-    ensures stays { result ≡ not (same_id kept.old.value.id id.now) }
-    ensures same { IsTrue result → kept.new ≡ kept.old }
-{
-    if kept.id != *id {
-        return true;
-    }
-    kept.key.wipe();
-    false
-}
-
-// Overwrites the key, which doesn't stay.
-fn goes(kept: &mut Box<NodeKey>) -> bool
-    ensures { result ≡ false }
-{
-    kept.key.wipe();
-    false
-}
-
-// Overwrites the key of the node, and lets it go.
-fn forget(keys: &mut Keys, node: u32)
-    ensures { keys_of keys.new.entries ≡ map.remove (keys_of keys.old.entries) node }
-{
-    match keys.remove(&node) {
-        Some(mut kept) => kept.key.wipe(),
-        None => {}
-    }
-}
-
-// Overwrites a key that isn't cached.
-fn discard(key: Option<NodeKey>) {
-    if let Some(mut key) = key {
-        key.key.wipe();
-    }
-}
-
-// Caches the key of the node, in the place of the one before.
-fn keep_in(keys: &mut Keys, alloc: Global, node: u32, key: NodeKey) -> Result<(), AllocError>
-    ensures kept { OnOk result (keys_of keys.new.entries ≡ map.insert (keys_of keys.old.entries) node key) }
-    ensures as_before { OnErr result (keys_of keys.new.entries ≡ keys_of keys.old.entries) }
-    ensures cached { IsSome (map.get (keys_of keys.old.entries) node) → IsOk result }
-{
-    if let Some(kept) = keys.get_mut(&node) {
-        kept.key.wipe();
-        **kept = key;
-        return Ok(());
-    }
-    let boxed = match Box::new(alloc, key) {
-        Ok(boxed) => boxed,
-        Err(mut refused) => {
-            refused.value.key.wipe();
-            return Err(AllocError);
-        }
-    };
-    match keys.insert(node, boxed) {
-        Ok(_) => Ok(()),
-        Err(refused) => {
-            let (_, mut boxed) = refused.value;
-            boxed.key.wipe();
-            Err(AllocError)
-        }
-    }
-}
-
-// Caches the key that is handed in where the node has none.
-fn give_in(
-    keys: &mut Keys,
-    alloc: Global,
-    node: u32,
-    key: Option<NodeKey>,
-) -> Result<(), AllocError>
-    ensures given { OnOk result (keys_of keys.new.entries ≡ given (keys_of keys.old.entries) node key) }
-    ensures as_before { OnErr result (keys_of keys.new.entries ≡ keys_of keys.old.entries) }
-{
-    if keys.contains_key(&node) {
-        discard(key);
-        return Ok(());
-    }
-    match key {
-        Some(key) => keep_in(keys, alloc, node, key),
-        None => Ok(()),
     }
 }

@@ -2,9 +2,11 @@
 #![tactic(auto)]
 
 mod cache;
+mod kept;
 mod node_key;
 #[cfg(test)]
 mod tests;
+mod users;
 
 pub use cache::InodeCache;
 pub use fsc_keys::{FileKey, KeyId};

@@ -2,7 +2,7 @@ use Rattle.std.proofs.Common.{◌≡◌, OnOk, sym, ◌∙◌, subst}
 use Rattle.inode_refs.specs.Cached.{given}
 use Rattle.inode_refs.specs.Kept.{keys_of}
 use Rattle.inode_refs.proofs.CacheLemmas.{given_cached, given_new, key_there}
-use Rattle.inode_refs.proofs.cache.give_in.Goals as goal
+use Rattle.inode_refs.proofs.kept.give_in.Goals as goal
 
 pub returns-then-contains_key-clause-given : goal.returns-then-contains_key-clause-given
 returns-then-contains_key-clause-given c = sym (given_cached (keys_of c.args.keys.now.entries) c.args.node c.args.key (key_there c.args.keys.now c.args.node _ c.contains_key.ensures ∙ c.if-contains_key.true))

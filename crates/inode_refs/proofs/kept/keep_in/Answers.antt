@@ -7,7 +7,7 @@ use Rattle.std.specs.FinMap as map
 use Rattle.inode_refs.specs.declared.node_key.NodeKey.{NodeKey}
 use Rattle.inode_refs.specs.Kept.{KeyBox, keys_of}
 use Rattle.inode_refs.proofs.CacheLemmas.{key_written, key_cached}
-use Rattle.inode_refs.proofs.cache.keep_in.Goals as goal
+use Rattle.inode_refs.proofs.kept.keep_in.Goals as goal
 
 pub returns-in-Some-clause-kept : goal.returns-in-Some-clause-kept
 returns-in-Some-clause-kept c =

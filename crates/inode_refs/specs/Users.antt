@@ -1,0 +1,63 @@
+-- How the nodes that hold a key are counted: beside the cache, by the identifiers of their keys.
+use Rattle.std.specs.Prelude.{◌≡◌, ℕ, ◌+◌, ◌<◌, true, ◌==◌, if◌then◌else◌}
+use Rattle.std.specs.Prelude.{Option, Some, None, is_some, option_map, unwrap_or}
+use Rattle.std.specs.BTreeMap.{get}
+use Rattle.policy_ctx.specs.declared.policy.KeyId.{KeyId}
+use Rattle.policy_ctx.specs.KeyIds.{same_id}
+use Rattle.key_counts.specs.Counted.{counted}
+use Rattle.user_claims.specs.Claims.{id_cmp}
+use Rattle.inode_refs.specs.declared.node_key.NodeKey.{NodeKey}
+use Rattle.inode_refs.specs.declared.users.Users.{Users}
+use Rattle.inode_refs.specs.Cached.{Cache, key_at, pins_of, is_unpinned}
+
+-- the identifier of the node's key
+abbrev pub id_at : Cache → ℕ → Option KeyId
+id_at cache node = option_map (λ key. key.id) (key_at cache node)
+
+-- the identifier for which the node counts: that of its key, where it has pins
+abbrev pub user_at : Cache → ℕ → Option KeyId
+user_at cache node = if is_unpinned cache node then None else id_at cache node
+
+-- the identifier for which the node counts from its next pin on, with the key that comes with that;
+-- none where it counts already
+abbrev pub coming : Cache → ℕ → Option NodeKey → Option KeyId
+coming cache node key = if is_some (user_at cache node) then None else
+    if is_some (id_at cache node) then id_at cache node else option_map (λ k. k.id) key
+
+-- the identifier for which the node counts no longer once a pin goes
+abbrev pub leaving : Cache → ℕ → Option KeyId
+leaving cache node = if pins_of cache node == 1 then id_at cache node else None
+
+-- one for the identifier, where there is one
+abbrev pub one_for : Option KeyId → KeyId → ℕ
+one_for None q = 0
+one_for (Some id) q = if same_id id q then 1 else 0
+
+-- ---- counts
+
+-- there is the count of each identifier, where users are counted
+abbrev pub AreCounted : Users → (KeyId → ℕ) → Type 0
+AreCounted users f = users.is_whole ≡ true → (id : KeyId) → get id_cmp users.counts id ≡ counted (f id)
+
+-- whatever was counted is counted still: with one user more, with one less, and with one of another
+-- identifier
+abbrev pub IsAsBefore : Users → Users → Type 0
+IsAsBefore old new = (f : KeyId → ℕ) → AreCounted old f → AreCounted new f
+
+abbrev pub HasOneMore : Users → Users → Option KeyId → Type 0
+HasOneMore old new id =
+    (f g : KeyId → ℕ) → AreCounted old f → ((q : KeyId) → g q ≡ f q + one_for id q) → AreCounted new g
+
+abbrev pub HasOneLess : Users → Users → Option KeyId → Type 0
+HasOneLess old new id =
+    (f g : KeyId → ℕ) → AreCounted old f → ((q : KeyId) → g q + one_for id q ≡ f q) → AreCounted new g
+
+abbrev pub HasOther : Users → Users → KeyId → KeyId → Type 0
+HasOther old new older newer =
+    (f g : KeyId → ℕ) → AreCounted old f
+    → ((q : KeyId) → g q + one_for (Some older) q ≡ f q + one_for (Some newer) q) → AreCounted new g
+
+-- the identifier has users, where they are counted
+abbrev pub IsCountedFor : Users → Option KeyId → Type 0
+IsCountedFor users None = Unit
+IsCountedFor users (Some id) = users.is_whole ≡ true → 0 < unwrap_or (get id_cmp users.counts id) 0

@@ -1,0 +1,156 @@
+//! Keys in boxes and pins, as they are kept.
+
+ghost use Rattle.std.specs.Prelude.{◌≡◌, ◌+◌, ◌<◌, ◌^◌, ◌||◌, ◌==◌, not, true, false, length, filter};
+ghost use Rattle.std.specs.Prelude.{is_some, is_none, IsTrue, IsSome, IsOk, OnOk, OnErr};
+ghost use Rattle.std.specs.BTreeMap as tree;
+ghost use Rattle.std.specs.FinMap as map;
+ghost use Rattle.std.specs.Ordering.{nat_cmp};
+ghost use Rattle.policy_ctx.specs.KeyIds.{same_id};
+ghost use Rattle.inode_refs.specs.Cached.{pins_at, with_pins, given};
+ghost use Rattle.inode_refs.specs.Kept.{keys_of, pins_in, is_user};
+
+use crate::node_key::NodeKey;
+use fsc_keys::KeyId;
+use key_counts as counts;
+use std::alloc::{AllocError, Global};
+use std::collections::BTreeMap;
+
+/// The keys of nodes, each in a box of its own.
+pub(crate) type Keys = BTreeMap<u32, Box<NodeKey>>;
+
+/// Whether the node has pins.
+pub(crate) fn is_pinned(pins: &BTreeMap<u32, u32>, node: u32) -> bool
+    ensures { result ≡ not (pins_at (pins_in pins.now.entries) node == 0) }
+{
+    counts::count_of(pins, &node) != 0
+}
+
+// How many nodes with pins have a key that was drawn from this master key.
+pub(crate) fn users_in(keys: &Keys, pins: &BTreeMap<u32, u32>, id: &KeyId) -> usize
+    ensures counted { result ≡ length (filter (is_user (pins_in pins.now.entries) id.now) keys.now.entries) }
+    ensures ordered { tree.IsOrdered nat_cmp keys.now }
+{
+    keys.iter()
+        .filter(|(node, kept)| is_pinned(pins, **node) && kept.id == *id)
+        .count()
+}
+
+// Whether the key was drawn from another master key. One that wasn't is overwritten.
+pub(crate) fn stays_for(kept: &mut Box<NodeKey>, id: &KeyId) -> bool
+    ensures stays { result ≡ not (same_id kept.old.value.id id.now) }
+    ensures same { IsTrue result → kept.new ≡ kept.old }
+{
+    if kept.id != *id {
+        return true;
+    }
+    kept.key.wipe();
+    false
+}
+
+// Overwrites the key, which doesn't stay.
+pub(crate) fn goes(kept: &mut Box<NodeKey>) -> bool
+    ensures { result ≡ false }
+{
+    kept.key.wipe();
+    false
+}
+
+// Overwrites the key of the node, and lets it go.
+pub(crate) fn forget(keys: &mut Keys, node: u32)
+    ensures { keys_of keys.new.entries ≡ map.remove (keys_of keys.old.entries) node }
+{
+    match keys.remove(&node) {
+        Some(mut kept) => kept.key.wipe(),
+        None => {}
+    }
+}
+
+// Overwrites a key that isn't cached.
+pub(crate) fn discard(key: Option<NodeKey>) {
+    if let Some(mut key) = key {
+        key.key.wipe();
+    }
+}
+
+// Caches the key of the node, in the place of the one before.
+pub(crate) fn keep_in(
+    keys: &mut Keys,
+    alloc: Global,
+    node: u32,
+    key: NodeKey,
+) -> Result<(), AllocError>
+    ensures kept { OnOk result (keys_of keys.new.entries ≡ map.insert (keys_of keys.old.entries) node key) }
+    ensures as_before { OnErr result (keys_of keys.new.entries ≡ keys_of keys.old.entries) }
+    ensures cached { IsSome (map.get (keys_of keys.old.entries) node) → IsOk result }
+{
+    if let Some(kept) = keys.get_mut(&node) {
+        kept.key.wipe();
+        **kept = key;
+        return Ok(());
+    }
+    let boxed = match Box::new(alloc, key) {
+        Ok(boxed) => boxed,
+        Err(mut refused) => {
+            refused.value.key.wipe();
+            return Err(AllocError);
+        }
+    };
+    match keys.insert(node, boxed) {
+        Ok(_) => Ok(()),
+        Err(refused) => {
+            let (_, mut boxed) = refused.value;
+            boxed.key.wipe();
+            Err(AllocError)
+        }
+    }
+}
+
+// Caches the key that is handed in where the node has none.
+pub(crate) fn give_in(
+    keys: &mut Keys,
+    alloc: Global,
+    node: u32,
+    key: Option<NodeKey>,
+) -> Result<(), AllocError>
+    ensures given { OnOk result (keys_of keys.new.entries ≡ given (keys_of keys.old.entries) node key) }
+    ensures as_before { OnErr result (keys_of keys.new.entries ≡ keys_of keys.old.entries) }
+    ensures again { (is_some (map.get (keys_of keys.old.entries) node) || is_none key) ≡ true → IsOk result }
+{
+    if keys.contains_key(&node) {
+        discard(key);
+        return Ok(());
+    }
+    match key {
+        Some(key) => keep_in(keys, alloc, node, key),
+        None => Ok(()),
+    }
+}
+
+// Pins the node once more, and caches the key that is handed in where it has none. It takes no memory
+// where the node has pins and no key comes to it.
+pub(crate) fn pin_in(
+    keys: &mut Keys,
+    pins: &mut BTreeMap<u32, u32>,
+    alloc: Global,
+    node: u32,
+    key: Option<NodeKey>,
+) -> Result<(), AllocError>
+    requires { pins_at (pins_in pins.old.entries) node + 1 < 2 ^ 32 }
+    ensures given { OnOk result (keys_of keys.new.entries ≡ given (keys_of keys.old.entries) node key) }
+    ensures pinned { OnOk result (pins_in pins.new.entries
+        ≡ with_pins (pins_in pins.old.entries) node (pins_at (pins_in pins.old.entries) node + 1)) }
+    ensures keys { OnErr result (keys_of keys.new.entries ≡ keys_of keys.old.entries) }
+    ensures pins { OnErr result (pins_in pins.new.entries ≡ pins_in pins.old.entries) }
+    ensures again { (pins_at (pins_in pins.old.entries) node == 0) ≡ false
+        → (is_some (map.get (keys_of keys.old.entries) node) || is_none key) ≡ true → IsOk result }
+{
+    let cached = keys.contains_key(&node);
+    give_in(keys, alloc, node, key)?;
+    if counts::one_more(pins, node).is_err() {
+        if !cached {
+            forget(keys, node);
+        }
+        return Err(AllocError);
+    }
+    Ok(())
+}
