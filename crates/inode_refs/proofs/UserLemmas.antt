@@ -1,5 +1,5 @@
 -- Users as they are counted, when a node's key or its pins change.
-use Rattle.std.proofs.Common.{◌≡◌, ℕ, ◌+◌, ◌-◌, ◌<◌, ◌≤◌, Bool, true, false, cond, eqb, not, ◌&&◌, List, [], Option, Some, None, is_some, is_none, unwrap_or, Result, Ok, Err, is_err, IsOk, OnOk, OnErr, ◌||◌, ◌⊎◌, inl, inr, sym, refl, ap, ◌∙◌, arith}
+use Rattle.std.proofs.Common.{◌≡◌, ℕ, ◌+◌, ◌-◌, ◌<◌, ◌≤◌, Bool, true, false, cond, eqb, not, ◌&&◌, List, [], ◌∷◌, length, Option, Some, None, is_some, is_none, unwrap_or, Result, Ok, Err, is_err, IsOk, OnOk, OnErr, ◌||◌, ◌⊎◌, inl, inr, sym, refl, ap, ◌∙◌, arith}
 use Rattle.std.specs.Option.{option_map, option_map_or, option_or}
 use Rattle.std.specs.Ordering.{nat_cmp, eq_by_cmp, is_eq}
 use Rattle.std.specs.Cmp.{nat_cmp_total, tied_itself}
@@ -94,6 +94,14 @@ len_apart m n = elim (cases_Bool (is_some (map.get m n))) [
 
 itself : (n : ℕ) → eq_by_cmp nat_cmp n n ≡ true
 itself n = ap is_eq (tied_itself nat_cmp_total n)
+
+-- a map that isn't empty has an entry
+some_entry : (m : KeyMap) → 0 < map.len m → (n : ℕ) × ((key : NodeKey) × (map.get m n ≡ Some key))
+some_entry m some = at (map.entries m) refl
+  where
+    at : (es : List (ℕ × NodeKey)) → map.entries m ≡ es → (n : ℕ) × ((key : NodeKey) × (map.get m n ≡ Some key))
+    at [] is = let none : map.len m ≡ 0 = map.len-entries m ∙ ap length is in absurd (omega arith)
+    at (e ∷ es) is = (e.0, (e.1, map.get-entries m e.0 ∙ (ap (map.find nat_cmp e.0) is ∙ cond-true (eq_by_cmp nat_cmp e.0 e.0) (Some e.1) _ (itself e.0))))
 
 neither : {X : Type 0} (b : Bool) (x : X) → cond b x x ≡ x
 neither true x = refl
@@ -283,6 +291,29 @@ module _ (cache : Cache) where
             (get-part nat_cmp_total nat_cmp-IsAntisymmetric cache.keys t x ∙ cond-true (t x) _ None (stays x pinned))
       ]
       ∙ sym (get-part nat_cmp_total nat_cmp-IsAntisymmetric cache.keys (counts_for cache q) x))))
+
+  -- a node with pins and a key is a user
+  pub one_user : (n : ℕ) (key : NodeKey) → is_unpinned cache n ≡ false → key_at cache n ≡ Some key → 0 < users_of cache key.id
+  one_user n key pinned there =
+      let less = users_dropped cache n key.id in
+      let one : one_for (user_at cache n) key.id ≡ 1 = (λ i. one_for (cond (pinned i) None (option_map (λ (k : NodeKey). k.id) (there i))) key.id) ∙ ap (λ b. cond b 1 0) (same_id-refl key.id) in
+      omega arith
+
+  -- and where there is a user, there is such a node
+  pub some_user : (id : KeyId) → 0 < users_of cache id → (n : ℕ) × ((is_unpinned cache n ≡ false) × ((key : NodeKey) × ((key_at cache n ≡ Some key) × (key.id ≡ id))))
+  some_user id some =
+      let one = some_entry (map.retain_keys cache.keys (counts_for cache id)) some in
+      (one.0, at (is_unpinned cache one.0) (key_at cache one.0) one.1.0 (sym (get-part nat_cmp_total nat_cmp-IsAntisymmetric cache.keys (counts_for cache id) one.0) ∙ one.1.1))
+    where
+      at : (free : Bool) (o : Option NodeKey) (key : NodeKey) → cond (not free && option_map_or (λ k. same_id k.id id) o false) o None ≡ Some key
+          → (free ≡ false) × ((k : NodeKey) × ((o ≡ Some k) × (k.id ≡ id)))
+      at true o key bad = absurd (true≢false (sym (ap is_some bad)))
+      at false None key bad = absurd (true≢false (sym (ap is_some bad)))
+      at false (Some k) key is = (refl, (k, (refl, by_test (same_id k.id id) refl is)))
+        where
+          by_test : (b : Bool) → same_id k.id id ≡ b → cond b (Some k) None ≡ Some key → k.id ≡ id
+          by_test true same is = same_id-eq k.id id same
+          by_test false other bad = absurd (true≢false (sym (ap is_some bad)))
 
 -- nothing cached
 pub users_none : (q : KeyId) → users_of (record { keys = map.empty; pins = map.empty }) q ≡ 0

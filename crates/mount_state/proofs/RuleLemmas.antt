@@ -1,7 +1,7 @@
 -- The status is Absent exactly where nothing of the key is held.
-use Rattle.std.proofs.Common.{◌≡◌, ℕ, ◌<◌, ◌≤◌, true, false, not, ◌&&◌, List, Option, Some, None, is_some, inl, inr, refl, sym, ap, subst, ◌∙◌, arith}
+use Rattle.std.proofs.Common.{◌≡◌, ℕ, ◌<◌, ◌≤◌, true, false, not, eqb, ◌&&◌, List, Option, Some, None, is_some, inl, inr, refl, sym, ap, subst, ◌∙◌, arith}
 use Rattle.std.specs.Option.{option_map_or}
-use Rattle.std.proofs.lemmas.Bool.{cases_Bool, cases_lt, or_cases, and_parts, true≢false}
+use Rattle.std.proofs.lemmas.Bool.{cases_Bool, cases_lt, or_cases, and_parts, true≢false, eq-eqb, eqb-true}
 use Rattle.policy_ctx.specs.declared.policy.KeyId.{KeyId}
 use Rattle.policy_ctx.specs.KeyIds.{same_id}
 use Rattle.policy_ctx.specs.Context.{id_in, is_by_mode_in}
@@ -13,8 +13,11 @@ use Rattle.user_claims.specs.Claims.{is_present}
 use Rattle.key_ring.specs.Holding.{Holding, secret_of}
 use Rattle.key_ring.specs.Modes.{Modes, of_kind, mode_at, users_in, users_of, AreUsed, IsUsed}
 use Rattle.key_ring.specs.declared.mode_key.ModeKey.{ModeKey}
-use Rattle.inode_refs.specs.Cached.{Cache, key_at}
+use Rattle.inode_refs.specs.Cached.{Cache, key_at, pins_of, is_unpinned}
+use Rattle.inode_refs.specs.Cached.{users_of as inode_users}
 use Rattle.inode_refs.specs.declared.node_key.NodeKey.{NodeKey}
+use Rattle.inode_refs.proofs.UserLemmas.{one_user}
+use Rattle.inode_refs.proofs.UserLemmas.{some_user as cached_user}
 use Rattle.disk_tree.specs.DiskTree.{Disk}
 use Rattle.mount_model.specs.PlainMount.{HandleList, has_handle}
 use Rattle.mount_state.specs.Contexts.{context_in, kind_in, names_id, has_own, has_shared, same_kind, names_key, uses_own, uses_mode}
@@ -81,6 +84,59 @@ module _ (disk : Disk) (ring : Holding) (cache : Cache) (modes : Modes) (live : 
     | inl first ↦ mode_busy Contents first
     | inr none ↦ mode_busy Names (omega arith)
   ]
+
+  -- a node with pins and a key of it is one with a handle
+  pub inode_busy : 0 < inode_users cache id → is_busy disk live id ≡ true
+  inode_busy some =
+      let one = cached_user cache id some in
+      let pins = rule.pins.pinned one.0 in
+      let key = one.1.1.0 in
+      let named : names_key disk one.0 key.id ≡ true = own_names key.id (context_in (get disk one.0)) (rule.file_keys.named one.0 key one.1.1.1.0) in
+      let pinned : 0 < pins_of cache one.0 = elim (cases_lt 0 (pins_of cache one.0)) [
+        | inl more ↦ more
+        | inr none ↦ absurd (true≢false (sym (eq-eqb (pins_of cache one.0) 0 (omega arith)) ∙ one.1.0))
+      ] in
+      busy_with one.0 (some_user (λ n. eqb n one.0) live (omega arith)) (ap (λ (k : KeyId). names_key disk one.0 k) (sym one.1.1.1.1) ∙ named)
+
+  -- where a handle needs the key, its node has pins and a key of it, or uses a mode key
+  pub not_busy : inode_users cache id ≤ 0 → users_of modes id ≤ 0 → is_busy disk live id ≡ false
+  not_busy no_inodes no_modes = elim (cases_Bool (is_busy disk live id)) [
+    | inl busy ↦ let one = one_on (λ n. names_key disk n id) live busy in absurd (needed one.0 one.1.0 one.1.1)
+    | inr idle ↦ idle
+  ]
+    where
+      mode_users : (kind : KeyKind) → users_in (of_kind modes kind) id ≤ users_of modes id
+      mode_users Contents = omega arith
+      mode_users Names = omega arith
+
+      by_mode : (kind : KeyKind) (node : ℕ) → has_handle live node ≡ true → uses_mode disk id kind node ≡ true → ⊥
+      by_mode kind node held uses =
+          let some = users_from (uses_mode disk id kind) live (some_from (uses_mode disk id kind) live node held uses) in
+          let tied = rule.mode_keys.counted id kind in
+          let few = mode_users kind in
+          omega arith
+
+      by_own : (node : ℕ) → has_handle live node ≡ true → has_own id (context_in (get disk node)) ≡ true → (o : Option NodeKey) → key_at cache node ≡ o → is_some o ≡ true → ⊥
+      by_own node held own None is there = true≢false (sym there)
+      by_own node held own (Some key) is there =
+          let same : key.id ≡ id = one_id key.id id (context_in (get disk node)) (rule.file_keys.named node key is) own in
+          let handles = users_from (λ n. eqb n node) live held in
+          let pins = rule.pins.pinned node in
+          let pinned : is_unpinned cache node ≡ false = elim (cases_Bool (is_unpinned cache node)) [
+            | inl free ↦ let none : pins_of cache node ≡ 0 = eqb-true (pins_of cache node) 0 free in absurd (omega arith)
+            | inr pinned ↦ pinned
+          ] in
+          let one = one_user cache node key pinned is in
+          let count : inode_users cache key.id ≡ inode_users cache id = ap (inode_users cache) same in
+          omega arith
+
+      needed : (node : ℕ) → has_handle live node ≡ true → names_key disk node id ≡ true → ⊥
+      needed node held named = elim (cases_Bool (has_shared id (context_in (get disk node)))) [
+        | inl shared ↦ by_mode (kind_in (get disk node)) node held (λ i. shared i && itself (kind_in (get disk node)) i)
+        | inr not_shared ↦
+            let own = own_or_shared id (context_in (get disk node)) named not_shared in
+            by_own node held own (key_at cache node) refl (rule.file_keys.kept node id own held)
+      ]
 
   pub no_mode_key : AreUsed modes → is_busy disk live id ≡ false → (kind : KeyKind) → mode_at modes id kind ≡ None
   no_mode_key used idle kind = by_case (mode_at modes id kind) refl

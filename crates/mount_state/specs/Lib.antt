@@ -9,3 +9,4 @@ pub mod StandsFor
 pub mod Led
 pub mod NamesKey
 pub mod SameButKeys
+pub mod Given

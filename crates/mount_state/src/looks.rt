@@ -9,7 +9,7 @@ ghost use Rattle.fsc_keys.specs.declared.file_keys.KeyKind.{KeyKind};
 ghost use Rattle.policy_ctx.specs.Context.{id_in};
 ghost use Rattle.mount_model.specs.PlainMount.{PlainMount, empty_mount};
 ghost use Rattle.mount_model.specs.States as plain;
-ghost use Rattle.mount_state.specs.Contexts.{names_key, context_in};
+ghost use Rattle.mount_state.specs.Contexts.{context_in};
 ghost use Rattle.mount_state.specs.Held.{HoldsNothing, is_busy, key_state, is_keyed};
 ghost use Rattle.mount_state.specs.StandsFor.{StandsFor};
 
@@ -59,23 +59,13 @@ impl MountState {
     }
 
     /// Whether some handle is on a node whose context names the key. Where none is, no mode key of it
-    /// stands.
+    /// stands. It takes two look-ups: such a node has the key cached, or uses a mode key.
     pub fn is_busy(&self, id: &KeyId) -> bool
         ensures value { result ≡ is_busy self.now.disk self.now.handles.live id.now }
         ensures modes { result ≡ false → (kind : KeyKind) → mode_at self.now.modes id.now kind ≡ None }
         ensures stands { (m : PlainMount) → StandsFor self.now m → result ≡ plain.is_busy m id.now }
     {
-        self.modes.users_of(id) > 0 || self.has_handle_under(id)
-    }
-
-    // The same, by the handles alone.
-    fn has_handle_under(&self, id: &KeyId) -> bool
-        ensures { result ≡ is_busy self.now.disk self.now.handles.live id.now }
-    {
-        self.handles
-            .live()
-            .iter()
-            .any(|handle| names_key(&self.disk, handle.node, id))
+        self.inodes.users_of(id) > 0 || self.modes.users_of(id) > 0
     }
 
     /// Whether the node's key is at hand: it has no context, or the key that this names is present, or
@@ -96,16 +86,6 @@ impl MountState {
         ensures secret { result ≡ is_some (secret_of self.now.ring id.now) }
     {
         self.ring.claims().count_of_id(id) > 0
-    }
-}
-
-// Whether the node's context names the key.
-fn names_key(disk: &DiskTree, node: u32, id: &KeyId) -> bool
-    ensures { result ≡ names_key disk.now node id.now }
-{
-    match key_named(disk, node) {
-        Some(named) => named == *id,
-        None => false,
     }
 }
 

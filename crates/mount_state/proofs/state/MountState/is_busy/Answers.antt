@@ -1,31 +1,32 @@
-use Rattle.std.proofs.Common.{◌<◌, sym, ◌∙◌, subst}
-use Rattle.std.proofs.lemmas.Bool.{lt-ltb}
-use Rattle.key_ring.specs.Modes.{users_of}
-use Rattle.mount_state.proofs.RuleLemmas.{users_busy, no_mode_key}
+use Rattle.std.proofs.Common.{◌<◌, ◌≤◌, inl, inr, sym, ◌∙◌, subst}
+use Rattle.std.proofs.lemmas.Bool.{cases_lt, lt-ltb, le-ltb}
+use Rattle.mount_state.proofs.RuleLemmas.{inode_busy, users_busy, not_busy}
 use Rattle.mount_state.proofs.StandLemmas.{busy_stands}
 use Rattle.mount_state.proofs.state.MountState.is_busy.Goals as goal
 
 pub returns-then-users_of-gt0-clause-value : goal.returns-then-users_of-gt0-clause-value
 returns-then-users_of-gt0-clause-value c =
     let s = c.args.self.now in
-    let some : 0 < users_of s.modes c.args.id.now = subst (λ n. 0 < n) c.users_of.ensures.count c.if-users_of-gt0.true in
     lt-ltb 0 c.users_of.result c.if-users_of-gt0.true
-    ∙ sym (users_busy s.disk s.ring s.inodes s.modes s.handles.live s.forgets c.args.id.now some)
+    ∙ sym (inode_busy s.disk s.ring s.inodes s.modes s.handles.live s.forgets c.args.id.now (subst (λ n. 0 < n) c.users_of.ensures c.if-users_of-gt0.true))
 
 pub returns-then-users_of-gt0-clause-stands : goal.returns-then-users_of-gt0-clause-stands
 returns-then-users_of-gt0-clause-stands c m st =
     let s = c.args.self.now in
-    let some : 0 < users_of s.modes c.args.id.now = subst (λ n. 0 < n) c.users_of.ensures.count c.if-users_of-gt0.true in
-    lt-ltb 0 c.users_of.result c.if-users_of-gt0.true
-    ∙ (sym (users_busy s.disk s.ring s.inodes s.modes s.handles.live s.forgets c.args.id.now some)
-    ∙ busy_stands s.disk s.next_node m st.well st.tree s.handles.live st.handles.live c.args.id.now)
+    returns-then-users_of-gt0-clause-value c ∙ busy_stands s.disk s.next_node m st.well st.tree s.handles.live st.handles.live c.args.id.now
 
-pub returns-else-users_of-gt0-clause-modes : goal.returns-else-users_of-gt0-clause-modes
-returns-else-users_of-gt0-clause-modes c idle =
+pub returns-else-users_of-gt0-clause-value : goal.returns-else-users_of-gt0-clause-value
+returns-else-users_of-gt0-clause-value c =
     let s = c.args.self.now in
-    no_mode_key s.disk s.ring s.inodes s.modes s.handles.live s.forgets c.args.id.now c.users_of.ensures.used (sym c.has_handle_under.ensures ∙ idle)
+    let modes = c.users_of-else-users_of-gt0.ensures.count in
+    elim (cases_lt 0 c.users_of-else-users_of-gt0.result) [
+      | inl some ↦ lt-ltb 0 c.users_of-else-users_of-gt0.result some
+          ∙ sym (users_busy s.disk s.ring s.inodes s.modes s.handles.live s.forgets c.args.id.now (subst (λ n. 0 < n) modes some))
+      | inr none ↦ le-ltb 0 c.users_of-else-users_of-gt0.result none
+          ∙ sym (not_busy s.disk s.ring s.inodes s.modes s.handles.live s.forgets c.args.id.now (subst (λ n. n ≤ 0) c.users_of.ensures c.if-users_of-gt0.false) (subst (λ n. n ≤ 0) modes none))
+    ]
 
 pub returns-else-users_of-gt0-clause-stands : goal.returns-else-users_of-gt0-clause-stands
 returns-else-users_of-gt0-clause-stands c m st =
     let s = c.args.self.now in
-    c.has_handle_under.ensures ∙ busy_stands s.disk s.next_node m st.well st.tree s.handles.live st.handles.live c.args.id.now
+    returns-else-users_of-gt0-clause-value c ∙ busy_stands s.disk s.next_node m st.well st.tree s.handles.live st.handles.live c.args.id.now
