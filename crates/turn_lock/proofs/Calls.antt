@@ -1,5 +1,7 @@
 -- The three steps of a call on the table keep the rule: the turn is taken, the entry is counted, the turn is freed.
-use Rattle.std.proofs.Common.{◌≡◌, ◌≢◌, ℕ, ◌+◌, ◌%◌, ◌^◌, ◌<◌, true, false, eqb, List, [], ◌∷◌, ◌++◌, length, set, get_or, sym, refl, ap, ◌∙◌, subst, ⊎_elim, Option, Some, true≢false, append-nil, append_assoc, length-append, mod-eq_of_lt, arith}
+use Rattle.std.proofs.Common.{◌≡◌, ◌≢◌, ℕ, ◌+◌, ◌%◌, ◌^◌, ◌<◌, true, false, eqb, List, [], ◌∷◌, ◌++◌, length}
+use Rattle.std.proofs.Common.{set, get_or, sym, refl, ap, ◌∙◌, subst, ⊎_elim, Option, Some, true≢false}
+use Rattle.std.proofs.Common.{append-nil, append_assoc, length-append, mod-eq_of_lt, arith}
 use Rattle.std.proofs.lemmas.Bool.{cases_eq}
 use mathlib.Core.Option.{some}
 use mathlib.Core.Option as maybe
@@ -11,7 +13,8 @@ use Rattle.call_history.specs.declared.entry.Entry.{Entry}
 use Rattle.call_history.specs.Prefix.{IsPrefix}
 use Rattle.call_history.specs.Entries.{History, PlacedList, by, entries_by}
 use Rattle.call_history.proofs.Prefixes.{IsPrefix-refl, IsPrefix-longer}
-use Rattle.call_history.proofs.Placing.{by-append, by-cons_own, by-cons_other, entries_by-more_own, entries_by-more_other}
+use Rattle.call_history.proofs.Placing.{by-append, by-cons_own, by-cons_other, entries_by-more_own}
+use Rattle.call_history.proofs.Placing.{entries_by-more_other}
 use Rattle.turn_lock.specs.declared.view.View.{View}
 use Rattle.turn_lock.specs.Standing.{Standing, standing}
 use Rattle.turn_lock.specs.Turns.{TurnState, Owns, Knows, Kept, all_left}
@@ -26,30 +29,51 @@ module _ {V C R : Type 0} (leads : History C R → V → Type 0) (numbers allowa
   table words homes views = record { words = words; homes = homes; views = views }
 
   -- a step that changes nothing
-  pub same : (s : TurnState V C R) (k : Rule s) → Rule (table (k.turn ∷ length k.history ∷ []) s.homes s.views)
-  same s k = record { history = k.history; turn = k.turn; holder = k.holder; words = refl; free = k.free; taken = k.taken; each = k.each; apart = k.apart; callers = k.callers; room = k.room; small = k.small }
+  pub same : (s : TurnState V C R) (k : Rule s)
+      → Rule (table (k.turn ∷ length k.history ∷ []) s.homes s.views)
+  same s k =
+      record {
+        history = k.history;
+        turn = k.turn;
+        holder = k.holder;
+        words = refl;
+        free = k.free;
+        taken = k.taken;
+        each = k.each;
+        apart = k.apart;
+        callers = k.callers;
+        room = k.room;
+        small = k.small;
+      }
 
   pub unchanged : (s : TurnState V C R) (k : Rule s) (id : ℕ) (v : View C R) → get_elem? s.views id ≡ some v
       → Rule (table (k.turn ∷ length k.history ∷ []) s.homes (set s.views id v))
-  unchanged s k id v at = subst (λ (vs : List (View C R)). Rule (table (k.turn ∷ length k.history ∷ []) s.homes vs)) (sym (set_again s.views id v at)) (same s k)
+  unchanged s k id v at =
+      subst (λ (vs : List (View C R)). Rule (table (k.turn ∷ length k.history ∷ []) s.homes vs))
+      (sym (set_again s.views id v at)) (same s k)
 
   -- the same calls are left in all where this seat's stay
-  left_same : (vs : List (View C R)) (id : ℕ) (v w : View C R) → get_elem? vs id ≡ some v → w.left ≡ v.left → all_left (set vs id w) ≡ all_left vs
+  left_same : (vs : List (View C R)) (id : ℕ) (v w : View C R) → get_elem? vs id ≡ some v → w.left ≡ v.left
+      → all_left (set vs id w) ≡ all_left vs
   left_same vs id v w at e = let sums = left_set vs id v w at in omega arith
 
   -- no other seat has the turn that this one has
-  no_other : (s : TurnState V C R) (k : Rule s) (id j : ℕ) (v u : View C R) → get_elem? s.views id ≡ some v → v.turn ≡ true → j ≢ id → get_elem? s.views j ≡ some u → u.turn ≡ true → ⊥
-  no_other s k id j v u at t other at' t' = other (((k.each j u at').holds_turn t').1 ∙ sym ((k.each id v at).holds_turn t).1)
+  no_other : (s : TurnState V C R) (k : Rule s) (id j : ℕ) (v u : View C R) → get_elem? s.views id ≡ some v
+      → v.turn ≡ true → j ≢ id → get_elem? s.views j ≡ some u → u.turn ≡ true → ⊥
+  no_other s k id j v u at t other at' t' =
+      other (((k.each j u at').holds_turn t').1 ∙ sym ((k.each id v at).holds_turn t).1)
 
   -- the turn is taken
   tries : (slots id : ℕ) (v : View C R) → v.who < v.high
       → Allows Rule slots id (v, []) 0 (λ n. either (eqb n 0) 1 n) (tried (v, []))
   tries slots id v some_number s k long at small =
       subst (λ (ws : List ℕ). (w : View C R) × (a : Act (Option (Standing V C R))) × Valid s.homes [] a
-      × Rule (table (set ws 0 (either (eqb (get_or ws 0 0) 0) 1 (get_or ws 0 0))) (homes_after s.homes [] a) (set s.views id w))
+      × Rule (table (set ws 0 (either (eqb (get_or ws 0 0) 0) 1 (get_or ws 0 0))) (homes_after s.homes [] a)
+      (set s.views id w))
       × tried (v, []) (get_or ws 0 0) (w, carried_after [] a)) (sym k.words)
       (exchanged k.turn 0 1 (λ n. (w : View C R) × (a : Act (Option (Standing V C R))) × Valid s.homes [] a
-      × Rule (table (n ∷ length k.history ∷ []) (homes_after s.homes [] a) (set s.views id w)) × tried (v, []) k.turn (w, carried_after [] a)) hit miss)
+      × Rule (table (n ∷ length k.history ∷ []) (homes_after s.homes [] a) (set s.views id w))
+      × tried (v, []) k.turn (w, carried_after [] a)) hit miss)
     where
       w : View C R
       w = record v { turn = true; seen = k.history }
@@ -58,13 +82,22 @@ module _ {V C R : Type 0} (leads : History C R → V → Type 0) (numbers allowa
       f = k.each id v at
 
       hit : k.turn ≡ 0 → (w : View C R) × (a : Act (Option (Standing V C R))) × Valid s.homes [] a
-          × Rule (table (1 ∷ length k.history ∷ []) (homes_after s.homes [] a) (set s.views id w)) × tried (v, []) k.turn (w, carried_after [] a)
-      hit z = (w, takes 0 (Some held), ap (λ (hs : List (maybe.Option (Option (Standing V C R)))). get_elem? hs 0) (k.free z).1, kept, ((λ _. (held, f.begins, refl)), (λ nz. absurd (nz z))))
+          × Rule (table (1 ∷ length k.history ∷ []) (homes_after s.homes [] a) (set s.views id w))
+          × tried (v, []) k.turn (w, carried_after [] a)
+      hit z = (
+        w,
+        takes 0 (Some held),
+        ap (λ (hs : List (maybe.Option (Option (Standing V C R)))). get_elem? hs 0)
+            (k.free z).1,
+        kept,
+        ((λ _. (held, f.begins, refl)), (λ nz. absurd (nz z))),
+      )
         where
           held : Standing V C R
           held = standing (k.free z).0 k.history
 
-          kept : Rule (table (1 ∷ length k.history ∷ []) (homes_after s.homes [] (takes 0 (Some held))) (set s.views id w))
+          kept : Rule (table (1 ∷ length k.history ∷ []) (homes_after s.homes [] (takes 0 (Some held)))
+              (set s.views id w))
           kept = record {
             history = k.history;
             turn = 1;
@@ -73,8 +106,22 @@ module _ {V C R : Type 0} (leads : History C R → V → Type 0) (numbers allowa
             free = λ e. absurd (omega arith);
             taken = λ _. (w, at_written s.views id v w at, refl);
             each = each_set (Knows numbers k.history 1 id) s.views id w
-                record { begins = IsPrefix-refl k.history; told_begins = f.told_begins; holds_turn = λ _. (refl, refl, refl, some_number); below = f.below; own = f.own }
-                (λ j u other at'. let g = k.each j u at' in record { begins = g.begins; told_begins = g.told_begins; holds_turn = λ t. let one = (g.holds_turn t).0 in absurd (omega arith); below = g.below; own = g.own });
+                record {
+                  begins = IsPrefix-refl k.history;
+                  told_begins = f.told_begins;
+                  holds_turn = λ _. (refl, refl, refl, some_number);
+                  below = f.below;
+                  own = f.own;
+                }
+                (λ j u other at'. let g = k.each j u at' in
+                record {
+                  begins = g.begins;
+                  told_begins = g.told_begins;
+                  holds_turn = λ t.
+                      let one = (g.holds_turn t).0 in absurd (omega arith);
+                  below = g.below;
+                  own = g.own;
+                });
             apart = apart_set s.views id w k.apart (alone s.views id v k.apart at);
             callers = k.callers;
             room = let sums = left_same s.views id v w at refl in let before = k.room in omega arith;
@@ -82,17 +129,29 @@ module _ {V C R : Type 0} (leads : History C R → V → Type 0) (numbers allowa
           }
 
       miss : k.turn ≢ 0 → (w : View C R) × (a : Act (Option (Standing V C R))) × Valid s.homes [] a
-          × Rule (table (k.turn ∷ length k.history ∷ []) (homes_after s.homes [] a) (set s.views id w)) × tried (v, []) k.turn (w, carried_after [] a)
+          × Rule (table (k.turn ∷ length k.history ∷ []) (homes_after s.homes [] a) (set s.views id w))
+          × tried (v, []) k.turn (w, carried_after [] a)
       miss nz = (v, keeps, tt, unchanged s k id v at, ((λ z. absurd (nz z)), (λ _. refl)))
 
   -- the entry is counted
-  counts : (slots id : ℕ) (v : View C R) (c : List (ℕ × Option (Standing V C R))) (e : Entry C R) → v.turn ≡ true → e.who ≡ v.who → 0 < v.left
+  counts : (slots id : ℕ) (v : View C R) (c : List (ℕ × Option (Standing V C R))) (e : Entry C R)
+      → v.turn ≡ true → e.who ≡ v.who → 0 < v.left
       → Allows Rule slots id (v, c) 1 (λ n. (n + 1) % 2 ^ 64) (counted (e ∷ []) (v, c))
   counts slots id v c e turn own some_left s k long at small =
       subst (λ (ws : List ℕ). (w : View C R) × (a : Act (Option (Standing V C R))) × Valid s.homes c a
       × Rule (table (set ws 1 ((get_or ws 1 0 + 1) % 2 ^ 64)) (homes_after s.homes c a) (set s.views id w))
-      × counted (e ∷ []) (v, c) (get_or ws 1 0) (w, carried_after c a)) (sym k.words)
-      (w, keeps, tt, kept, (sym (ap length seen_all), refl, mine v.who (omega arith, held.3) ∙ ap (λ (h : History C R). entries_by v.who (h ++ e ∷ [])) (sym seen_all)))
+      × counted (e ∷ []) (v, c) (get_or ws 1 0) (w, carried_after c a)) (sym k.words) (
+        w,
+        keeps,
+        tt,
+        kept,
+        (
+          sym (ap length seen_all),
+          refl,
+          mine v.who (omega arith, held.3)
+              ∙ ap (λ (h : History C R). entries_by v.who (h ++ e ∷ [])) (sym seen_all),
+        ),
+      )
     where
       w : View C R
       w = counted_view v (e ∷ [])
@@ -120,31 +179,50 @@ module _ {V C R : Type 0} (leads : History C R → V → Type 0) (numbers allowa
       mine caller owned =
           let x : ℕ × Entry C R = (length v.seen, e) in
           let parts : by caller (v.past ++ w.mine) ≡ entries_by caller k.history ++ by caller (x ∷ [])
-          = ap (by caller) (sym (append_assoc v.past v.mine (x ∷ []))) ∙ (by-append caller (v.past ++ v.mine) (x ∷ []) ∙ ap (λ (l : PlacedList C R). l ++ by caller (x ∷ [])) (f.own caller owned)) in
+          = ap (by caller) (sym (append_assoc v.past v.mine (x ∷ [])))
+          ∙ (by-append caller (v.past ++ v.mine) (x ∷ [])
+          ∙ ap (λ (l : PlacedList C R). l ++ by caller (x ∷ [])) (f.own caller owned)) in
           ⊎_elim
-          (λ (is : e.who ≡ caller). parts ∙ (ap (λ (l : PlacedList C R). entries_by caller k.history ++ l) (by-cons_own caller x [] is)
-          ∙ (ap (λ (n : ℕ). entries_by caller k.history ++ (n, e) ∷ []) (ap length seen_all) ∙ sym (entries_by-more_own caller k.history e is))))
-          (λ other. parts ∙ (ap (λ (l : PlacedList C R). entries_by caller k.history ++ l) (by-cons_other caller x [] other)
-          ∙ (append-nil (entries_by caller k.history) ∙ sym (entries_by-more_other caller k.history e other))))
+          (λ (is : e.who ≡ caller). parts ∙ (ap (λ (l : PlacedList C R). entries_by caller k.history ++ l)
+          (by-cons_own caller x [] is)
+          ∙ (ap (λ (n : ℕ). entries_by caller k.history ++ (n, e) ∷ []) (ap length seen_all)
+          ∙ sym (entries_by-more_own caller k.history e is))))
+          (λ other. parts ∙ (ap (λ (l : PlacedList C R). entries_by caller k.history ++ l)
+          (by-cons_other caller x [] other)
+          ∙ (append-nil (entries_by caller k.history)
+          ∙ sym (entries_by-more_other caller k.history e other))))
           (cases_eq e.who caller)
 
       theirs : (caller : ℕ) → caller ≢ e.who → entries_by caller k.history ≡ entries_by caller longer
       theirs caller other = sym (entries_by-more_other caller k.history e (λ is. other (sym is)))
 
-      not_mine : (j : ℕ) (u : View C R) → j ≢ id → get_elem? s.views j ≡ some u → (caller : ℕ) → Owns u caller → caller ≢ e.who
-      not_mine j u other at' caller owns as_e = k.apart j id u v at' at other caller owns (let is = as_e ∙ own in let low = held.3 in (omega arith, omega arith))
+      not_mine : (j : ℕ) (u : View C R) → j ≢ id → get_elem? s.views j ≡ some u → (caller : ℕ) → Owns u caller
+          → caller ≢ e.who
+      not_mine j u other at' caller owns as_e =
+          k.apart j id u v at' at other caller owns
+          (let is = as_e ∙ own in let low = held.3 in (omega arith, omega arith))
 
       kept : Rule (table (k.turn ∷ (length k.history + 1) % 2 ^ 64 ∷ []) s.homes (set s.views id w))
       kept = record {
         history = longer;
         turn = k.turn;
         holder = k.holder;
-        words = let room = k.room in let most = k.small in ap (λ n. k.turn ∷ n ∷ []) (mod-eq_of_lt (omega arith) ∙ sym one_more);
+        words =
+            let room = k.room in let most = k.small in
+            ap (λ n. k.turn ∷ n ∷ []) (mod-eq_of_lt (omega arith) ∙ sym one_more);
         free = λ z. let one = held.0 in absurd (omega arith);
-        taken = λ _. (w, subst (λ h. get_elem? (set s.views id w) h ≡ some w) held.1 (at_written s.views id v w at), turn);
+        taken =
+            λ _. (
+              w,
+              subst (λ h. get_elem? (set s.views id w) h ≡ some w) held.1
+                  (at_written s.views id v w at),
+              turn,
+            );
         each = each_set (Knows numbers longer k.turn k.holder) s.views id w
             record {
-              begins = subst (λ (h : History C R). IsPrefix (h ++ e ∷ []) longer) (sym seen_all) (IsPrefix-refl longer);
+              begins =
+                  subst (λ (h : History C R). IsPrefix (h ++ e ∷ []) longer) (sym seen_all)
+                  (IsPrefix-refl longer);
               told_begins = IsPrefix-longer v.told k.history (e ∷ []) f.told_begins;
               holds_turn = λ _. (held.0, held.1, ap (λ (h : History C R). h ++ e ∷ []) seen_all, held.3);
               below = f.below;
@@ -158,18 +236,24 @@ module _ {V C R : Type 0} (leads : History C R → V → Type 0) (numbers allowa
               own = λ caller owns. g.own caller owns ∙ theirs caller (not_mine j u other at' caller owns);
             });
         apart = apart_set s.views id w k.apart (alone s.views id v k.apart at);
-        callers = λ caller high. sym (theirs caller (λ as_e. let is = as_e ∙ own in let low = held.3 in let below = f.below in absurd (omega arith))) ∙ k.callers caller high;
+        callers =
+            λ caller high. sym (theirs caller (λ as_e. let is = as_e ∙ own in let low = held.3 in
+            let below = f.below in absurd (omega arith))) ∙ k.callers caller high;
         room = let before = k.room in let fewer = left_less in let more = one_more in omega arith;
         small = k.small;
       }
 
   -- the value goes home, and the turn is free
   releases : (id : ℕ) (v : View C R) (value : V) → v.turn ≡ true → leads v.seen value
-      → Allows Rule 1 id (v, (0, Some (standing value v.seen)) ∷ []) 0 (λ _. 0) (λ _. released (v, (0, Some (standing value v.seen)) ∷ []) 0)
+      → Allows Rule 1 id (v, (0, Some (standing value v.seen)) ∷ []) 0 (λ _. 0)
+      (λ _. released (v, (0, Some (standing value v.seen)) ∷ []) 0)
   releases id v value turn led s k long at small =
-      subst (λ (ws : List ℕ). (w : View C R) × (a : Act (Option (Standing V C R))) × Valid s.homes ((0, Some (standing value v.seen)) ∷ []) a
-      × Rule (table (set ws 0 0) (homes_after s.homes ((0, Some (standing value v.seen)) ∷ []) a) (set s.views id w))
-      × released (v, (0, Some (standing value v.seen)) ∷ []) 0 (w, carried_after ((0, Some (standing value v.seen)) ∷ []) a)) (sym k.words)
+      subst (λ (ws : List ℕ). (w : View C R) × (a : Act (Option (Standing V C R)))
+      × Valid s.homes ((0, Some (standing value v.seen)) ∷ []) a
+      × Rule (table (set ws 0 0) (homes_after s.homes ((0, Some (standing value v.seen)) ∷ []) a)
+      (set s.views id w))
+      × released (v, (0, Some (standing value v.seen)) ∷ []) 0
+      (w, carried_after ((0, Some (standing value v.seen)) ∷ []) a)) (sym k.words)
       (w, gives, tt, kept, refl)
     where
       w : View C R
@@ -178,7 +262,8 @@ module _ {V C R : Type 0} (leads : History C R → V → Type 0) (numbers allowa
       f : Knows numbers k.history k.turn k.holder id v
       f = k.each id v at
 
-      kept : Rule (table (0 ∷ length k.history ∷ []) (set s.homes 0 (some (Some (standing value v.seen)))) (set s.views id w))
+      kept : Rule (table (0 ∷ length k.history ∷ []) (set s.homes 0 (some (Some (standing value v.seen))))
+          (set s.views id w))
       kept = record {
         history = k.history;
         turn = 0;
@@ -186,13 +271,27 @@ module _ {V C R : Type 0} (leads : History C R → V → Type 0) (numbers allowa
         words = refl;
         free = λ _. (
           value,
-          only s.homes (some (Some (standing value v.seen))) long ∙ ap (λ (h : History C R). some (Some (standing value h)) ∷ []) (f.holds_turn turn).2,
+          only s.homes (some (Some (standing value v.seen))) long
+              ∙ ap (λ (h : History C R). some (Some (standing value h)) ∷ []) (f.holds_turn turn).2,
           subst (λ (h : History C R). leads h value) (f.holds_turn turn).2 led,
         );
         taken = λ nz. absurd (nz refl);
         each = each_set (Knows numbers k.history 0 0) s.views id w
-            record { begins = f.begins; told_begins = f.told_begins; holds_turn = λ t. absurd (true≢false (sym t)); below = f.below; own = f.own }
-            (λ j u other at'. let g = k.each j u at' in record { begins = g.begins; told_begins = g.told_begins; holds_turn = λ t. absurd (no_other s k id j v u at turn other at' t); below = g.below; own = g.own });
+            record {
+              begins = f.begins;
+              told_begins = f.told_begins;
+              holds_turn = λ t. absurd (true≢false (sym t));
+              below = f.below;
+              own = f.own;
+            }
+            (λ j u other at'. let g = k.each j u at' in
+            record {
+              begins = g.begins;
+              told_begins = g.told_begins;
+              holds_turn = λ t. absurd (no_other s k id j v u at turn other at' t);
+              below = g.below;
+              own = g.own;
+            });
         apart = apart_set s.views id w k.apart (alone s.views id v k.apart at);
         callers = k.callers;
         room = let sums = left_same s.views id v w at refl in let before = k.room in omega arith;
@@ -203,15 +302,20 @@ module _ {V C R : Type 0} (leads : History C R → V → Type 0) (numbers allowa
   pub tries_at : (slots id : ℕ) (m : Seated V C R) → m.1 ≡ [] → m.0.who < m.0.high
       → Allows Rule slots id m 0 (λ n. either (eqb n 0) 1 n) (tried m)
   tries_at slots id m bare wide =
-      subst (λ (z : Seated V C R). Allows Rule slots id z 0 (λ n. either (eqb n 0) 1 n) (tried z)) (λ i. (m.0, sym bare i)) (tries slots id m.0 wide)
+      subst (λ (z : Seated V C R). Allows Rule slots id z 0 (λ n. either (eqb n 0) 1 n) (tried z))
+      (λ i. (m.0, sym bare i)) (tries slots id m.0 wide)
 
-  pub counts_at : (slots id : ℕ) (m : Seated V C R) (said : History C R) (e : Entry C R) → said ≡ e ∷ [] → m.0.turn ≡ true → e.who ≡ m.0.who → 0 < m.0.left
+  pub counts_at : (slots id : ℕ) (m : Seated V C R) (said : History C R) (e : Entry C R) → said ≡ e ∷ []
+      → m.0.turn ≡ true → e.who ≡ m.0.who → 0 < m.0.left
       → Allows Rule slots id m 1 (λ n. (n + 1) % 2 ^ 64) (counted said m)
   counts_at slots id m said e is turn own some_left =
-      subst (λ (h : History C R). Allows Rule slots id m 1 (λ n. (n + 1) % 2 ^ 64) (counted h m)) (sym is) (counts slots id m.0 m.1 e turn own some_left)
+      subst (λ (h : History C R). Allows Rule slots id m 1 (λ n. (n + 1) % 2 ^ 64) (counted h m)) (sym is)
+      (counts slots id m.0 m.1 e turn own some_left)
 
-  pub releases_at : (slots id : ℕ) (m : Seated V C R) (value : V) → slots ≡ 1 → m.0.turn ≡ true → leads m.0.seen value
+  pub releases_at : (slots id : ℕ) (m : Seated V C R) (value : V) → slots ≡ 1 → m.0.turn ≡ true
+      → leads m.0.seen value
       → m.1 ≡ (0, Some (standing value m.0.seen)) ∷ [] → Allows Rule slots id m 0 (λ _. 0) (λ _. released m 0)
   releases_at slots id m value one turn led carried =
       subst (λ (n : ℕ). Allows Rule n id m 0 (λ _. 0) (λ _. released m 0)) (sym one)
-      (subst (λ (z : Seated V C R). Allows Rule 1 id z 0 (λ _. 0) (λ _. released z 0)) (λ i. (m.0, sym carried i)) (releases id m.0 value turn led))
+      (subst (λ (z : Seated V C R). Allows Rule 1 id z 0 (λ _. 0) (λ _. released z 0))
+      (λ i. (m.0, sym carried i)) (releases id m.0 value turn led))

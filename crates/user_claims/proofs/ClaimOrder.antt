@@ -20,7 +20,8 @@ pub id_ties : (a b : KeyId) → same_id a b ≡ eq_by_cmp id_cmp a b
 id_ties a b = lists_ties nat_cmp (λ x y. sym (unsigned_tied x y)) a.0 b.0
 
 pub claim_cmp_total : IsTotalOrder claim_cmp
-claim_cmp_total = then_total (on_total (λ (c : Claim). c.0) id_cmp_total) (on_total (λ (c : Claim). c.1) nat_cmp_total)
+claim_cmp_total =
+    then_total (on_total (λ (c : Claim). c.0) id_cmp_total) (on_total (λ (c : Claim). c.1) nat_cmp_total)
 
 pub claim_cmp-IsAntisymmetric : IsAntisymmetric claim_cmp
 claim_cmp-IsAntisymmetric = exact_pairs id_cmp nat_cmp id_cmp-IsAntisymmetric exact_unsigned

@@ -1,5 +1,6 @@
 -- The first claim at or behind (id, 0): where it isn't on the key, no claim is.
-use Rattle.std.proofs.Common.{◌≡◌, ℕ, true, false, List, [], ◌∷◌, sym, refl, ap, ◌∙◌, subst, ⊎_elim, arith, ◌<◌}
+use Rattle.std.proofs.Common.{◌≡◌, ℕ, true, false, List, [], ◌∷◌, sym, refl, ap, ◌∙◌, subst, ⊎_elim, arith}
+use Rattle.std.proofs.Common.{◌<◌}
 use Rattle.std.specs.declared.cmp.Ordering.{Ordering}
 use Rattle.std.specs.declared.cmp.Ordering.TheVariants.{Less, Equal, Greater}
 use Rattle.std.specs.declared.ops.Bound.TheVariants.{Included, Unbounded}
@@ -21,14 +22,20 @@ not_above Equal n e = refl
 not_above Greater n e = let below : n < 0 = ranked 0 n Greater e in absurd (omega arith)
 
 -- identifiers that differ don't come in both orders
-clash : (o p q : Ordering) → is_eq o ≡ false → is_gt (ordering_then o p) ≡ false → is_gt (ordering_then (ordering_reverse o) q) ≡ false → ⊥
+clash : (o p q : Ordering) → is_eq o ≡ false → is_gt (ordering_then o p) ≡ false
+    → is_gt (ordering_then (ordering_reverse o) q) ≡ false → ⊥
 clash Less p q apart low high = true≢false high
 clash Equal p q apart low high = true≢false apart
 clash Greater p q apart low high = true≢false low
 
-module _ (s : BTreeSet Claim) (id : KeyId) (r : List Claim) (part : IsKeyRangeOf claim_cmp (Included (id, 0)) Unbounded s r) where
+module _ (s : BTreeSet Claim) (id : KeyId) (r : List Claim)
+    (part : IsKeyRangeOf claim_cmp (Included (id, 0)) Unbounded s r) where
   at_or_behind : (user : ℕ) → IsInRange claim_cmp (Included (id, 0)) Unbounded (id, user)
-  at_or_behind user = (ap (λ o. is_gt (ordering_then o (nat_cmp 0 user))) (tied_itself id_cmp_total id) ∙ not_above (nat_cmp 0 user) user refl, tt)
+  at_or_behind user = (
+    ap (λ o. is_gt (ordering_then o (nat_cmp 0 user))) (tied_itself id_cmp_total id)
+        ∙ not_above (nat_cmp 0 user) user refl,
+    tt,
+  )
 
   pub none_behind : r ≡ [] → (user : ℕ) → contains claim_cmp s (id, user) ≡ false
   none_behind empty user = part.5 empty (id, user) (at_or_behind user)
@@ -43,6 +50,7 @@ module _ (s : BTreeSet Claim) (id : KeyId) (r : List Claim) (part : IsKeyRangeOf
         (λ held. absurd (clash (id_cmp id first.0) (nat_cmp 0 first.1) (nat_cmp first.1 user)
         (sym (id_ties id first.0) ∙ (same_id-symm id first.0 ∙ apart))
         there.1.0.0
-        (ap (λ o. is_gt (ordering_then o (nat_cmp first.1 user))) (sym (id_cmp_total.antisymm first.0 id)) ∙ there.2 (id, user) (at_or_behind user) held)))
+        (ap (λ o. is_gt (ordering_then o (nat_cmp first.1 user))) (sym (id_cmp_total.antisymm first.0 id))
+        ∙ there.2 (id, user) (at_or_behind user) held)))
         (λ absent. absent)
         (cases_Bool (contains claim_cmp s (id, user)))

@@ -4,7 +4,8 @@ use Rattle.turn_lock.proofs.Calls.{tries_at}
 use Rattle.turn_lock.proofs.steps.take_turn.Goals as goal
 
 pub compare_exchange-requires : goal.compare_exchange-requires
-compare_exchange-requires g c = (search rules, search rules, tries_at _ _ _ _ _ _ (search rules) (search rules))
+compare_exchange-requires g c =
+    (search rules, search rules, tries_at _ _ _ _ _ _ (search rules) (search rules))
 
 pub exchange-requires : goal.exchange-requires
 exchange-requires g c =

@@ -10,32 +10,52 @@ use Rattle.turn_lock.proofs.shared.Shared.close.Goals as goal
 
 pub unwrap-held-requires : goal.unwrap-held-requires
 unwrap-held-requires g c =
-    let left = closes _ _ _ c.pass.inside.seat.id c.pass.inside.seat.me.0 _ _ (search rules) (search rules) (search rules) (search rules) (search rules) c.pass.invariant.past_own c.close_with-closed.ensures.values.2 in
-    let is : c.take.result ≡ Some (standing left.value left.history) = some-injective _ _ (sym c.take.ensures.value ∙ left.home) in
+    let left = closes _ _ _ c.pass.inside.seat.id c.pass.inside.seat.me.0 _ _ (search rules) (search rules)
+    (search rules) (search rules)
+    (search rules) c.pass.invariant.past_own c.close_with-closed.ensures.values.2 in
+    let is : c.take.result ≡ Some (standing left.value left.history) =
+    some-injective _ _ (sym c.take.ensures.value ∙ left.home) in
     rw is
 
 pub returns-clause-complete : goal.returns-clause-complete
 returns-clause-complete g c =
-    let left = closes _ _ _ c.pass.inside.seat.id c.pass.inside.seat.me.0 _ _ (search rules) (search rules) (search rules) (search rules) (search rules) c.pass.invariant.past_own c.close_with-closed.ensures.values.2 in
-    subst (λ p. IsComplete (p.past ++ p.mine)) c.pass.view_is (IsComplete_by_callers left.history _ left.entries)
+    let left = closes _ _ _ c.pass.inside.seat.id c.pass.inside.seat.me.0 _ _ (search rules) (search rules)
+    (search rules) (search rules)
+    (search rules) c.pass.invariant.past_own c.close_with-closed.ensures.values.2 in
+    subst (λ p. IsComplete (p.past ++ p.mine)) c.pass.view_is
+    (IsComplete_by_callers left.history _ left.entries)
 
 pub returns-clause-callers : goal.returns-clause-callers
 returns-clause-callers g c caller =
-    let left = closes _ _ _ c.pass.inside.seat.id c.pass.inside.seat.me.0 _ _ (search rules) (search rules) (search rules) (search rules) (search rules) c.pass.invariant.past_own c.close_with-closed.ensures.values.2 in
+    let left = closes _ _ _ c.pass.inside.seat.id c.pass.inside.seat.me.0 _ _ (search rules) (search rules)
+    (search rules) (search rules)
+    (search rules) c.pass.invariant.past_own c.close_with-closed.ensures.values.2 in
     subst (λ p. entries_by caller (merged_entries p) ≡ by caller (p.past ++ p.mine)) c.pass.view_is
-    (ap (entries_by caller) (merged_by_callers left.history (c.pass.inside.seat.me.0.past ++ c.pass.inside.seat.me.0.mine) left.entries) ∙ sym (left.entries caller))
+    (ap (entries_by caller) (merged_by_callers left.history
+    (c.pass.inside.seat.me.0.past ++ c.pass.inside.seat.me.0.mine) left.entries)
+    ∙ sym (left.entries caller))
 
 pub returns-clause-seen : goal.returns-clause-seen
 returns-clause-seen g c =
-    let left = closes _ _ _ c.pass.inside.seat.id c.pass.inside.seat.me.0 _ _ (search rules) (search rules) (search rules) (search rules) (search rules) c.pass.invariant.past_own c.close_with-closed.ensures.values.2 in
+    let left = closes _ _ _ c.pass.inside.seat.id c.pass.inside.seat.me.0 _ _ (search rules) (search rules)
+    (search rules) (search rules)
+    (search rules) c.pass.invariant.past_own c.close_with-closed.ensures.values.2 in
     subst (λ p. IsPrefix p.seen (merged_entries p)) c.pass.view_is
-    (subst (IsPrefix c.pass.inside.seat.me.0.seen) (sym (merged_by_callers left.history (c.pass.inside.seat.me.0.past ++ c.pass.inside.seat.me.0.mine) left.entries)) left.begins)
+    (subst (IsPrefix c.pass.inside.seat.me.0.seen)
+    (sym (merged_by_callers left.history (c.pass.inside.seat.me.0.past
+    ++ c.pass.inside.seat.me.0.mine) left.entries)) left.begins)
 
 pub returns-clause-leads : goal.returns-clause-leads
 returns-clause-leads g c =
-    let left = closes _ _ _ c.pass.inside.seat.id c.pass.inside.seat.me.0 _ _ (search rules) (search rules) (search rules) (search rules) (search rules) c.pass.invariant.past_own c.close_with-closed.ensures.values.2 in
-    let is : c.take.result ≡ Some (standing left.value left.history) = some-injective _ _ (sym c.take.ensures.value ∙ left.home) in
+    let left = closes _ _ _ c.pass.inside.seat.id c.pass.inside.seat.me.0 _ _ (search rules) (search rules)
+    (search rules) (search rules)
+    (search rules) c.pass.invariant.past_own c.close_with-closed.ensures.values.2 in
+    let is : c.take.result ≡ Some (standing left.value left.history) =
+    some-injective _ _ (sym c.take.ensures.value ∙ left.home) in
     let entries = c.pass.inside.seat.me.0.past ++ c.pass.inside.seat.me.0.mine in
-    let held : c.unwrap-held.result ≡ standing left.value left.history = Some-injective _ _ (sym c.unwrap-held.ensures ∙ is) in
+    let held : c.unwrap-held.result ≡ standing left.value left.history =
+    Some-injective _ _ (sym c.unwrap-held.ensures ∙ is) in
     let whole : merged entries ≡ merged_entries c.args.pass = ap (λ p. merged_entries p) c.pass.view_is in
-    subst (λ h. g.M.Machine.leads h c.held.inside.value) (ap (λ h. h.history) c.held.view_is ∙ (ap (λ h. h.history) held ∙ (sym (merged_by_callers left.history entries left.entries) ∙ whole))) c.held.invariant
+    subst (λ h. g.M.Machine.leads h c.held.inside.value)
+    (ap (λ h. h.history) c.held.view_is ∙ (ap (λ h. h.history) held
+    ∙ (sym (merged_by_callers left.history entries left.entries) ∙ whole))) c.held.invariant
