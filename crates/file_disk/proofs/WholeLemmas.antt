@@ -15,8 +15,10 @@ use Rattle.file_disk.specs.Bodies.{end_block, blocks_with, body_written}
 use Rattle.file_disk.proofs.DiskLemmas.{size_stays}
 
 -- no bytes change nothing
-pub nothing_written : (seal : Option Seal) (at : ℕ) (bytes : List ℕ) → length bytes ≡ 0 → (disk : Disk) (file : ℕ) → disk ≡ changed disk file (on_body (body_written seal at bytes))
-nothing_written seal at [] none disk file = sym (changed_fixed disk file (on_body (body_written seal at [])) (λ node there. refl))
+pub nothing_written : (seal : Option Seal) (at : ℕ) (bytes : List ℕ) → length bytes ≡ 0
+    → (disk : Disk) (file : ℕ) → disk ≡ changed disk file (on_body (body_written seal at bytes))
+nothing_written seal at [] none disk file = sym
+    (changed_fixed disk file (on_body (body_written seal at [])) (λ node there. refl))
 nothing_written seal at (b ∷ bs) none disk file = absurd (omega arith)
 
 module _ (seal : Option Seal) (at : ℕ) where
@@ -24,16 +26,21 @@ module _ (seal : Option Seal) (at : ℕ) where
   made had bytes = rewritten (stored_block seal) (read_block seal) had at bytes
 
   -- the three steps of a body
-  body_done : (bytes : List ℕ) → 0 < length bytes → (had size : ℕ) (body : Body) → had ≡ length (blocks_of body) → size ≡ max (size_of body) (at + length bytes) →
-      with_size size (with_blocks (edited (made had bytes) (min had (at / 4096)) (end_block at bytes)) (with_blocks (grown (end_block at bytes)) body)) ≡ body_written seal at bytes body
+  body_done : (bytes : List ℕ) → 0 < length bytes → (had size : ℕ) (body : Body)
+      → had ≡ length (blocks_of body) → size ≡ max (size_of body) (at + length bytes) →
+      with_size size (with_blocks (edited (made had bytes) (min had (at / 4096)) (end_block at bytes))
+      (with_blocks (grown (end_block at bytes)) body)) ≡ body_written seal at bytes body
   unfolding blocks_with
   body_done [] some had size body has is = absurd (omega arith)
   body_done (b ∷ bs) some had size (Dir entries) has is = refl
   body_done (b ∷ bs) some had size (File blocks old) has is =
-      λ i. File (edited (made (has i) (b ∷ bs)) (min (has i) (at / 4096)) (end_block at (b ∷ bs)) (grown (end_block at (b ∷ bs)) blocks)) (is i)
+      λ i. File (edited (made (has i) (b ∷ bs)) (min (has i) (at / 4096)) (end_block at (b ∷ bs))
+      (grown (end_block at (b ∷ bs)) blocks)) (is i)
   body_done (b ∷ bs) some had size (Link target) has is = refl
 
-  pub write_done : (bytes : List ℕ) (disk grew rewrote sized : Disk) (file had first end size : ℕ) → 0 < length bytes → had ≡ length (file_blocks disk file) → first ≡ min had (at / 4096) → end ≡ end_block at bytes →
+  pub write_done : (bytes : List ℕ) (disk grew rewrote sized : Disk) (file had first end size : ℕ)
+      → 0 < length bytes → had ≡ length (file_blocks disk file) → first ≡ min had (at / 4096)
+      → end ≡ end_block at bytes →
       grew ≡ changed disk file (on_body (with_blocks (grown end))) →
       rewrote ≡ changed grew file (on_body (with_blocks (edited (made had bytes) first end))) →
       size ≡ max (file_size rewrote file) (at + length bytes) →
@@ -44,13 +51,17 @@ module _ (seal : Option Seal) (at : ℕ) where
       let E : StoredNode → StoredNode = on_body (with_blocks (edited (made had bytes) first end)) in
       let S : StoredNode → StoredNode = on_body (with_size size) in
       let old_size : file_size rewrote file ≡ file_size disk file
-      = ap (λ d. file_size d file) rewrites ∙ size_stays (edited (made had bytes) first end) grew file ∙ ap (λ d. file_size d file) grows ∙ size_stays (grown end) disk file in
-      sizes ∙ ap (λ d. changed d file S) (rewrites ∙ ap (λ d. changed d file E) grows ∙ changed_twice disk file G E)
+      = ap (λ d. file_size d file) rewrites ∙ size_stays (edited (made had bytes) first end) grew file
+      ∙ ap (λ d. file_size d file) grows ∙ size_stays (grown end) disk file in
+      sizes ∙ ap (λ d. changed d file S) (rewrites ∙ ap (λ d. changed d file E) grows
+      ∙ changed_twice disk file G E)
       ∙ changed_twice disk file (λ v. E (G v)) S
       ∙ changed_alike disk file (λ v. S (E (G v))) (on_body (body_written seal at bytes))
       (λ node there.
       let blocks : had ≡ length (blocks_of node.body) = has ∙ ap (λ o. length (blocks_in o)) there in
-      let whole : size ≡ max (size_of node.body) (at + length bytes) = is ∙ ap (λ n. max n (at + length bytes)) (old_size ∙ ap size_in there) in
+      let whole : size ≡ max (size_of node.body) (at + length bytes) =
+      is ∙ ap (λ n. max n (at + length bytes)) (old_size ∙ ap size_in there) in
       ap (λ (b : Body). let n : StoredNode = record node { body = b } in n)
-      ((λ i. with_size size (with_blocks (edited (made had bytes) (begins i) (ends i)) (with_blocks (grown (ends i)) node.body)))
+      ((λ i. with_size size (with_blocks (edited (made had bytes) (begins i) (ends i))
+      (with_blocks (grown (ends i)) node.body)))
       ∙ body_done bytes some had size node.body blocks whole))

@@ -12,6 +12,15 @@ each-init c = record {
 
 pub each-preserved : goal.each-preserved
 each-preserved c = record {
-  copied = c.in_ok-extend_from_slice.ensures.items ∙ (λ i. c.each.invariant.copied i ++ c.block.ensures.value i) ∙ sym (joined_more (file_blocks c.args.disk.now c.args.file) c.args.from c.each.i);
-  size = omega (arith, ap length c.in_ok-extend_from_slice.ensures.items, length-append c.each.text.items c.block.result.now, c.block.ensures.whole, c.each.invariant.size);
+  copied =
+      c.in_ok-extend_from_slice.ensures.items ∙ (λ i. c.each.invariant.copied i ++ c.block.ensures.value i)
+      ∙ sym (joined_more (file_blocks c.args.disk.now c.args.file) c.args.from c.each.i);
+  size =
+      omega (
+        arith,
+        ap length c.in_ok-extend_from_slice.ensures.items,
+        length-append c.each.text.items c.block.result.now,
+        c.block.ensures.whole,
+        c.each.invariant.size,
+      );
 }

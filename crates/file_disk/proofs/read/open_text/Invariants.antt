@@ -6,4 +6,6 @@ use Rattle.file_disk.specs.Keys.{seal_by}
 use Rattle.file_disk.proofs.read.open_text.Given as goal
 
 abbrev pub invariant-each : goal.invariant-each
-invariant-each l = l.text ≡ first_blocks (λ i. read_block (seal_by l.cipher) (l.fn.first + i) (block_at 4096 l.fn.text i)) l.i ++ drop (4096 * l.i) l.fn.text
+invariant-each l =
+    l.text ≡ first_blocks (λ i. read_block (seal_by l.cipher) (l.fn.first + i)
+    (block_at 4096 l.fn.text i)) l.i ++ drop (4096 * l.i) l.fn.text

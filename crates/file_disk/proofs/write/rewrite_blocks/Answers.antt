@@ -15,15 +15,23 @@ each-init c = blocks_begin (rewritten (stored_block (seal_by c.args.cipher.now))
 
 pub block_mut-block-requires : goal.block_mut-block-requires
 block_mut-block-requires c =
-    let made : ℕ → List ℕ → List ℕ = rewritten (stored_block (seal_by c.args.cipher.now)) (read_block (seal_by c.args.cipher.now)) c.args.had c.args.offset c.args.bytes.now in
-    there_so_far made c.args.first c.each.j c.args.disk.now c.each.disk c.args.file c.each.invariant (omega arith)
+    let made : ℕ → List ℕ → List ℕ = rewritten (stored_block (seal_by c.args.cipher.now))
+    (read_block (seal_by c.args.cipher.now)) c.args.had c.args.offset c.args.bytes.now in
+    there_so_far made c.args.first c.each.j c.args.disk.now c.each.disk c.args.file c.each.invariant
+    (omega arith)
 
 pub each-preserved : goal.each-preserved
 each-preserved c =
-    let made : ℕ → List ℕ → List ℕ = rewritten (stored_block (seal_by c.args.cipher.now)) (read_block (seal_by c.args.cipher.now)) c.args.had c.args.offset c.args.bytes.now in
+    let made : ℕ → List ℕ → List ℕ = rewritten (stored_block (seal_by c.args.cipher.now))
+    (read_block (seal_by c.args.cipher.now)) c.args.had c.args.offset c.args.bytes.now in
     let block : List ℕ = c.rewrite_block.new.block in
     let low : c.each.j < length (file_blocks c.args.disk.now c.args.file) = omega arith in
-    let was : c.block_mut-block.result.now ≡ block_of (edited made c.args.first c.each.j (file_blocks c.args.disk.now c.args.file)) c.each.j
-    = c.block_mut-block.ensures.value ∙ ap (λ bs. block_of bs c.each.j) (blocks_so_far made c.args.first c.each.j c.args.disk.now c.each.disk c.args.file c.each.invariant (omega arith)) in
+    let was : c.block_mut-block.result.now ≡ block_of
+    (edited made c.args.first c.each.j (file_blocks c.args.disk.now c.args.file)) c.each.j
+    = c.block_mut-block.ensures.value ∙ ap (λ bs. block_of bs c.each.j)
+    (blocks_so_far made c.args.first c.each.j c.args.disk.now c.each.disk c.args.file c.each.invariant
+    (omega arith)) in
     ap (λ d. changed d c.args.file (on_body (with_blocks (with_block c.each.j block)))) c.each.invariant
-    ∙ disk_next made c.args.first c.each.j c.each.auto.j c.args.disk.now c.args.file block low (c.rewrite_block.ensures ∙ ap (made c.each.j) was) (ap length (sym was) ∙ sym c.rewrite_block.auto.block)
+    ∙ disk_next made c.args.first c.each.j c.each.auto.j c.args.disk.now c.args.file block low
+    (c.rewrite_block.ensures ∙ ap (made c.each.j) was)
+    (ap length (sym was) ∙ sym c.rewrite_block.auto.block)

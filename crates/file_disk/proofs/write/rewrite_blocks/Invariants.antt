@@ -9,4 +9,6 @@ use Rattle.file_disk.proofs.write.rewrite_blocks.Given as goal
 
 abbrev pub invariant-each : goal.invariant-each
 invariant-each l =
-    l.disk ≡ changed l.fn.disk l.fn.file (on_body (with_blocks (edited (rewritten (stored_block (seal_by l.cipher)) (read_block (seal_by l.cipher)) l.fn.had l.fn.offset l.bytes) l.fn.first l.j)))
+    l.disk ≡ changed l.fn.disk l.fn.file (on_body
+    (with_blocks (edited (rewritten (stored_block (seal_by l.cipher))
+    (read_block (seal_by l.cipher)) l.fn.had l.fn.offset l.bytes) l.fn.first l.j)))

@@ -14,17 +14,20 @@ use Rattle.file_disk.proofs.write.write_file.Goals as goal
 
 pub returns-then-is_empty-clause-written : goal.returns-then-is_empty-clause-written
 returns-then-is_empty-clause-written c =
-    nothing_written (seal_of c.args.key.now) c.args.offset c.args.bytes.now (eqb-true (length c.args.bytes.now) 0 (sym c.if-is_empty.ensures)) c.args.disk.now c.args.file
+    nothing_written (seal_of c.args.key.now) c.args.offset c.args.bytes.now
+    (eqb-true (length c.args.bytes.now) 0 (sym c.if-is_empty.ensures)) c.args.disk.now c.args.file
 
 pub rewrite_blocks-requires-clause-there : goal.rewrite_blocks-requires-clause-there
 rewrite_blocks-requires-clause-there c =
     let P : Disk → Type 0 = λ d. c.div_ceil-end.result ≤ length (file_blocks d c.args.file) in
-    subst P (sym c.in-Ok.ensures.grown) (grown_there c.args.disk.now c.args.file c.div_ceil-end.result c.requires.file)
+    subst P (sym c.in-Ok.ensures.grown)
+    (grown_there c.args.disk.now c.args.file c.div_ceil-end.result c.requires.file)
 
 pub returns-in-Ok-clause-written : goal.returns-in-Ok-clause-written
 returns-in-Ok-clause-written c =
     let had : ℕ = c.block_count-had.result in
-    let some : 0 < length c.args.bytes.now = let other : length c.args.bytes.now ≢ 0 = eqb-false (length c.args.bytes.now) 0 (sym c.if-is_empty.ensures) in omega arith in
+    let some : 0 < length c.args.bytes.now = let other : length c.args.bytes.now ≢ 0 =
+    eqb-false (length c.args.bytes.now) 0 (sym c.if-is_empty.ensures) in omega arith in
     write_done (seal_of c.args.key.now) c.args.offset c.args.bytes.now c.args.disk.now c.grow.new.self c.rewrite_blocks.new.disk c.set_size.new.self c.args.file had c.min-first.result c.div_ceil-end.result c.max-size.result
     some c.block_count-had.ensures c.min-first.ensures c.div_ceil-end.ensures c.in-Ok.ensures.grown
     (c.rewrite_blocks.ensures
