@@ -1,1 +1,6 @@
 pub mod LogLemmas
+pub mod NameLemmas
+pub mod FieldLemmas
+pub mod ReplyLemmas
+pub mod CallLemmas
+pub mod LineLemmas

@@ -1,3 +1,9 @@
-pub mod Log
-pub mod Status
 pub mod Words
+pub mod Names
+pub mod Calls
+pub mod Replies
+pub mod Log
+pub mod Notes
+pub mod Ranges
+pub mod LogLaws
+pub mod Status

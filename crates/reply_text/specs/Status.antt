@@ -2,7 +2,8 @@
 use Rattle.std.specs.Prelude.{ℕ, List, [], ◌++◌, codes}
 use Rattle.std.specs.Fmt.{decimal}
 use Rattle.reply_text.specs.declared.status.Status.{Status}
-use Rattle.reply_text.specs.declared.status.Status.TheVariants.{Done, Usage, BadLine, ReadFault, WriteFault, SeedFault, TooLong, NoMemory}
+use Rattle.reply_text.specs.declared.status.Status.TheVariants.{Done, Usage, BadLine, ReadFault}
+use Rattle.reply_text.specs.declared.status.Status.TheVariants.{WriteFault, SeedFault, TooLong, NoMemory}
 
 -- the number that the program ends with
 abbrev pub status_number : Status → ℕ

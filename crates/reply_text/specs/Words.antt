@@ -1,19 +1,33 @@
--- The words of a log: flags, states and refusals.
+-- The words of a log: flags, states, kinds of nodes and refusals.
 use Rattle.std.specs.Prelude.{ℕ, Bool, true, false, List, [], ◌++◌, codes}
 use Rattle.text_words.specs.Numbers.{decimal_of}
 use Rattle.mount_model.specs.declared.reply.KeyState.{KeyState}
 use Rattle.mount_model.specs.declared.reply.KeyState.TheVariants.{Absent, Present, Incomplete}
+use Rattle.mount_model.specs.declared.reply.NodeKind.{NodeKind}
+use Rattle.mount_model.specs.declared.reply.NodeKind.TheVariants.{Dir, File, Link}
 use Rattle.mount_model.specs.declared.reply.Refusal.{Refusal}
-use Rattle.mount_model.specs.declared.reply.Refusal.TheVariants.{NoKey, Access, Quota, Inval, Exists, NotFound, NotDir, IsDir, NotEmpty, XDev, NoData, BadHandle, NameTooLong, TooBig, NoSpace, NoKeyClash, Changed, NoMemory}
+use Rattle.mount_model.specs.declared.reply.Refusal.TheVariants.{NoKey, Access, Quota, Inval, Exists}
+use Rattle.mount_model.specs.declared.reply.Refusal.TheVariants.{NotFound, NotDir, IsDir, NotEmpty, XDev}
+use Rattle.mount_model.specs.declared.reply.Refusal.TheVariants.{NoData, BadHandle, NameTooLong, TooBig}
+use Rattle.mount_model.specs.declared.reply.Refusal.TheVariants.{NoSpace, NoKeyClash, Changed, NoMemory}
 
 abbrev pub bit : Bool → ℕ
 bit false = 0
 bit true = 1
 
+-- a name and a flag, 1 or 0
+abbrev pub flag_text : List ℕ → Bool → List ℕ
+flag_text name value = name ++ decimal_of (bit value)
+
 abbrev pub state_text : KeyState → List ℕ
 state_text Absent = codes "absent"
 state_text Present = codes "present"
 state_text Incomplete = codes "incomplete"
+
+abbrev pub kind_text : NodeKind → List ℕ
+kind_text Dir = codes "dir"
+kind_text File = codes "file"
+kind_text Link = codes "link"
 
 -- the name of a refusal, with a space behind it where a version follows
 abbrev pub refusal_name : Refusal → List ℕ

@@ -1,12 +1,24 @@
-//! The text of a run: the lines of its log, and how it ended, with the number and the line of that.
+//! The text of a run: the lines of its log, the notes of its session commands, and how it ended,
+//! with the number and the line of that.
 #![tactic(auto)]
 
 mod calls;
+mod fields;
+mod laws;
 mod log;
+mod names;
+mod notes;
+mod outcome;
 mod replies;
 mod status;
 #[cfg(test)]
 mod tests;
 
-pub use log::write_log;
+pub use laws::{
+    different_replies_have_different_lines, lines_tell_their_entries, logs_tell_their_entries,
+    note_lines_tell_their_notes,
+};
+pub use log::{entry_line, write_log};
+pub use notes::{Note, note_line, write_notes};
+pub use outcome::Outcome;
 pub use status::Status;

@@ -11,6 +11,19 @@ use mount_model::{Call, Reply};
 use std::alloc::{AllocError, Global};
 use text_words::push_decimal;
 
+/// The line of an entry at a place of the history: `PLACE CALLER UID CALL = REPLY` and a line feed.
+pub fn entry_line(
+    alloc: Global,
+    place: u64,
+    entry: &Entry<Call, Reply>,
+) -> Result<Bytes, AllocError>
+    ensures { IfOk result (λ text. text ≡ entry_text place entry.now) }
+{
+    let mut text = Vec::new(alloc);
+    put_entry(&mut text, place, entry)?;
+    Ok(Bytes::from_vec(text))
+}
+
 /// The bytes of a history's log: a line for each entry, in order of place. Places count from 0.
 pub fn write_log(alloc: Global, history: &[Entry<Call, Reply>]) -> Result<Bytes, AllocError>
     ensures { IfOk result (λ text. text ≡ log_text history.now) }

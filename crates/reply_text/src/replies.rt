@@ -1,11 +1,16 @@
 //! The text of what was replied.
 
 ghost use Rattle.std.specs.Prelude.{◌≡◌, ◌++◌, OnOk, codes};
-ghost use Rattle.reply_text.specs.Words.{bit, state_text, refusal_name, refusal_text, version_text};
-ghost use Rattle.reply_text.specs.Log.{flag_text, reply_text, removed_text, status_reply_text};
+ghost use Rattle.text_words.specs.Numbers.{decimal_of};
+ghost use Rattle.reply_text.specs.Words.{state_text, kind_text, refusal_name, refusal_text, version_text};
+ghost use Rattle.reply_text.specs.Names.{bytes_text};
+ghost use Rattle.reply_text.specs.Replies.{reply_text, removed_text, status_reply_text};
+ghost use Rattle.reply_text.specs.Replies.{listing_text, stat_text};
 
-use crate::calls::put_named;
-use mount_model::{KeyState, Refusal, Reply};
+use crate::fields::{put_bytes, put_digits, put_flag, put_number};
+use crate::names::{put_names, put_word};
+use item_list::Bytes;
+use mount_model::{KeyState, NodeKind, Refusal, Reply};
 use std::alloc::AllocError;
 use text_words::push_decimal;
 
@@ -14,24 +19,67 @@ pub(crate) fn put_reply(text: &mut Vec<u8>, reply: &Reply) -> Result<(), AllocEr
     ensures { OnOk result (text.new.items ≡ text.old.items ++ reply_text reply.now) }
 {
     match reply {
-        Reply::Added(id) => put_named(text, b"added ", id),
+        Reply::Added(id) => put_digits(text, b"added ", &id.0),
         Reply::Removed { others, busy } => put_removed(text, *others, *busy),
         Reply::Status {
             state,
             by_self,
             users,
         } => put_status(text, *state, *by_self, *users),
-        Reply::Refused(refusal) => put_refusal(text, *refusal),
         Reply::Done => text.extend_from_slice(b"ok"),
-        Reply::PolicyIs(_) => text.extend_from_slice(b"policy"),
-        Reply::Names { .. } => text.extend_from_slice(b"names"),
-        Reply::Stat { .. } => text.extend_from_slice(b"stat"),
-        Reply::Opened(_) => text.extend_from_slice(b"handle"),
-        Reply::Content(_) => text.extend_from_slice(b"data"),
-        Reply::Target(_) => text.extend_from_slice(b"target"),
-        Reply::Held { .. } => text.extend_from_slice(b"record"),
-        Reply::Stored(_) => text.extend_from_slice(b"stored"),
+        Reply::PolicyIs(policy) => put_digits(text, b"policy ", policy),
+        Reply::Names { names, more } => put_listing(text, names.as_slice(), *more),
+        Reply::Stat {
+            kind,
+            node,
+            size,
+            encrypted,
+            keyed,
+        } => put_stat(text, *kind, *node, *size, *encrypted, *keyed),
+        Reply::Opened(number) => put_number(text, b"handle ", u64::from(*number)),
+        Reply::Content(bytes) => put_bytes(text, b"data ", bytes.as_slice()),
+        Reply::Target(bytes) => put_word(text, b"target ", bytes.as_slice()),
+        Reply::Held { version, bytes } => put_held(text, *version, bytes.as_slice()),
+        Reply::Stored(version) => put_number(text, b"stored ", u64::from(*version)),
+        Reply::Refused(refusal) => put_refusal(text, *refusal),
     }
+}
+
+// Puts names, and whether further ones follow, behind the text.
+fn put_listing(text: &mut Vec<u8>, names: &[Bytes], more: bool) -> Result<(), AllocError>
+    ensures { OnOk result (text.new.items ≡ text.old.items ++ listing_text names.now more) }
+{
+    put_number(text, b"names ", names.len() as u64)?;
+    put_flag(text, b" more=", more)?;
+    put_names(text, names)
+}
+
+// Puts a record and its version behind the text.
+fn put_held(text: &mut Vec<u8>, version: u32, bytes: &[u8]) -> Result<(), AllocError>
+    ensures { OnOk result (text.new.items ≡ text.old.items
+        ++ (codes "record " ++ (decimal_of version ++ (codes " " ++ bytes_text bytes.now)))) }
+{
+    put_number(text, b"record ", u64::from(version))?;
+    put_bytes(text, b" ", bytes)
+}
+
+// Puts what a node is behind the text.
+fn put_stat(
+    text: &mut Vec<u8>,
+    kind: NodeKind,
+    node: u32,
+    size: u32,
+    encrypted: bool,
+    keyed: bool,
+) -> Result<(), AllocError>
+    ensures { OnOk result (text.new.items ≡ text.old.items ++ stat_text kind node size encrypted keyed) }
+{
+    text.extend_from_slice(b"stat ")?;
+    text.extend_from_slice(kind_text(kind))?;
+    put_number(text, b" ", u64::from(node))?;
+    put_number(text, b" ", u64::from(size))?;
+    put_flag(text, b" enc=", encrypted)?;
+    put_flag(text, b" key=", keyed)
 }
 
 // Puts why nothing was done behind the text.
@@ -61,14 +109,6 @@ fn put_removed(text: &mut Vec<u8>, others: bool, busy: bool) -> Result<(), Alloc
     put_flag(text, b" busy=", busy)
 }
 
-// Puts a name and a flag behind the text.
-fn put_flag(text: &mut Vec<u8>, name: &[u8], value: bool) -> Result<(), AllocError>
-    ensures { OnOk result (text.new.items ≡ text.old.items ++ flag_text name.now value) }
-{
-    text.extend_from_slice(name)?;
-    push_decimal(text, bit(value))
-}
-
 // Puts what stands of a key behind the text.
 fn put_status(
     text: &mut Vec<u8>,
@@ -81,14 +121,17 @@ fn put_status(
     text.extend_from_slice(b"status ")?;
     text.extend_from_slice(state_text(state))?;
     put_flag(text, b" self=", by_self)?;
-    text.extend_from_slice(b" users=")?;
-    push_decimal(text, u64::from(users))
+    put_number(text, b" users=", u64::from(users))
 }
 
-fn bit(value: bool) -> u64
-    ensures { result ≡ bit value }
+fn kind_text(kind: NodeKind) -> &'static [u8]
+    ensures { result.now ≡ kind_text kind }
 {
-    u64::from(value)
+    match kind {
+        NodeKind::Dir => b"dir",
+        NodeKind::File => b"file",
+        NodeKind::Link => b"link",
+    }
 }
 
 fn state_text(state: KeyState) -> &'static [u8]

@@ -1,0 +1,40 @@
+-- What a line tells: whoever has it can say who was answered what.
+use Rattle.std.specs.Prelude.{◌≡◌, ◌<◌, ◌^◌, ℕ, List, length, All, map}
+use Rattle.mount_model.specs.declared.call.Call.{Call}
+use Rattle.mount_model.specs.declared.reply.Reply.{Reply}
+use Rattle.mount_model.specs.History.{MountEntry, History}
+use Rattle.reply_text.specs.Calls.{call_text}
+use Rattle.reply_text.specs.Log.{entry_text, log_text}
+use Rattle.reply_text.specs.Notes.{note_text}
+use Rattle.reply_text.specs.Ranges.{ReplyIsInRange, EntryIsInRange, NoteIsInRange}
+use Rattle.reply_text.specs.declared.notes.Note.{Note}
+
+-- caller, user, the words of what was asked, and the reply
+abbrev pub told : MountEntry → ℕ × ℕ × List ℕ × Reply
+told e = (e.who, e.call.uid, call_text e.call.op, e.reply)
+
+-- different replies of one call, at any place and of any caller, have different lines
+abbrev pub DifferentRepliesHaveDifferentLines : Type 0
+DifferentRepliesHaveDifferentLines =
+    (place who : ℕ) (call : Call) (a b : Reply) → ReplyIsInRange a → ReplyIsInRange b
+    → entry_text place (record { who = who; call = call; reply = a })
+    ≡ entry_text place (record { who = who; call = call; reply = b })
+    → a ≡ b
+
+-- a line determines the place and what the entry tells
+abbrev pub LinesTellTheirEntries : Type 0
+LinesTellTheirEntries =
+    (place other : ℕ) (e f : MountEntry) → place < 2 ^ 64 → other < 2 ^ 64
+    → EntryIsInRange e → EntryIsInRange f
+    → entry_text place e ≡ entry_text other f → (place ≡ other) × (told e ≡ told f)
+
+-- a log determines what its entries tell, one after the other
+abbrev pub LogsTellTheirEntries : Type 0
+LogsTellTheirEntries =
+    (g h : History) → length g < 2 ^ 64 → length h < 2 ^ 64 → All EntryIsInRange g → All EntryIsInRange h
+    → log_text g ≡ log_text h → map told g ≡ map told h
+
+-- a note's line determines the note
+abbrev pub NoteLinesTellTheirNotes : Type 0
+NoteLinesTellTheirNotes =
+    (a b : Note) → NoteIsInRange a → NoteIsInRange b → note_text a ≡ note_text b → a ≡ b

@@ -1,0 +1,24 @@
+//! What holds of all lines: they tell who was answered what. Each law is a function without work.
+
+ghost use Rattle.reply_text.specs.LogLaws.{DifferentRepliesHaveDifferentLines, LinesTellTheirEntries};
+ghost use Rattle.reply_text.specs.LogLaws.{LogsTellTheirEntries, NoteLinesTellTheirNotes};
+
+/// Different replies of one call have different lines.
+pub fn different_replies_have_different_lines()
+    ensures { DifferentRepliesHaveDifferentLines }
+{}
+
+/// A line determines place, caller, user, the words of what was asked, and the reply.
+pub fn lines_tell_their_entries()
+    ensures { LinesTellTheirEntries }
+{}
+
+/// So a log determines them for each of its entries, in order of place.
+pub fn logs_tell_their_entries()
+    ensures { LogsTellTheirEntries }
+{}
+
+/// A note's line determines the note.
+pub fn note_lines_tell_their_notes()
+    ensures { NoteLinesTellTheirNotes }
+{}
