@@ -1,3 +1,4 @@
 pub mod Draws
+pub mod Stars
 pub mod Session
 pub mod Rotation

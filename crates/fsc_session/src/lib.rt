@@ -3,6 +3,7 @@
 
 mod calls;
 mod draws;
+mod stars;
 #[cfg(test)]
 mod tests;
 
@@ -11,6 +12,7 @@ pub use calls::{call_of, id_meant};
 pub use draws::{Purpose, distinct_draws, draw};
 use item_list::Items;
 use mount_model::{Call, Reply};
+pub use stars::path_meant;
 
 /// What callers asked and were replied, in order of place, which counts from 0.
 pub type EntryList = Items<Entry<Call, Reply>>;

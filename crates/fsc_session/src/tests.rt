@@ -1,9 +1,9 @@
-use crate::{Purpose, call_of, draw, id_meant};
+use crate::{Purpose, call_of, draw, id_meant, path_meant};
 use byte_words::slice_is_bytes;
 use fsc_keys::RawKey;
 use item_list::Bytes;
 use mount_model::Op;
-use script_lang::{Command, KeyRef, Verb};
+use script_lang::{Command, KeyRef, Verb, read_path};
 use std::alloc::{AllocError, Global};
 use std::test::Fail;
 
@@ -130,5 +130,29 @@ fn commands_make_their_calls(rt: HostRuntime) -> Result<(), Fail> {
         }
         _ => assert!(rt; false),
     }
+    Ok(())
+}
+
+// A star means the name of its number, and its own text where there is none or it can't be a part.
+#[test]
+fn stars_mean_listed_names(rt: HostRuntime) -> Result<(), Fail> {
+    let alloc = rt.alloc();
+    let names = vec![in alloc;
+        Bytes::from_vec(Vec::from_slice(alloc, b"a b")?),
+        Bytes::from_vec(Vec::from_slice(alloc, b"..")?),
+    ]?;
+    let Some(path) = read_path(alloc, b"/e/*0/*1/*2/%2A0")? else {
+        assert!(rt; false);
+        return Ok(());
+    };
+    let meant = path_meant(alloc, &names, &path)?;
+    for (index, wanted) in ["e", "a b", "*1", "*2", "*0"].iter().enumerate() {
+        assert!(rt;
+            meant
+                .part(index)
+                .is_some_and(|part| part.bytes() == wanted.as_bytes())
+        );
+    }
+    assert_eq!(rt; meant.len(), 5);
     Ok(())
 }
