@@ -39,6 +39,7 @@ pub narrow : (lanes kib : ℕ) → lanes * (4 * (kib / (4 * lanes))) ≤ kib
 narrow lanes kib = omega (arith, div-add-mod kib (4 * lanes))
 
 -- a column of a lane is one of the blocks
-pub offset_within : (lanes lane width column : ℕ) → lane < lanes → column < 4 * width → lane * (4 * width) + column < lanes * (4 * width)
+pub offset_within : (lanes lane width column : ℕ) → lane < lanes → column < 4 * width
+    → lane * (4 * width) + column < lanes * (4 * width)
 offset_within lanes lane width column low inside =
     omega (arith, mul-le-mul_left (4 * width) (let next : lane + 1 ≤ lanes = omega arith in next))

@@ -1,5 +1,7 @@
 -- A segment in the making: what it sees is the latest block.
-use Rattle.std.proofs.Common.{◌≡◌, ℕ, ◌+◌, ◌-◌, ◌*◌, ◌/◌, ◌%◌, ◌^◌, ◌<◌, ◌≤◌, ◌≢◌, ◌⊎◌, ◌==◌, false, List, [], length, slice_index_or, slice_set, inl, inr, refl, sym, ap, ◌∙◌, arith, get_or-set_same, get_or-set_other}
+use Rattle.std.proofs.Common.{◌≡◌, ℕ, ◌+◌, ◌-◌, ◌*◌, ◌/◌, ◌%◌, ◌^◌, ◌<◌, ◌≤◌, ◌≢◌, ◌⊎◌, ◌==◌, false, List, []}
+use Rattle.std.proofs.Common.{length, slice_index_or, slice_set, inl, inr, refl, sym, ap, ◌∙◌, arith}
+use Rattle.std.proofs.Common.{get_or-set_same, get_or-set_other}
 use Rattle.std.proofs.lemmas.Bool.{cases_lt, cases_eq}
 use Rattle.std.proofs.lemmas.Bool.Decides.{nat_tests}
 use Rattle.argon_kdf.specs.declared.layout.Place.{Place}
@@ -12,11 +14,13 @@ use Rattle.argon_kdf.specs.Lanes.{seen_block, IsOutside}
 use Rattle.argon_kdf.specs.Memory.{Stands}
 use Rattle.argon_kdf.specs.Segments.{Begun}
 use Rattle.argon_kdf.proofs.Referring.{reference_apart}
-use Rattle.argon_kdf.proofs.Standing.{made_before, made_here, made_after, latest_made, latest_old, latest_same, latest_put_here, latest_put_lane, latest_put_column}
+use Rattle.argon_kdf.proofs.Standing.{made_before, made_here, made_after, latest_made, latest_old}
+use Rattle.argon_kdf.proofs.Standing.{latest_same, latest_put_here, latest_put_lane, latest_put_column}
 
 -- ---- what is seen
 
-seen_own : (x : Shape) (m seg : List (List ℕ)) (w s i k l z : ℕ) → l ≡ i → s * x.width ≤ z → z < s * x.width + k
+seen_own : (x : Shape) (m seg : List (List ℕ)) (w s i k l z : ℕ) → l ≡ i → s * x.width ≤ z
+    → z < s * x.width + k
     → seen_block x m seg (place w s i k) l z ≡ slice_index_or seg (z - s * x.width) []
 unfolding seen_block
 seen_own x m seg w s i k l z own from to = grind (arith, nat_tests)
@@ -44,13 +48,19 @@ begin_made x w s l = elim (cases_eq l 0) [
   | inr later ↦ omega (arith, made_after x w s 0 0 l (omega arith))
 ]
 
-other_made : (x : Shape) (w s i k l : ℕ) → l ≢ i → (s * x.width ≤ columns_made x (place w s i k) l) × (columns_made x (place w s i k) l ≤ s * x.width + x.width)
+other_made : (x : Shape) (w s i k l : ℕ) → l ≢ i
+    → (s * x.width ≤ columns_made x (place w s i k) l)
+    × (columns_made x (place w s i k) l ≤ s * x.width + x.width)
 other_made x w s i k l other = elim (cases_lt l i) [
   | inl low ↦ (omega (arith, made_before x w s i k l low), omega (arith, made_before x w s i k l low))
-  | inr high ↦ (omega (arith, made_after x w s i k l (omega arith)), omega (arith, made_after x w s i k l (omega arith)))
+  | inr high ↦ (
+    omega (arith, made_after x w s i k l (omega arith)),
+    omega (arith, made_after x w s i k l (omega arith)),
+  )
 ]
 
-pub Begun_start : (x : Shape) (m seg : List (List ℕ)) (b : Table) (w s i : ℕ) → Stands x m b (place w s 0 0) → Begun x m seg b (place w s i 0)
+pub Begun_start : (x : Shape) (m seg : List (List ℕ)) (b : Table) (w s i : ℕ) → Stands x m b (place w s 0 0)
+    → Begun x m seg b (place w s i 0)
 Begun_start x m seg b w s i st = record {
   shows = λ l z low inside side.
       let from_memory : seen_block x m seg (place w s i 0) l z ≡ slice_index_or m (l * columns x + z) [] =
@@ -62,15 +72,18 @@ Begun_start x m seg b w s i st = record {
       from_memory ∙ st.shows l z low inside
       ∙ elim (cases_eq l i) [
         | inl own ↦
-            let here : columns_made x (place w s i 0) l ≡ s * x.width = rw own (omega (arith, made_here x w s i 0)) in
+            let here : columns_made x (place w s i 0) l ≡ s * x.width =
+            rw own (omega (arith, made_here x w s i 0)) in
             latest_same x b b (place w s 0 0) (place w s i 0) l z refl (begin ∙ sym here) refl refl
         | inr other ↦
             let bounds = other_made x w s i 0 l other in
             elim side [
               | inl own ↦ absurd (other own)
               | inr outside ↦ elim outside [
-                | inl under ↦ latest_made x b (place w s 0 0) l z (omega arith) ∙ sym (latest_made x b (place w s i 0) l z (omega (arith, bounds.0)))
-                | inr over ↦ latest_old x b (place w s 0 0) l z (omega arith) ∙ sym (latest_old x b (place w s i 0) l z (omega (arith, bounds.1)))
+                | inl under ↦ latest_made x b (place w s 0 0) l z (omega arith)
+                    ∙ sym (latest_made x b (place w s i 0) l z (omega (arith, bounds.0)))
+                | inr over ↦ latest_old x b (place w s 0 0) l z (omega arith)
+                    ∙ sym (latest_old x b (place w s i 0) l z (omega (arith, bounds.1)))
               ]
             ]
       ];
@@ -78,24 +91,30 @@ Begun_start x m seg b w s i st = record {
 
 -- ---- one more block
 
-seen_step : (x : Shape) (m seg : List (List ℕ)) (w s i k l z : ℕ) (new : List ℕ) → (l ≢ i) ⊎ (z ≢ s * x.width + k)
+seen_step : (x : Shape) (m seg : List (List ℕ)) (w s i k l z : ℕ) (new : List ℕ)
+    → (l ≢ i) ⊎ (z ≢ s * x.width + k)
     → seen_block x m (slice_set seg k new) (place w s i (k + 1)) l z ≡ seen_block x m seg (place w s i k) l z
-seen_step x m seg w s i k l z new (inl other) = seen_other x m (slice_set seg k new) w s i (k + 1) l z other ∙ sym (seen_other x m seg w s i k l z other)
+seen_step x m seg w s i k l z new (inl other) =
+    seen_other x m (slice_set seg k new) w s i (k + 1) l z other ∙ sym (seen_other x m seg w s i k l z other)
 seen_step x m seg w s i k l z new (inr other) = elim (cases_eq l i) [
-  | inr apart ↦ seen_other x m (slice_set seg k new) w s i (k + 1) l z apart ∙ sym (seen_other x m seg w s i k l z apart)
+  | inr apart ↦ seen_other x m (slice_set seg k new) w s i (k + 1) l z apart
+      ∙ sym (seen_other x m seg w s i k l z apart)
   | inl own ↦ elim (cases_lt z (s * x.width)) [
-    | inl under ↦ seen_before x m (slice_set seg k new) w s i (k + 1) l z under ∙ sym (seen_before x m seg w s i k l z under)
+    | inl under ↦ seen_before x m (slice_set seg k new) w s i (k + 1) l z under
+        ∙ sym (seen_before x m seg w s i k l z under)
     | inr over ↦ elim (cases_lt z (s * x.width + k)) [
       | inl inside ↦
           seen_own x m (slice_set seg k new) w s i (k + 1) l z own over (omega arith)
           ∙ get_or-set_other seg k (z - s * x.width) new [] (omega arith)
           ∙ sym (seen_own x m seg w s i k l z own over inside)
-      | inr past ↦ seen_past x m (slice_set seg k new) w s i (k + 1) l z (omega arith) ∙ sym (seen_past x m seg w s i k l z past)
+      | inr past ↦ seen_past x m (slice_set seg k new) w s i (k + 1) l z (omega arith)
+          ∙ sym (seen_past x m seg w s i k l z past)
     ]
   ]
 ]
 
-Begun_put : (x : Shape) (m seg : List (List ℕ)) (b : Table) (w s i k : ℕ) (new : List ℕ) → k < length seg → Begun x m seg b (place w s i k)
+Begun_put : (x : Shape) (m seg : List (List ℕ)) (b : Table) (w s i k : ℕ) (new : List ℕ) → k < length seg
+    → Begun x m seg b (place w s i k)
     → Begun x m (slice_set seg k new) (put b w i (s * x.width + k) new) (place w s i (k + 1))
 Begun_put x m seg b w s i k new within begun = record {
   shows = λ l z low inside side.
@@ -104,61 +123,80 @@ Begun_put x m seg b w s i k new within begun = record {
           | inl here ↦
               let place_in : z - s * x.width ≡ k = omega arith in
               seen_own x m (slice_set seg k new) w s i (k + 1) l z own (omega arith) (omega arith)
-              ∙ ap (λ (n : ℕ). slice_index_or (slice_set seg k new) n []) place_in ∙ get_or-set_same seg k new [] within
+              ∙ ap (λ (n : ℕ). slice_index_or (slice_set seg k new) n []) place_in
+              ∙ get_or-set_same seg k new [] within
               ∙ rw (own, here) (sym (latest_put_here x b w s i k new))
-          | inr other ↦ seen_step x m seg w s i k l z new (inr other) ∙ begun.shows l z low inside (inl own) ∙ rw own (latest_put_column x b w s i k new z other)
+          | inr other ↦ seen_step x m seg w s i k l z new (inr other) ∙ begun.shows l z low inside (inl own)
+              ∙ rw own (latest_put_column x b w s i k new z other)
         ]
-        | inr other ↦ seen_step x m seg w s i k l z new (inl other) ∙ begun.shows l z low inside side ∙ latest_put_lane x b w s i k new l z other
+        | inr other ↦ seen_step x m seg w s i k l z new (inl other) ∙ begun.shows l z low inside side
+            ∙ latest_put_lane x b w s i k new l z other
       ];
 }
 
-pub Begun_next : (x : Shape) (h0 : List ℕ) (m seg : List (List ℕ)) (b : Table) (w s i k : ℕ) (new : List ℕ) → k < length seg
+pub Begun_next : (x : Shape) (h0 : List ℕ) (m seg : List (List ℕ)) (b : Table) (w s i k : ℕ) (new : List ℕ)
+    → k < length seg
     → new ≡ new_block x h0 (place w s i k) (latest x b (place w s i k)) → Begun x m seg b (place w s i k)
     → Begun x m (slice_set seg k new) (with_block x h0 b (place w s i k)) (place w s i (k + 1))
 unfolding with_block
-Begun_next x h0 m seg b w s i k new within made begun = rw (← made) (Begun_put x m seg b w s i k new within begun)
+Begun_next x h0 m seg b w s i k new within made begun =
+    rw (← made) (Begun_put x m seg b w s i k new within begun)
 
 -- ---- at the end
 
-pub Begun_made : (x : Shape) (m seg : List (List ℕ)) (b : Table) (w s i k : ℕ) → i < x.lanes → s < 4 → k < x.width → s * x.width + k < columns x
+pub Begun_made : (x : Shape) (m seg : List (List ℕ)) (b : Table) (w s i k : ℕ) → i < x.lanes → s < 4
+    → k < x.width → s * x.width + k < columns x
     → Begun x m seg b (place w s i x.width) → slice_index_or seg k [] ≡ b w i (s * x.width + k)
 Begun_made x m seg b w s i k lane slice low inside begun =
     let back : s * x.width + k - s * x.width ≡ k = omega arith in
     let made : columns_made x (place w s i x.width) i ≡ s * x.width + x.width = made_here x w s i x.width in
     ap (λ (n : ℕ). slice_index_or seg n []) (sym back)
     ∙ sym (seen_own x m seg w s i x.width i (s * x.width + k) refl (omega arith) (omega arith))
-    ∙ begun.shows i (s * x.width + k) lane inside (inl refl) ∙ latest_made x b (place w s i x.width) i (s * x.width + k) (omega arith)
+    ∙ begun.shows i (s * x.width + k) lane inside (inl refl)
+    ∙ latest_made x b (place w s i x.width) i (s * x.width + k) (omega arith)
 
 -- ---- the block of a place
 
 -- where a reference goes, the segment sees the latest block
-pub side_of : (x : Shape) (at : Place) (word lane column : ℕ) → 2 ≤ x.width → IsWithin x at → lane ≡ reference_lane x at (word / 2 ^ 32)
+pub side_of : (x : Shape) (at : Place) (word lane column : ℕ) → 2 ≤ x.width → IsWithin x at
+    → lane ≡ reference_lane x at (word / 2 ^ 32)
     → column ≡ reference_column x at lane (word % 2 ^ 32) → (lane ≡ at.lane) ⊎ IsOutside x at.slice column
 side_of x at word lane column wide within lane_is column_is = elim (cases_eq lane at.lane) [
   | inl own ↦ inl own
   | inr other ↦
-      let whole : column ≡ reference_column x at (reference_lane x at (word / 2 ^ 32)) (word % 2 ^ 32) = column_is ∙ ap (λ (l : ℕ). reference_column x at l (word % 2 ^ 32)) lane_is in
+      let whole : column ≡ reference_column x at (reference_lane x at (word / 2 ^ 32)) (word % 2 ^ 32) =
+      column_is ∙ ap (λ (l : ℕ). reference_column x at l (word % 2 ^ 32)) lane_is in
       elim (reference_apart x at word wide within (λ e. other (lane_is ∙ e))) [
         | inl under ↦ inr (inl (omega arith))
         | inr over ↦ inr (inr (omega arith))
       ]
 ]
 
-pub joined_seen : (x : Shape) (m seg : List (List ℕ)) (b : Table) (at : Place) (before word lane column : ℕ) (previous referred new : List ℕ) → 2 ≤ x.width → IsWithin x at
-    → before < columns x → before ≡ column_before x at → previous ≡ seen_block x m seg at at.lane before → word ≡ reference_word x at previous
-    → lane < x.lanes → lane ≡ reference_lane x at (word / 2 ^ 32) → column < columns x → column ≡ reference_column x at lane (word % 2 ^ 32)
-    → referred ≡ seen_block x m seg at lane column → Begun x m seg b at → new ≡ joined previous referred → new ≡ joined_block x at (latest x b at)
+pub joined_seen : (x : Shape) (m seg : List (List ℕ)) (b : Table) (at : Place) (before word lane column : ℕ)
+    (previous referred new : List ℕ) → 2 ≤ x.width → IsWithin x at
+    → before < columns x → before ≡ column_before x at → previous ≡ seen_block x m seg at at.lane before
+    → word ≡ reference_word x at previous
+    → lane < x.lanes → lane ≡ reference_lane x at (word / 2 ^ 32) → column < columns x
+    → column ≡ reference_column x at lane (word % 2 ^ 32)
+    → referred ≡ seen_block x m seg at lane column → Begun x m seg b at → new ≡ joined previous referred
+    → new ≡ joined_block x at (latest x b at)
 unfolding joined_block
 joined_seen x m seg b at before word lane column previous referred new wide within before_inside before_is previous_is word_is lane_low lane_is column_inside column_is referred_is begun made =
-    let own : previous ≡ latest x b at at.lane before = previous_is ∙ begun.shows at.lane before within.lane before_inside (inl refl) in
-    let other : referred ≡ latest x b at lane column = referred_is ∙ begun.shows lane column lane_low column_inside (side_of x at word lane column wide within lane_is column_is) in
+    let own : previous ≡ latest x b at at.lane before =
+    previous_is ∙ begun.shows at.lane before within.lane before_inside (inl refl) in
+    let other : referred ≡ latest x b at lane column =
+    referred_is ∙ begun.shows lane column lane_low column_inside
+    (side_of x at word lane column wide within lane_is column_is) in
     rw (← before_is, ← own, ← word_is, ← lane_is, ← column_is, ← other) made
 
-pub new_later_seen : (x : Shape) (h0 : List ℕ) (m seg : List (List ℕ)) (b : Table) (at : Place) (column : ℕ) (block old new : List ℕ) → 0 < at.pass → at.lane < x.lanes
-    → column < columns x → column ≡ column_of x at → Begun x m seg b at → block ≡ joined_block x at (latest x b at) → old ≡ seen_block x m seg at at.lane column
+pub new_later_seen : (x : Shape) (h0 : List ℕ) (m seg : List (List ℕ)) (b : Table) (at : Place) (column : ℕ)
+    (block old new : List ℕ) → 0 < at.pass → at.lane < x.lanes
+    → column < columns x → column ≡ column_of x at → Begun x m seg b at
+    → block ≡ joined_block x at (latest x b at) → old ≡ seen_block x m seg at at.lane column
     → new ≡ xored block old → new ≡ new_block x h0 at (latest x b at)
 unfolding new_block
 new_later_seen x h0 m seg b at column block old new later low inside is begun joined_is old_is made =
     let not_first : (at.pass == 0) ≡ false = grind (arith, nat_tests) in
-    let here : old ≡ latest x b at at.lane column = old_is ∙ begun.shows at.lane column low inside (inl refl) in
+    let here : old ≡ latest x b at at.lane column =
+    old_is ∙ begun.shows at.lane column low inside (inl refl) in
     rw (not_first, ← is, ← joined_is, ← here) made

@@ -1,5 +1,7 @@
 -- How the memory stands for the table from one place to the next.
-use Rattle.std.proofs.Common.{◌≡◌, ℕ, ◌+◌, ◌-◌, ◌*◌, ◌<◌, ◌≤◌, ◌≢◌, List, [], length, slice_index_or, slice_set, inl, inr, refl, sym, ap, ◌∙◌, arith, length-set, get_or-set_same, get_or-set_other}
+use Rattle.std.proofs.Common.{◌≡◌, ℕ, ◌+◌, ◌-◌, ◌*◌, ◌<◌, ◌≤◌, ◌≢◌, List, [], length, slice_index_or}
+use Rattle.std.proofs.Common.{slice_set, inl, inr, refl, sym, ap, ◌∙◌, arith, length-set, get_or-set_same}
+use Rattle.std.proofs.Common.{get_or-set_other}
 use Rattle.std.proofs.Math.Nat.{mul-le-mul_left}
 use Rattle.std.proofs.lemmas.Bool.{cases_lt, cases_eq}
 use Rattle.std.proofs.lemmas.Bool.Decides.{nat_tests}
@@ -11,7 +13,8 @@ use Rattle.argon_kdf.specs.declared.layout.Place.{Place}
 
 -- ---- how many columns are made
 
-pub made_before : (x : Shape) (w s i k l : ℕ) → l < i → columns_made x (place w s i k) l ≡ s * x.width + x.width
+pub made_before : (x : Shape) (w s i k l : ℕ) → l < i
+    → columns_made x (place w s i k) l ≡ s * x.width + x.width
 unfolding columns_made
 made_before x w s i k l low = grind (arith, nat_tests)
 
@@ -29,7 +32,8 @@ pub put_same : (b : Table) (w i j : ℕ) (new : List ℕ) → put b w i j new w 
 unfolding put
 put_same b w i j new = grind (arith, nat_tests)
 
-pub put_pass : (b : Table) (w i j : ℕ) (new : List ℕ) (w2 l z : ℕ) → w2 ≢ w → put b w i j new w2 l z ≡ b w2 l z
+pub put_pass : (b : Table) (w i j : ℕ) (new : List ℕ) (w2 l z : ℕ) → w2 ≢ w
+    → put b w i j new w2 l z ≡ b w2 l z
 unfolding put
 put_pass b w i j new w2 l z other = grind (arith, nat_tests)
 
@@ -37,17 +41,20 @@ pub put_lane : (b : Table) (w i j : ℕ) (new : List ℕ) (w2 l z : ℕ) → l �
 unfolding put
 put_lane b w i j new w2 l z other = grind (arith, nat_tests)
 
-pub put_column : (b : Table) (w i j : ℕ) (new : List ℕ) (w2 l z : ℕ) → z ≢ j → put b w i j new w2 l z ≡ b w2 l z
+pub put_column : (b : Table) (w i j : ℕ) (new : List ℕ) (w2 l z : ℕ) → z ≢ j
+    → put b w i j new w2 l z ≡ b w2 l z
 unfolding put
 put_column b w i j new w2 l z other = grind (arith, nat_tests)
 
 -- ---- the latest block
 
-pub latest_made : (x : Shape) (b : Table) (at : Place) (l z : ℕ) → z < columns_made x at l → latest x b at l z ≡ b at.pass l z
+pub latest_made : (x : Shape) (b : Table) (at : Place) (l z : ℕ) → z < columns_made x at l
+    → latest x b at l z ≡ b at.pass l z
 unfolding latest
 latest_made x b at l z low = grind (arith, nat_tests)
 
-pub latest_old : (x : Shape) (b : Table) (at : Place) (l z : ℕ) → columns_made x at l ≤ z → latest x b at l z ≡ b (at.pass - 1) l z
+pub latest_old : (x : Shape) (b : Table) (at : Place) (l z : ℕ) → columns_made x at l ≤ z
+    → latest x b at l z ≡ b (at.pass - 1) l z
 unfolding latest
 latest_old x b at l z high = grind (arith, nat_tests)
 
@@ -60,8 +67,10 @@ latest_put_here x b w s i k new =
     ∙ put_same b w i (s * x.width + k) new
 
 -- a column that is made in this pass, or not, is so before and after
-pub latest_same : (x : Shape) (b c : Table) (at to : Place) (l z : ℕ) → at.pass ≡ to.pass → columns_made x at l ≡ columns_made x to l
-    → b at.pass l z ≡ c at.pass l z → b (at.pass - 1) l z ≡ c (at.pass - 1) l z → latest x b at l z ≡ latest x c to l z
+pub latest_same : (x : Shape) (b c : Table) (at to : Place) (l z : ℕ) → at.pass ≡ to.pass
+    → columns_made x at l ≡ columns_made x to l
+    → b at.pass l z ≡ c at.pass l z → b (at.pass - 1) l z ≡ c (at.pass - 1) l z
+    → latest x b at l z ≡ latest x c to l z
 unfolding latest
 latest_same x b c at to l z pass made now before = rw (made, now, before, pass) refl
 
@@ -74,7 +83,8 @@ latest_put_lane x b w s i k new l z other =
       | inr high ↦ made_after x w s i k l (omega arith) ∙ sym (made_after x w s i (k + 1) l (omega arith))
     ] in
     latest_same x b (put b w i (s * x.width + k) new) (place w s i k) (place w s i (k + 1)) l z refl made
-    (sym (put_lane b w i (s * x.width + k) new w l z other)) (sym (put_lane b w i (s * x.width + k) new (w - 1) l z other))
+    (sym (put_lane b w i (s * x.width + k) new w l z other))
+    (sym (put_lane b w i (s * x.width + k) new (w - 1) l z other))
 
 pub latest_put_column : (x : Shape) (b : Table) (w s i k : ℕ) (new : List ℕ) (z : ℕ) → z ≢ s * x.width + k
     → latest x b (place w s i k) i z ≡ latest x (put b w i (s * x.width + k) new) (place w s i (k + 1)) i z
@@ -84,10 +94,12 @@ latest_put_column x b w s i k new z other =
     let after : columns_made x (place w s i (k + 1)) i ≡ s * x.width + (k + 1) = made_here x w s i (k + 1) in
     elim (cases_lt z (s * x.width + k)) [
       | inl low ↦
-          latest_made x b (place w s i k) i z (omega arith) ∙ sym (put_column b w i (s * x.width + k) new w i z other)
+          latest_made x b (place w s i k) i z (omega arith)
+          ∙ sym (put_column b w i (s * x.width + k) new w i z other)
           ∙ sym (latest_made x c (place w s i (k + 1)) i z (omega arith))
       | inr high ↦
-          latest_old x b (place w s i k) i z (omega arith) ∙ sym (put_column b w i (s * x.width + k) new (w - 1) i z other)
+          latest_old x b (place w s i k) i z (omega arith)
+          ∙ sym (put_column b w i (s * x.width + k) new (w - 1) i z other)
           ∙ sym (latest_old x c (place w s i (k + 1)) i z (omega arith))
     ]
 
@@ -102,7 +114,8 @@ other_lane n l i z j low high other e =
     ]
 
 -- a block is written
-pub Stands_put : (x : Shape) (memory : List (List ℕ)) (b : Table) (w s i k at : ℕ) (new : List ℕ) → i < x.lanes → s * x.width + k < columns x
+pub Stands_put : (x : Shape) (memory : List (List ℕ)) (b : Table) (w s i k at : ℕ) (new : List ℕ)
+    → i < x.lanes → s * x.width + k < columns x
     → at ≡ i * columns x + (s * x.width + k) → at < block_count x → Stands x memory b (place w s i k)
     → Stands x (slice_set memory at new) (put b w i (s * x.width + k) new) (place w s i (k + 1))
 Stands_put x memory b w s i k at new lane column offset within st = record {
@@ -113,28 +126,32 @@ Stands_put x memory b w s i k at new lane column offset within st = record {
             elim (cases_eq z (s * x.width + k)) [
               | inl here ↦
                   rw (same, here, ← offset)
-                  (get_or-set_same memory at new [] (omega (arith, st.whole)) ∙ sym (latest_put_here x b w s i k new))
+                  (get_or-set_same memory at new [] (omega (arith, st.whole))
+                  ∙ sym (latest_put_here x b w s i k new))
               | inr other ↦
                   rw same
                   (get_or-set_other memory at (i * columns x + z) new [] (omega arith)
                   ∙ st.shows i z lane inside ∙ latest_put_column x b w s i k new z other)
             ]
         | inr other ↦
-            get_or-set_other memory at (l * columns x + z) new [] (λ e. other_lane (columns x) l i z (s * x.width + k) inside column other (e ∙ offset))
+            get_or-set_other memory at (l * columns x + z) new []
+            (λ e. other_lane (columns x) l i z (s * x.width + k) inside column other (e ∙ offset))
             ∙ st.shows l z low inside ∙ latest_put_lane x b w s i k new l z other
       ];
 }
 
 -- the filling goes on to a place where it has made as many columns
 Stands_same : (x : Shape) (memory : List (List ℕ)) (b : Table) (at to : Place) → at.pass ≡ to.pass
-    → ((l : ℕ) → l < x.lanes → columns_made x at l ≡ columns_made x to l) → Stands x memory b at → Stands x memory b to
+    → ((l : ℕ) → l < x.lanes → columns_made x at l ≡ columns_made x to l) → Stands x memory b at
+    → Stands x memory b to
 Stands_same x memory b at to pass made st = record {
   whole = st.whole;
   shows = λ l z low inside. st.shows l z low inside ∙ latest_same x b b at to l z pass (made l low) refl refl;
 }
 
 -- from the end of a segment to the next lane
-pub Stands_lane : (x : Shape) (memory : List (List ℕ)) (b : Table) (w s i : ℕ) → Stands x memory b (place w s i x.width)
+pub Stands_lane : (x : Shape) (memory : List (List ℕ)) (b : Table) (w s i : ℕ)
+    → Stands x memory b (place w s i x.width)
     → Stands x memory b (place w s (i + 1) 0)
 Stands_lane x memory b w s i =
     Stands_same x memory b (place w s i x.width) (place w s (i + 1) 0) refl (λ l low.
@@ -142,7 +159,8 @@ Stands_lane x memory b w s i =
       | inl under ↦ made_before x w s i x.width l under ∙ sym (made_before x w s (i + 1) 0 l (omega arith))
       | inr over ↦
           elim (cases_eq l i) [
-            | inl same ↦ rw same (made_here x w s i x.width ∙ sym (made_before x w s (i + 1) 0 i (omega arith)))
+            | inl same ↦ rw same (made_here x w s i x.width
+                ∙ sym (made_before x w s (i + 1) 0 i (omega arith)))
             | inr other ↦
                 made_after x w s i x.width l (omega arith)
                 ∙ elim (cases_eq l (i + 1)) [
@@ -153,7 +171,8 @@ Stands_lane x memory b w s i =
     ])
 
 -- from the end of a slice to the next
-pub Stands_slice : (x : Shape) (memory : List (List ℕ)) (b : Table) (w s : ℕ) → Stands x memory b (place w s x.lanes 0)
+pub Stands_slice : (x : Shape) (memory : List (List ℕ)) (b : Table) (w s : ℕ)
+    → Stands x memory b (place w s x.lanes 0)
     → Stands x memory b (place w (s + 1) 0 0)
 Stands_slice x memory b w s =
     Stands_same x memory b (place w s x.lanes 0) (place w (s + 1) 0 0) refl (λ l low.
@@ -191,15 +210,21 @@ Stands_pass x memory b w st = record {
 
 -- memory full of zeros stands for the empty table
 pub Stands_start : (x : Shape) (memory : List (List ℕ)) → length memory ≡ block_count x
-    → ((n : ℕ) → n < block_count x → slice_index_or memory n [] ≡ zero_block) → Stands x memory empty_table (place 0 0 0 0)
+    → ((n : ℕ) → n < block_count x → slice_index_or memory n [] ≡ zero_block)
+    → Stands x memory empty_table (place 0 0 0 0)
 Stands_start x memory whole zeros = record {
   whole = whole;
   shows = λ l z low inside.
-      zeros (l * columns x + z) (omega (arith, mul-le-mul_left (columns x) (let next : l + 1 ≤ x.lanes = omega arith in next)))
+      zeros (l * columns x + z) (omega (
+        arith,
+        mul-le-mul_left (columns x)
+            (let next : l + 1 ≤ x.lanes = omega arith in next),
+      ))
       ∙ sym (latest_old x empty_table (place 0 0 0 0) l z (none_made x 0 l z));
 }
 
 -- what memory has at the end of a pass
 pub Stands_read : (x : Shape) (memory : List (List ℕ)) (b : Table) (t l z : ℕ) → l < x.lanes → z < columns x
     → Stands x memory b (place t 0 0 0) → slice_index_or memory (l * columns x + z) [] ≡ b (t - 1) l z
-Stands_read x memory b t l z low inside st = st.shows l z low inside ∙ latest_old x b (place t 0 0 0) l z (none_made x t l z)
+Stands_read x memory b t l z low inside st =
+    st.shows l z low inside ∙ latest_old x b (place t 0 0 0) l z (none_made x t l z)

@@ -12,4 +12,5 @@ pub returns-clause-zero : goal.returns-clause-zero
 unfolding zero_block
 returns-clause-zero c = λ n low.
     let same = c.in_ok-memory.ensures.items_if_clones_equal (λ y h. copied y h) in
-    ap (λ (items : List (List ℕ)). slice_index_or items n []) same ∙ get_or-replicate c.args.count n (replicate 128 0) [] low
+    ap (λ (items : List (List ℕ)). slice_index_or items n []) same
+    ∙ get_or-replicate c.args.count n (replicate 128 0) [] low

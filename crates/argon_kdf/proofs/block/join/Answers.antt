@@ -4,4 +4,5 @@ use Rattle.argon_kdf.proofs.block.join.Goals as goal
 
 pub returns : goal.returns
 unfolding joined
-returns c = rw (c.xor_into.ensures, c.permute_columns.ensures, c.permute_rows.ensures, c.write_xor.ensures) refl
+returns c =
+    rw (c.xor_into.ensures, c.permute_columns.ensures, c.permute_rows.ensures, c.write_xor.ensures) refl

@@ -9,4 +9,5 @@ pub returns : goal.returns
 unfolding row_permuted
 returns c =
     rw (c.permute-v.ensures, c.column_of.ensures)
-    (column_written c.args.block.now (permuted (row (transposed c.args.block.now) c.args.i)) c.args.i (omega arith) c.requires (permuted_words (row (transposed c.args.block.now) c.args.i)))
+    (column_written c.args.block.now (permuted (row (transposed c.args.block.now) c.args.i)) c.args.i
+    (omega arith) c.requires (permuted_words (row (transposed c.args.block.now) c.args.i)))

@@ -9,4 +9,5 @@ pub returns : goal.returns
 unfolding row_permuted
 returns c =
     rw (c.permute-v.ensures, c.row_of.ensures)
-    (row_written c.args.block.now (permuted (row c.args.block.now c.args.i)) c.args.i (omega arith) c.requires (permuted_words (row c.args.block.now c.args.i)))
+    (row_written c.args.block.now (permuted (row c.args.block.now c.args.i)) c.args.i (omega arith) c.requires
+    (permuted_words (row c.args.block.now c.args.i)))

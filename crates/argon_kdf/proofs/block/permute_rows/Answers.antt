@@ -8,7 +8,8 @@ rows-init c = sym (first_rows_none c.args.block.now)
 
 pub rows-preserved : goal.rows-preserved
 rows-preserved c =
-    c.permute_row.ensures ∙ ap (λ (block : List ℕ). row_permuted block c.rows.i) c.rows.invariant ∙ sym (first_rows_next c.args.block.now c.rows.i)
+    c.permute_row.ensures ∙ ap (λ (block : List ℕ). row_permuted block c.rows.i) c.rows.invariant
+    ∙ sym (first_rows_next c.args.block.now c.rows.i)
 
 pub returns : goal.returns
 returns c =

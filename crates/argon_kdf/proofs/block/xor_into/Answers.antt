@@ -5,10 +5,14 @@ use Rattle.argon_kdf.proofs.block.xor_into.Goals as goal
 
 pub words-preserved : goal.words-preserved
 words-preserved c =
-    mapped_over_more (λ (n x : ℕ). bit_xor x (slice_index c.args.other.now n)) c.args.block.now c.words.block c.words.i _ (omega arith) c.words.invariant refl
+    mapped_over_more
+    (λ (n x : ℕ). bit_xor x (slice_index c.args.other.now n)) c.args.block.now c.words.block c.words.i _
+    (omega arith) c.words.invariant refl
 
 pub returns : goal.returns
 unfolding xored
 returns c =
     let done : c.words.i ≡ 128 = omega arith in
-    mapped_over_all (λ (n x : ℕ). bit_xor x (slice_index c.args.other.now n)) c.args.block.now c.words.block 128 (omega arith) (rw done at c.words.invariant)
+    mapped_over_all
+    (λ (n x : ℕ). bit_xor x (slice_index c.args.other.now n)) c.args.block.now c.words.block 128
+    (omega arith) (rw done at c.words.invariant)

@@ -12,5 +12,6 @@ returns-clause-tag g c =
     let table = with_passes x c.first_digest-h0.result c.new-layout.result.passes in
     let same : c.deref.result.now ≡ c.fill_by_lanes.new.memory.items = c.deref.ensures.value in
     let sum = c.last_column.ensures table (rw same c.fill_by_lanes.ensures.filled) in
-    let tag : c.write_tag.new.tag ≡ tag_of x c.first_digest-h0.result = tag_from x c.first_digest-h0.result _ _ c.write_tag.ensures sum in
+    let tag : c.write_tag.new.tag ≡ tag_of x c.first_digest-h0.result =
+    tag_from x c.first_digest-h0.result _ _ c.write_tag.ensures sum in
     tag ∙ (λ i. tag_of (c.new-layout.ensures i) (c.first_digest-h0.ensures i))

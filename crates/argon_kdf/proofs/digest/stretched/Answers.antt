@@ -17,9 +17,11 @@ halves-preserved c = record {
   long = c.write_half.array_long;
   full = ap length c.next_value-value.ensures ∙ length-blake2b_digest 64 c.halves.value (omega arith);
   chained = λ m held.
-      c.next_value-value.ensures ∙ ap (blake2b_digest 64) (c.halves.invariant.chained m held) ∙ sym (chained_next 1024 m c.halves.i);
+      c.next_value-value.ensures ∙ ap (blake2b_digest 64) (c.halves.invariant.chained m held)
+      ∙ sym (chained_next 1024 m c.halves.i);
   written = λ m held.
-      halves_more m c.halves.bytes _ c.halves.value c.halves.i (omega arith) (omega arith) (c.halves.invariant.written m held)
+      halves_more m c.halves.bytes _ c.halves.value c.halves.i (omega arith) (omega arith)
+      (c.halves.invariant.written m held)
       (c.halves.invariant.chained m held) c.write_half.ensures;
 }
 
@@ -27,4 +29,5 @@ pub returns : goal.returns
 returns c = λ m held.
     let done : c.halves.i ≡ 30 = omega arith in
     c.write_last.ensures
-    ∙ rw ((rw done at (c.halves.invariant.written m held)), (rw done at (c.halves.invariant.chained m held))) (halves_whole m)
+    ∙ rw ((rw done at (c.halves.invariant.written m held)), (rw done at (c.halves.invariant.chained m held)))
+    (halves_whole m)

@@ -9,4 +9,5 @@ unfolding long_digest
 returns c =
     let held = c.update.ensures.added _ (c.update_number.ensures.added _ c.new-hasher.ensures.empty) in
     let long : c.update.new.self.size ≡ 32 = omega arith in
-    (rw long at (c.finish.ensures _ held)) ∙ ap (λ (bytes : List ℕ). blake2b_digest 32 (little_endian_bytes 4 32 ++ bytes)) c.to_bytes.ensures
+    (rw long at (c.finish.ensures _ held)) ∙ ap
+    (λ (bytes : List ℕ). blake2b_digest 32 (little_endian_bytes 4 32 ++ bytes)) c.to_bytes.ensures

@@ -10,4 +10,5 @@ passes-init c =
 
 pub passes-preserved : goal.passes-preserved
 passes-preserved c =
-    rw (with_passes_next (shape c.args.layout) c.args.h0.now c.passes.pass) (c.fill_pass.ensures _ c.passes.invariant)
+    rw (with_passes_next (shape c.args.layout) c.args.h0.now c.passes.pass)
+    (c.fill_pass.ensures _ c.passes.invariant)

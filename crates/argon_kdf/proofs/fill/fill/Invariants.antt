@@ -4,4 +4,5 @@ use Rattle.argon_kdf.specs.Memory.{Stands}
 use Rattle.argon_kdf.proofs.fill.fill.Given as goal
 
 abbrev pub invariant-passes : goal.invariant-passes
-invariant-passes l = Stands (shape l.layout) l.memory (with_passes (shape l.layout) l.h0 l.pass) (place l.pass 0 0 0)
+invariant-passes l =
+    Stands (shape l.layout) l.memory (with_passes (shape l.layout) l.h0 l.pass) (place l.pass 0 0 0)

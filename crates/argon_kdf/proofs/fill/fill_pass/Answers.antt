@@ -12,7 +12,8 @@ pub slices-preserved : goal.slices-preserved
 slices-preserved c = λ table st.
     let x = shape c.args.layout in
     rw (with_slices_next x c.args.h0.now table c.args.pass c.slices.slice)
-    (c.fill_slice.ensures (with_slices x c.args.h0.now table c.args.pass c.slices.slice) (c.slices.invariant table st))
+    (c.fill_slice.ensures (with_slices x c.args.h0.now table c.args.pass c.slices.slice)
+    (c.slices.invariant table st))
 
 pub returns : goal.returns
 returns c = λ table st.

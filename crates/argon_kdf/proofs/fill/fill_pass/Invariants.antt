@@ -6,4 +6,5 @@ use Rattle.argon_kdf.proofs.fill.fill_pass.Given as goal
 
 abbrev pub invariant-slices : goal.invariant-slices
 invariant-slices l = (table : Table) → Stands (shape l.layout) l.fn.memory table (place l.pass 0 0 0)
-    → Stands (shape l.layout) l.memory (with_slices (shape l.layout) l.h0 table l.pass l.slice) (place l.pass l.slice 0 0)
+    → Stands (shape l.layout) l.memory (with_slices (shape l.layout) l.h0 table l.pass l.slice)
+    (place l.pass l.slice 0 0)

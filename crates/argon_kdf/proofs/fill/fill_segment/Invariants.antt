@@ -9,8 +9,10 @@ use Rattle.argon_kdf.proofs.fill.fill_segment.Given as goal
 abbrev pub invariant-places : goal.invariant-places
 invariant-places l = record {
   addressed : l.pass ≡ 0 → l.slice < 2 → 0 < l.index
-      → l.addresses ≡ address_block (shape l.layout) (place l.pass l.slice l.lane l.index) ((l.index - 1) / 128 + 1);
+      → l.addresses ≡ address_block (shape l.layout) (place l.pass l.slice l.lane l.index)
+      ((l.index - 1) / 128 + 1);
   filled : (table : Table) → Stands (shape l.layout) l.fn.memory table (place l.pass l.slice l.lane 0)
-      → Stands (shape l.layout) l.memory (with_places (shape l.layout) l.h0 table l.pass l.slice l.lane l.index)
+      → Stands (shape l.layout) l.memory (with_places
+      (shape l.layout) l.h0 table l.pass l.slice l.lane l.index)
       (place l.pass l.slice l.lane l.index);
 }

@@ -17,5 +17,7 @@ passes-preserved g c = record {
   whole = c.fill_pass.ensures.whole;
   lanes = c.fill_pass.ensures.lanes;
   parts = c.fill_pass.ensures.parts;
-  filled = rw (with_passes_next (shape c.args.layout) c.args.h0.now c.passes.pass) (c.fill_pass.ensures.filled _ c.passes.invariant.filled);
+  filled =
+      rw (with_passes_next (shape c.args.layout) c.args.h0.now c.passes.pass)
+      (c.fill_pass.ensures.filled _ c.passes.invariant.filled);
 }

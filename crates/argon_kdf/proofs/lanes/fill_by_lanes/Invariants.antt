@@ -10,5 +10,6 @@ invariant-passes g l = record {
   whole : length l.memory.items ≡ block_count (shape l.layout);
   lanes : length l.segments ≡ l.layout.lanes;
   parts : All (λ v. length v.items ≡ l.layout.width) l.segments;
-  filled : Stands (shape l.layout) l.memory.items (with_passes (shape l.layout) l.h0 l.pass) (place l.pass 0 0 0);
+  filled : Stands (shape l.layout) l.memory.items (with_passes (shape l.layout) l.h0 l.pass)
+      (place l.pass 0 0 0);
 }

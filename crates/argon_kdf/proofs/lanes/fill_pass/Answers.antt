@@ -21,7 +21,8 @@ slices-preserved g c = record {
   filled = λ table st.
       let x = shape c.args.layout in
       rw (with_slices_next x c.args.h0.now table c.args.pass c.slices.slice)
-      (c.fill_slice.ensures.filled (with_slices x c.args.h0.now table c.args.pass c.slices.slice) (c.slices.invariant.filled table st));
+      (c.fill_slice.ensures.filled (with_slices x c.args.h0.now table c.args.pass c.slices.slice)
+      (c.slices.invariant.filled table st));
 }
 
 pub returns-clause-filled : goal.returns-clause-filled

@@ -12,5 +12,6 @@ invariant-slices g l = record {
   lanes : length l.segments ≡ l.layout.lanes;
   parts : All (λ v. length v.items ≡ l.layout.width) l.segments;
   filled : (table : Table) → Stands (shape l.layout) l.fn.memory.items table (place l.pass 0 0 0)
-      → Stands (shape l.layout) l.memory.items (with_slices (shape l.layout) l.h0 table l.pass l.slice) (place l.pass l.slice 0 0);
+      → Stands (shape l.layout) l.memory.items (with_slices (shape l.layout) l.h0 table l.pass l.slice)
+      (place l.pass l.slice 0 0);
 }

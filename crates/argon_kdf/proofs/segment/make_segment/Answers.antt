@@ -28,12 +28,16 @@ places-preserved c =
       long = length-set _ _ _ ∙ c.places.invariant.long;
       addressed = λ first half late.
           c.refresh.ensures first half (λ begun. c.places.invariant.addressed first half begun)
-          ∙ address_block_same x w s i k (k + 1) (k / 128 + 1) ∙ ap (λ (n : ℕ). address_block x (place w s i (k + 1)) (n / 128 + 1)) (sym back);
+          ∙ address_block_same x w s i k (k + 1) (k / 128 + 1)
+          ∙ ap (λ (n : ℕ). address_block x (place w s i (k + 1)) (n / 128 + 1)) (sym back);
       filled = λ table st.
           rw (with_places_next x c.args.h0.now table w s i k)
-          (Begun_next x c.args.h0.now c.args.memory.now c.places.segment (with_places x c.args.h0.now table w s i k) w s i k _ (omega (arith, c.places.invariant.long))
-          (c.write_new.ensures (with_places x c.args.h0.now table w s i k) (c.places.invariant.filled table st)
-          (λ first half. c.refresh.ensures first half (λ begun. c.places.invariant.addressed first half begun)))
+          (Begun_next x c.args.h0.now c.args.memory.now c.places.segment
+          (with_places x c.args.h0.now table w s i k) w s i k _ (omega (arith, c.places.invariant.long))
+          (c.write_new.ensures (with_places x c.args.h0.now table w s i k)
+          (c.places.invariant.filled table st)
+          (λ first half. c.refresh.ensures first half
+          (λ begun. c.places.invariant.addressed first half begun)))
           (c.places.invariant.filled table st));
     }
 
@@ -43,4 +47,5 @@ returns-clause-made c = λ table st k low.
     let done : c.places.index ≡ c.args.layout.width = omega arith in
     let next : c.args.slice + 1 ≤ 4 = omega arith in
     Begun_made x c.args.memory.now c.places.segment _ c.args.pass c.args.slice c.args.lane k c.requires.lane c.requires.slice low
-    (omega (arith, mul-le-mul_left c.args.layout.width next)) (rw done at (c.places.invariant.filled table st))
+    (omega (arith, mul-le-mul_left c.args.layout.width next))
+    (rw done at (c.places.invariant.filled table st))

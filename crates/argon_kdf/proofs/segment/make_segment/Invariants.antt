@@ -11,8 +11,10 @@ abbrev pub invariant-places : goal.invariant-places
 invariant-places l = record {
   long : length l.segment ≡ l.layout.width;
   addressed : l.pass ≡ 0 → l.slice < 2 → 0 < l.index
-      → l.addresses ≡ address_block (shape l.layout) (place l.pass l.slice l.lane l.index) ((l.index - 1) / 128 + 1);
+      → l.addresses ≡ address_block (shape l.layout) (place l.pass l.slice l.lane l.index)
+      ((l.index - 1) / 128 + 1);
   filled : (table : Table) → Stands (shape l.layout) l.memory table (place l.pass l.slice 0 0)
-      → Begun (shape l.layout) l.memory l.segment (with_places (shape l.layout) l.h0 table l.pass l.slice l.lane l.index)
+      → Begun (shape l.layout) l.memory l.segment
+      (with_places (shape l.layout) l.h0 table l.pass l.slice l.lane l.index)
       (place l.pass l.slice l.lane l.index);
 }

@@ -1,5 +1,6 @@
 use Rattle.std.proofs.Common.{arith}
-use Rattle.argon_kdf.proofs.Ranges.{some_pass, few_passes, some_lane, few_lanes, enough_kib, most_kib, wide, narrow}
+use Rattle.argon_kdf.proofs.Ranges.{some_pass, few_passes, some_lane, few_lanes, enough_kib, most_kib, wide}
+use Rattle.argon_kdf.proofs.Ranges.{narrow}
 use Rattle.argon_kdf.proofs.layout.Layout.new.Goals as goal
 
 pub invariant_of-result : goal.invariant_of-result
