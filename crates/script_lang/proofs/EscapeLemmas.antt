@@ -12,6 +12,7 @@ use Rattle.percent_encoding.specs.AsciiSet.{contains, should_percent_encode}
 use Rattle.percent_encoding.specs.Percent.{percent_encode, percent_decode, percent_encode_byte, encode_byte}
 use Rattle.percent_encoding.proofs.PercentLemmas.{IsByte, IsEscapeByte, All-percent_encode, All-percent_decode, round_trip}
 use Rattle.script_lang.specs.Word.{has_whole_escapes, is_word_text, sized_word, word_bytes, may_be_target, passing, target_bytes, is_plain_character, byte_text, word_text, IsWord}
+use Rattle.script_lang.specs.declared.limits.TheConstants.{MOST_WORD_BYTES}
 use Rattle.script_lang.specs.declared.word.TheConstants.{ESCAPED}
 
 -- ---- what is written
@@ -61,7 +62,7 @@ kept_is_plain b kept = turn (is_plain_character b) (sym (should_percent_encode-E
     turn true h = refl
     turn false h = absurd (cc h)
 
-graphic_text : (bytes : List ℕ) → list_all is_ascii_graphic (word_text bytes) ≡ true
+pub graphic_text : (bytes : List ℕ) → list_all is_ascii_graphic (word_text bytes) ≡ true
 graphic_text bytes =
     list_all-from_AllPass is_ascii_graphic (word_text bytes)
     (rw (← percent_encode-ESCAPED bytes) (All-percent_encode (λ b. is_ascii_graphic b ≡ true) ESCAPED bytes (λ b kept. plain_is_graphic b (kept_is_plain b kept)) escape_is_graphic))
@@ -113,7 +114,7 @@ word_bytes-word_text bytes word =
     taken : (is : Bool) (decoded bytes : List ℕ) → is ≡ true → decoded ≡ bytes → IsWord bytes
         → (let o : Option (List ℕ) = if is then sized_word decoded else None in o ≡ Some bytes)
     taken is decoded bytes h e word =
-        rw (h, e, le-leb 1 (length bytes) word.nonempty, le-leb (length bytes) 1000 word.bounded) refl
+        rw (h, e, le-leb 1 (length bytes) word.nonempty, le-leb (length bytes) MOST_WORD_BYTES word.bounded) refl
 
 pub target_bytes-word_text : (bytes : List ℕ) → IsWord bytes → IsTrue (may_be_target bytes) → target_bytes (word_text bytes) ≡ Some bytes
 unfolding target_bytes
@@ -132,17 +133,17 @@ IsWord-word_bytes text bytes spelled =
     let ranged = All-percent_decode text (All-weaker (λ b. is_ascii_graphic b ≡ true) IsByte graphic_is_byte text (AllPass-from_list_all is_ascii_graphic text graphic.0)) in
     record { nonempty = parts.2; bounded = parts.3; ranged = rw (← parts.1) ranged }
   where
-    sized : (bytes found : List ℕ) (fits : Bool) → (nat_le 1 (length bytes) && nat_le (length bytes) 1000) ≡ fits
+    sized : (bytes found : List ℕ) (fits : Bool) → (nat_le 1 (length bytes) && nat_le (length bytes) MOST_WORD_BYTES) ≡ fits
         → (let o : Option (List ℕ) = if fits then Some bytes else None in o ≡ Some found)
-        → (bytes ≡ found) × (1 ≤ length found) × (length found ≤ 1000)
+        → (bytes ≡ found) × (1 ≤ length found) × (length found ≤ MOST_WORD_BYTES)
     sized bytes found true h e =
         let same : bytes ≡ found = cc in
         let both = and_parts _ _ h in
-        (same, rw (← same) (leb-true 1 (length bytes) both.0), rw (← same) (leb-true (length bytes) 1000 both.1))
+        (same, rw (← same) (leb-true 1 (length bytes) both.0), rw (← same) (leb-true (length bytes) MOST_WORD_BYTES both.1))
     sized bytes found false h e = absurd (cc e)
 
     taken : (is : Bool) (decoded bytes : List ℕ) → (let o : Option (List ℕ) = if is then sized_word decoded else None in o ≡ Some bytes)
-        → (is ≡ true) × (decoded ≡ bytes) × (1 ≤ length bytes) × (length bytes ≤ 1000)
+        → (is ≡ true) × (decoded ≡ bytes) × (1 ≤ length bytes) × (length bytes ≤ MOST_WORD_BYTES)
     taken true decoded bytes e =
         let parts = sized decoded bytes _ refl e in
         (refl, parts.0, parts.1, parts.2)

@@ -1,3 +1,9 @@
+pub mod PlainWords
+pub mod WordReadings
+pub mod NameLaws
+pub mod VerbLaws
+pub mod AskedLemmas
+pub mod WordsLemmas
 pub mod StatementLemmas
 pub mod ReadingLemmas
 pub mod WritingLemmas

@@ -6,10 +6,11 @@ use Rattle.std.proofs.lemmas.Bool.{lt-ltb, ltb-true, cases_Bool}
 use Rattle.std.proofs.lemmas.List.Sums.{sum_by_push}
 use Rattle.std.proofs.lemmas.List.Splits.{length-slice_split}
 use Rattle.text_words.specs.Lines.{pieces_of, is_line_feed}
-use Rattle.script_lang.specs.Statements.{statement_of}
+use Rattle.script_lang.specs.Readable.{readable_statement_of}
 use Rattle.script_lang.specs.Sections.{is_caller, may_stand, first_misplaced_line, commands_of, sections_of}
 use Rattle.script_lang.specs.Script.{statements_in, statements_of, parsed_script, Reads}
 use Rattle.script_lang.specs.Reading.{with_commands, with_command, after_line, AddsStatement, TakesLine}
+use Rattle.script_lang.specs.declared.limits.TheConstants.{MOST_CALLERS}
 use Rattle.script_lang.specs.declared.commands.Command.{Command}
 use Rattle.script_lang.specs.declared.commands.Section.{Section}
 use Rattle.script_lang.specs.declared.statements.Statement.{Statement}
@@ -105,7 +106,7 @@ unfolding read_from first_bad_from commands_of sections_of
 read_from-line n sections None more = refl
 read_from-line n sections (Some Nothing) more = refl
 read_from-line n sections (Some (Caller uid)) more =
-    elim (cases_Bool (nat_lt (length sections) 8)) [
+    elim (cases_Bool (nat_lt (length sections) MOST_CALLERS)) [
       | inl room ↦
           let new : Section = record { uid = uid; commands = [] } in
           rw room (rw (length-append sections (new ∷ []), with_commands-nil sections, with_commands-new sections uid (commands_of (n + 1) more), append_assoc) refl)
@@ -121,11 +122,11 @@ read_from-line n sections (Some (Order verb)) more =
 -- ---- lines of a text
 
 -- a line that was ended, and what follows it
-pub statements_in-line : (line text : List ℕ) → statements_in (line ∷ pieces_of text) ≡ statement_of line ∷ statements_of text
+pub statements_in-line : (line text : List ℕ) → statements_in (line ∷ pieces_of text) ≡ readable_statement_of line ∷ statements_of text
 unfolding statements_in
 statements_in-line line text = by_pieces (pieces_of text) (let e = length-slice_split is_line_feed text in omega arith)
   where
-    by_pieces : (pieces : List (List ℕ)) → 0 < length pieces → statements_in (line ∷ pieces) ≡ statement_of line ∷ statements_in pieces
+    by_pieces : (pieces : List (List ℕ)) → 0 < length pieces → statements_in (line ∷ pieces) ≡ readable_statement_of line ∷ statements_in pieces
     by_pieces [] some = absurd (omega arith)
     by_pieces (next ∷ more) some = refl
 
@@ -144,18 +145,18 @@ statements_of-nil (b ∷ bytes) none = absurd (omega arith)
 -- a line in the grammar goes over to what follows
 pub line_taken : (n : ℕ) (sections after : List Section) (text line rest : List ℕ) (parsed : Result (List Section) ℕ)
     → parsed ≡ read_from n sections (statements_of text) → pieces_of text ≡ line ∷ pieces_of rest
-    → after_line n sections (statement_of line) ≡ Some after → parsed ≡ read_from (n + 1) after (statements_of rest)
+    → after_line n sections (readable_statement_of line) ≡ Some after → parsed ≡ read_from (n + 1) after (statements_of rest)
 line_taken n sections after text line rest parsed told cut took =
-    told ∙ rw (cut, statements_in-line line rest, read_from-line n sections (statement_of line) (statements_of rest), took) refl
+    told ∙ rw (cut, statements_in-line line rest, read_from-line n sections (readable_statement_of line) (statements_of rest), took) refl
 
 -- a line that is refused is where reading ends
 pub line_refused : (n : ℕ) (sections after : List Section) (text line rest : List ℕ) (parsed : Result (List Section) ℕ) (fault : ScriptFault)
     → parsed ≡ read_from n sections (statements_of text) → pieces_of text ≡ line ∷ pieces_of rest
-    → TakesLine n (after_line n sections (statement_of line)) (Err fault) after → Reads (Err fault) parsed
+    → TakesLine n (after_line n sections (readable_statement_of line)) (Err fault) after → Reads (Err fault) parsed
 line_refused n sections after text line rest parsed NoMemory told cut refused = tt
 line_refused n sections after text line rest parsed (BadLine m) told cut refused =
     rw refused.1
-    (told ∙ rw (cut, statements_in-line line rest, read_from-line n sections (statement_of line) (statements_of rest), refused.0) refl)
+    (told ∙ rw (cut, statements_in-line line rest, read_from-line n sections (readable_statement_of line) (statements_of rest), refused.0) refl)
 
 -- a last piece that no line feed ended
 pub line_unended : (n : ℕ) (sections : List Section) (text line : List ℕ) (parsed : Result (List Section) ℕ)
@@ -182,20 +183,20 @@ left_out b x h = rw h refl
 some_eq : {x y : List Section} → Some x ≡ Some y → x ≡ y
 some_eq h = cc h
 
--- at most eight sections
-pub at_most_eight : (n : ℕ) (sections after : List Section) (line : Option Statement) → length sections ≤ 8
-    → after_line n sections line ≡ Some after → length after ≤ 8
-at_most_eight n sections after None few took = absurd (cc took)
-at_most_eight n sections after (Some Nothing) few took = let e : sections ≡ after = cc took in omega (arith, ap length e)
-at_most_eight n sections after (Some (Caller uid)) few took =
+-- no more sections than callers may be
+pub few_callers : (n : ℕ) (sections after : List Section) (line : Option Statement) → length sections ≤ MOST_CALLERS
+    → after_line n sections line ≡ Some after → length after ≤ MOST_CALLERS
+few_callers n sections after None few took = absurd (cc took)
+few_callers n sections after (Some Nothing) few took = let e : sections ≡ after = cc took in omega (arith, ap length e)
+few_callers n sections after (Some (Caller uid)) few took =
     let new : Section = record { uid = uid; commands = [] } in
-    elim (cases_Bool (nat_lt (length sections) 8)) [
+    elim (cases_Bool (nat_lt (length sections) MOST_CALLERS)) [
       | inl room ↦
-          let e : Some (sections ++ new ∷ []) ≡ Some after = sym (chosen (nat_lt (length sections) 8) (sections ++ new ∷ []) room) ∙ took in
+          let e : Some (sections ++ new ∷ []) ≡ Some after = sym (chosen (nat_lt (length sections) MOST_CALLERS) (sections ++ new ∷ []) room) ∙ took in
           omega (arith, ltb-true _ _ room, ap length (some_eq e), length-append sections (new ∷ []))
-      | inr other ↦ absurd (cc (sym (left_out (nat_lt (length sections) 8) (sections ++ new ∷ []) other) ∙ took))
+      | inr other ↦ absurd (cc (sym (left_out (nat_lt (length sections) MOST_CALLERS) (sections ++ new ∷ []) other) ∙ took))
     ]
-at_most_eight n sections after (Some (Order verb)) few took =
+few_callers n sections after (Some (Order verb)) few took =
     let command : Command = record { line = n; verb = verb } in
     elim (cases_Bool (nat_lt 0 (length sections))) [
       | inl room ↦

@@ -5,12 +5,13 @@ use Rattle.std.specs.List.{All}
 use Rattle.std.proofs.lemmas.Bool.{lt-ltb}
 use Rattle.std.proofs.lemmas.List.Splits.{slice_split_at}
 use Rattle.text_words.specs.Lines.{is_line_feed}
-use Rattle.script_lang.specs.Statements.{statement_of}
+use Rattle.script_lang.specs.Readable.{readable_statement_of}
 use Rattle.script_lang.specs.Sections.{commands_of, sections_of}
 use Rattle.script_lang.specs.Script.{statements_of, parsed_script}
-use Rattle.script_lang.specs.Verbs.{verb_text}
+use Rattle.script_lang.specs.VerbText.{verb_text}
 use Rattle.script_lang.specs.Writing.{empty_lines, caller_text, commands_text, line_behind, sections_text, script_text}
 use Rattle.script_lang.specs.Spelled.{StandBehind, HaveRoom, IsWritable, IsSpelled}
+use Rattle.script_lang.specs.declared.limits.TheConstants.{MOST_CALLERS}
 use Rattle.script_lang.specs.declared.commands.Command.{Command}
 use Rattle.script_lang.specs.declared.commands.Section.{Section}
 use Rattle.script_lang.specs.declared.statements.Statement.{Statement}
@@ -39,7 +40,7 @@ section_lines n (section ∷ more) =
 
 -- a line in front of a text
 statements_of-line : (line text : List ℕ) → All (λ b. is_line_feed b ≡ false) line
-    → statements_of (line ++ 10 ∷ text) ≡ statement_of line ∷ statements_of text
+    → statements_of (line ++ 10 ∷ text) ≡ readable_statement_of line ∷ statements_of text
 statements_of-line line text clean = rw (slice_split_at is_line_feed line 10 text clean refl) (statements_in-line line text)
 
 statements_of-empty : (n : ℕ) (text : List ℕ) → statements_of (empty_lines n ++ text) ≡ nothings n (statements_of text)
@@ -150,12 +151,12 @@ first_bad_from-commands k n callers (command ∷ more) lines some good =
     first_bad_from-nothings k (command.line - n) callers _
     (λ j. first_bad_from-order j callers command.verb _ some (first_bad_from-commands (j + 1) (command.line + 1) callers more lines some good))
 
-first_bad_from-sections : (k n callers : ℕ) (sections : List Section) → callers + length sections ≤ 8
+first_bad_from-sections : (k n callers : ℕ) (sections : List Section) → callers + length sections ≤ MOST_CALLERS
     → first_bad_from k callers (section_lines n sections) ≡ None
 unfolding first_bad_from section_lines
 first_bad_from-sections k n callers [] few = refl
 first_bad_from-sections k n callers (section ∷ more) few =
-    rw (lt-ltb callers 8 (omega arith))
+    rw (lt-ltb callers MOST_CALLERS (omega arith))
     (first_bad_from-commands (k + 1) (n + 1) (callers + 1) section.commands _ (omega arith)
     (λ j. first_bad_from-sections j (line_behind (n + 1) section.commands) (callers + 1) more (omega arith)))
 

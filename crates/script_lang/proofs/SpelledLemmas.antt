@@ -8,11 +8,12 @@ use Rattle.script_lang.specs.Sections.{first_misplaced_line, commands_of, sectio
 use Rattle.script_lang.specs.Script.{statements_in, statements_of, parsed_script}
 use Rattle.script_lang.specs.Writing.{line_behind}
 use Rattle.script_lang.specs.Spelled.{StandBehind, HaveRoom, IsWritable}
+use Rattle.script_lang.specs.declared.limits.TheConstants.{MOST_CALLERS}
 use Rattle.script_lang.specs.declared.commands.Command.{Command}
 use Rattle.script_lang.specs.declared.commands.Section.{Section}
 use Rattle.script_lang.specs.declared.statements.Statement.{Statement}
 use Rattle.script_lang.specs.declared.statements.Statement.TheVariants.{Nothing, Caller, Order}
-use Rattle.script_lang.proofs.StatementLemmas.{IsSaid, statement_of-said}
+use Rattle.script_lang.proofs.StatementLemmas.{IsSaid, readable_statement_of-said}
 use Rattle.script_lang.proofs.ReadingLemmas.{first_bad_from, first_bad_from-line}
 
 -- what all lines say can be said
@@ -28,7 +29,7 @@ AreSaid-statements_in (last ∷ []) = ended (length last == 0)
     ended : (b : Bool) → (let lines : List (Option Statement) = if b then [] else None ∷ [] in AreSaid lines)
     ended true = tt
     ended false = (tt, tt)
-AreSaid-statements_in (line ∷ next ∷ more) = (statement_of-said line, AreSaid-statements_in (next ∷ more))
+AreSaid-statements_in (line ∷ next ∷ more) = (readable_statement_of-said line, AreSaid-statements_in (next ∷ more))
 
 -- ---- the commands of a section
 
@@ -79,17 +80,17 @@ HaveRoom-sections_of n (Some (Order verb) ∷ more) said = HaveRoom-sections_of 
 
 -- ---- how many callers there are
 
--- where each line may stand, there are at most eight
-sections_of-few : (n m callers : ℕ) (lines : List (Option Statement)) → callers ≤ 8 → first_bad_from n callers lines ≡ None
-    → callers + length (sections_of m lines) ≤ 8
+-- where each line may stand, there are few enough
+sections_of-few : (n m callers : ℕ) (lines : List (Option Statement)) → callers ≤ MOST_CALLERS → first_bad_from n callers lines ≡ None
+    → callers + length (sections_of m lines) ≤ MOST_CALLERS
 unfolding first_bad_from sections_of
 sections_of-few n m callers [] few good = omega arith
 sections_of-few n m callers (None ∷ more) few good = absurd (cc good)
 sections_of-few n m callers (Some Nothing ∷ more) few good = sections_of-few (n + 1) (m + 1) callers more few good
 sections_of-few n m callers (Some (Caller uid) ∷ more) few good =
-    elim (cases_Bool (nat_lt callers 8)) [
+    elim (cases_Bool (nat_lt callers MOST_CALLERS)) [
       | inl room ↦
-          let rest = sections_of-few (n + 1) (m + 1) (callers + 1) more (omega (arith, ltb-true callers 8 room)) (rw room at good) in
+          let rest = sections_of-few (n + 1) (m + 1) (callers + 1) more (omega (arith, ltb-true callers MOST_CALLERS room)) (rw room at good) in
           omega arith
       | inr other ↦ absurd (cc (rw other at good))
     ]

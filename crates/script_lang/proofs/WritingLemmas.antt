@@ -1,7 +1,7 @@
 -- The writer goes on by a command, and by a section.
 use Rattle.std.proofs.Common.{◌≡◌, ℕ, suc, ◌<◌, ◌≤◌, ◌+◌, ◌-◌, List, [], ◌∷◌, ◌++◌, length, drop, drop-cons, get_or, codes, refl, sym, ap, ◌∙◌, add-one, append_assoc, append-nil}
 use Rattle.std.proofs.lemmas.List.{drop_all}
-use Rattle.script_lang.specs.Verbs.{verb_text}
+use Rattle.script_lang.specs.VerbText.{verb_text}
 use Rattle.script_lang.specs.Writing.{empty_lines, caller_text, commands_text, line_behind, sections_text, script_text}
 use Rattle.script_lang.specs.declared.commands.Command.{Command}
 use Rattle.script_lang.specs.declared.commands.Section.{Section}

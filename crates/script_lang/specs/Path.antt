@@ -5,6 +5,7 @@ use Rattle.std.specs.Option.{option_map, option_or}
 use Rattle.std.specs.Str.{bytes_eq}
 use Rattle.text_words.specs.Numbers.{number_below, decimal_of}
 use Rattle.script_lang.specs.Word.{IsWord, word_bytes, passing, word_text}
+use Rattle.script_lang.specs.declared.limits.TheConstants.{MOST_PARTS}
 use Rattle.script_lang.specs.declared.path.ScriptPart.{ScriptPart}
 use Rattle.script_lang.specs.declared.path.ScriptPart.TheVariants.{Given, Star}
 
@@ -46,7 +47,7 @@ parts_of (text ∷ texts) = before_parts (part_of text) (parts_of texts)
 
 -- the same, where the texts are at most 32
 abbrev pub few_parts : List (List ℕ) → Option (List ScriptPart)
-few_parts texts = if nat_le (length texts) 32 then parts_of texts else None
+few_parts texts = if nat_le (length texts) MOST_PARTS then parts_of texts else None
 
 -- the path that a text spells: `/` is the root, and else what stands between the slashes, behind the first, is the parts
 unfoldable pub path_of : List ℕ → Option (List ScriptPart)
@@ -76,5 +77,5 @@ IsPart (Star number) = number < 2 ^ 32
 
 -- what a path may be: at most 32 parts
 pub record IsPath (parts : List ScriptPart) : Type 0 where
-  pub bounded : length parts ≤ 32
+  pub bounded : length parts ≤ MOST_PARTS
   pub each : All IsPart parts

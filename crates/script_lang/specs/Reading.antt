@@ -1,5 +1,6 @@
 -- What the reader has after each line: the sections so far.
 use Rattle.std.specs.Prelude.{ℕ, ◌≡◌, nat_lt, Bool, true, false, List, [], ◌∷◌, ◌++◌, length, Option, Some, None, Result, Ok, Err, MatchOption, if◌then◌else◌}
+use Rattle.script_lang.specs.declared.limits.TheConstants.{MOST_CALLERS}
 use Rattle.script_lang.specs.declared.commands.Command.{Command}
 use Rattle.script_lang.specs.declared.commands.Section.{Section}
 use Rattle.script_lang.specs.declared.statements.Statement.{Statement}
@@ -22,7 +23,7 @@ abbrev pub after_line : ℕ → List Section → Option Statement → Option (Li
 after_line n sections None = None
 after_line n sections (Some Nothing) = Some sections
 after_line n sections (Some (Caller uid)) =
-    if nat_lt (length sections) 8 then Some (sections ++ record { uid = uid; commands = [] } ∷ []) else None
+    if nat_lt (length sections) MOST_CALLERS then Some (sections ++ record { uid = uid; commands = [] } ∷ []) else None
 after_line n sections (Some (Order verb)) = with_command sections (record { line = n; verb = verb })
 
 -- the answer is whether there are such sections, and the new ones are they

@@ -1,6 +1,7 @@
 -- What lines say together: where each may stand, and the sections that they make. What a line says
 -- by itself is an `Option`: `None` where it is outside the grammar by itself.
 use Rattle.std.specs.Prelude.{ℕ, ◌+◌, nat_lt, Bool, false, true, List, [], ◌∷◌, ◌++◌, length, count_by, Option, Some, None, if◌then◌else◌}
+use Rattle.script_lang.specs.declared.limits.TheConstants.{MOST_CALLERS}
 use Rattle.script_lang.specs.declared.commands.Command.{Command}
 use Rattle.script_lang.specs.declared.commands.Section.{Section}
 use Rattle.script_lang.specs.declared.statements.Statement.{Statement}
@@ -16,7 +17,7 @@ is_caller _ = false
 abbrev pub may_stand : ℕ → Option Statement → Bool
 may_stand callers None = false
 may_stand callers (Some Nothing) = true
-may_stand callers (Some (Caller uid)) = nat_lt callers 8
+may_stand callers (Some (Caller uid)) = nat_lt callers MOST_CALLERS
 may_stand callers (Some (Order verb)) = nat_lt 0 callers
 
 -- the number of the first line that may not stand behind all those before it: `before` stand before

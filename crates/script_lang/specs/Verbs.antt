@@ -1,27 +1,94 @@
--- The commands: a name, and the words behind it that say what it is asked of.
-use Rattle.std.specs.Prelude.{ℕ, ◌++◌, List, [], ◌∷◌, codes, Option, Some, None, if◌then◌else◌}
-use Rattle.std.specs.Option.{option_map, option_and_then}
-use Rattle.std.specs.Str.{bytes_eq}
-use Rattle.hex.specs.Hex.{encode_lower}
-use Rattle.script_lang.specs.Keys.{hex_of_size, key_ref_of, key_ref_text}
-use Rattle.script_lang.specs.declared.commands.Verb.{Verb}
-use Rattle.script_lang.specs.declared.commands.Verb.TheVariants.{AddKey, RemoveKey, KeyStatus}
+-- The commands: behind each name, the words that it takes.
+use Rattle.std.specs.Prelude.{ℕ, List, Option}
+use Rattle.std.specs.Option.{option_and_then}
+use Rattle.text_words.specs.Digits.{hex_bytes_of_length}
+use Rattle.short_bytes.specs.Label.{label_of}
+use Rattle.script_lang.specs.Keys.{hex_of_size, hex_or_none, key_ref_of}
+use Rattle.script_lang.specs.Numbers.{number_of, number_up_to, pad_of, unit_of}
+use Rattle.script_lang.specs.Records.{record_of}
+use Rattle.script_lang.specs.Secrets.{secret_of, new_secret_of}
+use Rattle.script_lang.specs.Word.{target_bytes}
+use Rattle.script_lang.specs.Path.{path_of}
+use Rattle.script_lang.specs.Forms.{Form, ◌>>=◌, says, word, only, optional, whole}
+use Rattle.script_lang.specs.Names.{name_of}
+use Rattle.script_lang.specs.declared.limits.TheConstants.{MOST_ADDED_BYTES, MOST_WRITTEN_BYTES, MOST_FILLED_BYTES, MOST_PUT_BYTES, POLICY_BYTES}
+use Rattle.script_lang.specs.declared.names.CommandName.{CommandName}
+use Rattle.script_lang.specs.declared.names.CommandName.TheVariants as name
+use Rattle.script_lang.specs.declared.verb.Verb.{Verb}
+use Rattle.script_lang.specs.declared.verb.Verb.TheVariants as verb
+use Rattle.script_lang.specs.declared.verb.Settings.{Settings}
+use Rattle.script_lang.specs.declared.verb.Options.{Options}
 
--- the word, where there is just one
-abbrev pub only : List (List ℕ) → Option (List ℕ)
-only (word ∷ []) = Some word
-only _ = None
+-- a padding, and a unit where one is said
+abbrev pub settings : Form Settings
+settings = do
+  pad ← word pad_of
+  unit ← optional (word unit_of)
+  says (record { pad = pad; unit = unit })
 
--- the command of a name and the words behind it
-abbrev pub verb_of : List ℕ → List (List ℕ) → Option Verb
-verb_of name words =
-    if bytes_eq name (codes "add-key") then option_map AddKey (option_and_then (hex_of_size 1 128) (only words))
-    else if bytes_eq name (codes "remove-key") then option_map RemoveKey (option_and_then key_ref_of (only words))
-    else if bytes_eq name (codes "key-status") then option_map KeyStatus (option_and_then key_ref_of (only words))
-    else None
+-- a padding and a unit
+abbrev pub options : Form Options
+options = do
+  pad ← word pad_of
+  unit ← word unit_of
+  says (record { pad = pad; unit = unit })
 
--- the words of a command
-abbrev pub verb_text : Verb → List ℕ
-verb_text (AddKey bytes) = codes "add-key " ++ encode_lower bytes
-verb_text (RemoveKey key) = codes "remove-key " ++ key_ref_text key
-verb_text (KeyStatus key) = codes "key-status " ++ key_ref_text key
+abbrev pub set_policy : Form Verb
+set_policy = do
+  path ← word path_of
+  key ← word key_ref_of
+  settings ← settings
+  says (verb.SetPolicy path key settings)
+
+abbrev pub set_policy_bytes : Form Verb
+set_policy_bytes = do
+  path ← word path_of
+  policy ← word (hex_bytes_of_length POLICY_BYTES)
+  says (verb.SetPolicyBytes path policy)
+
+abbrev pub symlink : Form Verb
+symlink = do
+  path ← word path_of
+  target ← word target_bytes
+  says (verb.Symlink path target)
+
+abbrev pub rename : Form Verb
+rename = do
+  old_path ← word path_of
+  new_path ← word path_of
+  says (verb.Rename old_path new_path)
+
+abbrev pub list : Form Verb
+list = do
+  path ← word path_of
+  start ← optional (word number_of)
+  says (verb.List path start)
+
+abbrev pub read : Form Verb
+read = do
+  handle ← word number_of
+  offset ← word number_of
+  len ← word number_of
+  says (verb.Read handle offset len)
+
+abbrev pub write : Form Verb
+write = do
+  handle ← word number_of
+  offset ← word number_of
+  bytes ← word (hex_or_none MOST_WRITTEN_BYTES)
+  says (verb.Write handle offset bytes)
+
+abbrev pub fill : Form Verb
+fill = do
+  handle ← word number_of
+  offset ← word number_of
+  len ← word (number_up_to MOST_FILLED_BYTES)
+  byte ← word (number_up_to 255)
+  says (verb.Fill handle offset len byte)
+
+abbrev pub meta_put : Form Verb
+meta_put = do
+  record_put ← word record_of
+  expected ← word number_of
+  bytes ← word (hex_or_none MOST_PUT_BYTES)
+  says (verb.MetaPut record_put expected bytes)

@@ -2,7 +2,7 @@
 -- where the commands' line numbers leave room.
 use Rattle.std.specs.Prelude.{ℕ, ◌+◌, ◌-◌, List, [], ◌∷◌, ◌++◌, replicate, codes}
 use Rattle.text_words.specs.Numbers.{decimal_of}
-use Rattle.script_lang.specs.Verbs.{verb_text}
+use Rattle.script_lang.specs.VerbText.{verb_text}
 use Rattle.script_lang.specs.declared.commands.Command.{Command}
 use Rattle.script_lang.specs.declared.commands.Section.{Section}
 

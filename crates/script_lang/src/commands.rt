@@ -1,7 +1,7 @@
 //! What a script says: sections of one caller each, with their commands.
 
-use fsc_keys::{KeyId, RawKey};
-use item_list::{Bytes, Items};
+use crate::verb::Verb;
+use item_list::Items;
 
 /// What the callers of a script ask for. Callers are numbered from 0, in the order of their
 /// sections, of which there are at most eight.
@@ -23,22 +23,4 @@ pub type CommandList = Items<Command>;
 pub struct Command {
     pub line: u32,
     pub verb: Verb,
-}
-
-/// What a command asks for.
-#[derive(Drop)]
-pub enum Verb {
-    /// To add the key of these 1 to 128 bytes. A mount may refuse them, since a raw key has 32 to 64.
-    AddKey(Bytes),
-    /// To remove the caller's claim to the key.
-    RemoveKey(KeyRef),
-    /// To tell whether the key is there.
-    KeyStatus(KeyRef),
-}
-
-/// A key: by its identifier, or by its bytes, which stand for their identifier.
-#[derive(Drop)]
-pub enum KeyRef {
-    Id(KeyId),
-    Raw(RawKey),
 }

@@ -1,24 +1,27 @@
-//! The words for keys: bytes in hexadecimal digits, and a key by its identifier or by its bytes.
+//! The words for keys and for other bytes: hexadecimal digits of either case.
 
-ghost use Rattle.std.specs.Prelude.{◌≡◌, IfOk};
-ghost use Rattle.script_lang.specs.Keys.{hex_of_size, id_of, key_ref_of};
+ghost use Rattle.std.specs.Prelude.{◌≡◌, ◌*◌, ◌<◌, ◌^◌, IfOk};
+ghost use Rattle.script_lang.specs.Keys as spec;
 
-use crate::commands::KeyRef;
-use fsc_keys::{KeyId, RawKey};
+use crate::verb::KeyRef;
+use fsc_keys::{KeyId, LEAST_RAW_KEY_BYTES, MOST_RAW_KEY_BYTES, RawKey};
 use hex::FromHexError;
 use item_list::Bytes;
 use std::alloc::{AllocError, Global};
 use text_words::{hex_bytes, hex_bytes_into};
 
-/// The most bytes of a raw key in a command. More than a raw key may have, so that the mount can
-/// refuse it.
-const MOST_KEY_BYTES: usize = 128;
-
-/// The 1 to 128 bytes that the digits spell, in either case.
-pub fn read_key_bytes(alloc: Global, word: &[u8]) -> Result<Option<Bytes>, AllocError>
-    ensures { IfOk result (λ bytes. bytes ≡ hex_of_size 1 128 word.now) }
+/// The bytes that the digits spell, if there are from `least` to `most` of them.
+pub(crate) fn read_hex(
+    alloc: Global,
+    word: &[u8],
+    least: usize,
+    most: usize,
+) -> Result<Option<Bytes>, AllocError>
+    requires least_fits { 2 * least < 2 ^ 64 }
+    requires most_fits { 2 * most < 2 ^ 64 }
+    ensures { IfOk result (λ bytes. bytes ≡ spec.hex_of_size least most word.now) }
 {
-    if word.len() < 2 || word.len() > 2 * MOST_KEY_BYTES {
+    if word.len() < 2 * least || word.len() > 2 * most {
         return Ok(None);
     }
     match hex::decode(alloc, word) {
@@ -28,9 +31,24 @@ pub fn read_key_bytes(alloc: Global, word: &[u8]) -> Result<Option<Bytes>, Alloc
     }
 }
 
+/// The 1 to `most` bytes that the digits spell, or none for `-`.
+pub(crate) fn read_hex_or_none(
+    alloc: Global,
+    word: &[u8],
+    most: usize,
+) -> Result<Option<Bytes>, AllocError>
+    requires { 2 * most < 2 ^ 64 }
+    ensures { IfOk result (λ bytes. bytes ≡ spec.hex_or_none most word.now) }
+{
+    if word == b"-".as_slice() {
+        return Ok(Some(Bytes::new(alloc)));
+    }
+    read_hex(alloc, word, 1, most)
+}
+
 /// The key that the word names.
-pub fn read_key_ref(word: &[u8]) -> Option<KeyRef>
-    ensures { result ≡ key_ref_of word.now }
+pub(crate) fn read_key_ref(word: &[u8]) -> Option<KeyRef>
+    ensures { result ≡ spec.key_ref_of word.now }
 {
     if word.starts_with(b"id:") {
         return read_id(&word[3..]).map(KeyRef::Id);
@@ -42,18 +60,18 @@ pub fn read_key_ref(word: &[u8]) -> Option<KeyRef>
 }
 
 fn read_id(digits: &[u8]) -> Option<KeyId>
-    ensures { result ≡ id_of digits.now }
+    ensures { result ≡ spec.id_of digits.now }
 {
     hex_bytes(digits).map(KeyId)
 }
 
 fn read_raw_key(digits: &[u8]) -> Option<RawKey>
-    ensures { result ≡ hex_of_size 32 64 digits.now }
+    ensures { result ≡ spec.raw_key_of digits.now }
 {
-    if digits.len() < 64 || digits.len() > 128 {
+    if digits.len() < 2 * LEAST_RAW_KEY_BYTES || digits.len() > 2 * MOST_RAW_KEY_BYTES {
         return None;
     }
-    let mut bytes = [0; 64];
+    let mut bytes = [0; MOST_RAW_KEY_BYTES];
     let bytes = &mut bytes[..digits.len() / 2];
     if !hex_bytes_into(digits, bytes) {
         return None;

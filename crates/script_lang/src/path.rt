@@ -5,14 +5,12 @@ ghost use Rattle.std.specs.List.{list_any, slice_split};
 ghost use Rattle.script_lang.specs.Path as spec;
 ghost use Rattle.script_lang.specs.Path.{IsPath, part_of, path_of, path_text, part_text, is_slash, few_parts, star_number};
 
+use crate::limits::MOST_PARTS;
 use crate::word::{append_word, read_word};
 use item_list::{Bytes, Items};
 use std::alloc::{AllocError, Global};
 use std::marker::Model;
 use text_words::decimal_value;
-
-/// The most parts of a path.
-const MOST_PARTS: usize = 32;
 
 /// A part of a path.
 #[derive(Drop)]

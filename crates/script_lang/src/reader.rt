@@ -1,18 +1,17 @@
 //! The reader of scripts: the script that a text spells, or its first line outside the grammar.
 
 ghost use Rattle.std.specs.Prelude.{◌<◌, ◌≤◌, ◌^◌, length, IfOk};
-ghost use Rattle.script_lang.specs.Statements.{statement_of};
+ghost use Rattle.script_lang.specs.Readable.{readable_statement_of};
+ghost use Rattle.script_lang.specs.declared.limits.TheConstants.{MOST_CALLERS};
 ghost use Rattle.script_lang.specs.Script.{parsed_script, Reads};
 ghost use Rattle.script_lang.specs.Reading.{after_line, with_command, AddsStatement, TakesLine};
 
 use crate::commands::{Command, CommandList, Script, Section};
-use crate::statements::{Statement, read_statement};
+use crate::limits::MOST_CALLERS;
+use crate::statements::{Statement, read_readable};
 use std::alloc::{AllocError, Global};
 use text_words::next_line;
 use thiserror::Error;
-
-/// The most callers of a script.
-const MOST_CALLERS: usize = 8;
 
 /// Why a script wasn't read.
 #[derive(Clone, Copy, Debug, PartialEq, Eq, Error)]
@@ -42,7 +41,7 @@ impl From<AllocError> for ScriptFault {
 pub fn read_script(alloc: Global, text: &[u8]) -> Result<Script, ScriptFault>
     requires { length text.now < 2 ^ 32 }
     ensures value { Reads result (parsed_script text.now) }
-    ensures callers { IfOk result (λ script. length script ≤ 8) }
+    ensures callers { IfOk result (λ script. length script ≤ MOST_CALLERS) }
 {
     let mut sections = Vec::new(alloc);
     let mut rest = text;
@@ -66,9 +65,9 @@ fn take_line(
     number: u32,
     line: &[u8],
 ) -> Result<(), ScriptFault>
-    ensures { TakesLine number (after_line number sections.old.items (statement_of line.now)) result sections.new.items }
+    ensures { TakesLine number (after_line number sections.old.items (readable_statement_of line.now)) result sections.new.items }
 {
-    let said = read_statement(alloc, line)?;
+    let said = read_readable(alloc, line)?;
     if add_statement(alloc, sections, number, said)? {
         Ok(())
     } else {

@@ -1,12 +1,17 @@
 //! What one line of a script says by itself, wherever it stands.
 
 ghost use Rattle.std.specs.Prelude.{◌≡◌, IfOk};
-ghost use Rattle.script_lang.specs.Statements.{statement_named, statement_of, words_behind};
+ghost use Rattle.text_words.specs.Words.{words_of};
+ghost use Rattle.script_lang.specs.Forms.{word, whole};
+ghost use Rattle.script_lang.specs.Numbers.{number_of};
+ghost use Rattle.script_lang.specs.Readable.{readable, readable_statement_of};
+ghost use Rattle.script_lang.specs.Statements.{statement_named, statement_of, statement_of_words};
 
-use crate::commands::Verb;
-use crate::verbs::{only_word, read_verb};
+use crate::verb::Verb;
+use crate::verbs::read_verb;
+use crate::words::Words;
 use std::alloc::{AllocError, Global};
-use text_words::{decimal_value, nth_word};
+use text_words::decimal_value;
 
 /// What a line says.
 #[derive(Drop)]
@@ -19,27 +24,69 @@ pub enum Statement {
     Order(Verb),
 }
 
+/// What a line of a script says, or none where it is outside the grammar by itself, or names a command
+/// that a script may not use yet.
+pub(crate) fn read_readable(alloc: Global, line: &[u8]) -> Result<Option<Statement>, AllocError>
+    ensures { IfOk result (λ said. said ≡ readable_statement_of line.now) }
+{
+    Ok(if_readable(read_statement(alloc, line)?))
+}
+
+// What a line says, where a script may say it already.
+fn if_readable(said: Option<Statement>) -> Option<Statement>
+    ensures { result ≡ readable said }
+{
+    match said {
+        Some(Statement::Order(verb)) => {
+            if !verb.name().is_readable() {
+                return None;
+            }
+            Some(Statement::Order(verb))
+        }
+        said => said,
+    }
+}
+
 /// What a line says, or none where it is outside the grammar by itself.
-pub fn read_statement(alloc: Global, line: &[u8]) -> Result<Option<Statement>, AllocError>
+pub(crate) fn read_statement(alloc: Global, line: &[u8]) -> Result<Option<Statement>, AllocError>
     ensures { IfOk result (λ said. said ≡ statement_of line.now) }
 {
     if line.is_empty() || line[0] == b'#' {
         return Ok(Some(Statement::Nothing));
     }
-    match nth_word(line, 0) {
-        Some(name) => read_named(alloc, name, line),
+    read_words(alloc, &mut Words::new(line))
+}
+
+// What the words of a line say.
+fn read_words(alloc: Global, words: &mut Words<'_>) -> Result<Option<Statement>, AllocError>
+    ensures { IfOk result (λ said. said ≡ statement_of_words words.old) }
+{
+    match words.next() {
+        Some(name) => read_named(alloc, name, words),
         None => Ok(None),
     }
 }
 
-// What the name says with the words behind the line's first.
-fn read_named(alloc: Global, name: &[u8], line: &[u8]) -> Result<Option<Statement>, AllocError>
-    ensures { IfOk result (λ said. said ≡ statement_named name.now (words_behind line.now)) }
+// What a name and the words behind it say.
+fn read_named(
+    alloc: Global,
+    name: &[u8],
+    words: &mut Words<'_>,
+) -> Result<Option<Statement>, AllocError>
+    ensures { IfOk result (λ said. said ≡ statement_named name.now words.old) }
 {
     if name == b"caller".as_slice() {
-        let uid = only_word(line).and_then(|word| decimal_value(word));
-        return Ok(uid.map(Statement::Caller));
+        return Ok(read_uid(words).map(Statement::Caller));
     }
-    let verb = read_verb(alloc, name, line)?;
+    let verb = read_verb(alloc, name, words)?;
     Ok(verb.map(Statement::Order))
+}
+
+// The number that is the only word.
+fn read_uid(words: &mut Words<'_>) -> Option<u32>
+    ensures { result ≡ whole (word number_of) words.old }
+{
+    let word = words.next()?;
+    let uid = decimal_value(word)?;
+    if words.is_empty() { Some(uid) } else { None }
 }

@@ -2,6 +2,7 @@
 
 use std::alloc::{AllocError, Global};
 
+mod commands;
 mod scripts;
 mod words;
 

@@ -5,14 +5,13 @@ ghost use Rattle.std.specs.List.{list_all};
 ghost use Rattle.std.specs.Char.{is_ascii_graphic};
 ghost use Rattle.script_lang.specs.Word as spec;
 ghost use Rattle.script_lang.specs.Word.{word_bytes, target_bytes, is_word_text, word_text};
+ghost use Rattle.script_lang.specs.declared.limits.TheConstants.{MOST_WORD_BYTES};
 ghost use Rattle.percent_encoding.specs.Percent.{percent_decode};
 
+use crate::limits::MOST_WORD_BYTES;
 use item_list::Bytes;
 use percent_encoding::{AsciiSet, NON_ALPHANUMERIC, ascii_set, percent_decode, percent_encode};
 use std::alloc::{AllocError, Global};
-
-/// The most bytes that a word stands for.
-const MOST_WORD_BYTES: usize = 1000;
 
 /// What is escaped: all but letters, digits, `-`, `.`, `_` and `~`.
 const ESCAPED: AsciiSet = ascii_set!(
@@ -68,7 +67,7 @@ fn may_be_target(bytes: &[u8]) -> bool
 /// Writes bytes as a word, in one to three characters each.
 pub fn write_word(alloc: Global, bytes: &[u8]) -> Result<String, AllocError>
     ensures value { IfOk result (λ text. string_bytes text ≡ word_text bytes.now) }
-    ensures reads_back { 1 ≤ length bytes.now → length bytes.now ≤ 1000 → IfOk result (λ text. word_bytes (string_bytes text) ≡ Some bytes.now) }
+    ensures reads_back { 1 ≤ length bytes.now → length bytes.now ≤ MOST_WORD_BYTES → IfOk result (λ text. word_bytes (string_bytes text) ≡ Some bytes.now) }
 {
     let mut text = String::new(alloc);
     append_word(&mut text, bytes)?;

@@ -1,16 +1,15 @@
 //! The writer of scripts: the text that spells a script, with each command in its own line.
 
 ghost use Rattle.std.specs.Prelude.{◌≡◌, ◌≤◌, ◌+◌, ◌-◌, ◌^◌, ◌++◌, Ok, IfOk, OnOk, codes};
-ghost use Rattle.script_lang.specs.Keys.{key_ref_text};
-ghost use Rattle.script_lang.specs.Verbs.{verb_text};
 ghost use Rattle.script_lang.specs.Script.{parsed_script};
 ghost use Rattle.script_lang.specs.Writing.{caller_text, commands_text, line_behind, empty_lines, script_text};
 ghost use Rattle.script_lang.specs.Spelled.{IsSpelled};
 
-use crate::commands::{CommandList, KeyRef, Script, Verb};
+use crate::commands::{CommandList, Script};
+use crate::verb_writer::write_verb;
 use item_list::Bytes;
 use std::alloc::{AllocError, Global};
-use text_words::{push_decimal, push_lower_hex};
+use text_words::push_decimal;
 
 /// Writes a script as a text that reads back as it. Each command stands in its own line again, each
 /// caller right behind the last line before it, and the other lines are empty.
@@ -23,7 +22,7 @@ pub fn write_script(alloc: Global, script: &Script) -> Result<Bytes, AllocError>
     let mut line = 1;
     'sections: for section in script.as_slice() {
         write_caller(&mut text, section.uid)?;
-        line = write_commands(&mut text, line + 1, &section.commands)?;
+        line = write_commands(alloc, &mut text, line + 1, &section.commands)?;
     }
     Ok(Bytes::from_vec(text))
 }
@@ -39,7 +38,12 @@ fn write_caller(text: &mut Vec<u8>, uid: u32) -> Result<(), AllocError>
 }
 
 // Writes commands in their own lines. The first free line is given, and the next one comes back.
-fn write_commands(text: &mut Vec<u8>, first: u64, commands: &CommandList) -> Result<u64, AllocError>
+fn write_commands(
+    alloc: Global,
+    text: &mut Vec<u8>,
+    first: u64,
+    commands: &CommandList,
+) -> Result<u64, AllocError>
     ensures written { OnOk result (text.new.items ≡ text.old.items ++ commands_text first commands.now) }
     ensures next { IfOk result (λ next. next ≡ line_behind first commands.now) }
     ensures bound { IfOk result (λ next. next ≤ first + 2 ^ 32) }
@@ -48,7 +52,7 @@ fn write_commands(text: &mut Vec<u8>, first: u64, commands: &CommandList) -> Res
     'commands: for command in commands.as_slice() {
         let line = u64::from(command.line);
         write_empty_lines(text, line.saturating_sub(next))?;
-        write_verb(text, &command.verb)?;
+        write_verb(alloc, text, &command.verb)?;
         text.push(b'\n')?;
         next = line + 1;
     }
@@ -63,41 +67,4 @@ fn write_empty_lines(text: &mut Vec<u8>, count: u64) -> Result<(), AllocError>
         text.push(b'\n')?;
     }
     Ok(())
-}
-
-// Writes the words of a command.
-fn write_verb(text: &mut Vec<u8>, verb: &Verb) -> Result<(), AllocError>
-    ensures { OnOk result (text.new.items ≡ text.old.items ++ verb_text verb.now) }
-{
-    match verb {
-        Verb::AddKey(bytes) => {
-            text.extend_from_slice(b"add-key ")?;
-            push_lower_hex(text, bytes.as_slice())
-        }
-        Verb::RemoveKey(key) => {
-            text.extend_from_slice(b"remove-key ")?;
-            write_key_ref(text, key)
-        }
-        Verb::KeyStatus(key) => {
-            text.extend_from_slice(b"key-status ")?;
-            write_key_ref(text, key)
-        }
-    }
-}
-
-// Writes the word for a key.
-fn write_key_ref(text: &mut Vec<u8>, key: &KeyRef) -> Result<(), AllocError>
-    ensures { OnOk result (text.new.items ≡ text.old.items ++ key_ref_text key.now) }
-{
-    match key {
-        KeyRef::Id(id) => {
-            text.extend_from_slice(b"id:")?;
-            push_lower_hex(text, &id.0)
-        }
-        KeyRef::Raw(raw) => {
-            text.extend_from_slice(b"raw:")?;
-            push_lower_hex(text, raw.bytes())?;
-            Ok(())
-        }
-    }
 }

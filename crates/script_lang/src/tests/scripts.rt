@@ -53,6 +53,7 @@ fn verb_told(alloc: Global, verb: &Verb) -> Result<String, AllocError> {
         }
         Verb::RemoveKey(key) => Ok(format!(in alloc; "remove {}", key_told(alloc, key)?)?),
         Verb::KeyStatus(key) => Ok(format!(in alloc; "status {}", key_told(alloc, key)?)?),
+        _ => String::from_str(alloc, "another"),
     }
 }
 

@@ -1,7 +1,7 @@
 use Rattle.std.proofs.Common.{◌+◌, sym, ◌∙◌, arith}
 use Rattle.std.proofs.lemmas.Bool.{eqb-true}
 use Rattle.std.proofs.lemmas.Result.{err_from_is_err_and}
-use Rattle.script_lang.proofs.ReadingLemmas.{read_from-text, read_from-end, statements_of-nil, line_taken, line_refused, line_unended, at_most_eight, nonempty, shorter}
+use Rattle.script_lang.proofs.ReadingLemmas.{read_from-text, read_from-end, statements_of-nil, line_taken, line_refused, line_unended, few_callers, nonempty, shorter}
 use Rattle.script_lang.proofs.reader.read_script.Goals as goal
 
 pub lines-init : goal.lines-init
@@ -32,7 +32,7 @@ lines-preserved c = record {
   counted =
       let less = shorter c.lines.rest.now c.next_line-line.result.bytes.now c.next_line-line.result.rest.now (rw c.if-not-line.false at c.next_line-line.ensures.whole) in
       omega (arith, c.lines.invariant.counted);
-  callers = at_most_eight (c.lines.number + 1) c.lines.sections.items c.take_line.new.sections.items _ c.lines.invariant.callers c.in_ok-take_line.ensures;
+  callers = few_callers (c.lines.number + 1) c.lines.sections.items c.take_line.new.sections.items _ c.lines.invariant.callers c.in_ok-take_line.ensures;
 }
 
 pub returns-clause-value : goal.returns-clause-value

@@ -1,0 +1,68 @@
+-- What the words of a command can ask for.
+use Rattle.std.specs.Prelude.{ℕ, ◌≡◌, ◌≤◌, ◌<◌, ◌^◌, ⊤, IsTrue, IfSome, List, length, Option}
+use Rattle.hex.specs.Hex.{IsBytes}
+use Rattle.short_bytes.specs.Label.{IsLabel}
+use Rattle.fsc_keys.specs.declared.raw_key.TheConstants.{LEAST_RAW_KEY_BYTES, MOST_RAW_KEY_BYTES}
+use Rattle.script_lang.specs.Word.{IsWord, may_be_target}
+use Rattle.script_lang.specs.Path.{IsPath}
+use Rattle.script_lang.specs.Records.{IsRecord}
+use Rattle.script_lang.specs.Secrets.{IsSecret, IsNewSecret}
+use Rattle.script_lang.specs.declared.limits.TheConstants.{MOST_ADDED_BYTES, MOST_WRITTEN_BYTES, MOST_FILLED_BYTES, MOST_PUT_BYTES, POLICY_BYTES}
+use Rattle.script_lang.specs.declared.verb.KeyRef.{KeyRef}
+use Rattle.script_lang.specs.declared.verb.KeyRef.TheVariants.{Id, Raw}
+use Rattle.script_lang.specs.declared.verb.Verb.{Verb}
+use Rattle.script_lang.specs.declared.verb.Verb.TheVariants as verb
+
+-- an identifier has 16 bytes, and a raw key 32 to 64
+abbrev pub IsKey : KeyRef → Type 0
+IsKey (Id id) = (length id.0 ≡ 16) × IsBytes id.0
+IsKey (Raw raw) = (LEAST_RAW_KEY_BYTES ≤ length raw) × ((length raw ≤ MOST_RAW_KEY_BYTES) × IsBytes raw)
+
+-- a number below 2^32
+abbrev pub IsNumber : ℕ → Type 0
+IsNumber number = number < 2 ^ 32
+
+-- at most so many bytes
+abbrev pub AreFewBytes : List ℕ → ℕ → Type 0
+AreFewBytes bytes most = (length bytes ≤ most) × IsBytes bytes
+
+-- what words can ask for, whatever the command: a key to be added has 1 to 128 bytes, a write at most
+-- 4,096, what is filled at most 65,536, a record at most 9,000; a number is below 2^32
+abbrev pub IsAskable : Verb → Type 0
+IsAskable (verb.AddKey bytes) = (1 ≤ length bytes) × ((length bytes ≤ MOST_ADDED_BYTES) × IsBytes bytes)
+IsAskable (verb.RemoveKey key) = IsKey key
+IsAskable (verb.RemoveKeyAll key) = IsKey key
+IsAskable (verb.KeyStatus key) = IsKey key
+IsAskable (verb.SetPolicy path key settings) = IsPath path × IsKey key
+IsAskable (verb.SetPolicyBytes path policy) = IsPath path × ((length policy ≡ POLICY_BYTES) × IsBytes policy)
+IsAskable (verb.GetPolicy path) = IsPath path
+IsAskable (verb.Mkdir path) = IsPath path
+IsAskable (verb.Create path) = IsPath path
+IsAskable (verb.Symlink path target) = IsPath path × (IsWord target × IsTrue (may_be_target target))
+IsAskable (verb.ReadLink path) = IsPath path
+IsAskable (verb.Unlink path) = IsPath path
+IsAskable (verb.Rmdir path) = IsPath path
+IsAskable (verb.Rename old_path new_path) = IsPath old_path × IsPath new_path
+IsAskable (verb.List path start) = IsPath path × IfSome start IsNumber
+IsAskable (verb.Stat path) = IsPath path
+IsAskable (verb.Open path) = IsPath path
+IsAskable (verb.Close handle) = IsNumber handle
+IsAskable (verb.Read handle offset len) = IsNumber handle × (IsNumber offset × IsNumber len)
+IsAskable (verb.Write handle offset bytes) =
+    IsNumber handle × (IsNumber offset × AreFewBytes bytes MOST_WRITTEN_BYTES)
+IsAskable (verb.Fill handle offset len byte) =
+    IsNumber handle × (IsNumber offset × ((len ≤ MOST_FILLED_BYTES) × (byte ≤ 255)))
+IsAskable verb.DropCaches = ⊤
+IsAskable (verb.MetaGet name) = IsRecord name
+IsAskable (verb.MetaPut name expected bytes) = IsRecord name × (IsNumber expected × AreFewBytes bytes MOST_PUT_BYTES)
+IsAskable (verb.Protector protector secret) = IsLabel protector × IsNewSecret secret
+IsAskable (verb.ProtectorChange protector secret new) = IsLabel protector × (IsSecret secret × IsNewSecret new)
+IsAskable (verb.PolicyNew policy protector secret options) = IsLabel policy × (IsLabel protector × IsSecret secret)
+IsAskable (verb.PolicyAdd policy protector secret added added_secret) =
+    IsLabel policy × (IsLabel protector × (IsSecret secret × (IsLabel added × IsSecret added_secret)))
+IsAskable (verb.PolicyDrop policy protector) = IsLabel policy × IsLabel protector
+IsAskable (verb.Unlock policy protector secret) = IsLabel policy × (IsLabel protector × IsSecret secret)
+IsAskable (verb.Lock policy) = IsLabel policy
+IsAskable (verb.Status policy) = IsLabel policy
+IsAskable (verb.Encrypt path policy settings) = IsPath path × IsLabel policy
+IsAskable (verb.Migrate policy) = IsLabel policy

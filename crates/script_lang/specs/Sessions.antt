@@ -1,0 +1,59 @@
+-- The session commands: behind each name, the words that it takes.
+use Rattle.std.specs.Prelude.{ℕ, List, Option}
+use Rattle.short_bytes.specs.Label.{label_of}
+use Rattle.script_lang.specs.Secrets.{secret_of, new_secret_of}
+use Rattle.script_lang.specs.Path.{path_of}
+use Rattle.script_lang.specs.Forms.{Form, ◌>>=◌, says, word, optional}
+use Rattle.script_lang.specs.Verbs.{settings, options}
+use Rattle.script_lang.specs.declared.verb.Verb.{Verb}
+use Rattle.script_lang.specs.declared.verb.Verb.TheVariants as verb
+
+abbrev pub protector : Form Verb
+protector = do
+  protector ← word label_of
+  secret ← word new_secret_of
+  says (verb.Protector protector secret)
+
+abbrev pub protector_change : Form Verb
+protector_change = do
+  protector ← word label_of
+  secret ← word secret_of
+  new_secret ← word new_secret_of
+  says (verb.ProtectorChange protector secret new_secret)
+
+abbrev pub policy_new : Form Verb
+policy_new = do
+  policy ← word label_of
+  protector ← word label_of
+  secret ← word secret_of
+  options ← optional options
+  says (verb.PolicyNew policy protector secret options)
+
+abbrev pub policy_add : Form Verb
+policy_add = do
+  policy ← word label_of
+  protector ← word label_of
+  secret ← word secret_of
+  added ← word label_of
+  added_secret ← word secret_of
+  says (verb.PolicyAdd policy protector secret added added_secret)
+
+abbrev pub policy_drop : Form Verb
+policy_drop = do
+  policy ← word label_of
+  protector ← word label_of
+  says (verb.PolicyDrop policy protector)
+
+abbrev pub unlock : Form Verb
+unlock = do
+  policy ← word label_of
+  protector ← word label_of
+  secret ← word secret_of
+  says (verb.Unlock policy protector secret)
+
+abbrev pub encrypt : Form Verb
+encrypt = do
+  path ← word path_of
+  policy ← word label_of
+  settings ← optional settings
+  says (verb.Encrypt path policy settings)

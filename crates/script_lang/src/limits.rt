@@ -1,0 +1,30 @@
+//! The limits of the grammar, each said once.
+
+/// The callers of a script.
+pub const MOST_CALLERS: usize = 8;
+
+/// The parts of a path.
+pub const MOST_PARTS: usize = 32;
+
+/// The bytes that a word stands for.
+pub const MOST_WORD_BYTES: usize = 1000;
+
+/// The bytes of a key that a command adds: more than a raw key may have, so that the refusal of a
+/// wrong length is the mount's own.
+pub const MOST_ADDED_BYTES: usize = 128;
+
+/// The bytes that a command writes.
+pub const MOST_WRITTEN_BYTES: usize = 4096;
+
+/// The bytes that a command fills with one value.
+pub const MOST_FILLED_BYTES: u32 = 65_536;
+
+/// The bytes that a command puts into a record: more than one may have, so that the refusal of too
+/// many is the mount's own.
+pub const MOST_PUT_BYTES: usize = 9000;
+
+/// The bytes of a policy.
+pub const POLICY_BYTES: usize = 24;
+
+/// The bytes of a raw secret.
+pub const RAW_SECRET_BYTES: usize = 32;

@@ -1,0 +1,173 @@
+//! What a command asks for. The fields of a verb are the values of its words.
+
+use crate::path::ScriptPath;
+use crate::secrets::{NewSecret, Secret};
+use fsc_keys::{KeyId, RawKey};
+use item_list::Bytes;
+use policy_ctx::{Pad, Unit};
+use short_bytes::Label;
+
+/// What a command asks for: a call of the mount, or a session's work with protectors and policies.
+#[derive(Drop)]
+pub enum Verb {
+    /// To add the key of these 1 to 128 bytes. A mount may refuse them, since a raw key has 32 to 64.
+    AddKey(Bytes),
+    /// To remove the caller's claim to the key.
+    RemoveKey(KeyRef),
+    /// To remove every user's claim to the key.
+    RemoveKeyAll(KeyRef),
+    /// To tell whether the key is there.
+    KeyStatus(KeyRef),
+    /// To encrypt an empty directory from now on, under this key.
+    SetPolicy {
+        path: ScriptPath,
+        key: KeyRef,
+        settings: Settings,
+    },
+    /// The same by the bytes of a policy, which may be none.
+    SetPolicyBytes {
+        path: ScriptPath,
+        policy: [u8; 24],
+    },
+    /// To tell the policy of a node.
+    GetPolicy(ScriptPath),
+    /// To make a directory.
+    Mkdir(ScriptPath),
+    /// To make an empty file.
+    Create(ScriptPath),
+    /// To make a symlink with a target of 1 to 1,000 bytes, none of which is NUL.
+    Symlink {
+        path: ScriptPath,
+        target: Bytes,
+    },
+    /// To tell a symlink's target.
+    ReadLink(ScriptPath),
+    /// To take the name of a file or a symlink away.
+    Unlink(ScriptPath),
+    /// To take the name of an empty directory away.
+    Rmdir(ScriptPath),
+    /// To move a node to another name.
+    Rename {
+        old_path: ScriptPath,
+        new_path: ScriptPath,
+    },
+    /// To tell names of a directory from this number of their order on; from the first where no
+    /// number is said, which is another command than with the number 0.
+    List {
+        path: ScriptPath,
+        start: Option<u32>,
+    },
+    /// To tell what a node is.
+    Stat(ScriptPath),
+    /// To open a file or a directory.
+    Open(ScriptPath),
+    /// To close what is open under the number.
+    Close(u32),
+    /// To read at most `len` bytes from `offset` on.
+    Read {
+        handle: u32,
+        offset: u32,
+        len: u32,
+    },
+    /// To write these 0 to 4,096 bytes from `offset` on.
+    Write {
+        handle: u32,
+        offset: u32,
+        bytes: Bytes,
+    },
+    /// To write one byte again and again, at most 65,536 times.
+    Fill {
+        handle: u32,
+        offset: u32,
+        len: u32,
+        byte: u8,
+    },
+    /// To let go of all that is kept for speed alone.
+    DropCaches,
+    /// To tell a record.
+    MetaGet(Record),
+    /// To store these 0 to 9,000 bytes as a record, in place of the version that is expected.
+    MetaPut {
+        record: Record,
+        expected: u32,
+        bytes: Bytes,
+    },
+    /// To make a protector.
+    Protector {
+        protector: Label,
+        secret: NewSecret,
+    },
+    /// To give a protector another secret.
+    ProtectorChange {
+        protector: Label,
+        secret: Secret,
+        new_secret: NewSecret,
+    },
+    /// To make a policy that a protector opens.
+    PolicyNew {
+        policy: Label,
+        protector: Label,
+        secret: Secret,
+        options: Option<Options>,
+    },
+    /// To let a further protector open a policy.
+    PolicyAdd {
+        policy: Label,
+        protector: Label,
+        secret: Secret,
+        added: Label,
+        added_secret: Secret,
+    },
+    /// To let a protector open a policy no longer.
+    PolicyDrop {
+        policy: Label,
+        protector: Label,
+    },
+    /// To add the key of a policy that a protector opens.
+    Unlock {
+        policy: Label,
+        protector: Label,
+        secret: Secret,
+    },
+    /// To remove the caller's claim to the key of a policy.
+    Lock(Label),
+    /// To tell whether the key of a policy is there.
+    Status(Label),
+    /// To encrypt an empty directory under a policy, with its options where no settings are said.
+    Encrypt {
+        path: ScriptPath,
+        policy: Label,
+        settings: Option<Settings>,
+    },
+    /// To give a policy of the first version options of its own.
+    Migrate(Label),
+}
+
+/// A key: by its identifier, or by its bytes, which stand for their identifier.
+#[derive(Drop)]
+pub enum KeyRef {
+    Id(KeyId),
+    Raw(RawKey),
+}
+
+/// What a command says of a directory's policy: the padding of names, and the unit of contents where
+/// it says one.
+#[derive(Clone, Copy, Debug, PartialEq, Eq)]
+pub struct Settings {
+    pub pad: Pad,
+    pub unit: Option<Unit>,
+}
+
+/// What a command says of a new policy.
+#[derive(Clone, Copy, Debug, PartialEq, Eq)]
+pub struct Options {
+    pub pad: Pad,
+    pub unit: Unit,
+}
+
+/// A record of the mount. Its name is `protector/` or `policy/` and the label.
+#[derive(Clone, Copy, Debug, PartialEq, Eq)]
+pub enum Record {
+    Protector(Label),
+    Policy(Label),
+}

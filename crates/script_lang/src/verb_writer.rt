@@ -1,0 +1,169 @@
+//! The writer of commands: a name, and the words behind it, each behind a space.
+
+ghost use Rattle.std.specs.Prelude.{◌≡◌, ◌++◌, OnOk};
+ghost use Rattle.script_lang.specs.VerbText.{verb_text, verb_words, behind};
+
+use crate::settings_writer::{push_said_options, push_said_settings, push_settings};
+use crate::verb::Verb;
+use crate::word_writer::{
+    push_hex, push_hex_or_none, push_key, push_label, push_new_secret, push_number, push_path,
+    push_record, push_said_number, push_secret, push_word,
+};
+use std::alloc::{AllocError, Global};
+
+/// Writes a command behind a text.
+#[tactic(auto, unfolding(crate::specs::VerbText::verb_text))]
+pub(crate) fn write_verb(alloc: Global, text: &mut Vec<u8>, verb: &Verb) -> Result<(), AllocError>
+    ensures { OnOk result (text.new.items ≡ text.old.items ++ verb_text verb.now) }
+{
+    text.extend_from_slice(verb.name().text())?;
+    write_words(alloc, text, verb)
+}
+
+// Writes the words behind the name.
+fn write_words(alloc: Global, text: &mut Vec<u8>, verb: &Verb) -> Result<(), AllocError>
+    ensures { OnOk result (text.new.items ≡ behind text.old.items (verb_words verb.now)) }
+{
+    match verb {
+        Verb::AddKey(bytes) => push_hex(text, bytes.as_slice()),
+        Verb::RemoveKey(key) => push_key(text, key),
+        Verb::RemoveKeyAll(key) => push_key(text, key),
+        Verb::KeyStatus(key) => push_key(text, key),
+        Verb::SetPolicy {
+            path,
+            key,
+            settings,
+        } => {
+            push_path(alloc, text, path)?;
+            push_key(text, key)?;
+            push_settings(text, settings)
+        }
+        Verb::SetPolicyBytes { path, policy } => {
+            push_path(alloc, text, path)?;
+            push_hex(text, policy)
+        }
+        Verb::GetPolicy(path) => push_path(alloc, text, path),
+        Verb::Mkdir(path) => push_path(alloc, text, path),
+        Verb::Create(path) => push_path(alloc, text, path),
+        Verb::Symlink { path, target } => {
+            push_path(alloc, text, path)?;
+            push_word(alloc, text, target.as_slice())
+        }
+        Verb::ReadLink(path) => push_path(alloc, text, path),
+        Verb::Unlink(path) => push_path(alloc, text, path),
+        Verb::Rmdir(path) => push_path(alloc, text, path),
+        Verb::Rename { old_path, new_path } => {
+            push_path(alloc, text, old_path)?;
+            push_path(alloc, text, new_path)
+        }
+        Verb::List { path, start } => {
+            push_path(alloc, text, path)?;
+            push_said_number(text, *start)
+        }
+        Verb::Stat(path) => push_path(alloc, text, path),
+        Verb::Open(path) => push_path(alloc, text, path),
+        Verb::Close(handle) => push_number(text, *handle),
+        Verb::Read {
+            handle,
+            offset,
+            len,
+        } => {
+            push_number(text, *handle)?;
+            push_number(text, *offset)?;
+            push_number(text, *len)
+        }
+        Verb::Write {
+            handle,
+            offset,
+            bytes,
+        } => {
+            push_number(text, *handle)?;
+            push_number(text, *offset)?;
+            push_hex_or_none(text, bytes.as_slice())
+        }
+        Verb::Fill {
+            handle,
+            offset,
+            len,
+            byte,
+        } => {
+            push_number(text, *handle)?;
+            push_number(text, *offset)?;
+            push_number(text, *len)?;
+            push_number(text, u32::from(*byte))
+        }
+        Verb::DropCaches => Ok(()),
+        Verb::MetaGet(record) => push_record(text, record),
+        Verb::MetaPut {
+            record,
+            expected,
+            bytes,
+        } => {
+            push_record(text, record)?;
+            push_number(text, *expected)?;
+            push_hex_or_none(text, bytes.as_slice())
+        }
+        Verb::Protector { protector, secret } => {
+            push_label(text, protector)?;
+            push_new_secret(alloc, text, secret)
+        }
+        Verb::ProtectorChange {
+            protector,
+            secret,
+            new_secret,
+        } => {
+            push_label(text, protector)?;
+            push_secret(alloc, text, secret)?;
+            push_new_secret(alloc, text, new_secret)
+        }
+        Verb::PolicyNew {
+            policy,
+            protector,
+            secret,
+            options,
+        } => {
+            push_label(text, policy)?;
+            push_label(text, protector)?;
+            push_secret(alloc, text, secret)?;
+            push_said_options(text, options)
+        }
+        Verb::PolicyAdd {
+            policy,
+            protector,
+            secret,
+            added,
+            added_secret,
+        } => {
+            push_label(text, policy)?;
+            push_label(text, protector)?;
+            push_secret(alloc, text, secret)?;
+            push_label(text, added)?;
+            push_secret(alloc, text, added_secret)
+        }
+        Verb::PolicyDrop { policy, protector } => {
+            push_label(text, policy)?;
+            push_label(text, protector)
+        }
+        Verb::Unlock {
+            policy,
+            protector,
+            secret,
+        } => {
+            push_label(text, policy)?;
+            push_label(text, protector)?;
+            push_secret(alloc, text, secret)
+        }
+        Verb::Lock(policy) => push_label(text, policy),
+        Verb::Status(policy) => push_label(text, policy),
+        Verb::Encrypt {
+            path,
+            policy,
+            settings,
+        } => {
+            push_path(alloc, text, path)?;
+            push_label(text, policy)?;
+            push_said_settings(text, settings)
+        }
+        Verb::Migrate(policy) => push_label(text, policy),
+    }
+}
