@@ -1,7 +1,6 @@
 //! Calls on a shared machine, by one thread and by many.
 ghost use Rattle.std.specs.Prelude.{◌≡◌, ◌<◌, ℕ};
 ghost use Rattle.std.specs.Thread.{IsSync};
-ghost use Rattle.sum_machine.specs.Sums.{HasSums};
 
 use crate::Sum;
 use std::alloc::{AllocError, Global};
