@@ -39,7 +39,8 @@ read_block (Some seal) j block = opened_block seal.key seal.unit (first_index se
 
 -- what is made of each block of the contents, with its number
 unfoldable pub blocks_by : (ℕ → List ℕ → List ℕ) → List ℕ → List (List ℕ)
-blocks_by store contents = map (λ j. store j (plain_block contents j)) (range_with_len 0 (block_count contents))
+blocks_by store contents =
+    map (λ j. store j (plain_block contents j)) (range_with_len 0 (block_count contents))
 
 -- the stored blocks of a file with these contents
 abbrev pub stored_blocks : Option Seal → List ℕ → List (List ℕ)
@@ -47,4 +48,5 @@ stored_blocks seal contents = blocks_by (stored_block seal) contents
 
 -- the contents that a file of this size has, by its stored blocks
 unfoldable pub read_contents : Option Seal → ℕ → List (List ℕ) → List ℕ
-read_contents seal size blocks = take size (first_blocks (λ j. read_block seal j (slice_index_or blocks j [])) (length blocks))
+read_contents seal size blocks =
+    take size (first_blocks (λ j. read_block seal j (slice_index_or blocks j [])) (length blocks))

@@ -1,11 +1,13 @@
 -- What holds of sealed blocks and of files for every key, unit and contents.
-use Rattle.std.specs.Prelude.{◌≡◌, ℕ, ◌+◌, ◌-◌, ◌*◌, ◌<◌, ◌≤◌, List, ◌++◌, length, replicate, Option, None, Some}
+use Rattle.std.specs.Prelude.{◌≡◌, ℕ, ◌+◌, ◌-◌, ◌*◌, ◌<◌, ◌≤◌, List, ◌++◌}
+use Rattle.std.specs.Prelude.{length, replicate, Option, None, Some}
 use Rattle.mount_limits.specs.declared.TheConstants.{BLOCK_SIZE}
 use Rattle.byte_words.specs.Bytes.{AreBytes}
 use Rattle.byte_words.specs.Contents.{with_bytes, bytes_from}
 use Rattle.policy_ctx.specs.declared.policy.Unit.{Unit as DataUnit}
 use Rattle.data_crypt.specs.Units.{sealed_block, opened_block}
-use Rattle.data_crypt.specs.Blocks.{Seal, block_count, plain_block, stored_block, read_block, stored_blocks, read_contents}
+use Rattle.data_crypt.specs.Blocks.{Seal, block_count, plain_block, stored_block}
+use Rattle.data_crypt.specs.Blocks.{read_block, stored_blocks, read_contents}
 use Rattle.data_crypt.specs.Parts.{block_with, edited, rewritten, blocks_joined, content_of}
 
 -- a block of contents: 4,096 bytes
@@ -15,17 +17,20 @@ pub record IsContentsBlock (block : List ℕ) : Type 0 where
 
 -- opening gives back each block that was sealed
 abbrev pub OpeningUndoes : Type 0
-OpeningUndoes = (key : List ℕ) (unit : DataUnit) (first : ℕ) (block : List ℕ) → AreBytes key → IsContentsBlock block →
+OpeningUndoes =
+    (key : List ℕ) (unit : DataUnit) (first : ℕ) (block : List ℕ) → AreBytes key → IsContentsBlock block →
     opened_block key unit first (sealed_block key unit first block) ≡ block
 
 -- sealing gives back each block that was opened
 abbrev pub SealingUndoes : Type 0
-SealingUndoes = (key : List ℕ) (unit : DataUnit) (first : ℕ) (block : List ℕ) → AreBytes key → IsContentsBlock block →
+SealingUndoes =
+    (key : List ℕ) (unit : DataUnit) (first : ℕ) (block : List ℕ) → AreBytes key → IsContentsBlock block →
     sealed_block key unit first (opened_block key unit first block) ≡ block
 
 -- both make blocks of blocks
 abbrev pub MakesBlocks : Type 0
-MakesBlocks = (key : List ℕ) (unit : DataUnit) (first : ℕ) (block : List ℕ) → AreBytes key → IsContentsBlock block →
+MakesBlocks =
+    (key : List ℕ) (unit : DataUnit) (first : ℕ) (block : List ℕ) → AreBytes key → IsContentsBlock block →
     IsContentsBlock (sealed_block key unit first block) × IsContentsBlock (opened_block key unit first block)
 
 -- the key, where there is one, is bytes
@@ -54,13 +59,20 @@ pub record Covers (first end at count had : ℕ) : Type 0 where
 
 -- the stored blocks after a piece was written: those that it covers are stored anew
 abbrev pub WritesBlocks : Type 0
-WritesBlocks = (seal : Option Seal) (at : ℕ) (bytes contents : List ℕ) (first end : ℕ) → IsKeyOfBytes seal → AreBytes contents →
+WritesBlocks =
+    (seal : Option Seal) (at : ℕ) (bytes contents : List ℕ) (first end : ℕ) → IsKeyOfBytes seal
+    → AreBytes contents →
     0 < length bytes → Covers first end at (length bytes) (block_count contents) →
-    edited (rewritten (stored_block seal) (read_block seal) (block_count contents) at bytes) first end (stored_blocks seal contents ++ replicate (end - block_count contents) (replicate BLOCK_SIZE 0))
+    edited (rewritten (stored_block seal) (read_block seal) (block_count contents) at bytes) first end
+    (stored_blocks seal contents ++ replicate (end - block_count contents) (replicate BLOCK_SIZE 0))
     ≡ stored_blocks seal (with_bytes at bytes contents)
 
 -- a part of some stored blocks, opened, is that part of the contents
 abbrev pub ReadsParts : Type 0
-ReadsParts = (seal : Option Seal) (contents : List ℕ) (from count skip part : ℕ) → IsKeyOfBytes seal → AreBytes contents →
-    from + count ≤ block_count contents → BLOCK_SIZE * from + skip + part ≤ length contents → skip + part ≤ BLOCK_SIZE * count →
-    content_of seal from (blocks_joined (stored_blocks seal contents) from count) skip part ≡ bytes_from (BLOCK_SIZE * from + skip) part contents
+ReadsParts =
+    (seal : Option Seal) (contents : List ℕ) (from count skip part : ℕ) → IsKeyOfBytes seal
+    → AreBytes contents →
+    from + count ≤ block_count contents → BLOCK_SIZE * from + skip + part ≤ length contents
+    → skip + part ≤ BLOCK_SIZE * count →
+    content_of seal from (blocks_joined (stored_blocks seal contents) from count) skip part
+    ≡ bytes_from (BLOCK_SIZE * from + skip) part contents

@@ -12,7 +12,8 @@ unit_count unit = BLOCK_SIZE / unit_bytes unit
 
 -- a block of which unit i is passed through the cipher with index first + i
 unfoldable pub by_units : (ℕ → List ℕ → List ℕ) → DataUnit → ℕ → List ℕ → List ℕ
-by_units cipher unit first block = first_blocks (λ i. cipher (first + i) (block_at (unit_bytes unit) block i)) (unit_count unit)
+by_units cipher unit first block =
+    first_blocks (λ i. cipher (first + i) (block_at (unit_bytes unit) block i)) (unit_count unit)
 
 -- a block under a key, by XTS-AES-256, and the block that such a block hides
 abbrev pub sealed_block : List ℕ → DataUnit → ℕ → List ℕ → List ℕ

@@ -1,5 +1,6 @@
 -- The blocks of a file: each has 4,096 bytes.
-use Rattle.std.specs.Prelude.{ℕ, ◌-◌, List, [], ◌++◌, length, take, drop, replicate, slice_set, slice_index_or}
+use Rattle.std.specs.Prelude.{ℕ, ◌-◌, List, [], ◌++◌, length, take, drop}
+use Rattle.std.specs.Prelude.{replicate, slice_set, slice_index_or}
 use Rattle.mount_limits.specs.declared.TheConstants.{BLOCK_SIZE}
 
 abbrev pub zero_block : List ℕ

@@ -9,4 +9,5 @@ use Rattle.disk_tree.specs.declared.node.StoredNode.{StoredNode}
 -- their number is the sum over the other nodes of what each is stored in
 abbrev pub TotalsAgree : {V : Type 0} → (V → StoredNode) → (V → ℕ) → Type 0
 TotalsAgree {V} stored count = (nodes : Numbered V) (disk : Disk) → AgreesUnder stored nodes disk →
-    ((v : V) → length (blocks_of (stored v).body) ≡ count v) → block_total disk ≡ sum_by (λ e. count e.1) (entries nodes)
+    ((v : V) → length (blocks_of (stored v).body) ≡ count v)
+    → block_total disk ≡ sum_by (λ e. count e.1) (entries nodes)

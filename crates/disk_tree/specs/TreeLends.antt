@@ -9,4 +9,5 @@ use Rattle.disk_tree.specs.contracts.tree.DiskTree.{the_row}
 
 -- once the borrow r ends, the file's block is what was written through r, and all else stays
 abbrev pub LendsFileBlock : MutBor Disk → ℕ → ℕ → MutBor (List ℕ) → Fml
-LendsFileBlock s file index r = Lends the_row (Array u8 0) s r (λ w. changed s.now file (on_body (with_blocks (with_block index w))))
+LendsFileBlock s file index r =
+    Lends the_row (Array u8 0) s r (λ w. changed s.now file (on_body (with_blocks (with_block index w))))

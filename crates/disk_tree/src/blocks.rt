@@ -1,5 +1,6 @@
 //! Blocks of 4,096 bytes, and the list of a file's blocks.
-ghost use Rattle.std.specs.Prelude.{◌≡◌, ◌<◌, ◌≤◌, [], ◌∷◌, ◌++◌, length, slice_get, option_copied, IfOk, IsOk, OnOk, OnErr};
+ghost use Rattle.std.specs.Prelude.{◌≡◌, ◌<◌, ◌≤◌, [], ◌∷◌, ◌++◌, length, slice_get};
+ghost use Rattle.std.specs.Prelude.{option_copied, IfOk, IsOk, OnOk, OnErr};
 ghost use Rattle.std.specs.Borrow.{sem};
 ghost use Rattle.disk_tree.specs.Blocks.{zero_block, grown, block_of};
 
@@ -42,7 +43,7 @@ impl Block {
         self.bytes.as_slice()
     }
 
-    /// The bytes of the block for writing.
+    // The bytes of the block for writing.
     pub(crate) fn bytes_mut(&mut self) -> &mut [u8]
         ensures* writes_back { sem 𝓛 (LendsBlock self.entry result) }
         ensures value { result.now ≡ self.old }
@@ -101,8 +102,8 @@ impl BlockList {
         self.items[index].bytes()
     }
 
-    /// Adds blocks of zeros at the end until there are `count`. After want of memory all is as before;
-    /// where none is added, no memory is taken.
+    // Adds blocks of zeros at the end until there are `count`. After want of memory all is as before;
+    // where none is added, no memory is taken.
     pub(crate) fn grow(&mut self, alloc: Global, count: usize) -> Result<(), AllocError>
         ensures grown { OnOk result (self.new ≡ grown count self.old) }
         ensures kept { OnErr result (self.new ≡ self.old) }
@@ -118,7 +119,7 @@ impl BlockList {
         Ok(())
     }
 
-    /// The bytes of the block at the index for writing.
+    // The bytes of the block at the index for writing.
     pub(crate) fn bytes_mut(&mut self, index: usize) -> &mut [u8]
         requires { index < length self.old }
         ensures* writes_back { sem 𝓛 (LendsOne self.entry index result) }

@@ -4,7 +4,8 @@ ghost use Rattle.number_map.specs.Numbered as map;
 ghost use Rattle.disk_tree.specs.Blocks.{grown};
 ghost use Rattle.disk_tree.specs.DiskTree.{IsDirAt, IsFileAt, children, file_blocks};
 ghost use Rattle.disk_tree.specs.Entries.{number_under, with_entry, without_entry};
-ghost use Rattle.disk_tree.specs.Nodes.{with_entries, with_blocks, with_size, on_body, named_as, with_context};
+ghost use Rattle.disk_tree.specs.Nodes.{with_entries, with_blocks, with_size};
+ghost use Rattle.disk_tree.specs.Nodes.{on_body, named_as, with_context};
 
 use crate::node::StoredNode;
 use number_map::NumberMap;
@@ -42,7 +43,8 @@ pub(crate) fn add_entry(
     number: u32,
 ) -> Result<(), AllocError>
     requires { IsDirAt nodes.old dir }
-    ensures put { OnOk result (nodes.new ≡ map.changed nodes.old dir (on_body (with_entries (with_entry name.now number)))) }
+    ensures put { OnOk result (nodes.new
+        ≡ map.changed nodes.old dir (on_body (with_entries (with_entry name.now number)))) }
     ensures kept { OnErr result (nodes.new ≡ nodes.old) }
 {
     match nodes.get_mut(dir) {
@@ -53,7 +55,8 @@ pub(crate) fn add_entry(
 
 pub(crate) fn remove_entry(nodes: &mut NumberMap<StoredNode>, dir: u32, name: &[u8]) -> Option<u32>
     ensures number { result ≡ number_under name.now (children nodes.old dir) }
-    ensures removed { nodes.new ≡ map.changed nodes.old dir (on_body (with_entries (without_entry name.now))) }
+    ensures removed { nodes.new
+        ≡ map.changed nodes.old dir (on_body (with_entries (without_entry name.now))) }
 {
     match nodes.get_mut(dir) {
         Some(node) => node.body.remove_entry(name),
@@ -68,7 +71,8 @@ pub(crate) fn grow(
     count: usize,
 ) -> Result<(), AllocError>
     requires { IsFileAt nodes.old file }
-    ensures grown { OnOk result (nodes.new ≡ map.changed nodes.old file (on_body (with_blocks (grown count)))) }
+    ensures grown { OnOk result (nodes.new
+        ≡ map.changed nodes.old file (on_body (with_blocks (grown count)))) }
     ensures kept { OnErr result (nodes.new ≡ nodes.old) }
     ensures enough { count ≤ length (file_blocks nodes.old file) → IsOk result }
 {

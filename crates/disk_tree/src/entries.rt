@@ -75,7 +75,7 @@ impl DirEntries {
         }
     }
 
-    /// Puts an entry behind the others. After want of memory all is as before.
+    // Puts an entry behind the others. After want of memory all is as before.
     pub(crate) fn push(&mut self, alloc: Global, name: &[u8], number: u32) -> Result<(), AllocError>
         ensures put { OnOk result (self.new ≡ with_entry name.now number self.old) }
         ensures kept { OnErr result (self.new ≡ self.old) }
@@ -110,7 +110,7 @@ impl DirEntries {
         }
     }
 
-    /// Takes the oldest entry of this name away, and tells its number; `None` where there is none.
+    // Takes the oldest entry of this name away, and tells its number; `None` where there is none.
     pub(crate) fn remove(&mut self, name: &[u8]) -> Option<u32>
         ensures number { result ≡ number_under name.now self.old }
         ensures removed { self.new ≡ without_entry name.now self.old }

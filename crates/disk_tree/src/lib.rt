@@ -3,6 +3,7 @@
 #![tactic(auto)]
 
 mod blocks;
+mod changes;
 mod edits;
 mod entries;
 mod fault;

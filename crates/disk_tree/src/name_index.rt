@@ -1,5 +1,6 @@
 //! The entries of a directory by place, and their index by name.
-ghost use Rattle.std.specs.Prelude.{◌≡◌, ◌+◌, ◌++◌, [], ◌∷◌, ℕ, List, false, if◌then◌else◌, IfSome, OnOk, OnErr};
+ghost use Rattle.std.specs.Prelude.{◌≡◌, ◌+◌, ◌++◌, [], ◌∷◌, ℕ, List, false};
+ghost use Rattle.std.specs.Prelude.{if◌then◌else◌, IfSome, OnOk, OnErr};
 ghost use Rattle.std.specs.List.Sorted.{IsStrictlySortedBy};
 ghost use Rattle.std.specs.Map.{keys_of, remove_entry};
 ghost use Rattle.std.specs.Ordering.{nat_cmp};
@@ -25,7 +26,8 @@ pub(crate) fn oldest_of(
     doubled: bool,
     name: &[u8],
 ) -> Option<(u64, u32)>
-    requires { doubled ≡ false → (other : List ℕ) → indexed index.now.entries other ≡ oldest order.now.entries other }
+    requires { doubled ≡ false → (other : List ℕ)
+        → indexed index.now.entries other ≡ oldest order.now.entries other }
     ensures { result ≡ oldest order.now.entries name.now }
 {
     if doubled {
@@ -80,7 +82,8 @@ pub(crate) fn add_name(
     name: &[u8],
     found: (u64, u32),
 ) -> Result<(), AllocError>
-    ensures put { OnOk result ((other : List ℕ) → indexed index.new.entries other ≡ if bytes_eq name.now other then Some found else indexed index.old.entries other) }
+    ensures put { OnOk result ((other : List ℕ) → indexed index.new.entries other ≡ if bytes_eq name.now other
+        then Some found else indexed index.old.entries other) }
     ensures kept { OnErr result (index.new.entries ≡ index.old.entries) }
 {
     index.insert(Vec::from_slice(alloc, name)?, found)?;
@@ -89,7 +92,8 @@ pub(crate) fn add_name(
 
 // Forgets the name.
 pub(crate) fn drop_name(index: &mut Index, name: &[u8])
-    ensures { (other : List ℕ) → indexed index.new.entries other ≡ if bytes_eq name.now other then None else indexed index.old.entries other }
+    ensures { (other : List ℕ) → indexed index.new.entries other ≡ if bytes_eq name.now other then None
+        else indexed index.old.entries other }
 {
     index.remove(name);
 }

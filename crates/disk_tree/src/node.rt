@@ -3,7 +3,8 @@ ghost use Rattle.std.specs.Prelude.{◌≡◌, ◌<◌, ◌≤◌, ◌↔◌, le
 ghost use Rattle.std.specs.Borrow.{sem};
 ghost use Rattle.disk_tree.specs.Blocks.{grown, block_of};
 ghost use Rattle.disk_tree.specs.Entries.{number_under, with_entry, without_entry};
-ghost use Rattle.disk_tree.specs.Nodes.{entries_of, blocks_of, size_of, with_entries, with_blocks, with_size, IsDir, IsFile};
+ghost use Rattle.disk_tree.specs.Nodes.{entries_of, blocks_of, size_of, with_entries};
+ghost use Rattle.disk_tree.specs.Nodes.{with_blocks, with_size, IsDir, IsFile};
 
 use crate::blocks::BlockList;
 use crate::entries::DirEntries;

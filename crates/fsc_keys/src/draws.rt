@@ -26,14 +26,14 @@ const CONTENTS_MODE_INFO: [u8; 26] = *b"fscrypt\0\x04\x01fsc-memory-mount";
 /// The same for names.
 const NAMES_MODE_INFO: [u8; 26] = *b"fscrypt\0\x04\x04fsc-memory-mount";
 
-/// The pseudorandom key of a raw key: HKDF-Extract without salt.
+// The pseudorandom key of a raw key: HKDF-Extract without salt.
 pub(crate) fn extract(raw: &RawKey) -> Prk512
     ensures { result ≡ extracted hash_sha512 [] raw.now }
 {
     Prk512::extract(&[], raw.bytes())
 }
 
-/// The identifier of the raw key that was extracted from.
+// The identifier of the raw key that was extracted from.
 #[tactic(auto, unfolding(crate::specs::Keys::derived, crate::specs::Keys::key_id_of, hmac_kdf::specs::Hkdf::hkdf_with))]
 pub(crate) fn draw_id(prk: &Prk512) -> KeyId
     ensures { (raw : List ℕ) → prk.now ≡ extracted hash_sha512 [] raw → result ≡ key_id_of raw }
@@ -43,10 +43,11 @@ pub(crate) fn draw_id(prk: &Prk512) -> KeyId
     KeyId(id)
 }
 
-/// The key of the file with this nonce.
+// The key of the file with this nonce.
 #[tactic(auto, unfolding(crate::specs::Keys::derived, hmac_kdf::specs::Hkdf::hkdf_with))]
 pub(crate) fn draw_file_key(prk: &Prk512, kind: KeyKind, nonce: &[u8; 16]) -> FileKey
-    ensures key { (raw : List ℕ) → prk.now ≡ extracted hash_sha512 [] raw → result ≡ file_key_of raw kind nonce.now }
+    ensures key { (raw : List ℕ) → prk.now ≡ extracted hash_sha512 [] raw
+        → result ≡ file_key_of raw kind nonce.now }
     ensures ranged { AreBytes (key_bytes result) }
 {
     let mut info = [0; 25];
@@ -55,7 +56,7 @@ pub(crate) fn draw_file_key(prk: &Prk512, kind: KeyKind, nonce: &[u8; 16]) -> Fi
     draw(prk, kind, &info)
 }
 
-/// The key that all nodes of the kind share.
+// The key that all nodes of the kind share.
 #[tactic(auto, unfolding(crate::specs::Keys::derived, hmac_kdf::specs::Hkdf::hkdf_with))]
 pub(crate) fn draw_mode_key(prk: &Prk512, kind: KeyKind) -> FileKey
     ensures key { (raw : List ℕ) → prk.now ≡ extracted hash_sha512 [] raw → result ≡ mode_key_of raw kind }

@@ -53,7 +53,8 @@ with_users those id key users = map.insert those id (more_users key users (map.g
 abbrev pub one_user_less : ModeMap → KeyId → Option ModeKey → ModeMap
 one_user_less those id None = those
 one_user_less those id (Some mode) =
-    if mode.users == 1 then map.remove those id else map.insert those id (record mode { users = mode.users - 1 })
+    if mode.users == 1 then map.remove those id
+    else map.insert those id (record mode { users = mode.users - 1 })
 
 abbrev pub without_user : ModeMap → KeyId → ModeMap
 without_user those id = one_user_less those id (map.get those id)

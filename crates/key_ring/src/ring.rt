@@ -70,7 +70,8 @@ impl KeyRing {
             (self.new.secrets ≡ map.insert self.old.secrets (key_id_of raw.now) raw.now) }
         ensures kept { OnErr result (self.new ≡ self.old) }
         ensures held { IsTrue (has_claim self.old.claims (key_id_of raw.now) uid) → IsOk result }
-        ensures quota { IsErrOf result ClaimFault.Quota ↔ IsOverQuota self.old.claims (key_id_of raw.now) uid }
+        ensures quota { IsErrOf result ClaimFault.Quota
+            ↔ IsOverQuota self.old.claims (key_id_of raw.now) uid }
     {
         let mut key = PreparedKey::new(copy_of(raw));
         let id = key.id();

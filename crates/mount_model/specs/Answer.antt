@@ -9,7 +9,8 @@ use Rattle.mount_model.specs.PlainMount.{PlainMount}
 use Rattle.mount_model.specs.Answered.{done}
 use Rattle.mount_model.specs.LookAnswers.{answer_to_read_link, answer_to_list, answer_to_stat}
 pub use Rattle.mount_model.specs.Answered.{Answer, refused}
-pub use Rattle.mount_model.specs.KeyAnswers.{with_key, answer_to_add_key, answer_to_remove_key, answer_to_remove_key_all, answer_to_key_status}
+pub use Rattle.mount_model.specs.KeyAnswers.{with_key, answer_to_add_key, answer_to_remove_key}
+pub use Rattle.mount_model.specs.KeyAnswers.{answer_to_remove_key_all, answer_to_key_status}
 use Rattle.mount_model.specs.PolicyAnswers.{answer_to_set_policy, answer_to_get_policy}
 use Rattle.mount_model.specs.NameAnswers.{answer_to_make, answer_to_unlink, answer_to_rmdir}
 use Rattle.mount_model.specs.RenameAnswer.{answer_to_rename}

@@ -1,6 +1,7 @@
 -- The calls on open files and directories: what each answers, its refusals in the order in which they
 -- are tried, and the mount that it leaves.
-use Rattle.std.specs.Prelude.{ℕ, ◌+◌, ◌-◌, Bool, false, List, [], ◌∷◌, ◌++◌, length, Option, Some, None, not, ◌||◌, nat_le, nat_lt, if◌then◌else◌}
+use Rattle.std.specs.Prelude.{ℕ, ◌+◌, ◌-◌, Bool, false, List, [], ◌∷◌, ◌++◌, length, Option}
+use Rattle.std.specs.Prelude.{Some, None, not, ◌||◌, nat_le, nat_lt, if◌then◌else◌}
 use Rattle.std.specs.Option.{option_map_or}
 use Rattle.std.specs.List.{sum_by}
 use Rattle.std.specs.Int.{div_ceil}
@@ -8,12 +9,15 @@ use Rattle.byte_words.specs.Contents.{with_bytes, bytes_from}
 use Rattle.number_map.specs.Numbered.{get, insert, entries}
 use Rattle.plain_tree.specs.Nodes.{Nodes, contents_of, is_link, is_dir_at, is_named}
 use Rattle.plain_tree.specs.Changes.{gone, written}
-use Rattle.mount_limits.specs.declared.TheConstants.{BLOCK_SIZE, MOST_BLOCKS, MOST_FILE_BYTES, MOST_READ_BYTES}
+use Rattle.mount_limits.specs.declared.TheConstants.{BLOCK_SIZE, MOST_BLOCKS}
+use Rattle.mount_limits.specs.declared.TheConstants.{MOST_FILE_BYTES, MOST_READ_BYTES}
 use Rattle.mount_model.specs.declared.limits.TheConstants.{MOST_HANDLES, MOST_OPENS}
 use Rattle.mount_model.specs.declared.reply.Reply.{Reply}
 use Rattle.mount_model.specs.declared.reply.Reply.TheVariants.{Opened, Content}
-use Rattle.mount_model.specs.declared.reply.Refusal.TheVariants.{NoKey, Inval, IsDir, BadHandle, TooBig, NoSpace}
-use Rattle.mount_model.specs.PlainMount.{PlainMount, HandleList, node_of, has_handle, without_handle, opens_of}
+use Rattle.mount_model.specs.declared.reply.Refusal.TheVariants.{NoKey, Inval, IsDir}
+use Rattle.mount_model.specs.declared.reply.Refusal.TheVariants.{BadHandle, TooBig, NoSpace}
+use Rattle.mount_model.specs.PlainMount.{PlainMount, HandleList, node_of}
+use Rattle.mount_model.specs.PlainMount.{has_handle, without_handle, opens_of}
 use Rattle.mount_model.specs.States.{is_keyed}
 use Rattle.mount_model.specs.Walk.{PathParts, walked}
 use Rattle.mount_model.specs.Answered.{Answer, refused, told, done, at_node}

@@ -2,10 +2,14 @@
 use Rattle.std.specs.Prelude.{◌≤◌, ⊤, Bool, true, false, length, IsTrue}
 use Rattle.mount_model.specs.declared.call.Call.{Call}
 use Rattle.mount_model.specs.declared.call.Op.{Op}
-use Rattle.mount_model.specs.declared.call.Op.TheVariants.{AddKey, RemoveKey, RemoveKeyAll, KeyStatus, SetPolicy, GetPolicy, Mkdir, Create, Symlink, ReadLink, Unlink, Rmdir, Rename, OpenNode, Write, Close, DropCaches, MetaLoad, MetaStore}
+use Rattle.mount_model.specs.declared.call.Op.TheVariants.{AddKey, RemoveKey, RemoveKeyAll, KeyStatus}
+use Rattle.mount_model.specs.declared.call.Op.TheVariants.{SetPolicy, GetPolicy, Mkdir, Create, Symlink}
+use Rattle.mount_model.specs.declared.call.Op.TheVariants.{ReadLink, Unlink, Rmdir, Rename, OpenNode}
+use Rattle.mount_model.specs.declared.call.Op.TheVariants.{Write, Close, DropCaches, MetaLoad, MetaStore}
 use Rattle.mount_model.specs.declared.call.Op.TheVariants as op
 use Rattle.mount_limits.specs.declared.TheConstants.{MOST_RAW_BYTES}
-use Rattle.mount_model.specs.declared.limits.TheConstants.{MOST_WRITE_BYTES, MOST_RECORD_NAME_BYTES, MOST_CARRIED_BYTES}
+use Rattle.mount_model.specs.declared.limits.TheConstants.{MOST_WRITE_BYTES, MOST_RECORD_NAME_BYTES}
+use Rattle.mount_model.specs.declared.limits.TheConstants.{MOST_CARRIED_BYTES}
 use Rattle.mount_model.specs.Carried.{HasLength, IsPath, IsTarget, AreFewBytes}
 
 -- a raw key has 1 to 128 bytes, a write at most 65,536; a record's name has 1 to 64, its bytes are at

@@ -3,7 +3,8 @@
 use Rattle.std.specs.Prelude.{ℕ, Bool, false, List, length, not, ◌==◌, ◌&&◌, nat_le, if◌then◌else◌}
 use Rattle.policy_ctx.specs.declared.policy.KeyId.{KeyId}
 use Rattle.fsc_keys.specs.Keys.{key_id_of}
-use Rattle.user_claims.specs.Claims.{has_claim, is_present, count_of_user, count_of_id, with_claim, without_claim, without_id}
+use Rattle.user_claims.specs.Claims.{has_claim, is_present, count_of_user, count_of_id}
+use Rattle.user_claims.specs.Claims.{with_claim, without_claim, without_id}
 use Rattle.fsc_keys.specs.declared.raw_key.TheConstants.{LEAST_RAW_KEY_BYTES, MOST_RAW_KEY_BYTES}
 use Rattle.user_claims.specs.declared.claims.TheConstants.{MOST_CLAIMS}
 use Rattle.mount_model.specs.declared.reply.Reply.{Reply}

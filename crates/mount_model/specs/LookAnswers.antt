@@ -1,5 +1,6 @@
 -- The calls that look at nodes by path: what each answers. None changes the mount.
-use Rattle.std.specs.Prelude.{ℕ, ◌+◌, List, [], ◌∷◌, length, map, take, drop, Option, Some, None, is_some, not, nat_lt, if◌then◌else◌}
+use Rattle.std.specs.Prelude.{ℕ, ◌+◌, List, [], ◌∷◌, length, map, take, drop, Option}
+use Rattle.std.specs.Prelude.{Some, None, is_some, not, nat_lt, if◌then◌else◌}
 use Rattle.std.specs.Ordering.{nat_cmp, is_gt}
 use Rattle.std.specs.Cmp.Lexicographic.{slice_cmp}
 use Rattle.number_map.specs.Numbered.{get}

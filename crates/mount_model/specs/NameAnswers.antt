@@ -1,16 +1,19 @@
 -- The calls that make, move and take away names: what each answers, its refusals in the order in which
 -- they are tried, and the mount that it leaves.
-use Rattle.std.specs.Prelude.{ℕ, ◌+◌, Bool, true, false, List, length, Option, Some, None, is_some, not, ◌==◌, ◌||◌, nat_le, nat_lt, if◌then◌else◌}
+use Rattle.std.specs.Prelude.{ℕ, ◌+◌, Bool, true, false, List, length, Option, Some, None}
+use Rattle.std.specs.Prelude.{is_some, not, ◌==◌, ◌||◌, nat_le, nat_lt, if◌then◌else◌}
 use Rattle.policy_ctx.specs.declared.policy.Context.{Context}
 use Rattle.number_map.specs.Numbered.{len}
 use Rattle.user_claims.specs.Claims.{is_present}
-use Rattle.plain_tree.specs.Nodes.{Name, Body, Dir, File, Link, Node, Nodes, children, context_at, is_dir_at, entry}
+use Rattle.plain_tree.specs.Nodes.{Name, Body, Dir, File, Link, Node, Nodes}
+use Rattle.plain_tree.specs.Nodes.{children, context_at, is_dir_at, entry}
 use Rattle.plain_tree.specs.Changes.{made, dropped, gone}
 use Rattle.plain_tree.specs.Seals.{has_text}
 use Rattle.mount_limits.specs.declared.TheConstants.{MOST_NODES, MOST_CHILDREN}
 use Rattle.name_crypt.specs.declared.limits.TheConstants.{MOST_NAME_BYTES}
 use Rattle.mount_model.specs.declared.limits.TheConstants.{LAST_NODE}
-use Rattle.mount_model.specs.declared.reply.Refusal.TheVariants.{NoKey, Inval, Exists, NotDir, IsDir, NotEmpty, NameTooLong, NoSpace, NoKeyClash}
+use Rattle.mount_model.specs.declared.reply.Refusal.TheVariants.{NoKey, Inval, Exists, NotDir, IsDir}
+use Rattle.mount_model.specs.declared.reply.Refusal.TheVariants.{NotEmpty, NameTooLong, NoSpace, NoKeyClash}
 use Rattle.mount_model.specs.PlainMount.{PlainMount, has_handle}
 use Rattle.mount_model.specs.Sealed.{texts}
 use Rattle.mount_model.specs.Walk.{PathParts, found, is_root, last_part, parent}

@@ -1,6 +1,7 @@
 -- The calls on policies: what each answers, its refusals in the order in which they are tried, and the
 -- mount that it leaves.
-use Rattle.std.specs.Prelude.{ℕ, ◌%◌, Bool, List, length, slice_index, Option, Some, None, is_some, not, ◌==◌, if◌then◌else◌}
+use Rattle.std.specs.Prelude.{ℕ, ◌%◌, Bool, List, length, slice_index, Option}
+use Rattle.std.specs.Prelude.{Some, None, is_some, not, ◌==◌, if◌then◌else◌}
 use Rattle.std.specs.Option.{unwrap_or}
 use Rattle.std.specs.Str.{bytes_eq}
 use Rattle.policy_ctx.specs.declared.policy.KeyId.{KeyId}
@@ -16,7 +17,8 @@ use Rattle.user_claims.specs.Claims.{has_claim, is_present}
 use Rattle.plain_tree.specs.Nodes.{children, context_at, is_dir_at}
 use Rattle.plain_tree.specs.Changes.{encrypted}
 use Rattle.mount_model.specs.declared.reply.Reply.TheVariants.{PolicyIs}
-use Rattle.mount_model.specs.declared.reply.Refusal.TheVariants.{NoKey, Inval, Exists, NotDir, NotEmpty, NoData}
+use Rattle.mount_model.specs.declared.reply.Refusal.TheVariants.{NoKey, Inval, Exists}
+use Rattle.mount_model.specs.declared.reply.Refusal.TheVariants.{NotDir, NotEmpty, NoData}
 use Rattle.mount_model.specs.PlainMount.{PlainMount}
 use Rattle.mount_model.specs.Walk.{PathParts, walked}
 use Rattle.mount_model.specs.Answered.{Answer, refused, told, done, at_node}

@@ -1,6 +1,7 @@
 -- The calls on records: what each answers, its refusals in the order in which they are tried, and the
 -- mount that it leaves.
-use Rattle.std.specs.Prelude.{ℕ, ◌+◌, Bool, List, length, Option, Some, None, is_none, not, ◌==◌, ◌&&◌, ◌||◌, nat_le, nat_lt, if◌then◌else◌}
+use Rattle.std.specs.Prelude.{ℕ, ◌+◌, Bool, List, length, Option, Some, None, is_none}
+use Rattle.std.specs.Prelude.{not, ◌==◌, ◌&&◌, ◌||◌, nat_le, nat_lt, if◌then◌else◌}
 use Rattle.meta_files.specs.Records.{record_of, version_of, with_record}
 use Rattle.meta_files.specs.declared.files.TheConstants.{MOST_RECORDS, MOST_RECORD_BYTES, LAST_VERSION}
 use Rattle.mount_model.specs.declared.reply.Reply.TheVariants.{Held, Stored}

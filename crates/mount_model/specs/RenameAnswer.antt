@@ -1,12 +1,14 @@
 -- Rename: what it answers, its refusals in the order in which they are tried, and the mount that it
 -- leaves.
-use Rattle.std.specs.Prelude.{ℕ, Bool, true, false, length, Option, Some, None, is_some, not, ◌==◌, ◌&&◌, ◌||◌, nat_le, if◌then◌else◌}
+use Rattle.std.specs.Prelude.{ℕ, Bool, true, false, length, Option, Some, None}
+use Rattle.std.specs.Prelude.{is_some, not, ◌==◌, ◌&&◌, ◌||◌, nat_le, if◌then◌else◌}
 use Rattle.policy_ctx.specs.declared.policy.Policy.{Policy}
 use Rattle.policy_ctx.specs.declared.policy.Context.{Context}
 use Rattle.plain_tree.specs.Nodes.{Name, children, context_at, entry}
 use Rattle.plain_tree.specs.Changes.{moved}
 use Rattle.mount_limits.specs.declared.TheConstants.{MOST_CHILDREN}
-use Rattle.mount_model.specs.declared.reply.Refusal.TheVariants.{NoKey, Inval, Exists, XDev, NoSpace, NoKeyClash}
+use Rattle.mount_model.specs.declared.reply.Refusal.TheVariants.{NoKey, Inval, Exists, XDev}
+use Rattle.mount_model.specs.declared.reply.Refusal.TheVariants.{NoSpace, NoKeyClash}
 use Rattle.mount_model.specs.PlainMount.{PlainMount}
 use Rattle.mount_model.specs.States.{is_keyed}
 use Rattle.mount_model.specs.Walk.{PathParts, found, is_root, last_part, parent, is_at_or_above}

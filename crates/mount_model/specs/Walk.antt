@@ -1,5 +1,6 @@
 -- Where paths lead.
-use Rattle.std.specs.Prelude.{ℕ, ◌-◌, Bool, List, [], ◌∷◌, length, take, Result, Ok, Err, Option, Some, None, not, ◌==◌, nat_lt, if◌then◌else◌, slice_index_or}
+use Rattle.std.specs.Prelude.{ℕ, ◌-◌, Bool, List, [], ◌∷◌, length, take, Result, Ok, Err, Option}
+use Rattle.std.specs.Prelude.{Some, None, not, ◌==◌, nat_lt, if◌then◌else◌, slice_index_or}
 use Rattle.std.specs.List.{list_any}
 use Rattle.std.specs.Str.{bytes_eq}
 use Rattle.std.specs.Map.{lookup_entry}

@@ -1,5 +1,6 @@
 -- What holds of every mount that a history leaves, part by part.
-use Rattle.std.specs.Prelude.{◌≡◌, ⊤, ℕ, ◌<◌, ◌≤◌, Bool, true, false, List, length, Option, Some, None, is_some, not, ◌&&◌}
+use Rattle.std.specs.Prelude.{◌≡◌, ⊤, ℕ, ◌<◌, ◌≤◌, Bool, true, false, List}
+use Rattle.std.specs.Prelude.{length, Option, Some, None, is_some, not, ◌&&◌}
 use Rattle.std.specs.List.{list_any, IsDistinct}
 use Rattle.std.specs.Map.{keys_of}
 use Rattle.std.specs.Str.{bytes_eq}
@@ -19,7 +20,8 @@ use Rattle.mount_model.specs.declared.limits.TheConstants.{LAST_NODE, MOST_HANDL
 use Rattle.name_crypt.specs.declared.limits.TheConstants.{MOST_NAME_BYTES}
 use Rattle.mount_limits.specs.declared.TheConstants.{MOST_FILE_BYTES, MOST_BLOCKS}
 use Rattle.meta_files.specs.declared.files.TheConstants.{MOST_RECORDS, MOST_RECORD_BYTES, LAST_VERSION}
-use Rattle.mount_model.specs.PlainMount.{PlainMount, Raws, HandleList, raw_in, is_handle, has_handle, opens_of}
+use Rattle.mount_model.specs.PlainMount.{PlainMount, Raws, HandleList, raw_in}
+use Rattle.mount_model.specs.PlainMount.{is_handle, has_handle, opens_of}
 use Rattle.mount_model.specs.Sealed.{texts}
 use Rattle.mount_model.specs.KeyAnswers.{is_raw_key}
 use Rattle.mount_model.specs.Carried.{IsPart, IsTarget, AreFewBytes}

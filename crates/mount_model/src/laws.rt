@@ -8,9 +8,11 @@ ghost use Rattle.mount_model.specs.ClaimHistory.{claims_after, is_refused};
 ghost use Rattle.mount_model.specs.Fits.{Fits};
 ghost use Rattle.mount_model.specs.Lawful.{KeysAgree, KeyAgrees, AllFit, IsLawful};
 ghost use Rattle.mount_model.specs.WellFormed.{IsWellFormed};
-ghost use Rattle.mount_model.specs.NameLaws.{PoliciesAreInherited, TextsDiffer, ShownNamesLead, OnlyShownNamesLead};
+ghost use Rattle.mount_model.specs.NameLaws.{PoliciesAreInherited, TextsDiffer};
+ghost use Rattle.mount_model.specs.NameLaws.{ShownNamesLead, OnlyShownNamesLead};
 ghost use Rattle.mount_model.specs.PolicyLaws.{PoliciesAreReadBack};
-ghost use Rattle.mount_model.specs.OrderLaws.{HandlesKeepNodesKeyed, CreationsNeedTheKey, OnlyEmptyOnesAreEncrypted};
+ghost use Rattle.mount_model.specs.OrderLaws.{HandlesKeepNodesKeyed, CreationsNeedTheKey};
+ghost use Rattle.mount_model.specs.OrderLaws.{OnlyEmptyOnesAreEncrypted};
 ghost use Rattle.mount_model.specs.KeyLaws.{OtherClaimsStay, OpenHandlesKeepKeys, OpenHandlesAreTold};
 
 use super::{Call, Refusal, Reply};

@@ -1,6 +1,7 @@
 //! Paths, and the parts that they are lists of.
 
-ghost use Rattle.std.specs.Prelude.{◌≡◌, ◌↔◌, ℕ, List, [], ◌∷◌, ◌++◌, All, IsTrue, IfOk, OnOk, OnErr, ◌≤◌, length, option_copied, slice_get};
+ghost use Rattle.std.specs.Prelude.{◌≡◌, ◌↔◌, ℕ, List, [], ◌∷◌, ◌++◌, All, IsTrue, IfOk};
+ghost use Rattle.std.specs.Prelude.{OnOk, OnErr, ◌≤◌, length, option_copied, slice_get};
 ghost use Rattle.mount_model.specs.Carried.{IsPart, IsPath};
 
 use super::Bytes;
@@ -94,6 +95,13 @@ impl Path {
         ensures { option_copied result ≡ slice_get self.now index }
     {
         self.parts.get(index)
+    }
+
+    /// The parts, from the root on.
+    pub fn parts(&self) -> &[Part]
+        ensures { result.now ≡ self.now }
+    {
+        self.parts.as_slice()
     }
 
     /// How many parts the path has.

@@ -9,26 +9,33 @@ use Rattle.name_crypt.specs.NoKeyText.{nokey_text_of}
 
 -- a stored name is deciphered to the name, at every length up to 255
 abbrev pub NamesComeBack : Type 0
-NamesComeBack = (key : List ℕ) (start : ℕ) (name : List ℕ) (pad : Pad) → AreBytes key → AreBytes name → IsPlain name
+NamesComeBack =
+    (key : List ℕ) (start : ℕ) (name : List ℕ) (pad : Pad) → AreBytes key → AreBytes name → IsPlain name
     → plain_name key start (stored_name key start pad name) ≡ name
 
 -- two names that are stored alike under one key, start and padding are the same
 abbrev pub NamesStayDistinct : Type 0
-NamesStayDistinct = (key : List ℕ) (start : ℕ) (a b : List ℕ) (pad : Pad) → AreBytes key → AreBytes a → AreBytes b → IsPlain a → IsPlain b
+NamesStayDistinct =
+    (key : List ℕ) (start : ℕ) (a b : List ℕ) (pad : Pad) → AreBytes key → AreBytes a → AreBytes b → IsPlain a
+    → IsPlain b
     → stored_name key start pad a ≡ stored_name key start pad b → a ≡ b
 
 -- a stored name has 16 to 255 bytes
 abbrev pub StoredNamesFit : Type 0
-StoredNamesFit = (key : List ℕ) (start : ℕ) (name : List ℕ) (pad : Pad) → IsPlain name → IsStored (stored_name key start pad name)
+StoredNamesFit =
+    (key : List ℕ) (start : ℕ) (name : List ℕ) (pad : Pad) → IsPlain name
+    → IsStored (stored_name key start pad name)
 
 -- whose numbers are below 256
 abbrev pub StoredNamesAreBytes : Type 0
-StoredNamesAreBytes = (key : List ℕ) (start : ℕ) (name : List ℕ) (pad : Pad) → AreBytes key → AreBytes name → IsPlain name
+StoredNamesAreBytes =
+    (key : List ℕ) (start : ℕ) (name : List ℕ) (pad : Pad) → AreBytes key → AreBytes name → IsPlain name
     → AreBytes (stored_name key start pad name)
 
 -- two stored names that are spelled whole have one text only where they are the same
 abbrev pub ShortTextsStayDistinct : Type 0
-ShortTextsStayDistinct = (a b : List ℕ) → AreBytes a → AreBytes b → length a ≤ MOST_SPELLED_BYTES → length b ≤ MOST_SPELLED_BYTES
+ShortTextsStayDistinct =
+    (a b : List ℕ) → AreBytes a → AreBytes b → length a ≤ MOST_SPELLED_BYTES → length b ≤ MOST_SPELLED_BYTES
     → nokey_text_of a ≡ nokey_text_of b → a ≡ b
 
 -- a stored name that is spelled whole has the text of none that isn't

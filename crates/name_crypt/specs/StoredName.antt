@@ -11,7 +11,8 @@ use Rattle.name_crypt.specs.declared.limits.TheConstants.{MOST_NAME_BYTES, LEAST
 
 -- the length of a stored name: at least 16, rounded up to the padding, at most 255
 abbrev pub padded_length : Pad → ℕ → ℕ
-padded_length pad len = min MOST_NAME_BYTES (div_ceil (max LEAST_STORED_BYTES len) (pad_size pad) * pad_size pad)
+padded_length pad len =
+    min MOST_NAME_BYTES (div_ceil (max LEAST_STORED_BYTES len) (pad_size pad) * pad_size pad)
 
 -- the name, filled with NULs to that length and enciphered by ciphertext stealing
 unfoldable pub stored_name_with : List ℕ → List ℕ → Pad → List ℕ → List ℕ

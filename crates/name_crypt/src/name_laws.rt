@@ -1,6 +1,7 @@
 //! What holds of all names, as calls that do nothing.
 
-ghost use Rattle.name_crypt.specs.Laws.{LongTextsAreOthers, NamesComeBack, NamesStayDistinct, ShortTextsStayDistinct, StoredNamesAreBytes, StoredNamesFit};
+ghost use Rattle.name_crypt.specs.Laws.{LongTextsAreOthers, NamesComeBack, NamesStayDistinct};
+ghost use Rattle.name_crypt.specs.Laws.{ShortTextsStayDistinct, StoredNamesAreBytes, StoredNamesFit};
 
 /// Does nothing. Its contract is that encryption loses nothing of a name, and gives a stored name.
 pub fn names_come_back()

@@ -87,7 +87,8 @@ pub fn nokey_matches(text: &[u8], stored: &StoredName) -> bool
 // of three, so their 208 symbols can be compared before there is a hash.
 fn is_hashed_text(text: &[u8], stored: &[u8]) -> bool
     requires { MOST_SPELLED_BYTES < length stored.now }
-    ensures { IsTrue result ↔ (text.now ≡ encode_of url_safe_no_pad (replicate 8 0 ++ (take 149 stored.now ++ sha256 (drop 149 stored.now)))) }
+    ensures { IsTrue result ↔ (text.now ≡ encode_of url_safe_no_pad (replicate 8 0
+        ++ (take MOST_SPELLED_BYTES stored.now ++ sha256 (drop MOST_SPELLED_BYTES stored.now)))) }
 {
     if text.len() < 208 {
         return false;
@@ -113,7 +114,8 @@ fn is_spelled_part(text: &[u8], first: &[u8]) -> bool
 // Whether the text is the base64url of the first byte and the SHA-256 of the others.
 fn is_hashed_part(text: &[u8], bytes: &[u8]) -> bool
     requires { 1 ≤ length bytes.now }
-    ensures { IsTrue result ↔ (text.now ≡ encode_of url_safe_no_pad (take 1 bytes.now ++ sha256 (drop 1 bytes.now))) }
+    ensures { IsTrue result ↔ (text.now ≡ encode_of url_safe_no_pad (take 1 bytes.now
+        ++ sha256 (drop 1 bytes.now))) }
 {
     let (last, hashed) = bytes.split_at(1);
     let mut source = Filled::<33>::of(last);

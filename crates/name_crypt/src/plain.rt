@@ -41,8 +41,10 @@ impl Plain {
     pub fn read(bytes: &[u8]) -> Result<Plain, PlainFault>
         ensures value { IfOk result (λ name. name ≡ bytes.now) }
         ensures plain { IsOk result ↔ IsPlain bytes.now }
-        ensures length { IsErrOf result PlainFault.Length ↔ ((length bytes.now ≡ 0) ⊎ (MOST_NAME_BYTES < length bytes.now)) }
-        ensures nul { IsErrOf result PlainFault.Nul ↔ ((1 ≤ length bytes.now) × (length bytes.now ≤ MOST_NAME_BYTES) × Contains bytes.now 0) }
+        ensures length { IsErrOf result PlainFault.Length
+            ↔ ((length bytes.now ≡ 0) ⊎ (MOST_NAME_BYTES < length bytes.now)) }
+        ensures nul { IsErrOf result PlainFault.Nul ↔ ((1 ≤ length bytes.now)
+            × (length bytes.now ≤ MOST_NAME_BYTES) × Contains bytes.now 0) }
     {
         if bytes.is_empty() || bytes.len() > MOST_NAME_BYTES {
             return Err(PlainFault::Length);

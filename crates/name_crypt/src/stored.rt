@@ -34,7 +34,8 @@ impl StoredName {
     /// The stored name of these bytes.
     pub fn read(bytes: &[u8]) -> Result<StoredName, StoredLength>
         ensures value { IfOk result (λ name. name ≡ bytes.now) }
-        ensures length { IsErr result ↔ ((length bytes.now < LEAST_STORED_BYTES) ⊎ (MOST_NAME_BYTES < length bytes.now)) }
+        ensures length { IsErr result ↔ ((length bytes.now < LEAST_STORED_BYTES)
+            ⊎ (MOST_NAME_BYTES < length bytes.now)) }
     {
         if bytes.len() < LEAST_STORED_BYTES || bytes.len() > MOST_NAME_BYTES {
             return Err(StoredLength);
@@ -42,7 +43,7 @@ impl StoredName {
         Ok(StoredName::of(bytes))
     }
 
-    /// The stored name of bytes that are known to be one's.
+    // The stored name of bytes that are known to be one's.
     pub(crate) fn of(bytes: &[u8]) -> StoredName
         requires { IsStored bytes.now }
         ensures { result ≡ bytes.now }

@@ -25,8 +25,10 @@ pub record Counts (V : Type 0) : Type 0 where
 -- a creation that is taken back leaves nothing, and a change comes before or after one at another number
 pub record Commutes (V : Type 0) : Type 0 where
   pub taken_back : (m : Numbered V) (k : ℕ) (v : V) → get m k ≡ None → remove (insert m k v) k ≡ m
-  pub with_insert : (m : Numbered V) (k x : ℕ) (v : V) (f : V → V) → (k ≢ x) → changed (insert m x v) k f ≡ insert (changed m k f) x v
-  pub with_remove : (m : Numbered V) (k x : ℕ) (f : V → V) → (k ≢ x) → remove (changed m k f) x ≡ changed (remove m x) k f
+  pub with_insert : (m : Numbered V) (k x : ℕ) (v : V) (f : V → V) → (k ≢ x)
+      → changed (insert m x v) k f ≡ insert (changed m k f) x v
+  pub with_remove : (m : Numbered V) (k x : ℕ) (f : V → V) → (k ≢ x)
+      → remove (changed m k f) x ≡ changed (remove m x) k f
 
 -- maps that answer alike are one
 abbrev pub SameMaps : Type 0 → Type 0
@@ -34,9 +36,13 @@ SameMaps V = (m n : Numbered V) → ((q : ℕ) → get m q ≡ get n q) → m �
 
 -- the same change on both sides keeps the agreement
 pub record KeepsAgreement {V W : Type 0} (f : V → W) : Type 0 where
-  pub inserted : (plain : Numbered V) (stored : Numbered W) (k : ℕ) (v : V) (w : W) → AgreesUnder f plain stored → w ≡ f v → AgreesUnder f (insert plain k v) (insert stored k w)
-  pub changed_value : (plain : Numbered V) (stored : Numbered W) (k : ℕ) (g : V → V) (h : W → W) → AgreesUnder f plain stored → ((v : V) → get plain k ≡ Some v → h (f v) ≡ f (g v)) → AgreesUnder f (changed plain k g) (changed stored k h)
-  pub removed : (plain : Numbered V) (stored : Numbered W) (k : ℕ) → AgreesUnder f plain stored → AgreesUnder f (remove plain k) (remove stored k)
+  pub inserted : (plain : Numbered V) (stored : Numbered W) (k : ℕ) (v : V) (w : W)
+      → AgreesUnder f plain stored → w ≡ f v → AgreesUnder f (insert plain k v) (insert stored k w)
+  pub changed_value : (plain : Numbered V) (stored : Numbered W) (k : ℕ) (g : V → V) (h : W → W)
+      → AgreesUnder f plain stored → ((v : V) → get plain k ≡ Some v → h (f v) ≡ f (g v))
+      → AgreesUnder f (changed plain k g) (changed stored k h)
+  pub removed : (plain : Numbered V) (stored : Numbered W) (k : ℕ) → AgreesUnder f plain stored
+      → AgreesUnder f (remove plain k) (remove stored k)
 
 -- the entries of the one map are those of the other with f of each value
 abbrev pub EntriesAgree : {V W : Type 0} → (V → W) → Type 0

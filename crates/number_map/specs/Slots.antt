@@ -38,4 +38,5 @@ IsFilled slots = AllByRecursion (λ e. IsSome (get slots e.1))
 pub record IsSound {V : Type 0} (slots : Slab V) (index : List (ℕ × ℕ)) : Type 0 where
   pub filled : (number key : ℕ) → key_at index number ≡ Some key → IsSome (get slots key)
   pub counted : slab_len slots ≡ length index
-  pub apart : (first second key : ℕ) → key_at index first ≡ Some key → key_at index second ≡ Some key → first ≡ second
+  pub apart : (first second key : ℕ) → key_at index first ≡ Some key → key_at index second ≡ Some key
+      → first ≡ second

@@ -1,5 +1,6 @@
 //! The laws of maps by number. None of these functions does anything: its contract is the law.
-ghost use Rattle.number_map.specs.Laws.{LeavesHere, LeavesOthers, Counts, Commutes, SameMaps, KeepsAgreement, EntriesAgree};
+ghost use Rattle.number_map.specs.Laws.{LeavesHere, LeavesOthers, Counts, Commutes};
+ghost use Rattle.number_map.specs.Laws.{SameMaps, KeepsAgreement, EntriesAgree};
 
 /// What an insertion, a change and a removal leave, of every map with values of `V`.
 pub fn changes_leave_the_rest<V>()

@@ -38,7 +38,8 @@ GoingKeepsSeals = (texts : Texts) (nodes : Nodes) (next x : ℕ) → IsTree node
     → IsSealed texts nodes → IsSealed texts (gone nodes x)
 
 abbrev pub MovingKeepsSeals : Type 0
-MovingKeepsSeals = (texts : Texts) (nodes : Nodes) (next d : ℕ) (name : Name) (to : ℕ) (new_name : Name) (x : ℕ)
+MovingKeepsSeals =
+    (texts : Texts) (nodes : Nodes) (next d : ℕ) (name : Name) (to : ℕ) (new_name : Name) (x : ℕ)
     → IsTree nodes next → CanBeMoved nodes d name to new_name x
     → IsSealed texts nodes → MovesInto texts nodes to new_name x
     → IsSealed texts (moved nodes d name to new_name x)

@@ -17,7 +17,8 @@ has_text texts nodes d context text = list_any (λ e. bytes_eq text (texts d con
 
 -- the node to which the text leads
 abbrev pub entry_by_text : Texts → Nodes → ℕ → Context → List ℕ → Option ℕ
-entry_by_text texts nodes d context text = lookup (λ name. bytes_eq text (texts d context name)) (children nodes d)
+entry_by_text texts nodes d context text =
+    lookup (λ name. bytes_eq text (texts d context name)) (children nodes d)
 
 pub record IsSealed (texts : Texts) (nodes : Nodes) : Type 0 where
   -- an entry of a directory with a policy has that very policy

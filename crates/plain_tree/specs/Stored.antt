@@ -22,13 +22,15 @@ SearchesAgree = (store : Name → List ℕ) (stored plain : List ℕ → Bool) (
 -- a name put in is its stored form put in
 abbrev pub PutsAgree : Type 0
 PutsAgree = (store : Name → List ℕ) (name : Name) (x : ℕ) (children : Children)
-    → stored_children store (with_child name x children) ≡ with_child (store name) x (stored_children store children)
+    → stored_children store (with_child name x children)
+    ≡ with_child (store name) x (stored_children store children)
 
 -- a name taken out is its stored form taken out, where no other name is stored alike
 abbrev pub RemovalsAgree : Type 0
 RemovalsAgree = (store : Name → List ℕ) (name : Name) (children : Children)
     → ((other : Name) → IsNameOf children other → store name ≡ store other → name ≡ other)
-    → stored_children store (without_child name children) ≡ without_child (store name) (stored_children store children)
+    → stored_children store (without_child name children)
+    ≡ without_child (store name) (stored_children store children)
 
 -- texts made of stored forms tell them apart, where they tell the names apart
 abbrev pub StoredFormsDiffer : Type 0

@@ -1,6 +1,7 @@
 -- The 40 bytes of a context: what is kept of a file's or a directory's encryption, as Linux lays out
 -- its `fscrypt_context_v2`.
-use Rattle.std.specs.Prelude.{ℕ, Bool, List, ◌++◌, length, take, drop, slice_index, bit_and, Option, Some, ◌≡◌, ◌==◌, not, if◌then◌else◌}
+use Rattle.std.specs.Prelude.{ℕ, Bool, List, ◌++◌, length, take, drop, slice_index}
+use Rattle.std.specs.Prelude.{bit_and, Option, Some, ◌≡◌, ◌==◌, not, if◌then◌else◌}
 use Rattle.policy_ctx.specs.declared.policy.KeyId.{KeyId}
 use Rattle.policy_ctx.specs.declared.policy.Context.{Context}
 use Rattle.policy_ctx.specs.declared.fault.CtxFault.{CtxFault}

@@ -1,12 +1,14 @@
 -- The 24 bytes of a policy of version 2, as Linux lays out its `fscrypt_policy_v2`.
-use Rattle.std.specs.Prelude.{ℕ, ◌+◌, Bool, List, ◌∷◌, length, Option, Some, None, slice_index, ◌==◌, ◌&&◌, ◌||◌, nat_le, not, if◌then◌else◌}
+use Rattle.std.specs.Prelude.{ℕ, ◌+◌, Bool, List, ◌∷◌, length, Option, Some, None}
+use Rattle.std.specs.Prelude.{slice_index, ◌==◌, ◌&&◌, ◌||◌, nat_le, not, if◌then◌else◌}
 use Rattle.policy_ctx.specs.declared.policy.Pad.{Pad}
 use Rattle.policy_ctx.specs.declared.policy.Pad.TheVariants.{P4, P8, P16, P32}
 use Rattle.policy_ctx.specs.declared.policy.Unit.{Unit as DataUnit}
 use Rattle.policy_ctx.specs.declared.policy.Unit.TheVariants.{Block, U512, U1024, U2048, U4096}
 use Rattle.policy_ctx.specs.declared.policy.Policy.{Policy}
 use Rattle.policy_ctx.specs.declared.fault.CtxFault.{CtxFault}
-use Rattle.policy_ctx.specs.declared.fault.CtxFault.TheVariants.{Length, Version, Modes, Flags, Unit, Reserved}
+use Rattle.policy_ctx.specs.declared.fault.CtxFault.TheVariants.{Length, Version, Modes}
+use Rattle.policy_ctx.specs.declared.fault.CtxFault.TheVariants.{Flags, Unit, Reserved}
 
 -- how many bytes a stored name is padded to
 abbrev pub pad_size : Pad → ℕ
@@ -62,7 +64,8 @@ header_fault b =
     if not ((slice_index b 1 == 1) && (slice_index b 2 == 4)) then Some Modes else
     if not (are_flags (slice_index b 3)) then Some Flags else
     if not (is_unit_log2 (slice_index b 4)) then Some Unit else
-    if not ((slice_index b 5 == 0) && ((slice_index b 6 == 0) && (slice_index b 7 == 0))) then Some Reserved else
+    if not ((slice_index b 5 == 0) && ((slice_index b 6 == 0) && (slice_index b 7 == 0)))
+    then Some Reserved else
     None
 
 -- the first fault of the bytes as a policy, where they are none

@@ -1,8 +1,10 @@
 //! From bytes to policies and contexts, or to the first fault.
 
-ghost use Rattle.std.specs.Prelude.{◌≡◌, ◌≤◌, length, take, None, Some, IsOk, IfOk, IfErr, IfSome, IfNone, true, false};
+ghost use Rattle.std.specs.Prelude.{◌≡◌, ◌≤◌, length, take, None, Some, IsOk};
+ghost use Rattle.std.specs.Prelude.{IfOk, IfErr, IfSome, IfNone, true, false};
 ghost use Rattle.policy_ctx.specs.Context.{HasSizes, context_bytes, context_fault};
-ghost use Rattle.policy_ctx.specs.Policy.{are_flags, flags_of, header_fault, is_unit_log2, policy_bytes, policy_fault, unit_log2};
+ghost use Rattle.policy_ctx.specs.Policy.{are_flags, flags_of, header_fault, is_unit_log2};
+ghost use Rattle.policy_ctx.specs.Policy.{policy_bytes, policy_fault, unit_log2};
 
 use super::{
     CONTENTS_MODE, CONTEXT_LEN, Context, CtxFault, KeyId, NAMES_MODE, POLICY_LEN, Pad, Policy,

@@ -39,7 +39,8 @@ pub fn encode_context(context: &Context) -> [u8; CONTEXT_LEN]
 /// The identifier of the key that the bytes of a context name.
 pub fn id_in(context: &[u8; CONTEXT_LEN]) -> KeyId
     ensures read { result ≡ spec.id_in context.now }
-    ensures of_context { (c : Context) → length c.policy.id.0 ≡ 16 → context.now ≡ context_bytes c → result ≡ c.policy.id }
+    ensures of_context { (c : Context) → length c.policy.id.0 ≡ 16 → context.now ≡ context_bytes c
+        → result ≡ c.policy.id }
 {
     let mut id = [0; 16];
     id.copy_from_slice(&context[8..POLICY_LEN]);

@@ -1,5 +1,6 @@
 -- Which lines stand in a policy's record, place by place, and the values on them.
-use Rattle.std.specs.Prelude.{ℕ, ◌==◌, ◌&&◌, ◌^◌, Bool, true, false, is_none, is_some, List, [], ◌∷◌, drop, codes, Option, Some, None, if◌then◌else◌}
+use Rattle.std.specs.Prelude.{ℕ, ◌==◌, ◌&&◌, ◌^◌, Bool, true, false, is_none, is_some, List}
+use Rattle.std.specs.Prelude.{[], ◌∷◌, drop, codes, Option, Some, None, if◌then◌else◌}
 use Rattle.std.specs.List.{filter_map}
 use Rattle.std.specs.Str.{bytes_eq}
 use Rattle.text_words.specs.Digits.{lower_hex_bytes_of_length}

@@ -1,5 +1,6 @@
 -- How a policy's record is read, line by line.
-use Rattle.std.specs.Prelude.{ℕ, ◌≡◌, ◌+◌, ◌==◌, ◌&&◌, nat_lt, Bool, true, false, List, [], ◌∷◌, ◌++◌, length, Option, Some, None, Result, Ok, Err, if◌then◌else◌}
+use Rattle.std.specs.Prelude.{ℕ, ◌≡◌, ◌+◌, ◌==◌, ◌&&◌, nat_lt, Bool, true, false, List, [], ◌∷◌}
+use Rattle.std.specs.Prelude.{◌++◌, length, Option, Some, None, Result, Ok, Err, if◌then◌else◌}
 use Rattle.std.specs.Option.{ok_or}
 use Rattle.text_words.specs.Lines.{pieces_of}
 use Rattle.protector_meta.specs.declared.fault.MetaFault.{MetaFault}
@@ -14,15 +15,18 @@ use Rattle.protector_meta.specs.Reading.{◌>>=◌, value_at}
 -- the wraps of the pieces of a text from this line on, behind earlier ones
 unfoldable pub wraps_from : ℕ → List Wrap → List (List ℕ) → Result (List Wrap) MetaFault
 wraps_from number wraps [] = Err (Bad number)
-wraps_from number wraps (last ∷ []) = if length last == 0 && nat_lt 0 (length wraps) then Ok wraps else Err (Bad number)
+wraps_from number wraps (last ∷ []) =
+    if length last == 0 && nat_lt 0 (length wraps) then Ok wraps else Err (Bad number)
 wraps_from number wraps (line ∷ next ∷ more) =
-    ok_or (next_wrap wraps line) (Bad number) >>= λ wrap. wraps_from (number + 1) (wraps ++ wrap ∷ []) (next ∷ more)
+    ok_or (next_wrap wraps line) (Bad number) >>= λ wrap.
+    wraps_from (number + 1) (wraps ++ wrap ∷ []) (next ∷ more)
 
 -- the policy of what the lines before the wraps told, and of the wraps from this line on
 abbrev pub with_wraps : List ℕ → List ℕ → Option Options → ℕ → List ℕ → Result PolicyFile MetaFault
 with_wraps name id options first text = do
   wraps ← wraps_from first [] (pieces_of text)
-  let p : PolicyFile = record { name = name; id = record { 0 = id }; options = options; wraps = wraps } in Ok p
+  let p : PolicyFile = record { name = name; id = record { 0 = id }; options = options; wraps = wraps }
+      in Ok p
 
 -- the same from the fourth line on, which tells the options where there are any
 abbrev pub behind_id : Bool → List ℕ → List ℕ → List ℕ → Result PolicyFile MetaFault

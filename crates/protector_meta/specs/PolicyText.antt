@@ -35,7 +35,8 @@ option_lines (Some o) = options_line o ∷ []
 -- the lines before the wraps
 abbrev pub head_lines : PolicyFile → List (List ℕ)
 head_lines p =
-    version_line p.options ∷ (codes "name " ++ p.name) ∷ (codes "id " ++ encode_lower p.id.0) ∷ option_lines p.options
+    version_line p.options ∷ (codes "name " ++ p.name) ∷ (codes "id " ++ encode_lower p.id.0)
+    ∷ option_lines p.options
 
 -- each of the lines is ended by a line feed, those of the wraps too
 abbrev pub policy_text : PolicyFile → List ℕ

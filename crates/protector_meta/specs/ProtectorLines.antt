@@ -1,5 +1,6 @@
 -- Which lines stand in a protector's record, place by place, and the values on them.
-use Rattle.std.specs.Prelude.{ℕ, ◌==◌, ◌^◌, false, ◌&&◌, List, length, Option, Some, None, is_some, is_ok, slice_get, codes, if◌then◌else◌}
+use Rattle.std.specs.Prelude.{ℕ, ◌==◌, ◌^◌, false, ◌&&◌, List, length, Option, Some}
+use Rattle.std.specs.Prelude.{None, is_some, is_ok, slice_get, codes, if◌then◌else◌}
 use Rattle.std.specs.List.{list_all}
 use Rattle.std.specs.Option.{option_and_then, option_map}
 use Rattle.std.specs.Str.{bytes_eq}
@@ -38,7 +39,8 @@ stretching_value text =
 -- `raw`, or `pass` and how the passphrase is stretched
 abbrev pub kind_value : List ℕ → Option ProtectorKind
 kind_value text =
-    if bytes_eq text (codes "raw") then Some Raw else option_map Pass (word_value (codes "pass ") stretching_value text)
+    if bytes_eq text (codes "raw") then Some Raw
+    else option_map Pass (word_value (codes "pass ") stretching_value text)
 
 -- 16 lower-case digits, which are kept as digits
 abbrev pub descriptor_value : List ℕ → Option (List ℕ)

@@ -21,4 +21,11 @@ protector_read text = do
   iv ← value_at (digits_line_value (codes "iv ") 16) 5 descriptor.1
   key ← value_at (digits_line_value (codes "key ") 32) 6 iv.1
   tag ← value_at (digits_line_value (codes "tag ") 32) 7 key.1
-  nothing_left 8 tag.1 (record { name = name.0; kind = kind.0; descriptor = descriptor.0; iv = iv.0; key = key.0; tag = tag.0 })
+  nothing_left 8 tag.1 (record {
+    name = name.0;
+    kind = kind.0;
+    descriptor = descriptor.0;
+    iv = iv.0;
+    key = key.0;
+    tag = tag.0;
+  })

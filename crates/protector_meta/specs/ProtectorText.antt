@@ -15,7 +15,8 @@ use Rattle.protector_meta.specs.declared.protector.Protector.{Protector}
 -- the costs in the order passes, KiB, lanes, and the salt in 32 digits
 abbrev pub stretching_text : Costs × List ℕ → List ℕ
 stretching_text (costs, salt) =
-    decimal_of costs.passes ++ 32 ∷ (decimal_of costs.kib ++ 32 ∷ (decimal_of costs.lanes ++ 32 ∷ encode_lower salt))
+    decimal_of costs.passes ++ 32 ∷ (decimal_of costs.kib
+    ++ 32 ∷ (decimal_of costs.lanes ++ 32 ∷ encode_lower salt))
 
 -- `raw`, or `pass` and how the passphrase is stretched
 abbrev pub kind_text : ProtectorKind → List ℕ

@@ -1,5 +1,7 @@
--- How a record is read, line by line: the value and what follows it, or the fault; words of private functions.
-use Rattle.std.specs.Prelude.{ℕ, ◌≡◌, List, length, nat_lt, Option, Some, None, Result, Ok, Err, if◌then◌else◌}
+-- How a record is read, line by line: the value and what follows it, or the fault; words of private
+-- functions.
+use Rattle.std.specs.Prelude.{ℕ, ◌≡◌, List, length, nat_lt, Option, Some}
+use Rattle.std.specs.Prelude.{None, Result, Ok, Err, if◌then◌else◌}
 use Rattle.std.specs.List.{before_first, after_first, position_or_len}
 use Rattle.text_words.specs.Lines.{is_line_feed}
 use Rattle.protector_meta.specs.declared.fault.MetaFault.{MetaFault}

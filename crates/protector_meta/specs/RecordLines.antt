@@ -15,7 +15,8 @@ ended_lines text = take (length (pieces_of text) - 1) (pieces_of text)
 abbrev pub LineTest : Type 0
 LineTest = ℕ → List (List ℕ) → List ℕ → Bool
 
--- of lines from this place on, the place of the first that may not stand there, or of the first that is missing
+-- of lines from this place on, the place of the first that may not stand there, or of the first that is
+-- missing
 abbrev pub first_unfit : LineTest → ℕ → List (List ℕ) → List (List ℕ) → ℕ
 first_unfit fits place earlier [] = place
 first_unfit fits place earlier (line ∷ lines) =

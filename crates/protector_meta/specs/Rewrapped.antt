@@ -4,7 +4,13 @@ use Rattle.key_wrap.specs.Wrapping.{wrapped_secret}
 use Rattle.protector_meta.specs.declared.protector.ProtectorKind.{ProtectorKind}
 use Rattle.protector_meta.specs.declared.protector.Protector.{Protector}
 
--- the kind and the iv are those given, the key and the tag are what wrapping gives, and the name and the descriptor stay
+-- the kind and the iv are those given, the key and the tag are what wrapping gives, and the name and the
+-- descriptor stay
 abbrev pub rewrapped : Protector → ProtectorKind → List ℕ → List ℕ → List ℕ → Protector
 rewrapped p kind wrapping iv key =
-    record p { kind = kind; iv = iv; key = (wrapped_secret wrapping iv key).0; tag = (wrapped_secret wrapping iv key).1 }
+    record p {
+      kind = kind;
+      iv = iv;
+      key = (wrapped_secret wrapping iv key).0;
+      tag = (wrapped_secret wrapping iv key).1;
+    }

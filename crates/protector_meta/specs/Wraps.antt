@@ -1,5 +1,6 @@
 -- The wraps of a policy's key: one for each protector that opens it, in the order in which they were added.
-use Rattle.std.specs.Prelude.{ℕ, ◌≤◌, ◌==◌, Bool, not, IsFalse, nat_le, List, [], ◌∷◌, length, Option, Some, None, if◌then◌else◌}
+use Rattle.std.specs.Prelude.{ℕ, ◌≤◌, ◌==◌, Bool, not, IsFalse, nat_le, List, []}
+use Rattle.std.specs.Prelude.{◌∷◌, length, Option, Some, None, if◌then◌else◌}
 use Rattle.std.specs.List.{list_any, find, filter}
 use Rattle.std.specs.Str.{bytes_eq}
 use Rattle.protector_meta.specs.declared.wraps.TheConstants.{MOST_WRAPS}

@@ -12,8 +12,8 @@ use short_bytes::Label;
 use std::alloc::AllocError;
 use text_words::{lower_hex_bytes, next_line, push_lower_hex};
 
-/// The first line, where a line feed ends it, and the text behind the line feed. Else the line of
-/// this number is at fault.
+// The first line, where a line feed ends it, and the text behind the line feed. Else the line of
+// this number is at fault.
 pub(crate) fn ended_line(text: &[u8], number: u32) -> Result<(&[u8], &[u8]), MetaFault>
     ensures { Gives (λ x. (x.0.now, x.1.now)) result (line_at number text.now) }
 {
@@ -25,28 +25,28 @@ pub(crate) fn ended_line(text: &[u8], number: u32) -> Result<(&[u8], &[u8]), Met
     }
 }
 
-/// What stands behind a word with which the text begins.
+// What stands behind a word with which the text begins.
 pub(crate) fn behind<'a>(text: &'a [u8], word: &[u8]) -> Option<&'a [u8]>
     ensures { option_map (λ rest. rest.now) result ≡ spec.behind word.now text.now }
 {
     text.strip_prefix(word)
 }
 
-/// The label on the line of a name.
+// The label on the line of a name.
 pub(crate) fn name_line_value(line: &[u8]) -> Option<Label>
     ensures { result ≡ spec.name_line_value line.now }
 {
     Label::read(behind(line, b"name ")?)
 }
 
-/// The bytes that digits spell behind a word with which the line begins.
+// The bytes that digits spell behind a word with which the line begins.
 pub(crate) fn digits_line_value<const N: usize>(line: &[u8], word: &[u8]) -> Option<[u8; N]>
     ensures { result ≡ spec.digits_line_value word.now N line.now }
 {
     lower_hex_bytes(behind(line, word)?)
 }
 
-/// Writes a line at the end of the text: a word, and what stands behind it.
+// Writes a line at the end of the text: a word, and what stands behind it.
 pub(crate) fn push_line(text: &mut Vec<u8>, word: &[u8], value: &[u8]) -> Result<(), AllocError>
     ensures { OnOk result (text.new.items ≡ text.old.items ++ (word.now ++ value.now) ++ 10 ∷ []) }
 {
@@ -56,13 +56,14 @@ pub(crate) fn push_line(text: &mut Vec<u8>, word: &[u8], value: &[u8]) -> Result
     Ok(())
 }
 
-/// Writes a line at the end of the text: a word, and the lower-case digits of the bytes.
+// Writes a line at the end of the text: a word, and the lower-case digits of the bytes.
 pub(crate) fn push_digits_line(
     text: &mut Vec<u8>,
     word: &[u8],
     bytes: &[u8],
 ) -> Result<(), AllocError>
-    ensures line { OnOk result (text.new.items ≡ text.old.items ++ (word.now ++ encode_lower bytes.now) ++ 10 ∷ []) }
+    ensures line { OnOk result (text.new.items ≡ text.old.items ++ (word.now ++ encode_lower bytes.now)
+        ++ 10 ∷ []) }
     ensures in_form { OnOk result (AreBytes bytes.now) }
 {
     text.extend_from_slice(word)?;

@@ -37,7 +37,8 @@ pub fn add_protector(policy: &mut PolicyFile, wrap: Wrap) -> Result<(), WrapFaul
     ensures added { OnOk result (policy.new ≡ record policy.old { wraps = policy.old.wraps ++ wrap ∷ [] }) }
     ensures kept { OnErr result (policy.new ≡ policy.old) }
     ensures refused { IfSome (adding_fault wrap.protector policy.old.wraps) (λ fault. result ≡ Err fault) }
-    ensures accepted { IfNone (adding_fault wrap.protector policy.old.wraps) (IsOkUnless result WrapFault.NoMemory) }
+    ensures accepted { IfNone (adding_fault wrap.protector policy.old.wraps)
+        (IsOkUnless result WrapFault.NoMemory) }
 {
     policy.wraps.add(wrap)
 }
@@ -45,7 +46,8 @@ pub fn add_protector(policy: &mut PolicyFile, wrap: Wrap) -> Result<(), WrapFaul
 /// Drops the wrap for the protector of this label; the others keep their order. Refused with
 /// `NotListed` where there is none, else with `LastOne` where there is no other. It takes no memory.
 pub fn drop_protector(policy: &mut PolicyFile, protector: &Label) -> Result<(), WrapFault>
-    ensures dropped { OnOk result (policy.new ≡ record policy.old { wraps = wraps_without protector.now policy.old.wraps }) }
+    ensures dropped { OnOk result (policy.new
+        ≡ record policy.old { wraps = wraps_without protector.now policy.old.wraps }) }
     ensures kept { OnErr result (policy.new ≡ policy.old) }
     ensures refused { IfSome (dropping_fault protector.now policy.old.wraps) (λ fault. result ≡ Err fault) }
     ensures accepted { IfNone (dropping_fault protector.now policy.old.wraps) (IsOk result) }

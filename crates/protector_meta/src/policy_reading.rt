@@ -1,6 +1,7 @@
 //! The text of a policy's record, read.
 
-ghost use Rattle.std.specs.Prelude.{◌≡◌, ◌≢◌, ◌<◌, ◌^◌, ◌+◌, ◌++◌, ◌∷◌, ◌⊎◌, [], Err, IfErr, IfOk, MatchOption, None, Ok, OnOk, Some, length, ℕ};
+ghost use Rattle.std.specs.Prelude.{◌≡◌, ◌≢◌, ◌<◌, ◌^◌, ◌+◌, ◌++◌, ◌∷◌, ◌⊎◌, [], Err, IfErr};
+ghost use Rattle.std.specs.Prelude.{IfOk, MatchOption, None, Ok, OnOk, Some, length, ℕ};
 ghost use Rattle.std.specs.Option.{option_map};
 ghost use Rattle.text_words.specs.Lines.{pieces_of};
 ghost use Rattle.text_words.specs.Words.{words_of};
@@ -10,7 +11,8 @@ ghost use Rattle.protector_meta.specs.declared.policy_file.PolicyFile.{PolicyFil
 ghost use Rattle.protector_meta.specs.RecordLines.{first_bad_line};
 ghost use Rattle.protector_meta.specs.PolicyText.{IsPolicyFile, policy_text};
 ghost use Rattle.protector_meta.specs.PolicyLines as spec;
-ghost use Rattle.protector_meta.specs.PolicyLines.{id_value, next_wrap, policy_line_fits, wrap_of_words, wrap_value};
+ghost use Rattle.protector_meta.specs.PolicyLines.{id_value, next_wrap, policy_line_fits};
+ghost use Rattle.protector_meta.specs.PolicyLines.{wrap_of_words, wrap_value};
 ghost use Rattle.protector_meta.specs.PolicyReading.{GivesInMemory, policy_read, wraps_from};
 
 use crate::fault::MetaFault;
@@ -33,9 +35,12 @@ const FOURTH_LINE: u32 = 4;
 pub fn decode_policy_file(alloc: Global, text: &[u8]) -> Result<PolicyFile, MetaFault>
     ensures read { GivesInMemory (λ p. p) result (policy_read text.now) }
     ensures found { IfOk result (λ p. IsPolicyFile p × (text.now ≡ policy_text p)) }
-    ensures every { (p : PolicyFile) → IsPolicyFile p → text.now ≡ policy_text p → (result ≡ Ok p) ⊎ (result ≡ Err NoMemory) }
-    ensures bad { IfErr result (λ fault. (fault ≡ NoMemory) ⊎ (fault ≡ Bad (first_bad_line policy_line_fits text.now))) }
-    ensures none { (line : ℕ) (p : PolicyFile) → result ≡ Err (Bad line) → IsPolicyFile p → text.now ≡ policy_text p → ⊥ }
+    ensures every { (p : PolicyFile) → IsPolicyFile p → text.now ≡ policy_text p
+        → (result ≡ Ok p) ⊎ (result ≡ Err NoMemory) }
+    ensures bad { IfErr result (λ fault. (fault ≡ NoMemory)
+        ⊎ (fault ≡ Bad (first_bad_line policy_line_fits text.now))) }
+    ensures none { (line : ℕ) (p : PolicyFile) → result ≡ Err (Bad line) → IsPolicyFile p
+        → text.now ≡ policy_text p → ⊥ }
 {
     read_policy(alloc, text)
 }
@@ -107,7 +112,8 @@ fn options_of_words(text: &[u8]) -> Option<Options>
 
 // The words of a text, if they are two.
 fn two_words(text: &[u8]) -> Option<(&[u8], &[u8])>
-    ensures { MatchOption result (length (words_of text.now) ≢ 2) (λ x. words_of text.now ≡ x.0.now ∷ x.1.now ∷ []) }
+    ensures { MatchOption result (length (words_of text.now) ≢ 2) (λ x.
+        words_of text.now ≡ x.0.now ∷ x.1.now ∷ []) }
 {
     if word_count(text) != 2 {
         return None;
@@ -142,8 +148,10 @@ fn read_wraps(alloc: Global, text: &[u8], first_line: u32) -> Result<WrapList, M
 // The list of the wrap of the first line, which has this number, and the text behind the line.
 fn read_first_wrap(alloc: Global, text: &[u8], number: u32) -> Result<(WrapList, &[u8]), MetaFault>
     ensures one { IfOk result (λ x. length x.0 ≡ 1) }
-    ensures first { IfOk result (λ x. wraps_from number [] (pieces_of text.now) ≡ wraps_from (number + 1) x.0 (pieces_of x.1.now)) }
-    ensures refused { IfErr result (λ fault. (fault ≡ NoMemory) ⊎ ((fault ≡ Bad number) × (wraps_from number [] (pieces_of text.now) ≡ Err (Bad number)))) }
+    ensures first { IfOk result (λ x. wraps_from number [] (pieces_of text.now)
+        ≡ wraps_from (number + 1) x.0 (pieces_of x.1.now)) }
+    ensures refused { IfErr result (λ fault. (fault ≡ NoMemory)
+        ⊎ ((fault ≡ Bad number) × (wraps_from number [] (pieces_of text.now) ≡ Err (Bad number)))) }
 {
     let line = next_line(text);
     if !line.ended {
@@ -158,8 +166,10 @@ fn read_first_wrap(alloc: Global, text: &[u8], number: u32) -> Result<(WrapList,
 
 // Adds the wrap of a line.
 fn add_line(wraps: &mut WrapList, line: &[u8], number: u32) -> Result<(), MetaFault>
-    ensures added { OnOk result ((wrap : Wrap) × ((next_wrap wraps.old line.now ≡ Some wrap) × (wraps.new ≡ wraps.old ++ wrap ∷ []))) }
-    ensures refused { IfErr result (λ fault. (fault ≡ NoMemory) ⊎ ((fault ≡ Bad number) × (next_wrap wraps.old line.now ≡ None))) }
+    ensures added { OnOk result ((wrap : Wrap) × ((next_wrap wraps.old line.now ≡ Some wrap)
+        × (wraps.new ≡ wraps.old ++ wrap ∷ []))) }
+    ensures refused { IfErr result (λ fault. (fault ≡ NoMemory)
+        ⊎ ((fault ≡ Bad number) × (next_wrap wraps.old line.now ≡ None))) }
 {
     let Some(wrap) = read_wrap(line) else {
         return Err(MetaFault::Bad { line: number });
@@ -194,7 +204,8 @@ fn wrap_of_words(text: &[u8]) -> Option<Wrap>
 
 // The words of a text, if they are four.
 fn four_words(text: &[u8]) -> Option<(&[u8], &[u8], &[u8], &[u8])>
-    ensures { MatchOption result (length (words_of text.now) ≢ 4) (λ x. words_of text.now ≡ x.0.now ∷ x.1.now ∷ x.2.now ∷ x.3.now ∷ []) }
+    ensures { MatchOption result (length (words_of text.now) ≢ 4) (λ x.
+        words_of text.now ≡ x.0.now ∷ x.1.now ∷ x.2.now ∷ x.3.now ∷ []) }
 {
     if word_count(text) != 4 {
         return None;

@@ -62,7 +62,8 @@ fn push_options(text: &mut Vec<u8>, options: &Option<Options>) -> Result<(), All
 
 // Writes the line of each wrap.
 fn push_wraps(text: &mut Vec<u8>, wraps: &[Wrap]) -> Result<(), AllocError>
-    ensures lines { OnOk result (text.new.items ≡ text.old.items ++ flat_map (λ wrap. wrap_line wrap ++ 10 ∷ []) wraps.now) }
+    ensures lines { OnOk result (text.new.items ≡ text.old.items
+        ++ flat_map (λ wrap. wrap_line wrap ++ 10 ∷ []) wraps.now) }
     ensures in_form { OnOk result (All IsWrap wraps.now) }
 {
     'wraps: for wrap in wraps {

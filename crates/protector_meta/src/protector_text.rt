@@ -5,7 +5,8 @@ ghost use Rattle.text_words.specs.Numbers.{decimal_of};
 ghost use Rattle.protector_meta.specs.ProtectorLines as spec;
 ghost use Rattle.protector_meta.specs.ProtectorLines.{protector_line_fits};
 ghost use Rattle.protector_meta.specs.ProtectorReading.{protector_read};
-ghost use Rattle.protector_meta.specs.ProtectorText.{IsKind, IsProtector, kind_text, protector_text, stretching_text};
+ghost use Rattle.protector_meta.specs.ProtectorText.{IsKind, IsProtector, kind_text};
+ghost use Rattle.protector_meta.specs.ProtectorText.{protector_text, stretching_text};
 ghost use Rattle.protector_meta.specs.RecordLines.{first_bad_line};
 ghost use Rattle.protector_meta.specs.Stretching.{IsStretching};
 
@@ -49,7 +50,8 @@ pub fn decode_protector(text: &[u8]) -> Result<Protector, MetaFault>
     ensures read { result ≡ protector_read text.now }
     ensures found { IfOk result (λ p. IsProtector p × (text.now ≡ protector_text p)) }
     ensures every { (p : Protector) → IsProtector p → text.now ≡ protector_text p → result ≡ Ok p }
-    ensures bad { IfErr result (λ fault. fault ≡ MetaFault.Bad (first_bad_line protector_line_fits text.now)) }
+    ensures bad { IfErr result (λ fault.
+        fault ≡ MetaFault.Bad (first_bad_line protector_line_fits text.now)) }
     ensures none { IfErr result (λ _. (p : Protector) → IsProtector p → text.now ≢ protector_text p) }
 {
     read_protector(text)
@@ -57,7 +59,8 @@ pub fn decode_protector(text: &[u8]) -> Result<Protector, MetaFault>
 
 // `kind raw`, or `kind pass` with the costs and the salt.
 fn push_kind(text: &mut Vec<u8>, kind: &ProtectorKind) -> Result<(), AllocError>
-    ensures line { OnOk result (text.new.items ≡ text.old.items ++ (codes "kind " ++ kind_text kind.now) ++ 10 ∷ []) }
+    ensures line { OnOk result (text.new.items ≡ text.old.items ++ (codes "kind " ++ kind_text kind.now)
+        ++ 10 ∷ []) }
     ensures in_form { OnOk result (IsKind kind.now) }
 {
     match kind {

@@ -18,7 +18,8 @@ pub fn rewrap(
     iv: &[u8; 16],
 )
     ensures whole { protector.new ≡ rewrapped protector.old kind wrapping.now iv.now key.now }
-    ensures opens { opened_secret wrapping.now protector.new.iv protector.new.key protector.new.tag ≡ Some key.now }
+    ensures opens { opened_secret wrapping.now protector.new.iv protector.new.key protector.new.tag
+        ≡ Some key.now }
 {
     let mut wrapped = [0; 32];
     protector.tag = wrap(wrapping, iv, key, &mut wrapped);

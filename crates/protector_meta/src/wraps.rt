@@ -1,11 +1,13 @@
 //! Wraps of a policy's key, and the list of them that a policy has.
 
-ghost use Rattle.std.specs.Prelude.{◌≡◌, ◌<◌, ◌≤◌, ◌^◌, [], ◌∷◌, ◌++◌, length, IfOk, IfSome, IfNone, IsOk, IsOkUnless, OnOk, OnErr, option_copied, slice_get};
+ghost use Rattle.std.specs.Prelude.{◌≡◌, ◌<◌, ◌≤◌, ◌^◌, [], ◌∷◌, ◌++◌, length, IfOk, IfSome, IfNone};
+ghost use Rattle.std.specs.Prelude.{IsOk, IsOkUnless, OnOk, OnErr, option_copied, slice_get};
 ghost use Rattle.std.specs.Iterator.Adapters.{IterYieldsInOrder};
 ghost use Rattle.std.specs.Slice.Iter.{iter_rest};
 ghost use Rattle.protector_meta.specs.declared.wraps.TheConstants.{MOST_WRAPS};
 ghost use Rattle.protector_meta.specs.declared.wraps.Wrap.{Wrap};
-ghost use Rattle.protector_meta.specs.Wraps.{AreWraps, adding_fault, dropping_fault, is_for, is_listed, wrap_for, wraps_without};
+ghost use Rattle.protector_meta.specs.Wraps.{AreWraps, adding_fault, dropping_fault};
+ghost use Rattle.protector_meta.specs.Wraps.{is_for, is_listed, wrap_for, wraps_without};
 
 use short_bytes::Label;
 use std::alloc::{AllocError, AllocFailed, Global};
@@ -133,7 +135,8 @@ impl WrapList {
         ensures added { OnOk result (self.new ≡ self.old ++ wrap ∷ []) }
         ensures kept { OnErr result (self.new ≡ self.old) }
         ensures refused { IfSome (adding_fault wrap.protector self.old) (λ fault. result ≡ Err fault) }
-        ensures accepted { IfNone (adding_fault wrap.protector self.old) (IsOkUnless result WrapFault.NoMemory) }
+        ensures accepted { IfNone (adding_fault wrap.protector self.old)
+            (IsOkUnless result WrapFault.NoMemory) }
     {
         if is_listed(&self.wraps, &wrap.protector) {
             return Err(WrapFault::Listed);

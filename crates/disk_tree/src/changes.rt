@@ -1,0 +1,197 @@
+//! Whole changes of the tree, each within the limits of the disk.
+ghost use Rattle.std.specs.Prelude.{◌≡◌, ◌≢◌, ◌+◌, ◌-◌, ◌<◌, ◌≤◌, ◌↔◌, [], length};
+ghost use Rattle.std.specs.Prelude.{IfErr, IfSome, IsOk, IsSome, IsTrue, OnOk, OnErr};
+ghost use Rattle.std.specs.Borrow.{sem};
+ghost use Rattle.number_map.specs.Numbered as map;
+ghost use Rattle.disk_tree.specs.Blocks.{grown, block_of};
+ghost use Rattle.disk_tree.specs.DiskTree.{IsDirAt, IsFileAt, children, blocks_in};
+ghost use Rattle.disk_tree.specs.DiskTree.{file_blocks, block_total, entered, dropped, moved};
+ghost use Rattle.disk_tree.specs.Entries.{number_under};
+ghost use Rattle.disk_tree.specs.Nodes.{blocks_of, with_blocks, with_size, on_body, with_context};
+
+use crate::edits;
+use crate::fault::DiskFault;
+use crate::node::StoredNode;
+use crate::tree::DiskTree;
+use mount_limits::{BLOCK_SIZE, MOST_BLOCKS, MOST_CHILDREN, MOST_NODES};
+use std::alloc::Global;
+
+impl DiskTree {
+    ghost use Rattle.disk_tree.specs.TreeLends.{LendsFileBlock};
+
+    /// Adds a node under a number that has none. A file has no blocks yet.
+    ///
+    /// NoSpace where 65,536 nodes are there. After a fault the tree is as before.
+    pub fn add_node(&mut self, number: u32, node: StoredNode) -> Result<(), DiskFault>
+        requires absent { map.get self.old number ≡ None }
+        requires no_blocks { blocks_of node.body ≡ [] }
+        ensures added { OnOk result (self.new ≡ map.insert self.old number node) }
+        ensures kept { OnErr result (self.new ≡ self.old) }
+        ensures full { MOST_NODES ≤ map.len self.old → result ≡ Err DiskFault.NoSpace }
+        ensures no_space { IfErr result (λ fault. fault ≡ DiskFault.NoSpace → MOST_NODES ≤ map.len self.old) }
+    {
+        if self.nodes.len() >= MOST_NODES {
+            return Err(DiskFault::NoSpace);
+        }
+        match self.nodes.set(number, node) {
+            Ok(()) => Ok(()),
+            Err(_) => Err(DiskFault::NoMemory),
+        }
+    }
+
+    /// Removes the node of this number, with its blocks. It takes no memory.
+    pub fn remove_node(&mut self, number: u32)
+        ensures { self.new ≡ map.remove self.old number }
+    {
+        let gone = blocks_gone(self.nodes.remove(number));
+        self.blocks -= gone;
+    }
+
+    /// Gives the node this context.
+    pub fn set_context(&mut self, number: u32, context: [u8; 40])
+        ensures { self.new ≡ map.changed self.old number (with_context context) }
+    {
+        edits::set_context(&mut self.nodes, number, context);
+    }
+
+    /// Makes an entry, which leads to the node; the node is named from then on.
+    ///
+    /// NoSpace where the directory has 4,096 entries. After a fault the tree is as before.
+    pub fn put_entry(
+        &mut self,
+        alloc: Global,
+        dir: u32,
+        name: &[u8],
+        number: u32,
+    ) -> Result<(), DiskFault>
+        requires { IsDirAt self.old dir }
+        ensures put { OnOk result (self.new ≡ entered self.old dir name.now number) }
+        ensures kept { OnErr result (self.new ≡ self.old) }
+        ensures full { MOST_CHILDREN ≤ length (children self.old dir) → result ≡ Err DiskFault.NoSpace }
+        ensures no_space { IfErr result (λ fault. fault ≡ DiskFault.NoSpace
+            → MOST_CHILDREN ≤ length (children self.old dir)) }
+    {
+        if self.entry_count(dir) >= MOST_CHILDREN {
+            return Err(DiskFault::NoSpace);
+        }
+        match edits::add_entry(&mut self.nodes, alloc, dir, name, number) {
+            Ok(()) => {
+                edits::set_named(&mut self.nodes, number, true);
+                Ok(())
+            }
+            Err(_) => Err(DiskFault::NoMemory),
+        }
+    }
+
+    /// Takes the entry away, and its node's name with it. False where no entry has the name.
+    pub fn drop_entry(&mut self, dir: u32, name: &[u8]) -> bool
+        ensures found { IsTrue result ↔ IsSome (number_under name.now (children self.old dir)) }
+        ensures gone { IfSome (number_under name.now (children self.old dir)) (λ number.
+            self.new ≡ dropped self.old dir name.now number) }
+        ensures kept { number_under name.now (children self.old dir) ≡ None → self.new ≡ self.old }
+    {
+        match edits::remove_entry(&mut self.nodes, dir, name) {
+            Some(number) => {
+                edits::set_named(&mut self.nodes, number, false);
+                true
+            }
+            None => false,
+        }
+    }
+
+    /// Moves the entry to a new name, in the same directory or in another. The new name leads to the
+    /// same node, which stays named.
+    ///
+    /// NoSpace where `to` is another directory and has 4,096 entries. After a fault the tree is as
+    /// before.
+    pub fn move_entry(
+        &mut self,
+        alloc: Global,
+        dir: u32,
+        name: &[u8],
+        to: u32,
+        new_name: &[u8],
+    ) -> Result<(), DiskFault>
+        requires to { IsDirAt self.old to }
+        requires there { IsSome (number_under name.now (children self.old dir)) }
+        ensures moved { OnOk result (IfSome (number_under name.now (children self.old dir)) (λ number.
+            self.new ≡ moved self.old dir name.now to new_name.now number)) }
+        ensures kept { OnErr result (self.new ≡ self.old) }
+        ensures full { to ≢ dir → MOST_CHILDREN ≤ length (children self.old to)
+            → result ≡ Err DiskFault.NoSpace }
+        ensures no_space { IfErr result (λ fault. fault ≡ DiskFault.NoSpace
+            → (to ≢ dir) × (MOST_CHILDREN ≤ length (children self.old to))) }
+    {
+        if to != dir && self.entry_count(to) >= MOST_CHILDREN {
+            return Err(DiskFault::NoSpace);
+        }
+        let Some(number) = self.entry(dir, name) else {
+            unreachable!()
+        };
+        match edits::add_entry(&mut self.nodes, alloc, to, new_name, number) {
+            Ok(()) => {
+                edits::remove_entry(&mut self.nodes, dir, name);
+                Ok(())
+            }
+            Err(_) => Err(DiskFault::NoMemory),
+        }
+    }
+
+    /// Adds blocks of zeros at the end of the file until it has `blocks`. A file that has as many
+    /// stays as it is, and takes no memory.
+    ///
+    /// NoSpace where more than 16,384 blocks would stand in all. After a fault the tree is as before.
+    pub fn grow(&mut self, alloc: Global, file: u32, blocks: u32) -> Result<(), DiskFault>
+        requires { IsFileAt self.old file }
+        ensures grown { OnOk result (self.new
+            ≡ map.changed self.old file (on_body (with_blocks (grown blocks)))) }
+        ensures kept { OnErr result (self.new ≡ self.old) }
+        ensures enough { blocks ≤ length (file_blocks self.old file) → IsOk result }
+        ensures full { MOST_BLOCKS < block_total self.old + (blocks - length (file_blocks self.old file))
+            → result ≡ Err DiskFault.NoSpace }
+        ensures no_space { IfErr result (λ fault. fault ≡ DiskFault.NoSpace
+            → MOST_BLOCKS < block_total self.old + (blocks - length (file_blocks self.old file))) }
+    {
+        let more = (blocks as usize).saturating_sub(self.block_count(file));
+        if self.blocks + more > MOST_BLOCKS {
+            return Err(DiskFault::NoSpace);
+        }
+        match edits::grow(&mut self.nodes, alloc, file, blocks as usize) {
+            Ok(()) => {
+                self.blocks += more;
+                Ok(())
+            }
+            Err(_) => Err(DiskFault::NoMemory),
+        }
+    }
+
+    /// The 4,096 bytes of the file's block for writing. All else stays.
+    pub fn block_mut(&mut self, file: u32, index: u32) -> &mut [u8]
+        requires { index < length (file_blocks self.old file) }
+        ensures* writes_back { sem 𝓛 (LendsFileBlock self.entry file index result) }
+        ensures value { result.now ≡ block_of (file_blocks self.old file) index }
+        ensures whole { length result.now ≡ BLOCK_SIZE }
+    {
+        match self.nodes.get_mut(file) {
+            Some(node) => node.body.block_mut(index as usize),
+            None => unreachable!(),
+        }
+    }
+
+    /// Says how many bytes are the file's.
+    pub fn set_size(&mut self, file: u32, size: u32)
+        ensures { self.new ≡ map.changed self.old file (on_body (with_size size)) }
+    {
+        edits::set_size(&mut self.nodes, file, size);
+    }
+}
+
+// How many blocks go with the node.
+fn blocks_gone(node: Option<StoredNode>) -> usize
+    ensures { result ≡ length (blocks_in node) }
+{
+    match node {
+        Some(node) => node.body.block_count(),
+        None => 0,
+    }
+}
