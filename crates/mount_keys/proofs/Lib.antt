@@ -1,0 +1,6 @@
+pub mod EvictionLemmas
+pub mod SecretLemmas
+pub mod ToldLemmas
+pub mod FewerLemmas
+pub mod AlikeLemmas
+pub mod AdditionLemmas

@@ -1,0 +1,23 @@
+use Rattle.std.proofs.Common.{refl, sym, ap, ◌∙◌}
+use Rattle.inode_refs.specs.Cached.{Cache, key_at}
+use Rattle.mount_keys.proofs.EvictionLemmas.{all_evicted_rule, all_evicted_was}
+use Rattle.mount_keys.proofs.FewerLemmas.{fewer_stand}
+use Rattle.mount_keys.proofs.caches.drop_caches.Goals as goal
+
+pub invariant_of-state : goal.invariant_of-state
+invariant_of-state c =
+    let s = c.args.state.now in
+    record {
+      forgets = all_evicted_rule s.disk s.ring.claims s.inodes s.modes s.handles.live s.forgets c.evict_all_unpinned.new.self c.evict_all_unpinned.ensures;
+      safe = s.safe;
+    }
+
+pub returns-clause-stands : goal.returns-clause-stands
+returns-clause-stands c = λ m st.
+    let s = c.args.state.now in (
+      refl,
+      fewer_stand s _ m m.claims st
+          (record { disk = refl; next_node = refl; meta = refl; pins = ap (λ (x : Cache). x.pins) c.evict_all_unpinned.ensures; handles = refl; modes = refl })
+          st.well.keys st.keys.claims (λ id raw there. there)
+          (λ n k there. all_evicted_was s.inodes n k (sym (ap (λ (x : Cache). key_at x n) c.evict_all_unpinned.ensures) ∙ there)),
+    )

@@ -1,0 +1,22 @@
+-- That a call is answered as the one-thread mount answers it.
+use Rattle.std.specs.Prelude.{◌≡◌, ◌⊎◌}
+use Rattle.mount_model.specs.declared.reply.Reply.{Reply}
+use Rattle.mount_model.specs.declared.reply.Reply.TheVariants.{Refused}
+use Rattle.mount_model.specs.declared.reply.Refusal.TheVariants.{NoMemory}
+use Rattle.mount_model.specs.PlainMount.{PlainMount}
+use Rattle.mount_model.specs.Answered.{Answer}
+use Rattle.mount_state.specs.StandsFor.{StandsFor}
+use Rattle.mount_state.specs.declared.state.MountState.{MountState}
+
+-- the answer came, and the state stands for its mount
+abbrev pub IsGiven : Answer → Reply → MountState → Type 0
+IsGiven answer reply state = (reply ≡ answer.reply) × StandsFor state answer.mount
+
+-- the same, or there was no memory, and the state stands for the mount as it was
+abbrev pub IsGivenOrNoMemory : PlainMount → Answer → Reply → MountState → Type 0
+IsGivenOrNoMemory m answer reply state =
+    IsGiven answer reply state ⊎ ((reply ≡ Refused NoMemory) × StandsFor state m)
+
+-- this was told, or there was no memory
+abbrev pub IsToldOrNoMemory : Reply → Reply → Type 0
+IsToldOrNoMemory told reply = (reply ≡ told) ⊎ (reply ≡ Refused NoMemory)

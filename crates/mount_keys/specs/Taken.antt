@@ -1,0 +1,58 @@
+-- What the calls on keys change of a state, and what stays.
+use Rattle.std.specs.Prelude.{◌≡◌, ℕ, List, if◌then◌else◌}
+use Rattle.std.specs.FinMap as map
+use Rattle.policy_ctx.specs.declared.policy.KeyId.{KeyId}
+use Rattle.fsc_keys.specs.Keys.{key_id_of}
+use Rattle.user_claims.specs.Claims.{ClaimSet, is_present, with_claim, without_claim, without_id}
+use Rattle.key_ring.specs.Holding.{secrets_left}
+use Rattle.inode_refs.specs.Cached.{Cache, KeyMap, evicted}
+use Rattle.mount_state.specs.declared.state.MountState.{MountState}
+
+-- ---- what stays
+
+-- nothing differs but claims with their secrets
+pub record SameButRing (old new : MountState) : Type 0 where
+  pub disk : new.disk ≡ old.disk
+  pub next_node : new.next_node ≡ old.next_node
+  pub meta : new.meta ≡ old.meta
+  pub inodes : new.inodes ≡ old.inodes
+  pub handles : new.handles ≡ old.handles
+  pub modes : new.modes ≡ old.modes
+
+-- nothing differs but claims with their secrets, and which keys of nodes are cached
+pub record SameButKeyed (old new : MountState) : Type 0 where
+  pub disk : new.disk ≡ old.disk
+  pub next_node : new.next_node ≡ old.next_node
+  pub meta : new.meta ≡ old.meta
+  pub pins : new.inodes.pins ≡ old.inodes.pins
+  pub handles : new.handles ≡ old.handles
+  pub modes : new.modes ≡ old.modes
+
+-- and of those nothing differs either
+pub record KeepsKeys (old new : MountState) : Type 0 where
+  pub ring : new.ring ≡ old.ring
+  pub cached : new.inodes.keys ≡ old.inodes.keys
+
+-- ---- what comes and goes
+
+-- the user has a claim on the key of these bytes, which are its secret
+pub record GainsClaim (old new : MountState) (uid : ℕ) (raw : List ℕ) : Type 0 where
+  pub claims : new.ring.claims ≡ with_claim old.ring.claims (key_id_of raw) uid
+  pub secrets : new.ring.secrets ≡ map.insert old.ring.secrets (key_id_of raw) raw
+
+-- the cached keys once these claims are left: where none is on the key, those drawn from it go from the
+-- nodes without pins
+abbrev pub keys_left : Cache → ClaimSet → KeyId → KeyMap
+keys_left cache claims id = if is_present claims id then cache.keys else evicted cache id
+
+-- the user has no claim on the key, and with the last one went what was drawn from it
+pub record LosesClaim (old new : MountState) (uid : ℕ) (id : KeyId) : Type 0 where
+  pub claims : new.ring.claims ≡ without_claim old.ring.claims id uid
+  pub secrets : new.ring.secrets ≡ secrets_left old.ring.secrets new.ring.claims id
+  pub cached : new.inodes.keys ≡ keys_left old.inodes new.ring.claims id
+
+-- no user has one
+pub record LosesAllClaims (old new : MountState) (id : KeyId) : Type 0 where
+  pub claims : new.ring.claims ≡ without_id old.ring.claims id
+  pub secrets : new.ring.secrets ≡ map.remove old.ring.secrets id
+  pub cached : new.inodes.keys ≡ evicted old.inodes id

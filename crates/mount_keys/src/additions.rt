@@ -1,0 +1,60 @@
+//! A user claims a key.
+
+ghost use Rattle.std.specs.Prelude.{◌≡◌, true, false, IfSome, IfNone};
+ghost use Rattle.std.specs.FinMap as map;
+ghost use Rattle.fsc_keys.specs.Keys.{key_id_of};
+ghost use Rattle.user_claims.specs.Claims.{with_claim};
+ghost use Rattle.mount_model.specs.declared.reply.KeyState.TheVariants.{Present};
+ghost use Rattle.mount_model.specs.PlainMount.{PlainMount};
+ghost use Rattle.mount_model.specs.ClaimHistory.{is_refused};
+ghost use Rattle.mount_model.specs.KeyAnswers.{answer_to_add_key};
+ghost use Rattle.mount_model.specs.Lawful.{AgreesWith};
+ghost use Rattle.mount_keys.specs.Given.{IsToldOrNoMemory, IsGivenOrNoMemory};
+ghost use Rattle.mount_keys.specs.Told.{add_fault};
+ghost use Rattle.mount_keys.specs.Taken.{GainsClaim, SameButRing};
+ghost use Rattle.mount_state.specs.Held.{key_state};
+ghost use Rattle.mount_state.specs.StandsFor.{StandsFor};
+
+use fsc_keys::RawKey;
+use key_ring::ClaimFault;
+use mount_model::{Bytes, Refusal, Reply};
+use mount_state::MountState;
+use std::alloc::Global;
+
+/// The user claims the key of these bytes, and is told its identifier. The key is present from then on,
+/// whatever it was before, and all that is cached stays.
+///
+/// Inval for fewer than `LEAST_RAW_KEY_BYTES` or more than `MOST_RAW_KEY_BYTES`, then Quota where the claim
+/// would be a new one and the user has `MOST_CLAIMS`. After a refusal the state is as before. No copy of the
+/// bytes is left but the secret.
+pub fn add_key(alloc: Global, state: &mut MountState, uid: u32, raw: &Bytes) -> Reply
+    ensures refused { IfSome (add_fault state.old.ring.claims uid raw.now)
+        (λ refusal. result ≡ Reply.Refused refusal) }
+    ensures accepted { IfNone (add_fault state.old.ring.claims uid raw.now)
+        (IsToldOrNoMemory (Reply.Added (key_id_of raw.now)) result) }
+    ensures kept { is_refused result ≡ true → state.new.ring ≡ state.old.ring }
+    ensures gained { is_refused result ≡ false → GainsClaim state.old state.new uid raw.now }
+    ensures present { is_refused result ≡ false
+        → key_state state.new.disk state.new.ring.claims state.new.handles.live (key_id_of raw.now)
+        ≡ Present }
+    ensures same { SameButRing state.old state.new }
+    ensures stands { (m : PlainMount) → StandsFor state.old m
+        → (is_refused result ≡ false → AgreesWith m.raws raw.now)
+        → IsGivenOrNoMemory m (answer_to_add_key m uid raw.now) result state.new }
+{
+    let mut key = match RawKey::read(raw.as_slice()) {
+        Ok(key) => key,
+        Err(_) => return Reply::Refused(Refusal::Inval),
+    };
+    let added = state.ring.add(alloc, &key, uid);
+    key.wipe();
+    match added {
+        Ok(id) => {
+            // Each mode key has users, so a mode key of this identifier was drawn from this raw key.
+            let _used = state.modes.users_of(&id);
+            Reply::Added(id)
+        }
+        Err(ClaimFault::Quota) => Reply::Refused(Refusal::Quota),
+        Err(ClaimFault::NoMemory) => Reply::Refused(Refusal::NoMemory),
+    }
+}

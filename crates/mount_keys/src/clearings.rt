@@ -1,0 +1,52 @@
+//! User 0 takes every claim on a key away.
+
+ghost use Rattle.std.specs.Prelude.{◌≡◌, true, false};
+ghost use Rattle.mount_model.specs.PlainMount.{PlainMount};
+ghost use Rattle.mount_model.specs.ClaimHistory.{is_refused};
+ghost use Rattle.mount_model.specs.KeyAnswers.{answer_to_remove_key_all};
+ghost use Rattle.mount_keys.specs.Given.{IsGiven};
+ghost use Rattle.mount_keys.specs.Told.{told_of_clearing};
+ghost use Rattle.mount_keys.specs.Taken.{KeepsKeys, LosesAllClaims, SameButKeyed};
+ghost use Rattle.mount_state.specs.Held.{HoldsNothing};
+ghost use Rattle.mount_state.specs.StandsFor.{StandsFor};
+
+use mount_model::{KeyId, Refusal, Reply};
+use mount_state::MountState;
+
+/// Takes every user's claim on the key away, with its secret and each cached key that was drawn from it
+/// and that no handle needs; all of these are overwritten.
+///
+/// Access for any user but 0, then NoKey where the key is absent. Told is whether a handle still needs the
+/// key. Where none does, nothing of it is held. It takes no memory.
+pub fn remove_key_all(state: &mut MountState, uid: u32, id: &KeyId) -> Reply
+    ensures told { result ≡ told_of_clearing state.old uid id.now }
+    ensures kept { is_refused result ≡ true → KeepsKeys state.old state.new }
+    ensures taken { is_refused result ≡ false → LosesAllClaims state.old state.new id.now }
+    ensures same { SameButKeyed state.old state.new }
+    ensures gone { result ≡ Reply.Removed false false
+        → HoldsNothing state.new.ring state.new.inodes state.new.modes id.now }
+    ensures stands { (m : PlainMount) → StandsFor state.old m
+        → IsGiven (answer_to_remove_key_all m uid id.now) result state.new }
+{
+    if uid != 0 {
+        return Reply::Refused(Refusal::Access);
+    }
+    let busy = state.is_busy(id);
+    if !busy && state.ring.claims().count_of_id(id) == 0 {
+        return Reply::Refused(Refusal::NoKey);
+    }
+    take_all_claims(state, id);
+    Reply::Removed {
+        others: false,
+        busy,
+    }
+}
+
+// Takes every claim on the key away.
+fn take_all_claims(state: &mut MountState, id: &KeyId)
+    ensures taken { LosesAllClaims state.old state.new id.now }
+    ensures same { SameButKeyed state.old state.new }
+{
+    state.ring.clear(id);
+    state.inodes.evict_unpinned(id);
+}

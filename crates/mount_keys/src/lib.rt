@@ -1,0 +1,19 @@
+//! The calls on the keys of a mount: add one, give up a claim, take every claim away, tell a key's status,
+//! drop what is cached. Each answers what the one-thread mount does that the state stands for.
+#![tactic(auto)]
+
+mod additions;
+mod caches;
+mod clearings;
+mod removals;
+mod statuses;
+#[cfg(test)]
+mod tests;
+
+pub use additions::add_key;
+pub use caches::drop_caches;
+pub use clearings::remove_key_all;
+pub use mount_model::{Bytes, KeyId, KeyState, Reply};
+pub use mount_state::MountState;
+pub use removals::remove_key;
+pub use statuses::key_status;

@@ -1,0 +1,63 @@
+//! A user gives up a claim.
+
+ghost use Rattle.std.specs.Prelude.{◌≡◌, true, false};
+ghost use Rattle.user_claims.specs.Claims.{has_claim, is_present};
+ghost use Rattle.mount_model.specs.PlainMount.{PlainMount};
+ghost use Rattle.mount_model.specs.ClaimHistory.{is_refused};
+ghost use Rattle.mount_model.specs.KeyAnswers.{answer_to_remove_key};
+ghost use Rattle.mount_keys.specs.Given.{IsGiven};
+ghost use Rattle.mount_keys.specs.Told.{told_of_removal};
+ghost use Rattle.mount_keys.specs.Taken.{KeepsKeys, LosesClaim, SameButKeyed};
+ghost use Rattle.mount_state.specs.Held.{HoldsNothing};
+ghost use Rattle.mount_state.specs.StandsFor.{StandsFor};
+
+use mount_model::{KeyId, Refusal, Reply};
+use mount_state::MountState;
+
+/// The user gives up the claim on the key. With the last claim the secret is overwritten and dropped, and
+/// so is each cached key that was drawn from it and that no handle needs.
+///
+/// NoKey where some user has a claim on the key and this one hasn't, and where the key is absent. Told is
+/// whether another claim is left, and where none is, whether a handle still needs the key. Where neither
+/// is told, nothing of the key is held. It takes no memory.
+pub fn remove_key(state: &mut MountState, uid: u32, id: &KeyId) -> Reply
+    ensures told { result ≡ told_of_removal state.old uid id.now }
+    ensures kept { is_refused result ≡ true → KeepsKeys state.old state.new }
+    ensures taken { is_refused result ≡ false → LosesClaim state.old state.new uid id.now }
+    ensures same { SameButKeyed state.old state.new }
+    ensures gone { result ≡ Reply.Removed false false
+        → HoldsNothing state.new.ring state.new.inodes state.new.modes id.now }
+    ensures stands { (m : PlainMount) → StandsFor state.old m
+        → IsGiven (answer_to_remove_key m uid id.now) result state.new }
+{
+    let busy = state.is_busy(id);
+    if state.ring.claims().has(id, uid) {
+        let others = take_claim(state, uid, id);
+        return Reply::Removed {
+            others,
+            busy: !others && busy,
+        };
+    }
+    if busy && state.ring.claims().count_of_id(id) == 0 {
+        return Reply::Removed {
+            others: false,
+            busy,
+        };
+    }
+    Reply::Refused(Refusal::NoKey)
+}
+
+// Takes the user's claim away, and tells whether another one on the key is left.
+fn take_claim(state: &mut MountState, uid: u32, id: &KeyId) -> bool
+    requires { has_claim state.old.ring.claims id.now uid ≡ true }
+    ensures left { result ≡ is_present state.new.ring.claims id.now }
+    ensures taken { LosesClaim state.old state.new uid id.now }
+    ensures same { SameButKeyed state.old state.new }
+{
+    let left = state.ring.take_claim(id, uid);
+    if left > 0 {
+        return true;
+    }
+    state.inodes.evict_unpinned(id);
+    false
+}
