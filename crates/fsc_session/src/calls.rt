@@ -2,7 +2,7 @@
 
 ghost use Rattle.std.specs.Prelude.{◌≡◌, IfOk, OnErr, IsTrue};
 ghost use Rattle.mount_model.specs.Fits.{CanBeAsked};
-ghost use Rattle.script_lang.specs.Spelled.{IsAskable};
+ghost use Rattle.script_lang.specs.Readable.{IsCommand};
 ghost use Rattle.fsc_session.specs.Session.{call_of, holds_bytes, id_meant};
 
 use fsc_keys::{KeyId, key_id};
@@ -14,7 +14,7 @@ use std::alloc::{AllocError, Global};
 /// command, as for each of a script that was read. It holds its own copy of the bytes of a key that is
 /// added; no other command takes memory.
 pub fn call_of(alloc: Global, uid: u32, command: &Command) -> Result<Call, AllocError>
-    requires { IsAskable command.now.verb }
+    requires { IsCommand command.now.verb }
     ensures value { IfOk result (λ call. call ≡ call_of uid command.now) }
     ensures fits { IfOk result CanBeAsked }
     ensures memory { OnErr result (IsTrue (holds_bytes command.now.verb)) }
@@ -25,6 +25,7 @@ pub fn call_of(alloc: Global, uid: u32, command: &Command) -> Result<Call, Alloc
         },
         Verb::RemoveKey(key) => Op::RemoveKey { id: id_meant(key) },
         Verb::KeyStatus(key) => Op::KeyStatus { id: id_meant(key) },
+        _ => unreachable!(),
     };
     Ok(Call { uid, op })
 }

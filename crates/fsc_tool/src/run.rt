@@ -3,7 +3,8 @@
 
 ghost use Rattle.std.specs.Prelude.{◌≡◌, ◌≤◌, ◌<◌, ◌∷◌, ◌++◌, [], length, All, OnOk, IfOk};
 ghost use Rattle.mount_model.specs.History.{calls_of};
-ghost use Rattle.script_lang.specs.Spelled.{IsAskable, IsSpelled};
+ghost use Rattle.script_lang.specs.Readable.{IsCommand};
+ghost use Rattle.script_lang.specs.Spelled.{IsSpelled};
 ghost use Rattle.fsc_session.specs.Session.{AsksRightly, call_of};
 ghost use Rattle.fsc_session.specs.Rotation.{IsRunOf, longest, nth_call, rotation, round_of};
 
@@ -93,7 +94,7 @@ fn make_call<M: MountMachine>(
     mount: &mut M,
     history: &mut EntryList,
 ) -> Result<(), AllocError>
-    requires asked { IsAskable command.now.verb }
+    requires asked { IsCommand command.now.verb }
     requires leads { M.leads history.old mount.old }
     ensures leads { OnOk result (M.leads history.new mount.new) }
     ensures order { OnOk result (calls_of history.new ≡ calls_of history.old ++ (caller, call_of uid command.now) ∷ []) }
