@@ -1,17 +1,17 @@
-//! The limits of the grammar, each said once.
+//! The limits of the grammar. Those that a mount has too are the mount's.
 
 /// The callers of a script.
 pub const MOST_CALLERS: usize = 8;
 
 /// The parts of a path.
-pub const MOST_PARTS: usize = 32;
+pub const MOST_PARTS: usize = mount_limits::MOST_PARTS;
 
 /// The bytes that a word stands for.
-pub const MOST_WORD_BYTES: usize = 1000;
+pub const MOST_WORD_BYTES: usize = mount_limits::MOST_PART_BYTES;
 
 /// The bytes of a key that a command adds: more than a raw key may have, so that the refusal of a
 /// wrong length is the mount's own.
-pub const MOST_ADDED_BYTES: usize = 128;
+pub const MOST_ADDED_BYTES: usize = mount_limits::MOST_RAW_BYTES;
 
 /// The bytes that a command writes.
 pub const MOST_WRITTEN_BYTES: usize = 4096;
