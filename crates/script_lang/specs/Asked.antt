@@ -7,7 +7,8 @@ use Rattle.script_lang.specs.Word.{IsWord, may_be_target}
 use Rattle.script_lang.specs.Path.{IsPath}
 use Rattle.script_lang.specs.Records.{IsRecord}
 use Rattle.script_lang.specs.Secrets.{IsSecret, IsNewSecret}
-use Rattle.script_lang.specs.declared.limits.TheConstants.{MOST_ADDED_BYTES, MOST_WRITTEN_BYTES, MOST_FILLED_BYTES, MOST_PUT_BYTES, POLICY_BYTES}
+use Rattle.script_lang.specs.declared.limits.TheConstants.{MOST_ADDED_BYTES, MOST_WRITTEN_BYTES}
+use Rattle.script_lang.specs.declared.limits.TheConstants.{MOST_FILLED_BYTES, MOST_PUT_BYTES, POLICY_BYTES}
 use Rattle.script_lang.specs.declared.verb.KeyRef.{KeyRef}
 use Rattle.script_lang.specs.declared.verb.KeyRef.TheVariants.{Id, Raw}
 use Rattle.script_lang.specs.declared.verb.Verb.{Verb}
@@ -54,10 +55,13 @@ IsAskable (verb.Fill handle offset len byte) =
     IsNumber handle × (IsNumber offset × ((len ≤ MOST_FILLED_BYTES) × (byte ≤ 255)))
 IsAskable verb.DropCaches = ⊤
 IsAskable (verb.MetaGet name) = IsRecord name
-IsAskable (verb.MetaPut name expected bytes) = IsRecord name × (IsNumber expected × AreFewBytes bytes MOST_PUT_BYTES)
+IsAskable (verb.MetaPut name expected bytes) =
+    IsRecord name × (IsNumber expected × AreFewBytes bytes MOST_PUT_BYTES)
 IsAskable (verb.Protector protector secret) = IsLabel protector × IsNewSecret secret
-IsAskable (verb.ProtectorChange protector secret new) = IsLabel protector × (IsSecret secret × IsNewSecret new)
-IsAskable (verb.PolicyNew policy protector secret options) = IsLabel policy × (IsLabel protector × IsSecret secret)
+IsAskable (verb.ProtectorChange protector secret new) =
+    IsLabel protector × (IsSecret secret × IsNewSecret new)
+IsAskable (verb.PolicyNew policy protector secret options) =
+    IsLabel policy × (IsLabel protector × IsSecret secret)
 IsAskable (verb.PolicyAdd policy protector secret added added_secret) =
     IsLabel policy × (IsLabel protector × (IsSecret secret × (IsLabel added × IsSecret added_secret)))
 IsAskable (verb.PolicyDrop policy protector) = IsLabel policy × IsLabel protector

@@ -8,8 +8,10 @@ use Rattle.script_lang.specs.Records.{record_of}
 use Rattle.script_lang.specs.Path.{path_of}
 use Rattle.script_lang.specs.Forms.{Form, says, only, whole}
 use Rattle.script_lang.specs.Names.{name_of}
-use Rattle.script_lang.specs.Verbs.{set_policy, set_policy_bytes, symlink, rename, list, read, write, fill, meta_put}
-use Rattle.script_lang.specs.Sessions.{protector, protector_change, policy_new, policy_add, policy_drop, unlock, encrypt}
+use Rattle.script_lang.specs.Verbs.{set_policy, set_policy_bytes, symlink}
+use Rattle.script_lang.specs.Verbs.{rename, list, read, write, fill, meta_put}
+use Rattle.script_lang.specs.Sessions.{protector, protector_change, policy_new}
+use Rattle.script_lang.specs.Sessions.{policy_add, policy_drop, unlock, encrypt}
 use Rattle.script_lang.specs.declared.limits.TheConstants.{MOST_ADDED_BYTES}
 use Rattle.script_lang.specs.declared.names.CommandName.{CommandName}
 use Rattle.script_lang.specs.declared.names.CommandName.TheVariants as name

@@ -1,5 +1,6 @@
 -- How the words behind a command's name are read, one by one.
-use Rattle.std.specs.Prelude.{ℕ, ◌≡◌, ◌==◌, List, length, drop, slice_get, Option, Some, None, Result, Ok, Err, if◌then◌else◌}
+use Rattle.std.specs.Prelude.{ℕ, ◌≡◌, ◌==◌, List, length, drop, slice_get, Option}
+use Rattle.std.specs.Prelude.{Some, None, Result, Ok, Err, if◌then◌else◌}
 use Rattle.std.specs.Option.{option_map, option_and_then}
 use Rattle.script_lang.specs.declared.words.Unread.{Unread}
 use Rattle.script_lang.specs.declared.words.Unread.TheVariants.{OutsideGrammar, NoMemory}

@@ -1,5 +1,6 @@
 -- The words for keys and for other bytes: hexadecimal digits of either case.
-use Rattle.std.specs.Prelude.{ℕ, ◌*◌, ◌&&◌, ◌++◌, nat_le, nat_eq, List, [], length, drop, codes, Option, Some, None, if◌then◌else◌}
+use Rattle.std.specs.Prelude.{ℕ, ◌*◌, ◌&&◌, ◌++◌, nat_le, nat_eq, List, [], length}
+use Rattle.std.specs.Prelude.{drop, codes, Option, Some, None, if◌then◌else◌}
 use Rattle.std.specs.List.{starts_with}
 use Rattle.std.specs.Option.{option_map}
 use Rattle.std.specs.Str.{bytes_eq}

@@ -1,5 +1,6 @@
 -- Paths of a script: `/`, or a `/` before each of 1 to 32 parts.
-use Rattle.std.specs.Prelude.{ℕ, ◌^◌, ◌<◌, ◌≤◌, ◌==◌, Bool, not, ◌&&◌, ◌||◌, nat_le, IsTrue, List, [], ◌∷◌, ◌++◌, length, codes, Option, Some, None, if◌then◌else◌}
+use Rattle.std.specs.Prelude.{ℕ, ◌^◌, ◌<◌, ◌≤◌, ◌==◌, Bool, not, ◌&&◌, ◌||◌, nat_le, IsTrue, List}
+use Rattle.std.specs.Prelude.{[], ◌∷◌, ◌++◌, length, codes, Option, Some, None, if◌then◌else◌}
 use Rattle.std.specs.List.{All, list_any, slice_split}
 use Rattle.std.specs.Option.{option_map, option_or}
 use Rattle.std.specs.Str.{bytes_eq}
@@ -32,7 +33,8 @@ star_number (c ∷ number) = if c == 42 then number_below (2 ^ 32) number else N
 
 -- the part that a text spells: a star, or a word that may be a part
 unfoldable pub part_of : List ℕ → Option ScriptPart
-part_of text = option_or (option_map Star (star_number text)) (option_map Given (passing may_be_part (word_bytes text)))
+part_of text =
+    option_or (option_map Star (star_number text)) (option_map Given (passing may_be_part (word_bytes text)))
 
 -- a part before others, if all are there
 abbrev pub before_parts : Option ScriptPart → Option (List ScriptPart) → Option (List ScriptPart)
@@ -49,11 +51,13 @@ parts_of (text ∷ texts) = before_parts (part_of text) (parts_of texts)
 abbrev pub few_parts : List (List ℕ) → Option (List ScriptPart)
 few_parts texts = if nat_le (length texts) MOST_PARTS then parts_of texts else None
 
--- the path that a text spells: `/` is the root, and else what stands between the slashes, behind the first, is the parts
+-- the path that a text spells: `/` is the root, and else what stands between the slashes, behind the
+-- first, is the parts
 unfoldable pub path_of : List ℕ → Option (List ScriptPart)
 path_of [] = None
 path_of (first ∷ rest) =
-    if not (is_slash first) then None else if length rest == 0 then Some [] else few_parts (slice_split is_slash rest)
+    if not (is_slash first) then None else if length rest == 0 then Some []
+    else few_parts (slice_split is_slash rest)
 
 -- the text of a part: a star as it was read, a given part as a word
 abbrev pub part_text : ScriptPart → List ℕ
@@ -70,7 +74,8 @@ unfoldable pub path_text : List ScriptPart → List ℕ
 path_text [] = codes "/"
 path_text (part ∷ parts) = parts_text (part ∷ parts)
 
--- what a part may be: a word without `/` and NUL that is neither `.` nor `..`, or a star with a number below 2^32
+-- what a part may be: a word without `/` and NUL that is neither `.` nor `..`, or a star with a number
+-- below 2^32
 abbrev pub IsPart : ScriptPart → Type 0
 IsPart (Given bytes) = IsWord bytes × IsTrue (may_be_part bytes)
 IsPart (Star number) = number < 2 ^ 32

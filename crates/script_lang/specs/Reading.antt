@@ -1,5 +1,6 @@
 -- What the reader has after each line: the sections so far.
-use Rattle.std.specs.Prelude.{ℕ, ◌≡◌, nat_lt, Bool, true, false, List, [], ◌∷◌, ◌++◌, length, Option, Some, None, Result, Ok, Err, MatchOption, if◌then◌else◌}
+use Rattle.std.specs.Prelude.{ℕ, ◌≡◌, nat_lt, Bool, true, false, List, [], ◌∷◌, ◌++◌, length}
+use Rattle.std.specs.Prelude.{Option, Some, None, Result, Ok, Err, MatchOption, if◌then◌else◌}
 use Rattle.script_lang.specs.declared.limits.TheConstants.{MOST_CALLERS}
 use Rattle.script_lang.specs.declared.commands.Command.{Command}
 use Rattle.script_lang.specs.declared.commands.Section.{Section}
@@ -16,19 +17,22 @@ with_commands (first ∷ next ∷ more) commands = first ∷ with_commands (next
 
 -- the sections with one command more, if there is a section
 abbrev pub with_command : List Section → Command → Option (List Section)
-with_command sections command = if nat_lt 0 (length sections) then Some (with_commands sections (command ∷ [])) else None
+with_command sections command =
+    if nat_lt 0 (length sections) then Some (with_commands sections (command ∷ [])) else None
 
 -- the sections after line n, if the line may stand behind them
 abbrev pub after_line : ℕ → List Section → Option Statement → Option (List Section)
 after_line n sections None = None
 after_line n sections (Some Nothing) = Some sections
 after_line n sections (Some (Caller uid)) =
-    if nat_lt (length sections) MOST_CALLERS then Some (sections ++ record { uid = uid; commands = [] } ∷ []) else None
+    if nat_lt (length sections) MOST_CALLERS
+    then Some (sections ++ record { uid = uid; commands = [] } ∷ []) else None
 after_line n sections (Some (Order verb)) = with_command sections (record { line = n; verb = verb })
 
 -- the answer is whether there are such sections, and the new ones are they
 abbrev pub AddsStatement : Option (List Section) → List Section → Bool → Type 0
-AddsStatement after new answer = MatchOption after (answer ≡ false) (λ sections. (answer ≡ true) × (new ≡ sections))
+AddsStatement after new answer =
+    MatchOption after (answer ≡ false) (λ sections. (answer ≡ true) × (new ≡ sections))
 
 -- line n is refused exactly where there are no such sections; else the new ones are they
 abbrev pub TakesLine : ℕ → Option (List Section) → Result (Unit {0}) ScriptFault → List Section → Type 0

@@ -1,5 +1,6 @@
 -- A script: lines, each ended by a line feed, that say sections of one caller each.
-use Rattle.std.specs.Prelude.{ℕ, ◌==◌, ◌≡◌, List, [], ◌∷◌, length, Option, None, Result, Ok, Err, if◌then◌else◌}
+use Rattle.std.specs.Prelude.{ℕ, ◌==◌, ◌≡◌, List, [], ◌∷◌, length, Option}
+use Rattle.std.specs.Prelude.{None, Result, Ok, Err, if◌then◌else◌}
 use Rattle.std.specs.Option.{option_map_or}
 use Rattle.text_words.specs.Lines.{pieces_of}
 use Rattle.script_lang.specs.Readable.{readable_statement_of}
@@ -22,7 +23,8 @@ statements_of text = statements_in (pieces_of text)
 
 -- the script that a text spells, or the number, from 1, of its first line outside the grammar
 unfoldable pub parsed_script : List ℕ → Result (List Section) ℕ
-parsed_script text = option_map_or Err (first_misplaced_line [] (statements_of text)) (Ok (sections_of 1 (statements_of text)))
+parsed_script text =
+    option_map_or Err (first_misplaced_line [] (statements_of text)) (Ok (sections_of 1 (statements_of text)))
 
 -- what reading answers: the script or its first line outside the grammar, and want of memory freely
 abbrev pub Reads : Result (List Section) ScriptFault → Result (List Section) ℕ → Type 0

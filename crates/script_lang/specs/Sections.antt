@@ -1,6 +1,7 @@
 -- What lines say together: where each may stand, and the sections that they make. What a line says
 -- by itself is an `Option`: `None` where it is outside the grammar by itself.
-use Rattle.std.specs.Prelude.{ℕ, ◌+◌, nat_lt, Bool, false, true, List, [], ◌∷◌, ◌++◌, length, count_by, Option, Some, None, if◌then◌else◌}
+use Rattle.std.specs.Prelude.{ℕ, ◌+◌, nat_lt, Bool, false, true, List, [], ◌∷◌, ◌++◌}
+use Rattle.std.specs.Prelude.{length, count_by, Option, Some, None, if◌then◌else◌}
 use Rattle.script_lang.specs.declared.limits.TheConstants.{MOST_CALLERS}
 use Rattle.script_lang.specs.declared.commands.Command.{Command}
 use Rattle.script_lang.specs.declared.commands.Section.{Section}

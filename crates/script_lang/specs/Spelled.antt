@@ -14,7 +14,8 @@ IsSpelled script = (text : List ℕ) × (parsed_script text ≡ Ok script)
 -- each command can be asked for and stands behind the one before it, and the first in line n or behind it
 abbrev pub StandBehind : ℕ → List Command → Type 0
 StandBehind n [] = Unit {0}
-StandBehind n (command ∷ more) = (n ≤ command.line) × (IsCommand command.verb × StandBehind (command.line + 1) more)
+StandBehind n (command ∷ more) =
+    (n ≤ command.line) × (IsCommand command.verb × StandBehind (command.line + 1) more)
 
 -- each section has a user below 2^32 and a line for its caller, in line n or behind it, between the
 -- commands before it and its own

@@ -1,5 +1,6 @@
 -- What one line of a script says by itself, wherever it stands.
-use Rattle.std.specs.Prelude.{ℕ, ◌==◌, ◌||◌, List, length, drop, slice_get, slice_index, codes, Option, Some, if◌then◌else◌}
+use Rattle.std.specs.Prelude.{ℕ, ◌==◌, ◌||◌, List, length, drop, slice_get}
+use Rattle.std.specs.Prelude.{slice_index, codes, Option, Some, if◌then◌else◌}
 use Rattle.std.specs.Option.{option_map, option_and_then}
 use Rattle.std.specs.Str.{bytes_eq}
 use Rattle.text_words.specs.Words.{words_of}

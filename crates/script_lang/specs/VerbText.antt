@@ -57,14 +57,17 @@ verb_words (verb.Stat path) = path_text path ∷ []
 verb_words (verb.Open path) = path_text path ∷ []
 verb_words (verb.Close handle) = decimal_of handle ∷ []
 verb_words (verb.Read handle offset len) = decimal_of handle ∷ decimal_of offset ∷ decimal_of len ∷ []
-verb_words (verb.Write handle offset bytes) = decimal_of handle ∷ decimal_of offset ∷ hex_or_none_text bytes ∷ []
+verb_words (verb.Write handle offset bytes) =
+    decimal_of handle ∷ decimal_of offset ∷ hex_or_none_text bytes ∷ []
 verb_words (verb.Fill handle offset len byte) =
     decimal_of handle ∷ decimal_of offset ∷ decimal_of len ∷ decimal_of byte ∷ []
 verb_words verb.DropCaches = []
 verb_words (verb.MetaGet name) = record_name name ∷ []
-verb_words (verb.MetaPut name expected bytes) = record_name name ∷ decimal_of expected ∷ hex_or_none_text bytes ∷ []
+verb_words (verb.MetaPut name expected bytes) =
+    record_name name ∷ decimal_of expected ∷ hex_or_none_text bytes ∷ []
 verb_words (verb.Protector protector secret) = protector ∷ new_secret_text secret ∷ []
-verb_words (verb.ProtectorChange protector secret new) = protector ∷ secret_text secret ∷ new_secret_text new ∷ []
+verb_words (verb.ProtectorChange protector secret new) =
+    protector ∷ secret_text secret ∷ new_secret_text new ∷ []
 verb_words (verb.PolicyNew policy protector secret options) =
     policy ∷ protector ∷ secret_text secret ∷ words_of_options options
 verb_words (verb.PolicyAdd policy protector secret added added_secret) =

@@ -11,7 +11,8 @@ use Rattle.script_lang.specs.Word.{target_bytes}
 use Rattle.script_lang.specs.Path.{path_of}
 use Rattle.script_lang.specs.Forms.{Form, ◌>>=◌, says, word, only, optional, whole}
 use Rattle.script_lang.specs.Names.{name_of}
-use Rattle.script_lang.specs.declared.limits.TheConstants.{MOST_ADDED_BYTES, MOST_WRITTEN_BYTES, MOST_FILLED_BYTES, MOST_PUT_BYTES, POLICY_BYTES}
+use Rattle.script_lang.specs.declared.limits.TheConstants.{MOST_ADDED_BYTES, MOST_WRITTEN_BYTES}
+use Rattle.script_lang.specs.declared.limits.TheConstants.{MOST_FILLED_BYTES, MOST_PUT_BYTES, POLICY_BYTES}
 use Rattle.script_lang.specs.declared.names.CommandName.{CommandName}
 use Rattle.script_lang.specs.declared.names.CommandName.TheVariants as name
 use Rattle.script_lang.specs.declared.verb.Verb.{Verb}

@@ -1,5 +1,7 @@
--- Words of a script: characters from `!` to `~`, where `%` and two hexadecimal digits stand for the byte that they spell.
-use Rattle.std.specs.Prelude.{ℕ, ◌<◌, ◌≤◌, ◌==◌, Bool, true, false, not, ◌&&◌, ◌||◌, nat_le, List, [], ◌∷◌, length, Option, Some, None, if◌then◌else◌}
+-- Words of a script: characters from `!` to `~`, where `%` and two hexadecimal digits stand for the
+-- byte that they spell.
+use Rattle.std.specs.Prelude.{ℕ, ◌<◌, ◌≤◌, ◌==◌, Bool, true, false, not, ◌&&◌, ◌||◌, nat_le}
+use Rattle.std.specs.Prelude.{List, [], ◌∷◌, length, Option, Some, None, if◌then◌else◌}
 use Rattle.std.specs.List.{All, list_all, list_any, flat_map}
 use Rattle.std.specs.Char.{is_ascii_graphic, is_ascii_hexdigit, is_ascii_alphanumeric}
 use Rattle.percent_encoding.specs.Percent.{percent_decode, percent_encode_byte}
@@ -22,9 +24,11 @@ is_word_text text = list_all is_ascii_graphic text && has_whole_escapes text
 
 -- the bytes, if they are 1 to 1,000
 abbrev pub sized_word : List ℕ → Option (List ℕ)
-sized_word bytes = if nat_le 1 (length bytes) && nat_le (length bytes) MOST_WORD_BYTES then Some bytes else None
+sized_word bytes =
+    if nat_le 1 (length bytes) && nat_le (length bytes) MOST_WORD_BYTES then Some bytes else None
 
--- the bytes that a text spells as a word: each `%` and its digits are one byte, every other character is itself
+-- the bytes that a text spells as a word: each `%` and its digits are one byte, every other character
+-- is itself
 unfoldable pub word_bytes : List ℕ → Option (List ℕ)
 word_bytes text = if is_word_text text then sized_word (percent_decode text) else None
 

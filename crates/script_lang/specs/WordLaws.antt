@@ -10,7 +10,9 @@ WordsReadBack = (bytes : List ℕ) → IsWord bytes → word_bytes (word_text by
 
 -- so does that of a target
 abbrev pub TargetsReadBack : Type 0
-TargetsReadBack = (bytes : List ℕ) → IsWord bytes → IsTrue (may_be_target bytes) → target_bytes (word_text bytes) ≡ Some bytes
+TargetsReadBack =
+    (bytes : List ℕ) → IsWord bytes → IsTrue (may_be_target bytes)
+    → target_bytes (word_text bytes) ≡ Some bytes
 
 -- what a text spells as a word is 1 to 1,000 bytes
 abbrev pub TextsSpellWords : Type 0
@@ -18,7 +20,8 @@ TextsSpellWords = (text bytes : List ℕ) → word_bytes text ≡ Some bytes →
 
 -- and as a target it has no NUL besides
 abbrev pub TextsSpellTargets : Type 0
-TextsSpellTargets = (text bytes : List ℕ) → target_bytes text ≡ Some bytes → IsWord bytes × IsTrue (may_be_target bytes)
+TextsSpellTargets =
+    (text bytes : List ℕ) → target_bytes text ≡ Some bytes → IsWord bytes × IsTrue (may_be_target bytes)
 
 -- words that are written alike are the same
 abbrev pub DistinctWordsHaveDistinctTexts : Type 0
@@ -34,4 +37,5 @@ TextsSpellPaths = (text : List ℕ) (path : List ScriptPart) → path_of text �
 
 -- paths that are written alike are the same
 abbrev pub DistinctPathsHaveDistinctTexts : Type 0
-DistinctPathsHaveDistinctTexts = (a b : List ScriptPart) → IsPath a → IsPath b → path_text a ≡ path_text b → a ≡ b
+DistinctPathsHaveDistinctTexts =
+    (a b : List ScriptPart) → IsPath a → IsPath b → path_text a ≡ path_text b → a ≡ b

@@ -35,7 +35,8 @@ section_text n section = caller_text section.uid ++ (codes "\n" ++ commands_text
 -- sections, of which the first begins in line n, and each other behind the last command before it
 unfoldable pub sections_text : ℕ → List Section → List ℕ
 sections_text n [] = []
-sections_text n (section ∷ more) = section_text n section ++ sections_text (line_behind (n + 1) section.commands) more
+sections_text n (section ∷ more) =
+    section_text n section ++ sections_text (line_behind (n + 1) section.commands) more
 
 -- a script from line 1 on
 unfoldable pub script_text : List Section → List ℕ

@@ -11,7 +11,9 @@ ghost use Rattle.script_lang.specs.Secrets as secrets;
 ghost use Rattle.script_lang.specs.Word.{target_bytes};
 ghost use Rattle.script_lang.specs.Path.{path_of};
 ghost use Rattle.script_lang.specs.Verbs as forms;
-ghost use Rattle.script_lang.specs.declared.limits.TheConstants.{MOST_ADDED_BYTES, MOST_WRITTEN_BYTES, MOST_FILLED_BYTES, MOST_PUT_BYTES, POLICY_BYTES};
+ghost use Rattle.script_lang.specs.declared.limits.TheConstants.{MOST_ADDED_BYTES, MOST_WRITTEN_BYTES};
+ghost use Rattle.script_lang.specs.declared.limits.TheConstants.{MOST_FILLED_BYTES, MOST_PUT_BYTES};
+ghost use Rattle.script_lang.specs.declared.limits.TheConstants.{POLICY_BYTES};
 
 use crate::key_words::{read_hex, read_hex_or_none, read_key_ref};
 use crate::limits::{

@@ -3,7 +3,8 @@
 ghost use Rattle.std.specs.Prelude.{◌≡◌, Some, List, IfOk, OnOk, OnErr, ◌++◌, string_bytes};
 ghost use Rattle.std.specs.List.{list_any, slice_split};
 ghost use Rattle.script_lang.specs.Path as spec;
-ghost use Rattle.script_lang.specs.Path.{IsPath, part_of, path_of, path_text, part_text, is_slash, few_parts, star_number};
+ghost use Rattle.script_lang.specs.Path.{IsPath, part_of, path_of, path_text};
+ghost use Rattle.script_lang.specs.Path.{part_text, is_slash, few_parts, star_number};
 
 use crate::limits::MOST_PARTS;
 use crate::word::{append_word, read_word};

@@ -65,7 +65,8 @@ fn take_line(
     number: u32,
     line: &[u8],
 ) -> Result<(), ScriptFault>
-    ensures { TakesLine number (after_line number sections.old.items (readable_statement_of line.now)) result sections.new.items }
+    ensures { TakesLine number
+        (after_line number sections.old.items (readable_statement_of line.now)) result sections.new.items }
 {
     let said = read_readable(alloc, line)?;
     if add_statement(alloc, sections, number, said)? {

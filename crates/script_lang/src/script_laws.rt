@@ -13,7 +13,8 @@ pub fn what_is_written_is_a_script()
 
 /// Two scripts are never written as one text.
 pub fn distinct_scripts_have_distinct_texts()
-    ensures { (one other : List Section) → IsSpelled one → IsSpelled other → script_text one ≡ script_text other → one ≡ other }
+    ensures { (one other : List Section) → IsSpelled one → IsSpelled other
+        → script_text one ≡ script_text other → one ≡ other }
 {}
 
 /// A script is spelled by some text exactly where it has at most eight callers, keys and users that

@@ -1,7 +1,8 @@
 //! The writer of what a command says of a policy.
 
 ghost use Rattle.std.specs.Prelude.{◌≡◌, OnOk};
-ghost use Rattle.script_lang.specs.VerbText.{behind, words_of_settings, words_of_said_settings, words_of_options, words_of_unit};
+ghost use Rattle.script_lang.specs.VerbText.{behind, words_of_settings, words_of_said_settings};
+ghost use Rattle.script_lang.specs.VerbText.{words_of_options, words_of_unit};
 
 use crate::verb::{Options, Settings};
 use crate::word_writer::push_number;

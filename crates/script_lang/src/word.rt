@@ -67,7 +67,8 @@ fn may_be_target(bytes: &[u8]) -> bool
 /// Writes bytes as a word, in one to three characters each.
 pub fn write_word(alloc: Global, bytes: &[u8]) -> Result<String, AllocError>
     ensures value { IfOk result (λ text. string_bytes text ≡ word_text bytes.now) }
-    ensures reads_back { 1 ≤ length bytes.now → length bytes.now ≤ MOST_WORD_BYTES → IfOk result (λ text. word_bytes (string_bytes text) ≡ Some bytes.now) }
+    ensures reads_back { 1 ≤ length bytes.now → length bytes.now ≤ MOST_WORD_BYTES
+        → IfOk result (λ text. word_bytes (string_bytes text) ≡ Some bytes.now) }
 {
     let mut text = String::new(alloc);
     append_word(&mut text, bytes)?;

@@ -1,6 +1,9 @@
 //! What holds of all words and paths: what is written reads back, and what is read can be written.
 
-ghost use Rattle.script_lang.specs.WordLaws.{WordsReadBack, TargetsReadBack, PathsReadBack, TextsSpellWords, TextsSpellTargets, TextsSpellPaths, DistinctWordsHaveDistinctTexts, DistinctPathsHaveDistinctTexts};
+ghost use Rattle.script_lang.specs.WordLaws.{WordsReadBack, TargetsReadBack, PathsReadBack};
+ghost use Rattle.script_lang.specs.WordLaws.{TextsSpellWords, TextsSpellTargets};
+ghost use Rattle.script_lang.specs.WordLaws.{TextsSpellPaths, DistinctWordsHaveDistinctTexts};
+ghost use Rattle.script_lang.specs.WordLaws.{DistinctPathsHaveDistinctTexts};
 
 /// The text of 1 to 1,000 bytes spells them, as a word and, without NUL, as a target.
 pub fn words_read_back()

@@ -2,7 +2,8 @@
 
 ghost use Rattle.std.specs.Prelude.{◌≡◌, ◌≤◌, ◌+◌, ◌-◌, ◌^◌, ◌++◌, Ok, IfOk, OnOk, codes};
 ghost use Rattle.script_lang.specs.Script.{parsed_script};
-ghost use Rattle.script_lang.specs.Writing.{caller_text, commands_text, line_behind, empty_lines, script_text};
+ghost use Rattle.script_lang.specs.Writing.{caller_text, commands_text};
+ghost use Rattle.script_lang.specs.Writing.{line_behind, empty_lines, script_text};
 ghost use Rattle.script_lang.specs.Spelled.{IsSpelled};
 
 use crate::commands::{CommandList, Script};
