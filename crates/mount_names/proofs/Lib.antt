@@ -2,3 +2,11 @@ pub mod ReadLemmas
 pub mod CipherLemmas
 pub mod ShownLemmas
 pub mod GivenLemmas
+pub mod EditLemmas
+pub mod HeldLemmas
+pub mod AgreeLemmas
+pub mod DiskRules
+pub mod LenLemmas
+pub mod ClashLemmas
+pub mod PlaceLemmas
+pub mod MakeLemmas

@@ -8,7 +8,7 @@ use Rattle.name_crypt.specs.declared.cipher.NameCipher.{NameCipher}
 use Rattle.name_crypt.specs.declared.limits.TheConstants.{MOST_NAME_BYTES}
 use Rattle.name_crypt.specs.Laws.{NamesComeBack, StoredNamesFit}
 use Rattle.name_crypt.specs.Plain.{IsPlain, IsStored}
-use Rattle.name_crypt.specs.StoredName.{plain_name}
+use Rattle.name_crypt.specs.StoredName.{plain_name, stored_name}
 use Rattle.name_crypt.specs.NoKeyText.{nokey_text_of}
 use Rattle.plain_tree.specs.Nodes.{Name, context_at}
 use Rattle.mount_model.specs.PlainMount.{PlainMount}
@@ -60,3 +60,9 @@ module _ (m : PlainMount) (n : ℕ) (name : Name) (plain : IsPlain name) where
           (λ none. some_bytes (sym as_it_is ∙ none)),
           subst IsStored (sym sealed) sealed_fits,
         )
+
+-- a name under the cipher of the node's names is its stored form
+pub sealed_by : (m : PlainMount) (n : ℕ) (c : Context) (cipher : NameCipher) → cipher ≡ names_cipher m.raws n c → (name : Name)
+    → stored_name cipher.key cipher.start c.policy.pad name ≡ stored_form m.raws n (Some c) name
+unfolding sealed_name
+sealed_by m n c cipher is name = ap (λ (x : NameCipher). stored_name x.key x.start c.policy.pad name) is

@@ -1,2 +1,4 @@
 pub mod Given
 pub mod Shown
+pub mod SameButTree
+pub mod Made

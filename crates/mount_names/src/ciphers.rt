@@ -10,6 +10,7 @@ ghost use Rattle.mount_state.specs.Contexts.{is_of_kind};
 ghost use Rattle.mount_state.specs.NamesKey.{cached_key, drawn_key};
 ghost use Rattle.mount_names.specs.Shown.{IsCipherOf, cipher_with};
 
+use byte_words::slice_is_bytes;
 use fsc_keys::{FileKey, KeyKind};
 use mount_state::MountState;
 use name_crypt::NameCipher;
@@ -87,18 +88,11 @@ pub(crate) fn cipher_under(key: &FileKey, number: u32, context: &Context) -> Opt
 {
     match key {
         FileKey::Names(bytes) => {
-            are_bytes(&bytes[..]);
+            slice_is_bytes(&bytes[..]);
             Some(NameCipher::new(bytes, start_of(number, context)))
         }
         FileKey::Contents(_) => None,
     }
-}
-
-// Each number of a slice of bytes lies below 256.
-fn are_bytes(bytes: &[u8])
-    ensures { AreBytes bytes.now }
-{
-    let _len = bytes.len();
 }
 
 // Where the node's names count their units from.

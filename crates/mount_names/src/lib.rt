@@ -6,10 +6,14 @@ mod contexts;
 mod links;
 mod looks;
 mod lookups;
+mod makes;
+mod places;
 mod reading;
+mod stored_names;
 #[cfg(test)]
 mod tests;
 
 pub use links::read_link;
 pub use looks::{get_policy, stat};
 pub use lookups::lookup;
+pub use makes::{create, mkdir};

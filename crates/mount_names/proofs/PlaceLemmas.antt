@@ -1,0 +1,181 @@
+-- What a creation is refused, cause by cause, and what the place of a name tells.
+use Rattle.std.proofs.Common.{◌≡◌, ℕ, ◌-◌, Bool, true, false, cond, not, ◌||◌, List, [], ◌∷◌, length, Option, Some, None, option_map, is_some, Ok, Err, bytes_eq, unwrap_or, refl, sym, ap, subst, ◌∙◌, arith, Result, IfOk, IfErr}
+use Rattle.std.specs.List.{slice_get}
+use Rattle.std.specs.Map.{lookup, lookup_entry}
+use Rattle.std.proofs.lemmas.Bool.{true≢false, ne_eqb}
+use Rattle.std.proofs.lemmas.Option.{unwrap_or-slice_get}
+use Rattle.policy_ctx.specs.declared.policy.Context.{Context}
+use Rattle.user_claims.specs.Claims.{is_present}
+use Rattle.fsc_keys.specs.declared.file_keys.KeyKind.TheVariants.{Names}
+use Rattle.name_crypt.specs.Laws.{NamesStayDistinct}
+use Rattle.name_crypt.specs.Plain.{IsPlain}
+use Rattle.number_map.specs.Numbered.{get}
+use Rattle.plain_tree.specs.Nodes.{Name, Children, Node, Body, Dir, File, Link, children, context_at, is_dir_in, is_dir_at, entry}
+use Rattle.disk_tree.specs.DiskTree.{Disk}
+use Rattle.disk_tree.specs.DiskTree.{children as stored_entries}
+use Rattle.mount_model.specs.declared.reply.Refusal.{Refusal}
+use Rattle.mount_model.specs.declared.reply.Refusal.TheVariants.{NoKey, Exists, NameTooLong, NoSpace, NoKeyClash}
+use Rattle.mount_model.specs.PlainMount.{PlainMount, has_handle}
+use Rattle.mount_model.specs.States.{is_keyed, is_keyed_under, shown, shown_under}
+use Rattle.mount_model.specs.Sealed.{sealed_name, texts}
+use Rattle.mount_model.specs.Walk.{PathParts, is_root, last_part, parent}
+use Rattle.mount_model.specs.WellFormed.{IsWellFormed, IsName}
+use Rattle.mount_model.specs.NameAnswers.{lacks_key, clashes, is_full, is_long_target, new_node, with_node, answer_to_make_in, answer_to_make}
+use Rattle.mount_model.specs.Answered.{Answer, refused, done, at_node}
+use Rattle.mount_model.specs.Carried.{IsPath}
+use Rattle.mount_model.proofs.TreeCalls.{is_name}
+use Rattle.mount_model.proofs.WalkLemmas.{parent_ok}
+use Rattle.mount_state.specs.Led.{led_to}
+use Rattle.mount_state.specs.Stored.{stored_form}
+use Rattle.mount_state.specs.StandsFor.{TreeStands, kind_in}
+use Rattle.mount_state.proofs.LedLemmas.{plain_led}
+use Rattle.mount_state.proofs.KeyedLemmas.{keyed_led}
+use Rattle.mount_names.specs.Made.{HasByteKey}
+use Rattle.mount_names.specs.Shown.{HasNames}
+
+-- ---- the refusals, in their order
+
+module _ (m : PlainMount) (name : Name) (nonce : List ℕ) (body : Body) (d : ℕ) where
+  abbrev after_clash : Answer
+  after_clash = cond (is_full m d) (refused m NoSpace) (done (with_node m d name (new_node m d nonce body)))
+
+  abbrev after_long : Answer
+  after_long = cond (clashes m d name) (refused m NoKeyClash) after_clash
+
+  abbrev after_free : Answer
+  after_free = cond (is_long_target body) (refused m NameTooLong) after_long
+
+  abbrev after_key : Answer
+  after_key = cond (is_some (entry m.nodes d name)) (refused m Exists) after_free
+
+  pub refused_key : lacks_key m (context_at m.nodes d) ≡ true → answer_to_make_in m name nonce body d ≡ refused m NoKey
+  refused_key lacks = ap (λ b. cond b (refused m NoKey) after_key) lacks
+
+  module _ (keyed : lacks_key m (context_at m.nodes d) ≡ false) where
+    pub refused_taken : is_some (entry m.nodes d name) ≡ true → answer_to_make_in m name nonce body d ≡ refused m Exists
+    refused_taken taken = λ i. cond (keyed i) (refused m NoKey) (cond (taken i) (refused m Exists) after_free)
+
+    module _ (free : is_some (entry m.nodes d name) ≡ false) where
+      pub refused_long : is_long_target body ≡ true → answer_to_make_in m name nonce body d ≡ refused m NameTooLong
+      refused_long long = λ i. cond (keyed i) (refused m NoKey) (cond (free i) (refused m Exists) (cond (long i) (refused m NameTooLong) after_long))
+
+      module _ (short : is_long_target body ≡ false) where
+        pub refused_clash : clashes m d name ≡ true → answer_to_make_in m name nonce body d ≡ refused m NoKeyClash
+        refused_clash clash =
+            λ i. cond (keyed i) (refused m NoKey) (cond (free i) (refused m Exists) (cond (short i) (refused m NameTooLong) (cond (clash i) (refused m NoKeyClash) after_clash)))
+
+        module _ (apart : clashes m d name ≡ false) where
+          pub refused_full : is_full m d ≡ true → answer_to_make_in m name nonce body d ≡ refused m NoSpace
+          refused_full full =
+              λ i. cond (keyed i) (refused m NoKey) (cond (free i) (refused m Exists) (cond (short i) (refused m NameTooLong) (cond (apart i) (refused m NoKeyClash)
+              (cond (full i) (refused m NoSpace) (done (with_node m d name (new_node m d nonce body)))))))
+
+          pub not_refused : is_full m d ≡ false → answer_to_make_in m name nonce body d ≡ done (with_node m d name (new_node m d nonce body))
+          not_refused room =
+              λ i. cond (keyed i) (refused m NoKey) (cond (free i) (refused m Exists) (cond (short i) (refused m NameTooLong) (cond (apart i) (refused m NoKeyClash)
+              (cond (room i) (refused m NoSpace) (done (with_node m d name (new_node m d nonce body)))))))
+
+-- ---- at the end of a path
+
+not_root : (path : PathParts) → ((path ≡ []) → ⊥) → is_root path ≡ false
+not_root [] some = absurd (some refl)
+not_root (p ∷ ps) some = ne_eqb (length (p ∷ ps)) 0 (λ bad. absurd (omega arith))
+
+pub some_parts : (path : PathParts) (b : Bool) → b ≡ false → (path ≡ [] → b ≡ true) → is_root path ≡ false
+some_parts path b off empty = not_root path (λ is. true≢false (sym (empty is) ∙ off))
+
+pub last_is : (path : PathParts) (part : Name) → Some part ≡ slice_get path (length path - 1) → part ≡ last_part path
+last_is path part there = ap (λ (o : Option Name). unwrap_or o []) there ∙ unwrap_or-slice_get path (length path - 1) []
+
+pub at_parent : (m : PlainMount) (path : PathParts) (nonce : List ℕ) (body : Body) (d : ℕ) → is_root path ≡ false → Ok d ≡ parent m path
+    → answer_to_make m path nonce body ≡ answer_to_make_in m (last_part path) nonce body d
+at_parent m path nonce body d named led =
+    λ i. cond (named i) (refused m Exists) (at_node m (answer_to_make_in m (last_part path) nonce body) (sym led i))
+
+at_refusal : (m : PlainMount) (path : PathParts) (nonce : List ℕ) (body : Body) (r : Refusal) → is_root path ≡ false → Err r ≡ parent m path
+    → answer_to_make m path nonce body ≡ refused m r
+at_refusal m path nonce body r named led =
+    λ i. cond (named i) (refused m Exists) (at_node m (answer_to_make_in m (last_part path) nonce body) (sym led i))
+
+-- what is told in the directory is told at the path
+module _ (m : PlainMount) (path : PathParts) (d : ℕ) (part : Name) (named : is_root path ≡ false) (led : Ok d ≡ parent m path) (part_is : part ≡ last_part path) (fits : IsPath path) where
+  pub dir_here : is_dir_at m.nodes d ≡ true
+  dir_here = (parent_ok m path d (sym led)).dir
+
+  pub name_here : IsName part
+  name_here = subst IsName (sym part_is) (is_name m path d fits named (parent_ok m path d (sym led)))
+
+  pub refused_here : (nonce : List ℕ) (body : Body) (r : Refusal) → answer_to_make_in m part nonce body d ≡ refused m r → answer_to_make m path nonce body ≡ refused m r
+  refused_here nonce body r is =
+      at_parent m path nonce body d named led
+      ∙ (ap (λ (p : Name). answer_to_make_in m p nonce body d) (sym part_is) ∙ is)
+
+pub err_then : {T E : Type 0} {P Q : E → Type 0} (r : Result T E) → IfErr r P → ((e : E) → P e → Q e) → IfErr r Q
+err_then (Ok x) is f = is
+err_then (Err e) is f = f e is
+
+pub ok_then : {T E : Type 0} {P R Q : T → Type 0} (r : Result T E) → IfOk r P → IfOk r R → ((x : T) → P x → R x → Q x) → IfOk r Q
+ok_then (Ok x) is too f = f x is too
+ok_then (Err e) is too f = is
+
+-- ---- what the place of a name tells
+
+pub name_plain : (name : Name) → IsName name → IsPlain name
+name_plain name is = (is.0.size.0, is.1, is.0.nul)
+
+keyed_under : (m : PlainMount) (n : ℕ) (o : Option Context) → lacks_key m o ≡ false → is_keyed_under m n o ≡ true
+keyed_under m n None lacks = refl
+keyed_under m n (Some c) lacks = ap (λ b. b || has_handle m.handles n) (held (is_present m.claims c.policy.id) lacks)
+  where
+    held : (b : Bool) → not b ≡ false → b ≡ true
+    held true is = refl
+    held false is = sym is
+
+dir_kind : (o : Option Node) → is_dir_in o ≡ true → kind_in o ≡ Names
+dir_kind None bad = refl
+dir_kind (Some v) is = at v.body is
+  where
+    at : (b : Body) → is_dir_in (Some (record v { body = b })) ≡ true → kind_in (Some (record v { body = b })) ≡ Names
+    at (Dir children) is = refl
+    at (File contents) bad = absurd (true≢false (sym bad))
+    at (Link target) bad = refl
+
+by_itself : (part : Name) (show : Name → Name) (cs : Children) → ((n : Name) → show n ≡ n)
+    → option_map (λ (e : Name × ℕ). e.1) (lookup_entry (λ n. bytes_eq part (show n)) cs) ≡ lookup (bytes_eq part) cs
+by_itself part show [] itself = refl
+by_itself part show (c ∷ cs) itself =
+    ap (λ b. option_map (λ (e : Name × ℕ). e.1) (cond b (Some c) (lookup_entry (λ n. bytes_eq part (show n)) cs))) (ap (bytes_eq part) (itself c.0))
+    ∙ (elim (bytes_eq part c.0) as (λ b. option_map (λ (e : Name × ℕ). e.1) (cond b (Some c) (lookup_entry (λ n. bytes_eq part (show n)) cs)) ≡ cond b (Some c.1) (lookup (bytes_eq part) cs)) [
+      | true ↦ refl
+      | false ↦ by_itself part show cs itself
+    ])
+
+module _ (disk : Disk) (next : ℕ) (m : PlainMount) (well : IsWellFormed m) (tree : TreeStands disk next m) (d : ℕ) (is_dir : is_dir_at m.nodes d ≡ true) where
+  pub dir_names : HasNames m d
+  dir_names = dir_kind (get m.nodes d) is_dir
+
+  module _ (context : Option Context) (is : context ≡ context_at m.nodes d) (holds : lacks_key m context ≡ false) where
+    pub is_held : lacks_key m (context_at m.nodes d) ≡ false
+    is_held = ap (lacks_key m) (sym is) ∙ holds
+
+    pub keyed_here : is_keyed m d ≡ true
+    keyed_here = keyed_under m d (context_at m.nodes d) is_held
+
+    shown_plain : (o : Option Context) → context_at m.nodes d ≡ o → (n : Name) → shown_under m d n o ≡ n
+    shown_plain None none n = refl
+    shown_plain (Some c) here n = ap (λ b. cond b n (texts m.raws d c n)) keyed_here
+
+    led_plainly : (name : Name) → led_to m d name ≡ entry m.nodes d name
+    led_plainly name = by_itself name (shown m d) (children m.nodes d) (λ n. shown_plain (context_at m.nodes d) refl n)
+
+    module _ (name : Name) (named : IsName name) (distinct : NamesStayDistinct) (key : HasByteKey m d) where
+      by_case : (o : Option Context) → context_at m.nodes d ≡ o → lookup (bytes_eq (stored_form m.raws d o name)) (stored_entries disk d) ≡ led_to m d name
+      unfolding sealed_name
+      by_case None none = plain_led disk next m well tree d name none
+      by_case (Some c) here = keyed_led m d c here disk next well tree is_dir distinct keyed_here (key c here) name (name_plain name named) named.0.bytes
+
+      -- the stored form leads where the name does
+      pub taken_is : (stored : List ℕ) → stored ≡ stored_form m.raws d context name → lookup (bytes_eq stored) (stored_entries disk d) ≡ entry m.nodes d name
+      taken_is stored form =
+          ap (λ x. lookup (bytes_eq x) (stored_entries disk d)) (form ∙ ap (λ o. stored_form m.raws d o name) is)
+          ∙ (by_case (context_at m.nodes d) refl ∙ led_plainly name)

@@ -1,0 +1,10 @@
+use Rattle.std.proofs.Common.{ℕ, List, [], refl, ap, ◌∙◌}
+use Rattle.plain_tree.specs.Nodes.{File}
+use Rattle.disk_tree.specs.declared.node.Body.TheVariants as stored
+use Rattle.mount_names.proofs.MakeLemmas.{create_well, no_stored_blocks}
+use Rattle.mount_names.proofs.makes.create.Goals as goal
+
+pub returns-in-Ok-clause-stands : goal.returns-in-Ok-clause-stands
+returns-in-Ok-clause-stands g c = λ m st fits.
+    c.make.ensures.stands m c.args.path.now (File []) (c.in-Ok.ensures.stands m st) (c.in-Ok.ensures.placed m st fits) refl
+    (c.empty_file.ensures ∙ ap (λ (bs : List (List ℕ)). stored.File bs 0) (no_stored_blocks _)) (create_well m c.args.path.now c.args.nonce.now st.well fits)

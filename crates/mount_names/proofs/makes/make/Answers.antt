@@ -1,0 +1,26 @@
+use Rattle.std.proofs.Common.{◌+◌, true, refl, sym, subst}
+use Rattle.disk_tree.specs.DiskTree.{Disk}
+use Rattle.mount_state.specs.Discipline.{Forgets}
+use Rattle.mount_state.specs.Safe.{IsSafe}
+use Rattle.mount_names.proofs.DiskRules.{made_rule, made_safe}
+use Rattle.mount_names.proofs.MakeLemmas.{made_node, made_stands, made_given, well_after}
+use Rattle.mount_names.proofs.makes.make.Goals as goal
+
+pub invariant_of-state : goal.invariant_of-state
+invariant_of-state c =
+    let s = c.args.state.now in
+    record {
+      forgets = subst (λ (x : Disk). Forgets x s.ring.claims s.inodes s.modes s.handles.live) (sym c.in-Ok.ensures.added)
+          (made_rule s.disk s.next_node s.ring.claims s.inodes s.modes s.handles.live s.forgets s.safe
+          (record { context = c.context_of_new.result; named = true; body = c.args.body }) c.args.place.now.dir c.args.place.now.stored);
+      safe = subst (λ (x : Disk). IsSafe x (s.next_node + 1) s.handles.live) (sym c.in-Ok.ensures.added)
+          (made_safe s.disk s.next_node s.ring.claims s.inodes s.modes s.handles.live s.forgets s.safe
+          (record { context = c.context_of_new.result; named = true; body = c.args.body }) c.args.place.now.dir c.args.place.now.stored);
+    }
+
+pub returns-in-Ok-clause-stands : goal.returns-in-Ok-clause-stands
+returns-in-Ok-clause-stands c = λ m path body st at short stored well.
+    made_given c.args.state.now m st path c.args.place.now at c.args.nonce.now body short _
+    (made_stands c.args.state.now m st path c.args.place.now at c.args.nonce.now body _ _ c.in-Ok.ensures.added refl refl refl refl refl refl
+    (made_node c.args.state.now m st path c.args.place.now at c.args.nonce.now body c.args.body stored _ (λ i. record { context = c.context_of_new.ensures i; named = true; body = c.args.body }))
+    (well_after c.args.state.now m st path c.args.place.now at c.args.nonce.now body short well))

@@ -1,0 +1,60 @@
+-- Where a creation puts its name, and what it leaves.
+use Rattle.std.specs.Prelude.{◌≡◌, ℕ, Bool, true, false, List, Ok, Some, is_some}
+use Rattle.byte_words.specs.Bytes.{AreBytes}
+use Rattle.policy_ctx.specs.declared.policy.Context.{Context}
+use Rattle.fsc_keys.specs.Keys.{key_bytes}
+use Rattle.fsc_keys.specs.declared.file_keys.KeyKind.TheVariants.{Names}
+use Rattle.plain_tree.specs.Nodes.{Name, Body, context_at, is_dir_at, entry}
+use Rattle.mount_model.specs.declared.reply.Refusal.{Refusal}
+use Rattle.mount_model.specs.PlainMount.{PlainMount}
+use Rattle.mount_model.specs.Answered.{refused}
+use Rattle.mount_model.specs.Sealed.{node_key}
+use Rattle.mount_model.specs.NameAnswers.{lacks_key, clashes, is_full, is_long_target, inherited, answer_to_make_in, answer_to_make}
+use Rattle.mount_model.specs.Walk.{PathParts, is_root, last_part, parent}
+use Rattle.mount_model.specs.WellFormed.{IsName, IsWellFormed}
+use Rattle.mount_model.specs.Carried.{IsPath}
+use Rattle.mount_state.specs.Stored.{stored_form}
+use Rattle.mount_state.specs.StandsFor.{StandsFor}
+use Rattle.mount_state.specs.declared.state.MountState.{MountState}
+use Rattle.mount_state.specs.Stored.{stored_body}
+use Rattle.disk_tree.specs.declared.node.Body.{Body as StoredBody}
+use Rattle.mount_model.specs.declared.reply.Reply.{Reply}
+use Rattle.mount_names.specs.Given.{IsGivenOrNoMemory}
+use Rattle.mount_names.specs.declared.places.Place.{Place}
+
+-- in the mount the place's directory can get the name, and the place has its stored form
+pub record IsPlaceOf (m : PlainMount) (name : Name) (place : Place) : Type 0 where
+  pub context : place.context ≡ context_at m.nodes place.dir
+  pub stored : place.stored ≡ stored_form m.raws place.dir (context_at m.nodes place.dir) name
+  pub keyed : lacks_key m (context_at m.nodes place.dir) ≡ false
+  pub free : is_some (entry m.nodes place.dir name) ≡ false
+  pub apart : clashes m place.dir name ≡ false
+  pub room : is_full m place.dir ≡ false
+
+-- under its policy the names of the directory are enciphered by a key of bytes
+abbrev pub HasByteKey : PlainMount → ℕ → Type 0
+HasByteKey m n = (c : Context) → context_at m.nodes n ≡ Some c → AreBytes (key_bytes (node_key m.raws c Names))
+
+-- a creation of the name in the directory is refused so, whatever is to be made that has such a target
+abbrev pub IsRefusedIn : MountState → ℕ → Name → Bool → Refusal → Type 0
+IsRefusedIn s d name long refusal = (m : PlainMount) (nonce : List ℕ) (body : Body) → StandsFor s m
+    → is_dir_at m.nodes d ≡ true → IsName name → is_long_target body ≡ long
+    → answer_to_make_in m name nonce body d ≡ refused m refusal
+
+-- the same of a creation at the end of the path
+abbrev pub IsRefusedAt : MountState → PathParts → Bool → Refusal → Type 0
+IsRefusedAt s path long refusal = (m : PlainMount) (nonce : List ℕ) (body : Body) → StandsFor s m
+    → IsPath path → is_long_target body ≡ long → answer_to_make m path nonce body ≡ refused m refusal
+
+-- the place is the one in which the path's last part can be made
+pub record IsPlaceAt (m : PlainMount) (path : PathParts) (place : Place) : Type 0 where
+  pub named : is_root path ≡ false
+  pub led : parent m path ≡ Ok place.dir
+  pub there : IsPlaceOf m (last_part path) place
+
+-- the body is made there, as the call that creates it answers
+abbrev pub MakesAt : MountState → MountState → Place → List ℕ → StoredBody → Reply → Type 0
+MakesAt old new place nonce stored reply = (m : PlainMount) (path : PathParts) (body : Body) → StandsFor old m → IsPlaceAt m path place
+    → is_long_target body ≡ false → stored ≡ stored_body m.raws m.next (inherited nonce place.context) body
+    → IsWellFormed (answer_to_make m path nonce body).mount
+    → IsGivenOrNoMemory m (answer_to_make m path nonce body) reply new

@@ -1,0 +1,156 @@
+//! The calls that make a node: a directory, a file or a symlink.
+
+ghost use Rattle.std.specs.Prelude.{◌≡◌, ◌+◌, ◌<◌, ◌≤◌, ◌^◌, [], None, length, true, option_map, OnOk, OnErr};
+ghost use Rattle.policy_ctx.specs.Context.{context_bytes};
+ghost use Rattle.number_map.specs.Numbered as map;
+ghost use Rattle.plain_tree.specs.Nodes as node;
+ghost use Rattle.disk_tree.specs.DiskTree.{IsDirAt, entered};
+ghost use Rattle.disk_tree.specs.Nodes.{blocks_of};
+ghost use Rattle.mount_model.specs.Carried.{IsPath};
+ghost use Rattle.mount_model.specs.ClaimHistory.{is_refused};
+ghost use Rattle.mount_model.specs.NameAnswers.{answer_to_make, inherited};
+ghost use Rattle.mount_model.specs.PlainMount.{PlainMount};
+ghost use Rattle.mount_state.specs.SameButKeys.{SameButKeys};
+ghost use Rattle.mount_state.specs.StandsFor.{StandsFor};
+ghost use Rattle.mount_names.specs.Given.{IsGivenOrNoMemory};
+ghost use Rattle.mount_names.specs.Made.{MakesAt};
+ghost use Rattle.mount_names.specs.SameButTree.{SameButTree};
+
+use crate::places::{Place, place_at};
+use disk_tree::{BlockList, Body, DirEntries, DiskFault, DiskTree, StoredNode};
+use mount_model::{Path, Refusal, Reply};
+use mount_state::MountState;
+use name_crypt::Steps;
+use policy_ctx::{CONTEXT_LEN, Context, encode_context};
+use std::alloc::Global;
+use std::sync::ledger::Ledger;
+
+/// Makes an empty directory at the end of the path, which takes the policy of the directory that it is
+/// in, with this nonce.
+///
+/// Refused as the walk to that directory is, and before it with Exists for the root; then NoKey where
+/// the key of the directory's policy isn't present, Exists, NoKeyClash, and NoSpace; NoMemory.
+pub fn mkdir<L: Ledger>(
+    alloc: Global,
+    state: &mut MountState,
+    path: &Path,
+    nonce: &[u8; 16],
+    steps: &mut Steps<L>,
+) -> Reply
+    ensures stands { (m : PlainMount) → StandsFor state.old m → IsPath path.now
+        → IsGivenOrNoMemory m (answer_to_make m path.now nonce.now (node.Dir [])) result state.new }
+    ensures refused { is_refused result ≡ true → SameButKeys state.old state.new }
+    ensures same { SameButTree state.old state.new }
+    ensures ticks { steps.new ≤ steps.old + length path.now + 1 }
+{
+    match place_at(alloc, state, path, false, steps) {
+        Ok(place) => make(alloc, state, &place, nonce, empty_dir(alloc)),
+        Err(refusal) => Reply::Refused(refusal),
+    }
+}
+
+/// Makes an empty file, as `mkdir` makes a directory.
+pub fn create<L: Ledger>(
+    alloc: Global,
+    state: &mut MountState,
+    path: &Path,
+    nonce: &[u8; 16],
+    steps: &mut Steps<L>,
+) -> Reply
+    ensures stands { (m : PlainMount) → StandsFor state.old m → IsPath path.now
+        → IsGivenOrNoMemory m (answer_to_make m path.now nonce.now (node.File [])) result state.new }
+    ensures refused { is_refused result ≡ true → SameButKeys state.old state.new }
+    ensures same { SameButTree state.old state.new }
+    ensures ticks { steps.new ≤ steps.old + length path.now + 1 }
+{
+    match place_at(alloc, state, path, false, steps) {
+        Ok(place) => make(alloc, state, &place, nonce, empty_file(alloc)),
+        Err(refusal) => Reply::Refused(refusal),
+    }
+}
+
+// A directory without entries.
+fn empty_dir(alloc: Global) -> Body
+    ensures { result ≡ Body.Dir [] }
+{
+    Body::Dir(DirEntries::new(alloc))
+}
+
+// A file without contents.
+fn empty_file(alloc: Global) -> Body
+    ensures { result ≡ Body.File [] 0 }
+{
+    Body::File {
+        blocks: BlockList::new(alloc),
+        size: 0,
+    }
+}
+
+// Makes the node under the next number, and the name that leads to it.
+pub(crate) fn make(
+    alloc: Global,
+    state: &mut MountState,
+    place: &Place,
+    nonce: &[u8; 16],
+    body: Body,
+) -> Reply
+    requires dir { IsDirAt state.old.disk place.now.dir }
+    requires room { state.old.next_node + 1 < 2 ^ 32 }
+    requires no_blocks { blocks_of body ≡ [] }
+    ensures stands { MakesAt state.old state.new place.now nonce.now body result }
+    ensures refused { is_refused result ≡ true → SameButKeys state.old state.new }
+    ensures same { SameButTree state.old state.new }
+{
+    let number = state.next_node;
+    let node = StoredNode {
+        context: context_of_new(place, nonce),
+        named: true,
+        body,
+    };
+    match add_named(alloc, &mut state.disk, place, number, node) {
+        Ok(()) => {
+            state.next_node = number + 1;
+            Reply::Done
+        }
+        Err(_) => Reply::Refused(Refusal::NoMemory),
+    }
+}
+
+// The bytes of the context that a node made there gets: the policy of the directory, and its own nonce.
+fn context_of_new(place: &Place, nonce: &[u8; 16]) -> Option<[u8; CONTEXT_LEN]>
+    ensures { result ≡ option_map context_bytes (inherited nonce.now place.now.context) }
+{
+    match &place.context {
+        Some(context) => Some(encode_context(&Context {
+            policy: context.policy,
+            nonce: *nonce,
+        })),
+        None => None,
+    }
+}
+
+// Adds the node and the name that leads to it, or neither.
+fn add_named(
+    alloc: Global,
+    disk: &mut DiskTree,
+    place: &Place,
+    number: u32,
+    node: StoredNode,
+) -> Result<(), DiskFault>
+    requires dir { IsDirAt disk.old place.now.dir }
+    requires absent { map.get disk.old number ≡ None }
+    requires no_blocks { blocks_of node.body ≡ [] }
+    ensures added { OnOk result (disk.new ≡ entered (map.insert disk.old number node) place.now.dir place.now.stored number) }
+    ensures kept { OnErr result (disk.new ≡ disk.old) }
+{
+    if let Err(fault) = disk.add_node(number, node) {
+        return Err(fault);
+    }
+    match disk.put_entry(alloc, place.dir, place.stored.bytes(), number) {
+        Ok(()) => Ok(()),
+        Err(fault) => {
+            disk.remove_node(number);
+            Err(fault)
+        }
+    }
+}

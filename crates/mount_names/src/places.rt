@@ -1,0 +1,144 @@
+//! Where a creation puts its name: the directory, its context, and the name's stored form.
+
+ghost use Rattle.std.specs.Prelude.{◌≡◌, ◌+◌, ◌<◌, ◌≤◌, ◌^◌, true, false, length, nat_le, IfErr, IfOk};
+ghost use Rattle.disk_tree.specs.DiskTree.{IsDirAt};
+ghost use Rattle.number_map.specs.Numbered.{len};
+ghost use Rattle.plain_tree.specs.Nodes.{children, is_dir_at};
+ghost use Rattle.mount_model.specs.Carried.{IsPath};
+ghost use Rattle.mount_model.specs.NameAnswers as plain;
+ghost use Rattle.mount_model.specs.PlainMount.{PlainMount};
+ghost use Rattle.mount_model.specs.WellFormed.{IsName};
+ghost use Rattle.mount_state.specs.SameButKeys.{SameButKeys, StaysFor};
+ghost use Rattle.mount_state.specs.StandsFor.{StandsFor};
+ghost use Rattle.mount_names.specs.Made.{IsPlaceAt, IsPlaceOf, IsRefusedAt, IsRefusedIn};
+
+use crate::contexts::context_of;
+use crate::stored_names::{clashes, stored_as};
+use mount_model::{Path, Refusal};
+use mount_state::{MountState, walked_parent};
+use name_crypt::{MOST_NAME_BYTES, Plain, Steps, names_come_back};
+use plain_tree::{MOST_CHILDREN, MOST_NODES};
+use policy_ctx::Context;
+use short_bytes::Filled;
+use std::alloc::Global;
+use std::sync::ledger::Ledger;
+
+/// A directory that gets a name: its number, its context, and the name in its stored form.
+#[derive(Drop)]
+pub(crate) struct Place {
+    pub dir: u32,
+    pub context: Option<Context>,
+    pub stored: Filled<MOST_NAME_BYTES>,
+}
+
+/// The place of the path's last part, where it can be made: refused as a creation is for every cause
+/// but want of memory. `long` tells whether a target of too many bytes comes with it.
+pub(crate) fn place_at<L: Ledger>(
+    alloc: Global,
+    state: &mut MountState,
+    path: &Path,
+    long: bool,
+    steps: &mut Steps<L>,
+) -> Result<Place, Refusal>
+    ensures refused { IfErr result (λ refusal. IsRefusedAt state.old path.now long refusal) }
+    ensures placed { IfOk result (λ place. (m : PlainMount) → StandsFor state.old m → IsPath path.now → IsPlaceAt m path.now place) }
+    ensures dir { IfOk result (λ place. IsDirAt state.new.disk place.dir) }
+    ensures short { IfOk result (λ _. long ≡ false) }
+    ensures room { IfOk result (λ _. state.new.next_node + 1 < 2 ^ 32) }
+    ensures stands { StaysFor state.old state.new }
+    ensures same { SameButKeys state.old state.new }
+    ensures ticks { steps.new ≤ steps.old + length path.now + 1 }
+{
+    if path.is_empty() {
+        return Err(Refusal::Exists);
+    }
+    let last = path.len() - 1;
+    match walked_parent(alloc, state, path, steps) {
+        Ok(dir) => match path.part(last) {
+            Some(part) => place_in(state, dir, part.bytes(), long, steps),
+            None => unreachable!(),
+        },
+        Err(refusal) => Err(refusal),
+    }
+}
+
+// The place of the name in the directory.
+fn place_in<L: Ledger>(
+    state: &MountState,
+    dir: u32,
+    part: &[u8],
+    long: bool,
+    steps: &mut Steps<L>,
+) -> Result<Place, Refusal>
+    ensures refused { IfErr result (λ refusal. IsRefusedIn state.now dir part.now long refusal) }
+    ensures placed { IfOk result (λ place. (m : PlainMount) → StandsFor state.now m → is_dir_at m.nodes dir ≡ true
+        → IsName part.now → IsPlaceOf m part.now place) }
+    ensures dir { IfOk result (λ place. (place.dir ≡ dir) × IsDirAt state.now.disk dir) }
+    ensures short { IfOk result (λ _. long ≡ false) }
+    ensures room { IfOk result (λ _. state.now.next_node + 1 < 2 ^ 32) }
+    ensures ticks { steps.new ≤ steps.old + 1 }
+{
+    // That two names are stored alike only where they are the same.
+    names_come_back();
+    if !state.disk.is_dir(dir) {
+        return Err(Refusal::NotDir);
+    }
+    let context = context_of(state, dir);
+    if lacks_key(state, &context) {
+        return Err(Refusal::NoKey);
+    }
+    let Ok(name) = Plain::read(part) else {
+        return Err(Refusal::Inval);
+    };
+    let Some(stored) = stored_as(state, dir, &context, &name, steps) else {
+        return Err(Refusal::NoKey);
+    };
+    if state.disk.entry(dir, stored.bytes()).is_some() {
+        return Err(Refusal::Exists);
+    }
+    if long {
+        return Err(Refusal::NameTooLong);
+    }
+    if clashes(state, dir, &context, stored.bytes()) {
+        return Err(Refusal::NoKeyClash);
+    }
+    if is_full(state, dir) {
+        return Err(Refusal::NoSpace);
+    }
+    Ok(Place {
+        dir,
+        context,
+        stored,
+    })
+}
+
+// Whether the directory has a policy whose key no user has claimed.
+fn lacks_key(state: &MountState, context: &Option<Context>) -> bool
+    ensures { (m : PlainMount) → StandsFor state.now m → result ≡ plain.lacks_key m context.now }
+{
+    match context {
+        Some(context) => state.ring.claims().count_of_id(&context.policy.id) == 0,
+        None => false,
+    }
+}
+
+// Whether the directory, the mount or the numbers are used up.
+fn is_full(state: &MountState, dir: u32) -> bool
+    ensures value { (m : PlainMount) → StandsFor state.now m → result ≡ plain.is_full m dir }
+    ensures room { result ≡ false → state.now.next_node + 1 < 2 ^ 32 }
+{
+    has_most_entries(state, dir) || (has_most_nodes(state) || state.next_node == u32::MAX)
+}
+
+fn has_most_entries(state: &MountState, dir: u32) -> bool
+    ensures { (m : PlainMount) → StandsFor state.now m
+        → result ≡ nat_le MOST_CHILDREN (length (children m.nodes dir)) }
+{
+    state.disk.entry_count(dir) >= MOST_CHILDREN
+}
+
+fn has_most_nodes(state: &MountState) -> bool
+    ensures { (m : PlainMount) → StandsFor state.now m → result ≡ nat_le MOST_NODES (len m.nodes) }
+{
+    state.disk.node_count() >= MOST_NODES
+}

@@ -1,0 +1,104 @@
+//! Names in their stored form, and whether two of them would be told apart only by the key.
+
+ghost use Rattle.std.specs.Prelude.{◌≡◌, ◌+◌, ◌≤◌, false, true, Some, is_some};
+ghost use Rattle.byte_words.specs.Bytes.{AreBytes};
+ghost use Rattle.name_crypt.specs.Plain.{IsPlain};
+ghost use Rattle.name_crypt.specs.StoredName.{stored_name};
+ghost use Rattle.plain_tree.specs.Nodes.{Name, context_at, entry};
+ghost use Rattle.policy_ctx.specs.declared.policy.Context.{Context};
+ghost use Rattle.mount_model.specs.NameAnswers as plain;
+ghost use Rattle.mount_model.specs.PlainMount.{PlainMount};
+ghost use Rattle.mount_model.specs.States.{is_keyed};
+ghost use Rattle.mount_state.specs.StandsFor.{StandsFor};
+ghost use Rattle.mount_state.specs.Stored.{stored_form};
+ghost use Rattle.mount_names.specs.Made.{HasByteKey};
+ghost use Rattle.mount_names.specs.Shown.{HasNames};
+
+use crate::ciphers::cipher_of;
+use mount_state::MountState;
+use name_crypt::{
+    MOST_NAME_BYTES, MOST_SPELLED_BYTES, NameCipher, Plain, Steps, StoredName, names_come_back,
+    nokey_text, texts_stay_distinct,
+};
+use policy_ctx::{Context, Pad};
+use short_bytes::Filled;
+use std::sync::ledger::Ledger;
+
+/// The name of the directory, or the target of the symlink, as it is stored: itself where the node has
+/// no context, else by one encryption; none where the key is not at hand.
+pub(crate) fn stored_as<L: Ledger>(
+    state: &MountState,
+    number: u32,
+    context: &Option<Context>,
+    name: &Plain,
+    steps: &mut Steps<L>,
+) -> Option<Filled<MOST_NAME_BYTES>>
+    ensures value { (m : PlainMount) → StandsFor state.now m → HasNames m number
+        → context.now ≡ context_at m.nodes number → is_keyed m number ≡ true
+        → result ≡ Some (stored_form m.raws number context.now name.now) }
+    ensures ranged { (m : PlainMount) → StandsFor state.now m → HasNames m number
+        → context.now ≡ context_at m.nodes number → is_keyed m number ≡ true → HasByteKey m number }
+    ensures ticks { steps.new ≤ steps.old + 1 }
+{
+    match context {
+        Some(context) => match cipher_of(state, number, context) {
+            Some(cipher) => Some(enciphered(&cipher, context.policy.pad, name, steps)),
+            None => None,
+        },
+        None => Some(Filled::of(name.bytes())),
+    }
+}
+
+/// The name under the cipher. `steps` counts one more.
+pub(crate) fn enciphered<L: Ledger>(
+    cipher: &NameCipher,
+    pad: Pad,
+    name: &Plain,
+    steps: &mut Steps<L>,
+) -> Filled<MOST_NAME_BYTES>
+    ensures value { result ≡ stored_name cipher.now.key cipher.now.start pad name.now }
+    ensures tick { steps.new ≡ steps.old + 1 }
+{
+    Filled::of(cipher.encrypt(pad, name, steps).bytes())
+}
+
+/// Whether the directory has a policy, and a name in it has the no-key text of this stored one, which
+/// isn't there itself.
+pub(crate) fn clashes(
+    state: &MountState,
+    dir: u32,
+    context: &Option<Context>,
+    stored: &[u8],
+) -> bool
+    ensures { (m : PlainMount) (name : Name) → StandsFor state.now m → HasByteKey m dir
+        → context.now ≡ context_at m.nodes dir → IsPlain name → AreBytes name
+        → stored.now ≡ stored_form m.raws dir (context_at m.nodes dir) name
+        → is_some (entry m.nodes dir name) ≡ false → result ≡ plain.clashes m dir name }
+{
+    match context {
+        Some(_context) => shares_text(state, dir, stored),
+        None => false,
+    }
+}
+
+// The same under a policy. A text that spells the stored name whole is no other name's, and then
+// nothing is looked at.
+fn shares_text(state: &MountState, dir: u32, stored: &[u8]) -> bool
+    ensures { (m : PlainMount) (c : Context) (name : Name) → StandsFor state.now m
+        → context_at m.nodes dir ≡ Some c → HasByteKey m dir → IsPlain name → AreBytes name
+        → stored.now ≡ stored_form m.raws dir (context_at m.nodes dir) name
+        → is_some (entry m.nodes dir name) ≡ false → result ≡ plain.clashes m dir name }
+{
+    // That short texts are told apart, and that each stored name has 16 to 255 bytes.
+    texts_stay_distinct();
+    names_come_back();
+    if stored.len() <= MOST_SPELLED_BYTES {
+        return false;
+    }
+    match StoredName::read(stored) {
+        Ok(name) => state
+            .entry_by_text(dir, nokey_text(&name).bytes())
+            .is_some(),
+        Err(_) => false,
+    }
+}
