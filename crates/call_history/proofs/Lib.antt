@@ -1,3 +1,4 @@
 pub mod Prefixes
 pub mod Placing
 pub mod Ordering
+pub mod Sorting

@@ -7,11 +7,11 @@ use Rattle.call_history.proofs.Placing.{by-append, by-cons_own, by-cons_other, b
 
 module _ {C R : Type 0} where
   -- no place is below k
-  abbrev AllFrom : ℕ → PlacedList C R → Type 0
+  abbrev pub AllFrom : ℕ → PlacedList C R → Type 0
   AllFrom k [] = Unit {0}
   AllFrom k (x ∷ xs) = (k ≤ x.0) × AllFrom k xs
 
-  AllFrom-numbered : (k n : ℕ) (h : History C R) → k ≤ n → AllFrom k (numbered n h)
+  pub AllFrom-numbered : (k n : ℕ) (h : History C R) → k ≤ n → AllFrom k (numbered n h)
   AllFrom-numbered k n [] l = tt
   AllFrom-numbered k n (e ∷ h) l = (l, AllFrom-numbered k (n + 1) h (omega arith))
 

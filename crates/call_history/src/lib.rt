@@ -4,6 +4,8 @@
 
 mod entry;
 mod laws;
+mod order;
 
 pub use entry::Entry;
 pub use laws::callers_determine_history;
+pub use order::sort_by_place;

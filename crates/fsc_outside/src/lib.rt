@@ -6,6 +6,7 @@ ghost use Rattle.std.specs.Prelude.{◌↔◌, IsTrue, Contains};
 
 use thiserror::Error;
 
+mod gate;
 mod input;
 mod laws;
 mod random;
@@ -15,6 +16,7 @@ mod source;
 mod standard;
 mod whole;
 
+pub use gate::{Gate, OpenGate};
 pub use input::{InputFault, InputLimits, read_all};
 use item_list::Items;
 pub use laws::a_count_rises_in_place_only_at_its_end;

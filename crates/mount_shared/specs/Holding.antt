@@ -24,7 +24,8 @@ IsGiven answer reply ring = (reply ≡ answer.reply) × StandsFor ring answer.mo
 
 -- the same, or there was no memory and nothing changed
 abbrev pub IsGivenOrNoMemory : PlainMount → Answer → Reply → Holding → Type 0
-IsGivenOrNoMemory m answer reply ring = IsGiven answer reply ring ⊎ ((reply ≡ Refused NoMemory) × StandsFor ring m)
+IsGivenOrNoMemory m answer reply ring =
+    IsGiven answer reply ring ⊎ ((reply ≡ Refused NoMemory) × StandsFor ring m)
 
 -- the reply is a step of the mount, and the ring then stands for the mount that the step leaves
 abbrev pub IsStepOf : PlainMount → MountEntry → Holding → Type 0

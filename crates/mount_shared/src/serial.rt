@@ -1,0 +1,103 @@
+//! A machine that one thread alone calls, and a caller's way to it.
+
+ghost use Rattle.std.specs.Prelude.{◌≡◌, ◌+◌, ◌^◌, ◌≤◌};
+ghost use Rattle.mount_shared.specs.SerialCalls.{SerialCame, serial_view};
+ghost use Rattle.mount_shared.specs.PortLaws.{SerialCame-none, SerialCame-on, SerialCame-caller};
+
+use crate::machine::MountMachine;
+use mount_model::{Call, MountPort, Placed};
+use std::marker::Model;
+
+/// A machine with the number of places that its callers were given. Places count from 0.
+#[derive(Drop)]
+pub struct SerialMount<M: MountMachine> {
+    pub machine: M,
+    pub places: u64,
+}
+
+impl<M: MountMachine> SerialMount<M> {
+    /// The machine, before any call.
+    pub fn new(machine: M) -> SerialMount<M>
+        ensures machine { result.machine ≡ machine }
+        ensures places { result.places ≡ 0 }
+    {
+        SerialMount { machine, places: 0 }
+    }
+
+    /// The port of a caller, with so many calls.
+    pub fn port(self, caller: u32, left: u64) -> SerialPort<M>
+        requires { self.places + left ≤ 2 ^ 40 }
+        ensures { result ≡ serial_view self.machine self.places caller left }
+    {
+        SerialPort {
+            mount: self,
+            caller,
+            left,
+        }
+    }
+}
+
+/// A caller's port to a machine that nobody else calls meanwhile. In clauses it is a `SerialView`.
+#[derive(Drop)]
+pub struct SerialPort<M: MountMachine> {
+    mount: SerialMount<M>,
+    caller: u32,
+    left: u64,
+}
+
+impl<M: MountMachine> Model for SerialPort<M> {
+    ghost use Rattle.std.specs.Prelude.{◌+◌, ◌^◌, ◌≤◌};
+    ghost use Rattle.mount_shared.specs.SerialCalls.{SerialView, serial_view};
+
+    ghost Value = { SerialView M };
+
+    ghost view = { λ port. serial_view port.mount.machine port.mount.places port.caller port.left };
+
+    ghost invariant = { λ port. port.mount.places + port.left ≤ 2 ^ 40 };
+}
+
+impl<M: MountMachine> SerialPort<M> {
+    /// The machine, with the places that were given so far.
+    pub fn back(self) -> SerialMount<M>
+        ensures machine { result.machine ≡ self.machine }
+        ensures places { result.places ≡ self.places }
+    {
+        self.mount
+    }
+}
+
+/// Its places count on from those that were given before.
+impl<M: MountMachine> MountPort for SerialPort<M> {
+    ghost who = { λ port. port.caller };
+
+    ghost calls_left = { λ port. port.left };
+
+    ghost floor = { λ port. port.places };
+
+    ghost came = { SerialCame M.leads };
+
+    fn caller(&self) -> u32 {
+        self.caller
+    }
+
+    fn left(&self) -> u64 {
+        self.left
+    }
+
+    fn call(&mut self, call: Call) -> Placed {
+        let place = self.mount.places;
+        let lent = self.mount.machine.begin(self.caller, &call);
+        self.mount.places += 1;
+        self.left -= 1;
+        Placed {
+            place,
+            reply: M::finish(lent),
+        }
+    }
+
+    ghost by_none = { SerialCame-none M.leads };
+
+    ghost by_more = { SerialCame-on M.leads };
+
+    ghost one_caller = { SerialCame-caller M.leads };
+}
