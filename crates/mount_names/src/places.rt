@@ -14,10 +14,10 @@ ghost use Rattle.mount_names.specs.Made.{IsPlaceAt, IsPlaceOf, IsRefusedAt, IsRe
 
 use crate::contexts::context_of;
 use crate::stored_names::{clashes, stored_as};
+use mount_limits::{MOST_CHILDREN, MOST_NODES};
 use mount_model::{Path, Refusal};
 use mount_state::{MountState, walked_parent};
 use name_crypt::{MOST_NAME_BYTES, Plain, Steps, names_come_back};
-use plain_tree::{MOST_CHILDREN, MOST_NODES};
 use policy_ctx::Context;
 use short_bytes::Filled;
 use std::alloc::Global;
