@@ -1,5 +1,6 @@
 -- A state in which a key was claimed stands for the mount in which it was.
-use Rattle.std.proofs.Common.{◌≡◌, ℕ, ◌≤◌, Bool, true, false, cond, not, ◌&&◌, nat_le, List, [], length, Option, Some, None, is_some, inl, inr, refl, sym, ap, subst, ◌∙◌}
+use Rattle.std.proofs.Common.{◌≡◌, ℕ, ◌≤◌, Bool, true, false, cond, not, ◌&&◌, nat_le, List, [], length}
+use Rattle.std.proofs.Common.{Option, Some, None, is_some, inl, inr, refl, sym, ap, subst, ◌∙◌}
 use Rattle.std.specs.Option.{unwrap_or}
 use Rattle.std.specs.FinMap as map
 use Rattle.std.specs.FinMap.{get-insert}
@@ -40,7 +41,7 @@ use Rattle.mount_state.specs.declared.state.MountState.{MountState}
 use Rattle.mount_state.proofs.RuleLemmas.{no_mode_key}
 use Rattle.mount_state.proofs.StandLemmas.{busy_stands}
 use Rattle.mount_state.proofs.UserLemmas.{one_on}
-use Rattle.mount_keys.specs.Given.{IsGiven}
+use Rattle.mount_state.specs.Given.{IsGiven}
 use Rattle.mount_keys.specs.Taken.{SameButRing, GainsClaim}
 use Rattle.mount_keys.proofs.AlikeLemmas.{node_key_alike, kept_raw, raw_there, still_stored}
 
@@ -50,39 +51,48 @@ same_raw : (a b : List ℕ) → Some a ≡ Some b → a ≡ b
 same_raw a b is = cc
 
 -- a secret is the raw key that was last added
-secrets_stand : (secrets : SecretMap) (raws : Raws) (raw : List ℕ) → ((q : KeyId) (r : List ℕ) → map.get secrets q ≡ Some r → raw_in raws q ≡ Some r)
-    → (q : KeyId) (r : List ℕ) → map.get (map.insert secrets (key_id_of raw) raw) q ≡ Some r → raw_in (with_raw raws (key_id_of raw) raw) q ≡ Some r
+secrets_stand : (secrets : SecretMap) (raws : Raws) (raw : List ℕ)
+    → ((q : KeyId) (r : List ℕ) → map.get secrets q ≡ Some r → raw_in raws q ≡ Some r)
+    → (q : KeyId) (r : List ℕ) → map.get (map.insert secrets (key_id_of raw) raw) q ≡ Some r
+    → raw_in (with_raw raws (key_id_of raw) raw) q ≡ Some r
 secrets_stand secrets raws raw were q r there =
     raw_in-with_raw raws (key_id_of raw) raw q
-    ∙ at (same_id q (key_id_of raw)) (ap (λ b. cond b (Some raw) (map.get secrets q)) (id_ties q (key_id_of raw))
+    ∙ at (same_id q (key_id_of raw)) (ap (λ b. cond b (Some raw) (map.get secrets q))
+    (id_ties q (key_id_of raw))
     ∙ (sym (get-insert id_cmp_total secrets (key_id_of raw) raw q) ∙ there))
   where
-    at : (b : Bool) → cond b (Some raw) (map.get secrets q) ≡ Some r → cond b (Some raw) (raw_in raws q) ≡ Some r
+    at : (b : Bool) → cond b (Some raw) (map.get secrets q) ≡ Some r → cond b (Some raw) (raw_in raws q)
+        ≡ Some r
     at true is = is
     at false is = were q r is
 
 -- ---- the key is present
 
-pub added_present : (disk : Disk) (before after : ClaimSet) (live : HandleList) (uid : ℕ) (key raw : List ℕ) → key ≡ raw
+pub added_present : (disk : Disk) (before after : ClaimSet) (live : HandleList) (uid : ℕ) (key raw : List ℕ)
+    → key ≡ raw
     → after ≡ with_claim before (key_id_of key) uid → key_state disk after live (key_id_of raw) ≡ Present
 added_present disk before after live uid key raw is claimed =
     let id : KeyId = key_id_of raw in
     let there : is_present after id ≡ true =
-    ap (λ (cs : ClaimSet). is_present cs id) (claimed ∙ ap (λ (r : List ℕ). with_claim before (key_id_of r) uid) is)
-    ∙ (is_present-with_claim before id uid id ∙ or_right (is_present before id) (same_id id id) (same_id-refl id)) in
+    ap (λ (cs : ClaimSet). is_present cs id) (claimed
+    ∙ ap (λ (r : List ℕ). with_claim before (key_id_of r) uid) is)
+    ∙ (is_present-with_claim before id uid id ∙ or_right (is_present before id) (same_id id id)
+    (same_id-refl id)) in
     ap (λ b. cond b Present (cond (is_busy disk live id) Incomplete Absent)) there
 
 -- ---- no refusal
 
 -- a claim that is held, or that the user has room for
-within_quota : (held : Bool) (n : ℕ) → ((held ≡ false) × (MOST_CLAIMS ≤ n) → ⊥) → (not held && nat_le MOST_CLAIMS n) ≡ false
+within_quota : (held : Bool) (n : ℕ) → ((held ≡ false) × (MOST_CLAIMS ≤ n) → ⊥)
+    → (not held && nat_le MOST_CLAIMS n) ≡ false
 within_quota true n room = refl
 within_quota false n room = elim (cases_Bool (nat_le MOST_CLAIMS n)) [
   | inl full ↦ absurd (room (refl, leb-true MOST_CLAIMS n full))
   | inr free ↦ free
 ]
 
-last_answer : (fits over : Bool) (x y z : Answer) → fits ≡ true → over ≡ false → cond (not fits) x (cond over y z) ≡ z
+last_answer : (fits over : Bool) (x y z : Answer) → fits ≡ true → over ≡ false
+    → cond (not fits) x (cond over y z) ≡ z
 last_answer false over x y z fits room = absurd (true≢false (sym fits))
 last_answer true true x y z fits room = absurd (true≢false room)
 last_answer true false x y z fits room = refl
@@ -91,42 +101,54 @@ last_answer true false x y z fits room = refl
 
 module _ (s : MountState) (m : PlainMount) (st : StandsFor s m) (used : AreUsed s.modes) where
   -- some node's policy names it
-  named_raw : (id : KeyId) (n : ℕ) (o : Option Context) → context_at m.nodes n ≡ o → plain.is_of_id id o ≡ true
-      → ((c : Context) → context_at m.nodes n ≡ Some c → is_some (raw_in m.raws c.policy.id) ≡ true) → is_some (raw_in m.raws id) ≡ true
+  named_raw : (id : KeyId) (n : ℕ) (o : Option Context) → context_at m.nodes n ≡ o → plain.is_of_id id o
+      ≡ true
+      → ((c : Context) → context_at m.nodes n ≡ Some c → is_some (raw_in m.raws c.policy.id) ≡ true)
+      → is_some (raw_in m.raws id) ≡ true
   named_raw id n None under named there = absurd (true≢false (sym named))
-  named_raw id n (Some c) under named there = subst (λ (k : KeyId). is_some (raw_in m.raws k) ≡ true) (same_id-eq c.policy.id id named) (there c under)
+  named_raw id n (Some c) under named there =
+      subst (λ (k : KeyId). is_some (raw_in m.raws k) ≡ true) (same_id-eq c.policy.id id named)
+      (there c under)
 
-  busy_raw : (raw : List ℕ) → AgreesWith m.raws raw → (id : KeyId) → is_busy s.disk s.handles.live id ≡ true → is_some (raw_in m.raws id) ≡ true
+  busy_raw : (raw : List ℕ) → AgreesWith m.raws raw → (id : KeyId) → is_busy s.disk s.handles.live id ≡ true
+      → is_some (raw_in m.raws id) ≡ true
   busy_raw raw agrees id busy =
       let one = one_on (λ n. plain.names_key m.nodes n id) m.handles
       (sym (busy_stands s.disk s.next_node m st.well st.tree s.handles.live st.handles.live id) ∙ busy) in
-      named_raw id one.0 (context_at m.nodes one.0) refl one.1.1 (raw_there m.raws raw agrees m.nodes m.next st.well.nodes one.0)
+      named_raw id one.0 (context_at m.nodes one.0) refl one.1.1
+      (raw_there m.raws raw agrees m.nodes m.next st.well.nodes one.0)
 
-  mode_raw : (raw : List ℕ) → AgreesWith m.raws raw → (id : KeyId) (kind : KeyKind) (mode : ModeKey) → mode_at s.modes id kind ≡ Some mode
+  mode_raw : (raw : List ℕ) → AgreesWith m.raws raw → (id : KeyId) (kind : KeyKind) (mode : ModeKey)
+      → mode_at s.modes id kind ≡ Some mode
       → is_some (raw_in m.raws id) ≡ true
   mode_raw raw agrees id kind mode there = elim (cases_Bool (is_busy s.disk s.handles.live id)) [
     | inl busy ↦ busy_raw raw agrees id busy
     | inr idle ↦
-        let gone : mode_at s.modes id kind ≡ None = no_mode_key s.disk s.ring s.inodes s.modes s.handles.live s.forgets id used idle kind in
+        let gone : mode_at s.modes id kind ≡ None =
+        no_mode_key s.disk s.ring s.inodes s.modes s.handles.live s.forgets id used idle kind in
         let none : None ≡ Some mode = sym gone ∙ there in absurd (cc)
   ]
 
   -- ---- what is cached
 
-  pub added_caches : (raw : List ℕ) → AgreesWith m.raws raw → (uid : ℕ) → CachesStand s.inodes s.modes (with_key m uid raw)
+  pub added_caches : (raw : List ℕ) → AgreesWith m.raws raw → (uid : ℕ)
+      → CachesStand s.inodes s.modes (with_key m uid raw)
   added_caches raw agrees uid = record {
     file_keys = λ node key c there under.
         st.caches.file_keys node key c there under
         ∙ sym (node_key_alike m.raws (with_raw m.raws (key_id_of raw) raw) c _
-        (kept_raw m.raws raw agrees c.policy.id (raw_there m.raws raw agrees m.nodes m.next st.well.nodes node c under)));
+        (kept_raw m.raws raw agrees c.policy.id (raw_there m.raws raw agrees m.nodes m.next st.well.nodes
+        node c under)));
     mode_keys = λ id kind mode there.
         st.caches.mode_keys id kind mode there
-        ∙ sym (ap (λ (o : Option (List ℕ)). mode_key_of (unwrap_or o []) kind) (kept_raw m.raws raw agrees id (mode_raw raw agrees id kind mode there)));
+        ∙ sym (ap (λ (o : Option (List ℕ)). mode_key_of (unwrap_or o []) kind)
+        (kept_raw m.raws raw agrees id (mode_raw raw agrees id kind mode there)));
   }
 
   -- ---- the whole
 
-  pub added_stand : (new : MountState) (uid : ℕ) (raw : List ℕ) → AgreesWith m.raws raw → is_raw_key raw ≡ true → is_over_quota m uid raw ≡ false
+  pub added_stand : (new : MountState) (uid : ℕ) (raw : List ℕ) → AgreesWith m.raws raw → is_raw_key raw
+      ≡ true → is_over_quota m uid raw ≡ false
       → SameButRing s new → GainsClaim s new uid raw → StandsFor new (with_key m uid raw)
   added_stand new uid raw agrees fits room same gained = record {
     well = record {
@@ -136,35 +158,46 @@ module _ (s : MountState) (m : PlainMount) (st : StandsFor s m) (used : AreUsed 
       records = st.well.records;
     };
     tree = record {
-      nodes = subst (λ (d : Disk). AgreesBy (stored_node (with_raw m.raws (key_id_of raw) raw)) m.nodes d) (sym same.disk)
+      nodes = subst (λ (d : Disk). AgreesBy (stored_node (with_raw m.raws (key_id_of raw) raw)) m.nodes d)
+          (sym same.disk)
           (still_stored m.raws raw agrees m.nodes m.next st.well.nodes s.disk st.tree.nodes);
       next = same.next_node ∙ st.tree.next;
     };
     keys = record {
       claims = gained.claims ∙ ap (λ cs. with_claim cs (key_id_of raw) uid) st.keys.claims;
       secrets = λ q r there.
-          secrets_stand s.ring.secrets m.raws raw st.keys.secrets q r (sym (ap (λ (held : SecretMap). map.get held q) gained.secrets) ∙ there);
+          secrets_stand s.ring.secrets m.raws raw st.keys.secrets q r
+          (sym (ap (λ (held : SecretMap). map.get held q) gained.secrets) ∙ there);
     };
     handles = record {
       live = ap (λ (h : Handles). h.live) same.handles ∙ st.handles.live;
       opened = ap (λ (h : Handles). h.opened) same.handles ∙ st.handles.opened;
     };
     caches = subst (λ (cache : Cache). CachesStand cache new.modes (with_key m uid raw)) (sym same.inodes)
-        (subst (λ (modes : Modes). CachesStand s.inodes modes (with_key m uid raw)) (sym same.modes) (added_caches raw agrees uid));
+        (subst (λ (modes : Modes). CachesStand s.inodes modes (with_key m uid raw)) (sym same.modes)
+        (added_caches raw agrees uid));
     records = same.meta ∙ st.records;
   }
 
   -- ---- the answer
 
-  pub added_gives : (new : MountState) (uid : ℕ) (raw bytes : List ℕ) (id : KeyId) → AgreesWith m.raws bytes → raw ≡ bytes
-      → LEAST_RAW_KEY_BYTES ≤ length bytes → length bytes ≤ MOST_RAW_KEY_BYTES → id ≡ key_id_of raw → (IsOverQuota s.ring.claims (key_id_of raw) uid → ⊥)
+  pub added_gives : (new : MountState) (uid : ℕ) (raw bytes : List ℕ) (id : KeyId) → AgreesWith m.raws bytes
+      → raw ≡ bytes
+      → LEAST_RAW_KEY_BYTES ≤ length bytes → length bytes ≤ MOST_RAW_KEY_BYTES → id ≡ key_id_of raw
+      → (IsOverQuota s.ring.claims (key_id_of raw) uid → ⊥)
       → SameButRing s new → GainsClaim s new uid raw → IsGiven (answer_to_add_key m uid bytes) (Added id) new
   added_gives new uid raw bytes id agrees is low high named room same gained =
-      let fits : is_raw_key bytes ≡ true = and_from _ _ (le-leb LEAST_RAW_KEY_BYTES (length bytes) low) (le-leb (length bytes) MOST_RAW_KEY_BYTES high) in
-      let within : is_over_quota m uid bytes ≡ false = within_quota (has_claim m.claims (key_id_of bytes) uid) (count_of_user m.claims uid)
+      let fits : is_raw_key bytes ≡ true =
+      and_from _ _ (le-leb LEAST_RAW_KEY_BYTES (length bytes) low)
+      (le-leb (length bytes) MOST_RAW_KEY_BYTES high) in
+      let within : is_over_quota m uid bytes ≡ false =
+      within_quota (has_claim m.claims (key_id_of bytes) uid) (count_of_user m.claims uid)
       (λ over. room (subst (λ (r : List ℕ). IsOverQuota s.ring.claims (key_id_of r) uid) (sym is)
       (subst (λ (cs : ClaimSet). IsOverQuota cs (key_id_of bytes) uid) (sym st.keys.claims) over))) in
-      subst (λ (a : Answer). IsGiven a (Added id) new) (sym (last_answer (is_raw_key bytes) (is_over_quota m uid bytes) (refused m Inval) (refused m Quota) (added m uid bytes) fits within)) (
+      subst (λ (a : Answer). IsGiven a (Added id) new)
+      (sym (last_answer (is_raw_key bytes) (is_over_quota m uid bytes) (refused m Inval)
+      (refused m Quota) (added m uid bytes) fits within)) (
         ap Added (named ∙ ap key_id_of is),
-        added_stand new uid bytes agrees fits within same (subst (λ (r : List ℕ). GainsClaim s new uid r) is gained),
+        added_stand new uid bytes agrees fits within same
+            (subst (λ (r : List ℕ). GainsClaim s new uid r) is gained),
       )

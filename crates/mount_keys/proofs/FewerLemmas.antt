@@ -1,5 +1,6 @@
 -- With fewer claims, secrets and cached keys a state stands for the mount with these claims.
-use Rattle.std.proofs.Common.{◌≡◌, ℕ, Bool, true, false, cond, List, Some, None, is_some, sym, ap, subst, ◌∙◌}
+use Rattle.std.proofs.Common.{◌≡◌, ℕ, Bool, true, false, cond, List, Some, None, is_some, sym, ap, subst}
+use Rattle.std.proofs.Common.{◌∙◌}
 use Rattle.std.specs.FinMap as map
 use Rattle.policy_ctx.specs.declared.policy.KeyId.{KeyId}
 use Rattle.fsc_keys.specs.declared.file_keys.KeyKind.{KeyKind}
@@ -25,7 +26,8 @@ use Rattle.mount_keys.specs.Taken.{SameButKeyed, LosesClaim, LosesAllClaims, key
 use Rattle.mount_keys.proofs.EvictionLemmas.{evicted_was, evicted_absent}
 use Rattle.mount_keys.proofs.SecretLemmas.{left_was, removed_was, removed_none, removed_absent}
 
-pub fewer_stand : (old new : MountState) (m : PlainMount) (claims : ClaimSet) → StandsFor old m → SameButKeyed old new → HasKeys claims m.raws
+pub fewer_stand : (old new : MountState) (m : PlainMount) (claims : ClaimSet) → StandsFor old m
+    → SameButKeyed old new → HasKeys claims m.raws
     → new.ring.claims ≡ claims
     → ((id : KeyId) (raw : List ℕ) → secret_of new.ring id ≡ Some raw → secret_of old.ring id ≡ Some raw)
     → ((n : ℕ) (k : NodeKey) → key_at new.inodes n ≡ Some k → key_at old.inodes n ≡ Some k)
@@ -43,61 +45,77 @@ fewer_stand old new m claims st same well are secrets cached = record {
   };
   caches = record {
     file_keys = λ n key c there under. st.caches.file_keys n key c (cached n key there) under;
-    mode_keys = λ id kind mode there. st.caches.mode_keys id kind mode (sym (ap (λ (x : Modes). mode_at x id kind) same.modes) ∙ there);
+    mode_keys = λ id kind mode there. st.caches.mode_keys id kind mode
+        (sym (ap (λ (x : Modes). mode_at x id kind) same.modes) ∙ there);
   };
   records = same.meta ∙ st.records;
 }
 
 -- ---- a claim, or all on a key, went
 
-kept_was : (cache : Cache) (claims : ClaimSet) (id : KeyId) (n : ℕ) (k : NodeKey) → map.get (keys_left cache claims id) n ≡ Some k → key_at cache n ≡ Some k
+kept_was : (cache : Cache) (claims : ClaimSet) (id : KeyId) (n : ℕ) (k : NodeKey)
+    → map.get (keys_left cache claims id) n ≡ Some k → key_at cache n ≡ Some k
 kept_was cache claims id n k = by (is_present claims id)
   where
     by : (b : Bool) → map.get (cond b cache.keys (evicted cache id)) n ≡ Some k → key_at cache n ≡ Some k
     by true there = there
     by false there = evicted_was cache id n k there
 
-pub lost_stand : (old new : MountState) (m : PlainMount) (uid : ℕ) (id : KeyId) → StandsFor old m → SameButKeyed old new → LosesClaim old new uid id
+pub lost_stand : (old new : MountState) (m : PlainMount) (uid : ℕ) (id : KeyId) → StandsFor old m
+    → SameButKeyed old new → LosesClaim old new uid id
     → StandsFor new (record m { claims = without_claim m.claims id uid })
 lost_stand old new m uid id st same lost =
-    fewer_stand old new m (without_claim m.claims id uid) st same (HasKeys-without_claim m.claims m.raws id uid st.well.keys)
+    fewer_stand old new m (without_claim m.claims id uid) st same
+    (HasKeys-without_claim m.claims m.raws id uid st.well.keys)
     (lost.claims ∙ ap (λ cs. without_claim cs id uid) st.keys.claims)
-    (λ q raw there. left_was old.ring.secrets new.ring.claims id q raw (sym (ap (λ (x : SecretMap). map.get x q) lost.secrets) ∙ there))
-    (λ n k there. kept_was old.inodes new.ring.claims id n k (sym (ap (λ (x : KeyMap). map.get x n) lost.cached) ∙ there))
+    (λ q raw there. left_was old.ring.secrets new.ring.claims id q raw
+    (sym (ap (λ (x : SecretMap). map.get x q) lost.secrets) ∙ there))
+    (λ n k there. kept_was old.inodes new.ring.claims id n k
+    (sym (ap (λ (x : KeyMap). map.get x n) lost.cached) ∙ there))
 
-pub cleared_stand : (old new : MountState) (m : PlainMount) (id : KeyId) → StandsFor old m → SameButKeyed old new → LosesAllClaims old new id
+pub cleared_stand : (old new : MountState) (m : PlainMount) (id : KeyId) → StandsFor old m
+    → SameButKeyed old new → LosesAllClaims old new id
     → StandsFor new (record m { claims = without_id m.claims id })
 cleared_stand old new m id st same lost =
-    fewer_stand old new m (without_id m.claims id) st same (HasKeys-without_id m.claims m.raws id st.well.keys)
+    fewer_stand old new m (without_id m.claims id) st same
+    (HasKeys-without_id m.claims m.raws id st.well.keys)
     (lost.claims ∙ ap (λ cs. without_id cs id) st.keys.claims)
-    (λ q raw there. removed_was old.ring.secrets id q raw (sym (ap (λ (x : SecretMap). map.get x q) lost.secrets) ∙ there))
+    (λ q raw there. removed_was old.ring.secrets id q raw
+    (sym (ap (λ (x : SecretMap). map.get x q) lost.secrets) ∙ there))
     (λ n k there. evicted_was old.inodes id n k (sym (ap (λ (x : KeyMap). map.get x n) lost.cached) ∙ there))
 
 -- a key without a claim has none to lose, and nothing that goes with it
-pub loses_none : (s : MountState) (uid : ℕ) (id : KeyId) → HoldsClaimedSecrets s.ring → is_present s.ring.claims id ≡ false → LosesClaim s s uid id
+pub loses_none : (s : MountState) (uid : ℕ) (id : KeyId) → HoldsClaimedSecrets s.ring
+    → is_present s.ring.claims id ≡ false → LosesClaim s s uid id
 loses_none s uid id exact absent = record {
   claims = sym (without_claim-absent s.ring.claims id uid (has_claim-absent s.ring.claims id uid absent));
-  secrets = sym (ap (λ b. cond b s.ring.secrets (map.remove s.ring.secrets id)) absent ∙ removed_absent s.ring.secrets id (exact id ∙ absent));
+  secrets = sym (ap (λ b. cond b s.ring.secrets (map.remove s.ring.secrets id)) absent
+      ∙ removed_absent s.ring.secrets id (exact id ∙ absent));
   cached = sym (ap (λ b. cond b s.inodes.keys (evicted s.inodes id)) absent
       ∙ evicted_absent s.disk s.ring.claims s.inodes s.modes s.handles.live s.forgets id absent);
 }
 
 -- ---- nothing is held
 
-module _ (old new : MountState) (id : KeyId) (same : SameButKeyed old new) (idle : is_busy old.disk old.handles.live id ≡ false)
+module _ (old new : MountState) (id : KeyId) (same : SameButKeyed old new)
+    (idle : is_busy old.disk old.handles.live id ≡ false)
     (modeless : (kind : KeyKind) → mode_at old.modes id kind ≡ None) where
-  nothing_left : is_some (secret_of new.ring id) ≡ false → is_present new.ring.claims id ≡ false → HoldsNothing new.ring new.inodes new.modes id
+  nothing_left : is_some (secret_of new.ring id) ≡ false → is_present new.ring.claims id ≡ false
+      → HoldsNothing new.ring new.inodes new.modes id
   nothing_left secret absent =
       nothing_held new.disk new.ring new.inodes new.modes new.handles.live new.forgets id secret absent
       ((λ i. is_busy (same.disk i) (ap (λ (h : Handles). h.live) same.handles i) id) ∙ idle)
       (λ kind. ap (λ (x : Modes). mode_at x id kind) same.modes ∙ modeless kind)
 
-  pub lost_nothing : (uid : ℕ) → LosesClaim old new uid id → is_present new.ring.claims id ≡ false → HoldsNothing new.ring new.inodes new.modes id
+  pub lost_nothing : (uid : ℕ) → LosesClaim old new uid id → is_present new.ring.claims id ≡ false
+      → HoldsNothing new.ring new.inodes new.modes id
   lost_nothing uid lost absent =
-      nothing_left (ap (λ (x : SecretMap). is_some (map.get x id)) (lost.secrets ∙ ap (λ b. cond b old.ring.secrets (map.remove old.ring.secrets id)) absent)
+      nothing_left (ap (λ (x : SecretMap). is_some (map.get x id))
+      (lost.secrets ∙ ap (λ b. cond b old.ring.secrets (map.remove old.ring.secrets id)) absent)
       ∙ ap is_some (removed_none old.ring.secrets id)) absent
 
   pub cleared_nothing : LosesAllClaims old new id → HoldsNothing new.ring new.inodes new.modes id
   cleared_nothing lost =
-      nothing_left (ap (λ (x : SecretMap). is_some (map.get x id)) lost.secrets ∙ ap is_some (removed_none old.ring.secrets id))
+      nothing_left (ap (λ (x : SecretMap). is_some (map.get x id)) lost.secrets
+      ∙ ap is_some (removed_none old.ring.secrets id))
       (ap (λ (cs : ClaimSet). is_present cs id) lost.claims ∙ is_present-without_id old.ring.claims id)

@@ -1,5 +1,6 @@
 -- Secrets go with the claims on their keys.
-use Rattle.std.proofs.Common.{◌≡◌, ℕ, Bool, true, false, cond, List, Option, Some, None, is_some, inl, inr, refl, sym, ap, ◌∙◌}
+use Rattle.std.proofs.Common.{◌≡◌, ℕ, Bool, true, false, cond, List, Option, Some, None, is_some, inl, inr}
+use Rattle.std.proofs.Common.{refl, sym, ap, ◌∙◌}
 use Rattle.std.specs.FinMap as map
 use Rattle.std.specs.FinMap.{get-remove, same_map}
 use Rattle.std.specs.Ordering.{eq_by_cmp}
@@ -19,13 +20,18 @@ picked true o raw is = let none : None ≡ Some raw = is in absurd (cc)
 picked false o raw is = is
 
 -- what is left was there
-pub removed_was : (secrets : SecretMap) (id q : KeyId) (raw : List ℕ) → map.get (map.remove secrets id) q ≡ Some raw → map.get secrets q ≡ Some raw
-removed_was secrets id q raw there = picked (eq_by_cmp id_cmp q id) (map.get secrets q) raw (sym (get-remove id_cmp_total secrets id q) ∙ there)
+pub removed_was : (secrets : SecretMap) (id q : KeyId) (raw : List ℕ) → map.get (map.remove secrets id) q
+    ≡ Some raw → map.get secrets q ≡ Some raw
+removed_was secrets id q raw there =
+    picked (eq_by_cmp id_cmp q id) (map.get secrets q) raw
+    (sym (get-remove id_cmp_total secrets id q) ∙ there)
 
-pub left_was : (secrets : SecretMap) (claims : ClaimSet) (id q : KeyId) (raw : List ℕ) → map.get (secrets_left secrets claims id) q ≡ Some raw → map.get secrets q ≡ Some raw
+pub left_was : (secrets : SecretMap) (claims : ClaimSet) (id q : KeyId) (raw : List ℕ)
+    → map.get (secrets_left secrets claims id) q ≡ Some raw → map.get secrets q ≡ Some raw
 left_was secrets claims id q raw = by (is_present claims id)
   where
-    by : (b : Bool) → map.get (cond b secrets (map.remove secrets id)) q ≡ Some raw → map.get secrets q ≡ Some raw
+    by : (b : Bool) → map.get (cond b secrets (map.remove secrets id)) q ≡ Some raw → map.get secrets q
+        ≡ Some raw
     by true there = there
     by false there = removed_was secrets id q raw there
 
@@ -35,12 +41,14 @@ removed_none secrets id = get-remove id_cmp_total secrets id id
     ∙ cond-true (eq_by_cmp id_cmp id id) None (map.get secrets id) (sym (id_ties id id) ∙ same_id-refl id)
 
 -- where it had none all secrets stay
-pub removed_absent : (secrets : SecretMap) (id : KeyId) → is_some (map.get secrets id) ≡ false → map.remove secrets id ≡ secrets
+pub removed_absent : (secrets : SecretMap) (id : KeyId) → is_some (map.get secrets id) ≡ false
+    → map.remove secrets id ≡ secrets
 removed_absent secrets id absent = same_map id_cmp_total id_cmp-IsAntisymmetric _ _ (λ q.
     get-remove id_cmp_total secrets id q ∙ elim (cases_Bool (eq_by_cmp id_cmp q id)) [
       | inl here ↦
           cond-true (eq_by_cmp id_cmp q id) None (map.get secrets q) here
-          ∙ sym (is_none (map.get secrets q) (ap (λ (k : KeyId). is_some (map.get secrets k)) (same q here) ∙ absent))
+          ∙ sym (is_none (map.get secrets q) (ap (λ (k : KeyId). is_some (map.get secrets k)) (same q here)
+          ∙ absent))
       | inr apart ↦ cond-false (eq_by_cmp id_cmp q id) None (map.get secrets q) apart
     ])
   where

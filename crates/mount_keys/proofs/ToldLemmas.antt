@@ -11,20 +11,22 @@ use Rattle.mount_model.specs.declared.reply.Refusal.TheVariants.{NoKey, Access}
 use Rattle.mount_model.specs.PlainMount.{PlainMount}
 use Rattle.mount_model.specs.States as plain
 use Rattle.mount_model.specs.Answered.{Answer, refused}
-use Rattle.mount_model.specs.KeyAnswers.{is_absent, removal_told, removed, all_removed, answer_to_remove_key, answer_to_remove_key_all}
+use Rattle.mount_model.specs.KeyAnswers.{is_absent, removal_told, removed, all_removed}
+use Rattle.mount_model.specs.KeyAnswers.{answer_to_remove_key, answer_to_remove_key_all}
 use Rattle.mount_model.proofs.CaseLemmas.{at_remove_key, at_remove_key_all}
 use Rattle.mount_state.specs.Held.{is_busy}
 use Rattle.mount_state.specs.StandsFor.{StandsFor}
 use Rattle.mount_state.specs.declared.state.MountState.{MountState}
 use Rattle.mount_state.proofs.StandLemmas.{busy_stands}
-use Rattle.mount_keys.specs.Given.{IsGiven}
+use Rattle.mount_state.specs.Given.{IsGiven}
 use Rattle.mount_keys.specs.Told.{removal_by, clearing_by, told_of_removal, told_of_clearing}
 
 -- ---- a removal that is made
 
 -- by whether a claim stands on the key, whether a handle needs it, and whether the claim is the user's
 abbrev chosen : Reply → Bool → Bool → Bool → Reply
-chosen made present busy held = cond (not present && not busy) (Refused NoKey) (cond (present && not held) (Refused NoKey) made)
+chosen made present busy held =
+    cond (not present && not busy) (Refused NoKey) (cond (present && not held) (Refused NoKey) made)
 
 chosen-held : (made : Reply) (p b h : Bool) → p ≡ true → h ≡ true → chosen made p b h ≡ made
 chosen-held made true b true there held = refl
@@ -38,18 +40,23 @@ chosen-busy made false false h absent busy = absurd (true≢false (sym busy))
 
 module _ (claims : ClaimSet) (busy : Bool) (uid : ℕ) (id : KeyId) where
   -- the user's claim is taken
-  pub held_told : has_claim claims id uid ≡ true → (others told : Bool) → others ≡ is_present (without_claim claims id uid) id → told ≡ (not others && busy)
+  pub held_told : has_claim claims id uid ≡ true → (others told : Bool) → others
+      ≡ is_present (without_claim claims id uid) id → told ≡ (not others && busy)
       → Removed others told ≡ removal_by claims busy uid id
   held_told held others told others_are told_is =
       (λ i. Removed (others_are i) ((told_is ∙ ap (λ o. not o && busy) others_are) i))
-      ∙ sym (chosen-held (removal_told (is_present (without_claim claims id uid) id) busy) (is_present claims id) busy (has_claim claims id uid)
+      ∙ sym (chosen-held (removal_told (is_present (without_claim claims id uid) id) busy)
+      (is_present claims id) busy (has_claim claims id uid)
       (is_present-held claims id uid held) held)
 
   -- nobody has one, and a handle needs the key
-  pub busy_told : is_present claims id ≡ false → busy ≡ true → Removed false busy ≡ removal_by claims busy uid id
+  pub busy_told : is_present claims id ≡ false → busy ≡ true → Removed false busy
+      ≡ removal_by claims busy uid id
   busy_told absent needed =
-      ap (λ o. removal_told o busy) (sym (ap (λ (cs : ClaimSet). is_present cs id) (without_claim-absent claims id uid (has_claim-absent claims id uid absent)) ∙ absent))
-      ∙ sym (chosen-busy (removal_told (is_present (without_claim claims id uid) id) busy) (is_present claims id) busy (has_claim claims id uid) absent needed)
+      ap (λ o. removal_told o busy) (sym (ap (λ (cs : ClaimSet). is_present cs id)
+      (without_claim-absent claims id uid (has_claim-absent claims id uid absent)) ∙ absent))
+      ∙ sym (chosen-busy (removal_told (is_present (without_claim claims id uid) id) busy)
+      (is_present claims id) busy (has_claim claims id uid) absent needed)
 
 -- ---- the mount's answer
 
@@ -64,24 +71,39 @@ module _ (s : MountState) (m : PlainMount) (st : StandsFor s m) (uid : ℕ) (id 
   removal_reply : told_of_removal s uid id ≡ (answer_to_remove_key m uid id).reply
   removal_reply =
       (λ i. removal_by (st.keys.claims i) (busy_is i) uid id)
-      ∙ sym (reply_of (is_absent m id) (refused m NoKey) (cond (is_present m.claims id && not (has_claim m.claims id uid)) (refused m NoKey) (removed m uid id))
-      ∙ ap (cond (is_absent m id) (Refused NoKey)) (reply_of (is_present m.claims id && not (has_claim m.claims id uid)) (refused m NoKey) (removed m uid id)))
+      ∙ sym (reply_of (is_absent m id) (refused m NoKey)
+      (cond (is_present m.claims id && not (has_claim m.claims id uid)) (refused m NoKey)
+      (removed m uid id))
+      ∙ ap (cond (is_absent m id) (Refused NoKey)) (reply_of
+      (is_present m.claims id && not (has_claim m.claims id uid)) (refused m NoKey) (removed m uid id)))
 
   clearing_reply : told_of_clearing s uid id ≡ (answer_to_remove_key_all m uid id).reply
   clearing_reply =
       (λ i. clearing_by (st.keys.claims i) (busy_is i) uid id)
-      ∙ sym (reply_of (not (uid == 0)) (refused m Access) (cond (is_absent m id) (refused m NoKey) (all_removed m id))
-      ∙ ap (cond (not (uid == 0)) (Refused Access)) (reply_of (is_absent m id) (refused m NoKey) (all_removed m id)))
+      ∙ sym (reply_of (not (uid == 0)) (refused m Access)
+      (cond (is_absent m id) (refused m NoKey) (all_removed m id))
+      ∙ ap (cond (not (uid == 0)) (Refused Access)) (reply_of (is_absent m id) (refused m NoKey)
+      (all_removed m id)))
 
   -- what was removed leaves the mount of the answer
-  pub removal_gives : (new : MountState) (others told : Bool) → Removed others told ≡ told_of_removal s uid id
-      → StandsFor new (record m { claims = without_claim m.claims id uid }) → IsGiven (answer_to_remove_key m uid id) (Removed others told) new
+  pub removal_gives : (new : MountState) (others told : Bool) → Removed others told
+      ≡ told_of_removal s uid id
+      → StandsFor new (record m { claims = without_claim m.claims id uid })
+      → IsGiven (answer_to_remove_key m uid id) (Removed others told) new
   removal_gives new others told is stands =
-      let reply : Removed others told ≡ (answer_to_remove_key m uid id).reply = is ∙ removal_reply in
-      (reply, at_remove_key (λ (a : Answer). Removed others told ≡ a.reply → StandsFor new a.mount) m uid id (λ refusal due bad. absurd (cc)) (λ _. stands) reply)
+      let reply : Removed others told ≡ (answer_to_remove_key m uid id).reply = is ∙ removal_reply in (
+        reply,
+        at_remove_key (λ (a : Answer). Removed others told ≡ a.reply → StandsFor new a.mount) m uid id
+            (λ refusal due bad. absurd (cc)) (λ _. stands) reply,
+      )
 
-  pub clearing_gives : (new : MountState) (others told : Bool) → Removed others told ≡ told_of_clearing s uid id
-      → StandsFor new (record m { claims = without_id m.claims id }) → IsGiven (answer_to_remove_key_all m uid id) (Removed others told) new
+  pub clearing_gives : (new : MountState) (others told : Bool) → Removed others told
+      ≡ told_of_clearing s uid id
+      → StandsFor new (record m { claims = without_id m.claims id })
+      → IsGiven (answer_to_remove_key_all m uid id) (Removed others told) new
   clearing_gives new others told is stands =
-      let reply : Removed others told ≡ (answer_to_remove_key_all m uid id).reply = is ∙ clearing_reply in
-      (reply, at_remove_key_all (λ (a : Answer). Removed others told ≡ a.reply → StandsFor new a.mount) m uid id (λ refusal due bad. absurd (cc)) (λ _. stands) reply)
+      let reply : Removed others told ≡ (answer_to_remove_key_all m uid id).reply = is ∙ clearing_reply in (
+        reply,
+        at_remove_key_all (λ (a : Answer). Removed others told ≡ a.reply → StandsFor new a.mount) m uid
+            id (λ refusal due bad. absurd (cc)) (λ _. stands) reply,
+      )

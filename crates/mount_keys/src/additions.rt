@@ -9,7 +9,7 @@ ghost use Rattle.mount_model.specs.PlainMount.{PlainMount};
 ghost use Rattle.mount_model.specs.ClaimHistory.{is_refused};
 ghost use Rattle.mount_model.specs.KeyAnswers.{answer_to_add_key};
 ghost use Rattle.mount_model.specs.Lawful.{AgreesWith};
-ghost use Rattle.mount_keys.specs.Given.{IsToldOrNoMemory, IsGivenOrNoMemory};
+ghost use Rattle.mount_state.specs.Given.{IsToldOrNoMemory, IsGivenOrNoMemory};
 ghost use Rattle.mount_keys.specs.Told.{add_fault};
 ghost use Rattle.mount_keys.specs.Taken.{GainsClaim, SameButRing};
 ghost use Rattle.mount_state.specs.Held.{key_state};

@@ -4,7 +4,7 @@ ghost use Rattle.std.specs.Prelude.{◌≡◌};
 ghost use Rattle.inode_refs.specs.Cached.{all_evicted};
 ghost use Rattle.mount_model.specs.PlainMount.{PlainMount};
 ghost use Rattle.mount_model.specs.Answered.{done};
-ghost use Rattle.mount_keys.specs.Given.{IsGiven};
+ghost use Rattle.mount_state.specs.Given.{IsGiven};
 ghost use Rattle.mount_state.specs.SameButKeys.{SameButKeys};
 ghost use Rattle.mount_state.specs.StandsFor.{StandsFor};
 

@@ -5,7 +5,7 @@ ghost use Rattle.user_claims.specs.Claims.{has_claim, is_present};
 ghost use Rattle.mount_model.specs.PlainMount.{PlainMount};
 ghost use Rattle.mount_model.specs.ClaimHistory.{is_refused};
 ghost use Rattle.mount_model.specs.KeyAnswers.{answer_to_remove_key};
-ghost use Rattle.mount_keys.specs.Given.{IsGiven};
+ghost use Rattle.mount_state.specs.Given.{IsGiven};
 ghost use Rattle.mount_keys.specs.Told.{told_of_removal};
 ghost use Rattle.mount_keys.specs.Taken.{KeepsKeys, LosesClaim, SameButKeyed};
 ghost use Rattle.mount_state.specs.Held.{HoldsNothing};

@@ -3,7 +3,7 @@
 ghost use Rattle.std.specs.Prelude.{◌≡◌};
 ghost use Rattle.mount_model.specs.PlainMount.{PlainMount};
 ghost use Rattle.mount_model.specs.KeyAnswers.{answer_to_key_status};
-ghost use Rattle.mount_keys.specs.Given.{IsGiven};
+ghost use Rattle.mount_state.specs.Given.{IsGiven};
 ghost use Rattle.mount_keys.specs.Told.{told_of_status};
 ghost use Rattle.mount_state.specs.StandsFor.{StandsFor};
 

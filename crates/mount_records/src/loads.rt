@@ -4,7 +4,7 @@ ghost use Rattle.std.specs.Prelude.{◌≡◌, IfSome, IfNone};
 ghost use Rattle.meta_files.specs.Records.{record_of};
 ghost use Rattle.mount_model.specs.PlainMount.{PlainMount};
 ghost use Rattle.mount_model.specs.RecordAnswers.{answer_to_meta_load};
-ghost use Rattle.mount_records.specs.Given.{IsToldOrNoMemory, IsGivenOrNoMemory};
+ghost use Rattle.mount_state.specs.Given.{IsToldOrNoMemory, IsGivenOrNoMemory};
 ghost use Rattle.mount_state.specs.StandsFor.{StandsFor};
 
 use mount_model::{Bytes, Refusal, Reply};

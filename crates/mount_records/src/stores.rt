@@ -6,7 +6,7 @@ ghost use Rattle.meta_files.specs.Faults.{store_fault};
 ghost use Rattle.mount_model.specs.PlainMount.{PlainMount};
 ghost use Rattle.mount_model.specs.ClaimHistory.{is_refused};
 ghost use Rattle.mount_model.specs.RecordAnswers.{answer_to_meta_store};
-ghost use Rattle.mount_records.specs.Given.{IsToldOrNoMemory, IsGivenOrNoMemory};
+ghost use Rattle.mount_state.specs.Given.{IsToldOrNoMemory, IsGivenOrNoMemory};
 ghost use Rattle.mount_records.specs.Refusals.{refusal_of};
 ghost use Rattle.mount_records.specs.SameButRecords.{SameButRecords};
 ghost use Rattle.mount_state.specs.StandsFor.{StandsFor};

@@ -10,15 +10,19 @@ invariant_of-state c =
     let s = c.args.state.now in
     record {
       forgets = added_rule s.disk s.ring c.add-added.new.self s.inodes s.modes s.handles.live s.forgets
-          c.add-added.result (key_id_of c.in-Ok.key) c.args.uid c.add-added.ensures.claimed c.add-added.ensures.kept;
+          c.add-added.result (key_id_of c.in-Ok.key) c.args.uid c.add-added.ensures.claimed
+          c.add-added.ensures.kept;
       safe = s.safe;
     }
 
 pub returns-in-Ok-added-clause-stands : goal.returns-in-Ok-added-clause-stands
 returns-in-Ok-added-clause-stands c = λ m st agrees.
-    let range : (LEAST_RAW_KEY_BYTES ≤ length c.args.raw.now) × (length c.args.raw.now ≤ MOST_RAW_KEY_BYTES) =
-    subst (λ l. (LEAST_RAW_KEY_BYTES ≤ length l) × (length l ≤ MOST_RAW_KEY_BYTES)) c.as_slice.ensures (c.in-Ok.ensures.ok_in_range.0 refl) in
-    inl (added_gives c.args.state.now m st c.users_of-used.ensures.used _ c.args.uid c.in-Ok.key c.args.raw.now c.in-Ok-added.id (agrees refl)
+    let range : (LEAST_RAW_KEY_BYTES ≤ length c.args.raw.now)
+    × (length c.args.raw.now ≤ MOST_RAW_KEY_BYTES) =
+    subst (λ l. (LEAST_RAW_KEY_BYTES ≤ length l) × (length l ≤ MOST_RAW_KEY_BYTES)) c.as_slice.ensures
+    (c.in-Ok.ensures.ok_in_range.0 refl) in
+    inl (added_gives c.args.state.now m st c.users_of-used.ensures.used _ c.args.uid c.in-Ok.key
+    c.args.raw.now c.in-Ok-added.id (agrees refl)
     (c.in-Ok.ensures.value ∙ c.as_slice.ensures) range.0 range.1 c.in-Ok-added.ensures.id
     (λ over. let none = sym c.in-Ok-added.is ∙ c.add-added.ensures.quota.1 over in cc none)
     (record { disk = refl; next_node = refl; meta = refl; inodes = refl; handles = refl; modes = refl })
@@ -27,5 +31,6 @@ returns-in-Ok-added-clause-stands c = λ m st agrees.
 pub returns-in-Ok-added-clause-present : goal.returns-in-Ok-added-clause-present
 returns-in-Ok-added-clause-present c = λ _.
     let s = c.args.state.now in
-    added_present s.disk s.ring.claims c.add-added.new.self.claims s.handles.live c.args.uid c.in-Ok.key c.args.raw.now
+    added_present s.disk s.ring.claims c.add-added.new.self.claims s.handles.live c.args.uid c.in-Ok.key
+    c.args.raw.now
     (c.in-Ok.ensures.value ∙ c.as_slice.ensures) c.in-Ok-added.ensures.claimed

@@ -8,7 +8,8 @@ pub invariant_of-state : goal.invariant_of-state
 invariant_of-state c =
     let s = c.args.state.now in
     record {
-      forgets = all_evicted_rule s.disk s.ring.claims s.inodes s.modes s.handles.live s.forgets c.evict_all_unpinned.new.self c.evict_all_unpinned.ensures;
+      forgets = all_evicted_rule s.disk s.ring.claims s.inodes s.modes s.handles.live s.forgets
+          c.evict_all_unpinned.new.self c.evict_all_unpinned.ensures;
       safe = s.safe;
     }
 
@@ -17,7 +18,16 @@ returns-clause-stands c = λ m st.
     let s = c.args.state.now in (
       refl,
       fewer_stand s _ m m.claims st
-          (record { disk = refl; next_node = refl; meta = refl; pins = ap (λ (x : Cache). x.pins) c.evict_all_unpinned.ensures; handles = refl; modes = refl })
+          (record {
+            disk = refl;
+            next_node = refl;
+            meta = refl;
+            pins = ap (λ (x : Cache). x.pins)
+                c.evict_all_unpinned.ensures;
+            handles = refl;
+            modes = refl;
+          })
           st.well.keys st.keys.claims (λ id raw there. there)
-          (λ n k there. all_evicted_was s.inodes n k (sym (ap (λ (x : Cache). key_at x n) c.evict_all_unpinned.ensures) ∙ there)),
+          (λ n k there. all_evicted_was s.inodes n k (sym
+          (ap (λ (x : Cache). key_at x n) c.evict_all_unpinned.ensures) ∙ there)),
     )

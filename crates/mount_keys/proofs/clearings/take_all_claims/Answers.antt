@@ -8,8 +8,10 @@ pub invariant_of-state : goal.invariant_of-state
 invariant_of-state c =
     let s = c.args.state.now in
     record {
-      forgets = evicted_rule s.disk s.ring.claims s.inodes s.modes s.handles.live s.forgets c.args.id.now c.clear.new.self.claims
-          (λ q apart. ap (λ (cs : ClaimSet). is_present cs q) c.clear.ensures.claims ∙ is_present-without_id_other s.ring.claims c.args.id.now q apart)
+      forgets = evicted_rule s.disk s.ring.claims s.inodes s.modes s.handles.live s.forgets c.args.id.now
+          c.clear.new.self.claims
+          (λ q apart. ap (λ (cs : ClaimSet). is_present cs q) c.clear.ensures.claims
+          ∙ is_present-without_id_other s.ring.claims c.args.id.now q apart)
           c.evict_unpinned.new.self c.evict_unpinned.ensures;
       safe = s.safe;
     }

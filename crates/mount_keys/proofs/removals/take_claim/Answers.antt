@@ -12,7 +12,8 @@ invariant_of-state c =
     let some : 1 ≤ count_of_id after id = omega (arith, c.take_claim-left.ensures.left) in
     record {
       forgets = left_rule s.disk s.ring.claims s.inodes s.modes s.handles.live s.forgets id after
-          (λ q apart. ap (λ (cs : ClaimSet). is_present cs q) c.take_claim-left.ensures.claims ∙ is_present-without_claim_other s.ring.claims id c.args.uid q apart)
+          (λ q apart. ap (λ (cs : ClaimSet). is_present cs q) c.take_claim-left.ensures.claims
+          ∙ is_present-without_claim_other s.ring.claims id c.args.uid q apart)
           (is_present-some after id some);
       safe = s.safe;
     }
@@ -22,8 +23,10 @@ invariant_of-state-2 c =
     let s = c.args.state.now in
     let id = c.args.id.now in
     record {
-      forgets = evicted_rule s.disk s.ring.claims s.inodes s.modes s.handles.live s.forgets id c.take_claim-left.new.self.claims
-          (λ q apart. ap (λ (cs : ClaimSet). is_present cs q) c.take_claim-left.ensures.claims ∙ is_present-without_claim_other s.ring.claims id c.args.uid q apart)
+      forgets = evicted_rule s.disk s.ring.claims s.inodes s.modes s.handles.live s.forgets id
+          c.take_claim-left.new.self.claims
+          (λ q apart. ap (λ (cs : ClaimSet). is_present cs q) c.take_claim-left.ensures.claims
+          ∙ is_present-without_claim_other s.ring.claims id c.args.uid q apart)
           c.evict_unpinned.new.self c.evict_unpinned.ensures;
       safe = s.safe;
     }
