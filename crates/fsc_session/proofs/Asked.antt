@@ -8,7 +8,7 @@ use Rattle.script_lang.specs.Writing.{line_behind}
 use Rattle.script_lang.specs.Readable.{IsCommand}
 use Rattle.script_lang.specs.Spelled.{StandBehind, HaveRoom, IsSpelled}
 use Rattle.script_lang.proofs.RoundTrip.{IsSpelled-writable}
-use Rattle.fsc_session.specs.Session.{AsksRightly}
+use Rattle.fsc_session.specs.Commands.{AsksRightly}
 
 abbrev IsAsked : Command → Type 0
 IsAsked command = IsCommand command.verb

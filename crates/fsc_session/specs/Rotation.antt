@@ -1,38 +1,51 @@
 -- Whose call comes when: the callers of a script take turns, command by command.
-use Rattle.std.specs.Prelude.{◌≡◌, ℕ, ◌+◌, max, List, [], ◌∷◌, ◌++◌, length, map, slice_get}
+use Rattle.std.specs.Prelude.{ℕ, zero, suc, ◌+◌, max, List, [], ◌∷◌, ◌++◌, length, map, slice_get, Option, Some, None}
 use Rattle.std.specs.List.{fold}
-use Rattle.std.specs.Option.{option_map_or}
-use Rattle.byte_words.specs.Blocks.{first_blocks}
-use Rattle.mount_model.specs.declared.call.Call.{Call}
-use Rattle.mount_model.specs.History.{History, entries_by}
 use Rattle.script_lang.specs.declared.commands.Section.{Section}
-use Rattle.fsc_session.specs.Session.{call_of, section_calls}
+use Rattle.script_lang.specs.declared.commands.Command.{Command}
+use Rattle.fsc_session.specs.Steps.{Steps, and_then}
+use Rattle.fsc_session.specs.Steps.Steps.{Done}
+use Rattle.fsc_session.specs.Commands.{command_steps}
 
--- the calls of the section that stands at the caller's number; a number without a section has none
-abbrev pub caller_calls : List Section → ℕ → List Call
-caller_calls script caller = option_map_or section_calls (slice_get script caller) []
+-- a caller between two of its commands: its section, and the names that it was last told
+pub record Waiting : Type 0 where
+  pub section : Section
+  pub names : List (List ℕ)
 
--- each caller's entries make the calls of its section, in order, and no other caller has any
-abbrev pub IsRunOf : List Section → History → Type 0
-IsRunOf script history = (caller : ℕ) → map (λ placed. placed.1.call) (entries_by caller history) ≡ caller_calls script caller
+abbrev pub waiting : Section → List (List ℕ) → Waiting
+waiting section names = record { section = section; names = names }
 
--- the call of command n of a caller's section, with the caller; none where there is no such command
-abbrev pub nth_call : ℕ → ℕ → Section → List (ℕ × Call)
-nth_call n caller section = option_map_or (λ command. (caller, call_of section.uid command) ∷ []) (slice_get section.commands n) []
+-- before its first command
+abbrev pub fresh : Section → Waiting
+fresh section = waiting section []
 
--- the calls of the commands n of these sections, in order, of which the first is caller k's
-unfoldable pub round_from : ℕ → ℕ → List Section → List (ℕ × Call)
-round_from n k [] = []
-round_from n k (section ∷ more) = nth_call n k section ++ round_from n (k + 1) more
+-- the steps of this command, then what comes after it; where there is no command, that at once
+abbrev pub turn_of : List ℕ → ℕ → ℕ → Waiting → Option Command → (Waiting → Steps (List Waiting)) → Steps (List Waiting)
+turn_of seed n caller state None next = next state
+turn_of seed n caller state (Some command) next =
+    and_then state.names (command_steps seed caller state.section.uid n state.names command.verb)
+    (λ told done. next (waiting state.section told))
 
--- round n: the call of each caller that has a command n
-abbrev pub round_of : List Section → ℕ → List (ℕ × Call)
-round_of script n = round_from n 0 script
+-- a caller's command n
+abbrev pub turn_steps : List ℕ → ℕ → ℕ → Waiting → (Waiting → Steps (List Waiting)) → Steps (List Waiting)
+turn_steps seed n caller state next = turn_of seed n caller state (slice_get state.section.commands n) next
+
+-- the commands n of those callers whose turn has not come, of which the first has the number k; then what
+-- comes after the round
+abbrev pub round_steps : List ℕ → ℕ → ℕ → List Waiting → List Waiting → (List Waiting → Steps (List Waiting)) → Steps (List Waiting)
+round_steps seed n k after [] next = next after
+round_steps seed n k after (state ∷ more) next =
+    turn_steps seed n k state (λ come. round_steps seed n (k + 1) (after ++ come ∷ []) more next)
+
+-- so many rounds, of which the first is round n
+abbrev pub rounds_steps : List ℕ → ℕ → ℕ → List Waiting → Steps (List Waiting)
+rounds_steps seed zero n states = Done states
+rounds_steps seed (suc count) n states = round_steps seed n 0 [] states (rounds_steps seed count (n + 1))
 
 -- the number of commands of the longest section
 abbrev pub longest : List Section → ℕ
 longest script = fold (λ most section. max most (length section.commands)) 0 script
 
--- the calls of a script in rotation, each with its caller: round 0, round 1, and so on, as many as the longest section has commands
-abbrev pub rotation : List Section → List (ℕ × Call)
-rotation script = first_blocks (round_of script) (longest script)
+-- the steps of a script in rotation: command 0 of each caller in order, then command 1, and so on
+abbrev pub rotation_steps : List ℕ → List Section → Steps (List Waiting)
+rotation_steps seed script = rounds_steps seed (longest script) 0 (map fresh script)

@@ -1,18 +1,29 @@
-//! What a script's commands ask of a mount, whose turn it is, and the bytes that commands draw from a seed.
+//! What the callers of a script ask of a mount, command after command; the bytes that commands draw from a
+//! seed; and runners, which make a caller's calls on any port.
 #![tactic(auto)]
 
 mod calls;
+mod command;
 mod draws;
+mod laws;
+mod runner;
+mod session;
 mod stars;
 #[cfg(test)]
 mod tests;
 
 use call_history::Entry;
-pub use calls::{call_of, id_meant};
+pub use calls::id_meant;
 pub use draws::{Purpose, distinct_draws, draw};
 use item_list::Items;
+pub use laws::{answers_determine_the_run, runs_are_next_calls};
 use mount_model::{Call, Reply};
+pub use runner::Runner;
+pub use session::run_caller;
 pub use stars::path_meant;
 
-/// What callers asked and were replied, in order of place, which counts from 0.
-pub type EntryList = Items<Entry<Call, Reply>>;
+/// What a caller asked and was replied, each with its place in the history, which counts from 0.
+pub type EntryList = Items<(u64, Entry<Call, Reply>)>;
+
+/// The most calls that a command makes.
+pub const MOST_CALLS: u64 = 4;

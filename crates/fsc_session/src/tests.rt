@@ -1,9 +1,10 @@
-use crate::{Purpose, call_of, draw, id_meant, path_meant};
+use crate::calls::plain_op;
+use crate::{Purpose, draw, id_meant, path_meant};
 use byte_words::slice_is_bytes;
 use fsc_keys::RawKey;
 use item_list::Bytes;
 use mount_model::Op;
-use script_lang::{Command, KeyRef, Verb, read_path};
+use script_lang::{KeyRef, Verb, read_path};
 use std::alloc::{AllocError, Global};
 use std::test::Fail;
 
@@ -110,20 +111,11 @@ fn commands_make_their_calls(rt: HostRuntime) -> Result<(), Fail> {
     let bytes = Bytes::from_vec(vec![in alloc; 7; 32]?);
     assert_eq!(rt; bytes.len(), 32);
     slice_is_bytes(bytes.as_slice());
-    let add = Command {
-        line: 2,
-        verb: Verb::AddKey(bytes),
-    };
-    let call = call_of(alloc, 1000, &add)?;
-    assert_eq!(rt; call.uid, 1000);
-    assert!(rt; matches!(&call.op, Op::AddKey { raw } if raw.as_slice() == [7; 32].as_slice()));
+    let op = plain_op(alloc, &Verb::AddKey(bytes))?;
+    assert!(rt; matches!(&op, Op::AddKey { raw } if raw.as_slice() == [7; 32].as_slice()));
     let raw = RawKey::read(&[7; 32])?;
     slice_is_bytes(raw.bytes());
-    let remove = Command {
-        line: 3,
-        verb: Verb::RemoveKey(KeyRef::Raw(raw)),
-    };
-    match call_of(alloc, 1000, &remove)?.op {
+    match plain_op(alloc, &Verb::RemoveKey(KeyRef::Raw(raw)))? {
         Op::RemoveKey { id } => {
             let digits = hex::encode(alloc, id.0)?;
             assert_eq!(rt; digits.as_str(), "1101420d499290b005fc681527257159");

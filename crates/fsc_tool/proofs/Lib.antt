@@ -1,4 +1,3 @@
-pub mod RotationLemmas
-pub mod RunLemmas
-pub mod SerialLemmas
+pub mod StartLemmas
 pub mod TopLemmas
+pub mod TurnLemmas

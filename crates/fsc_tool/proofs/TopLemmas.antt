@@ -4,6 +4,7 @@ use Rattle.std.specs.Prelude.{IsSome, ◌↔◌}
 use Rattle.std.specs.Io.KnownBytes.{Consumes, IsAtEnd}
 use Rattle.text_words.specs.Lines.{line_count}
 use Rattle.mount_model.specs.History.{History}
+use Rattle.script_lang.specs.declared.commands.Section.{Section}
 use Rattle.script_lang.specs.Script.{parsed_script}
 use Rattle.fsc_outside.specs.States.{SourceState, SeedState}
 use Rattle.fsc_outside.specs.Input.{GaveWhole, GaveTooMuch, IsWithin}
@@ -11,12 +12,11 @@ use Rattle.reply_text.specs.declared.status.Status.{Status}
 use Rattle.reply_text.specs.declared.status.Status.TheVariants.{Done, Usage, BadLine, ReadFault, WriteFault, SeedFault, TooLong, NoMemory}
 use Rattle.fsc_tool.specs.declared.form.Form.{Form}
 use Rattle.fsc_tool.specs.declared.form.Form.TheVariants.{Seeded, Unseeded}
-use Rattle.fsc_tool.specs.Forms.{form_of}
 use Rattle.fsc_tool.specs.Limits.{input_limits, IsLong}
 use Rattle.fsc_tool.specs.Outside.{Outside}
 use Rattle.fsc_tool.specs.Seed.{IsSeedOfForm, IsSeedOf}
 use Rattle.fsc_tool.specs.Ends.{Ends}
-use Rattle.fsc_tool.specs.SerialReplay.{Told, IsReplayable, IsOrNoMemory, IsSerialReplay}
+use Rattle.fsc_tool.specs.Replay.{Told, IsReplayable, IsOrNoMemory, IsReplay}
 
 -- ---- words
 
@@ -70,15 +70,15 @@ same_script old new input bytes told gave = ap parsed_script (gave_told old new 
 
 -- ---- Usage, exactly where the words are no form
 
-usage_exactly : (lawful : History → Type 0) (words : List (List ℕ)) (a b : Outside) (status : Status) → Ends lawful words a b status → (status ≡ Usage) ↔ (form_of words ≡ None)
-usage_exactly lawful words a b Usage h = (λ _. h.no_form, λ _. refl)
-usage_exactly lawful words a b Done h = (λ e. absurd (cc e), λ none. absurd (other_form _ _ h.log.seeded.said none))
-usage_exactly lawful words a b (BadLine line) h = (λ e. absurd (cc e), λ none. absurd (no_form _ h.early.form none))
-usage_exactly lawful words a b ReadFault h = (λ e. absurd (cc e), λ none. absurd (no_form _ h.early.form none))
-usage_exactly lawful words a b WriteFault h = (λ e. absurd (cc e), λ none. absurd (other_form _ _ h.log.seeded.said none))
-usage_exactly lawful words a b SeedFault h = (λ e. absurd (cc e), λ none. absurd (other_form _ _ h.form none))
-usage_exactly lawful words a b TooLong h = (λ e. absurd (cc e), λ none. absurd (no_form _ h.early.form none))
-usage_exactly lawful words a b NoMemory h = (λ e. absurd (cc e), λ none. absurd (no_form _ h.form none))
+usage_exactly : (IsRun : List ℕ → List Section → History → Type 0) (form : Option Form) (a b : Outside) (status : Status) → Ends IsRun form a b status → (status ≡ Usage) ↔ (form ≡ None)
+usage_exactly IsRun form a b Usage h = (λ _. h.no_form, λ _. refl)
+usage_exactly IsRun form a b Done h = (λ e. absurd (cc e), λ none. absurd (other_form _ _ h.log.seeded.said none))
+usage_exactly IsRun form a b (BadLine line) h = (λ e. absurd (cc e), λ none. absurd (no_form _ h.early.asked none))
+usage_exactly IsRun form a b ReadFault h = (λ e. absurd (cc e), λ none. absurd (no_form _ h.early.asked none))
+usage_exactly IsRun form a b WriteFault h = (λ e. absurd (cc e), λ none. absurd (other_form _ _ h.log.seeded.said none))
+usage_exactly IsRun form a b SeedFault h = (λ e. absurd (cc e), λ none. absurd (other_form _ _ h.asked none))
+usage_exactly IsRun form a b TooLong h = (λ e. absurd (cc e), λ none. absurd (no_form _ h.early.asked none))
+usage_exactly IsRun form a b NoMemory h = (λ e. absurd (cc e), λ none. absurd (no_form _ h.asked none))
 
 -- ---- a seed of the words' own
 
@@ -86,81 +86,81 @@ own_of_form : (form : Form) (old new : SeedState) (seed own : List ℕ) → form
 own_of_form (Seeded other) old new seed own is given = given.1
 own_of_form Unseeded old new seed own is given = absurd (cc is)
 
-own_seed : (words : List (List ℕ)) (old new : SeedState) (seed own : List ℕ) → form_of words ≡ Some (Seeded own)
-    → IsSeedOf words old new seed → new ≡ old
-own_seed words old new seed own said given =
+own_seed : (form : Option Form) (old new : SeedState) (seed own : List ℕ) → form ≡ Some (Seeded own)
+    → IsSeedOf form old new seed → new ≡ old
+own_seed form old new seed own said given =
     let is = sym given.said ∙ said in own_of_form given.form old new seed own (cc is) given.given
 
-unasked : (lawful : History → Type 0) (words : List (List ℕ)) (a b : Outside) (status : Status) → Ends lawful words a b status
-    → (own : List ℕ) → form_of words ≡ Some (Seeded own) → b.seeds ≡ a.seeds
-unasked lawful words a b Done h own said = own_seed words a.seeds b.seeds h.log.seed own said h.log.seeded
-unasked lawful words a b WriteFault h own said = own_seed words a.seeds b.seeds h.log.seed own said h.log.seeded
-unasked lawful words a b Usage h own said = ap (λ (o : Outside). o.seeds) h.still
-unasked lawful words a b (BadLine line) h own said = h.early.unasked
-unasked lawful words a b ReadFault h own said = h.early.unasked
-unasked lawful words a b TooLong h own said = h.early.unasked
-unasked lawful words a b SeedFault h own said = let no = sym h.form ∙ said in absurd (cc no)
-unasked lawful words a b NoMemory h own said = elim h.seeds [
+unasked : (IsRun : List ℕ → List Section → History → Type 0) (form : Option Form) (a b : Outside) (status : Status) → Ends IsRun form a b status
+    → (own : List ℕ) → form ≡ Some (Seeded own) → b.seeds ≡ a.seeds
+unasked IsRun form a b Done h own said = own_seed form a.seeds b.seeds h.log.seed own said h.log.seeded
+unasked IsRun form a b WriteFault h own said = own_seed form a.seeds b.seeds h.log.seed own said h.log.seeded
+unasked IsRun form a b Usage h own said = ap (λ (o : Outside). o.seeds) h.still
+unasked IsRun form a b (BadLine line) h own said = h.early.unasked
+unasked IsRun form a b ReadFault h own said = h.early.unasked
+unasked IsRun form a b TooLong h own said = h.early.unasked
+unasked IsRun form a b SeedFault h own said = let no = sym h.asked ∙ said in absurd (cc no)
+unasked IsRun form a b NoMemory h own said = elim h.seeds [
   | inl still ↦ still
-  | inr taken ↦ own_seed words a.seeds b.seeds taken.0 own said taken.1
+  | inr taken ↦ own_seed form a.seeds b.seeds taken.0 own said taken.1
 ]
 
 -- ---- a source that tells its bytes
 
-long_ends : (lawful : History → Type 0) (words : List (List ℕ)) (a b : Outside) (status : Status) → Ends lawful words a b status
-    → (input : List ℕ) → Told words a b input → IsLong input → IsOrNoMemory TooLong status
-long_ends lawful words a b TooLong h input told long = inl refl
-long_ends lawful words a b NoMemory h input told long = inr refl
-long_ends lawful words a b Usage h input told long = absurd (no_form _ told.form h.no_form)
-long_ends lawful words a b ReadFault h input told long = absurd (told.read h.cause)
-long_ends lawful words a b Done h input told long =
+long_ends : (IsRun : List ℕ → List Section → History → Type 0) (form : Option Form) (a b : Outside) (status : Status) → Ends IsRun form a b status
+    → (input : List ℕ) → Told form a b input → IsLong input → IsOrNoMemory TooLong status
+long_ends IsRun form a b TooLong h input told long = inl refl
+long_ends IsRun form a b NoMemory h input told long = inr refl
+long_ends IsRun form a b Usage h input told long = absurd (no_form _ told.asked h.no_form)
+long_ends IsRun form a b ReadFault h input told long = absurd (told.read h.cause)
+long_ends IsRun form a b Done h input told long =
     absurd (not_short a.source b.source input h.log.input told.left h.log.read.gave h.log.read.within long)
-long_ends lawful words a b WriteFault h input told long =
+long_ends IsRun form a b WriteFault h input told long =
     absurd (not_short a.source b.source input h.log.input told.left h.log.read.gave h.log.read.within long)
-long_ends lawful words a b (BadLine line) h input told long =
+long_ends IsRun form a b (BadLine line) h input told long =
     absurd (not_short a.source b.source input h.input told.left h.read.gave h.read.within long)
-long_ends lawful words a b SeedFault h input told long =
+long_ends IsRun form a b SeedFault h input told long =
     absurd (not_short a.source b.source input h.input told.left h.read.gave h.read.within long)
 
-bad_line_ends : (lawful : History → Type 0) (words : List (List ℕ)) (a b : Outside) (status : Status) → Ends lawful words a b status
-    → (input : List ℕ) (line : ℕ) → Told words a b input → IsWithin input_limits input → parsed_script input ≡ Err line
+bad_line_ends : (IsRun : List ℕ → List Section → History → Type 0) (form : Option Form) (a b : Outside) (status : Status) → Ends IsRun form a b status
+    → (input : List ℕ) (line : ℕ) → Told form a b input → IsWithin input_limits input → parsed_script input ≡ Err line
     → IsOrNoMemory (BadLine line) status
-bad_line_ends lawful words a b NoMemory h input line told within bad = inr refl
-bad_line_ends lawful words a b Usage h input line told within bad = absurd (no_form _ told.form h.no_form)
-bad_line_ends lawful words a b ReadFault h input line told within bad = absurd (told.read h.cause)
-bad_line_ends lawful words a b TooLong h input line told within bad =
+bad_line_ends IsRun form a b NoMemory h input line told within bad = inr refl
+bad_line_ends IsRun form a b Usage h input line told within bad = absurd (no_form _ told.asked h.no_form)
+bad_line_ends IsRun form a b ReadFault h input line told within bad = absurd (told.read h.cause)
+bad_line_ends IsRun form a b TooLong h input line told within bad =
     absurd (not_too_much a.source b.source input h.much.bytes told.left h.much.gave within)
-bad_line_ends lawful words a b (BadLine other) h input line told within bad =
+bad_line_ends IsRun form a b (BadLine other) h input line told within bad =
     let same = sym h.bad ∙ same_script a.source b.source input h.input told.left h.read.gave ∙ bad in
     inl (ap BadLine (cc same))
-bad_line_ends lawful words a b Done h input line told within bad =
+bad_line_ends IsRun form a b Done h input line told within bad =
     let same = sym h.log.spelled ∙ same_script a.source b.source input h.log.input told.left h.log.read.gave ∙ bad in absurd (cc same)
-bad_line_ends lawful words a b WriteFault h input line told within bad =
+bad_line_ends IsRun form a b WriteFault h input line told within bad =
     let same = sym h.log.spelled ∙ same_script a.source b.source input h.log.input told.left h.log.read.gave ∙ bad in absurd (cc same)
-bad_line_ends lawful words a b SeedFault h input line told within bad =
+bad_line_ends IsRun form a b SeedFault h input line told within bad =
     let same = sym h.script.1 ∙ same_script a.source b.source input h.input told.left h.read.gave ∙ bad in absurd (cc same)
 
-script_ends : (lawful : History → Type 0) (words : List (List ℕ)) (a b : Outside) (status : Status) → Ends lawful words a b status
-    → (input : List ℕ) → IsReplayable words a b input → IsOrNoMemory Done status
-script_ends lawful words a b Done h input fine = inl refl
-script_ends lawful words a b NoMemory h input fine = inr refl
-script_ends lawful words a b Usage h input fine = absurd (no_form _ fine.told.form h.no_form)
-script_ends lawful words a b ReadFault h input fine = absurd (fine.told.read h.cause)
-script_ends lawful words a b WriteFault h input fine = absurd (fine.written h.written.cause)
-script_ends lawful words a b SeedFault h input fine = absurd (fine.seeded h.seeds.cause)
-script_ends lawful words a b TooLong h input fine =
+script_ends : (IsRun : List ℕ → List Section → History → Type 0) (form : Option Form) (a b : Outside) (status : Status) → Ends IsRun form a b status
+    → (input : List ℕ) → IsReplayable form a b input → IsOrNoMemory Done status
+script_ends IsRun form a b Done h input fine = inl refl
+script_ends IsRun form a b NoMemory h input fine = inr refl
+script_ends IsRun form a b Usage h input fine = absurd (no_form _ fine.told.asked h.no_form)
+script_ends IsRun form a b ReadFault h input fine = absurd (fine.told.read h.cause)
+script_ends IsRun form a b WriteFault h input fine = absurd (fine.written h.written.cause)
+script_ends IsRun form a b SeedFault h input fine = absurd (fine.seeded h.seeds.cause)
+script_ends IsRun form a b TooLong h input fine =
     absurd (not_too_much a.source b.source input h.much.bytes fine.told.left h.much.gave fine.within)
-script_ends lawful words a b (BadLine line) h input fine =
+script_ends IsRun form a b (BadLine line) h input fine =
     let same = sym h.bad ∙ same_script a.source b.source input h.input fine.told.left h.read.gave ∙ fine.script.1 in absurd (cc same)
 
 -- ---- the theorem, from what each status means
 
-pub serial_replay : (lawful : History → Type 0) (words : List (List ℕ)) (a b : Outside) (status : Status) → Ends lawful words a b status → IsSerialReplay lawful words a b status
-serial_replay lawful words a b status h = record {
+pub replay_is : (IsRun : List ℕ → List Section → History → Type 0) (form : Option Form) (a b : Outside) (status : Status) → Ends IsRun form a b status → IsReplay IsRun form a b status
+replay_is IsRun form a b status h = record {
   ends = h;
-  usage = usage_exactly lawful words a b status h;
-  own_seed = unasked lawful words a b status h;
-  too_long = long_ends lawful words a b status h;
-  bad_line = bad_line_ends lawful words a b status h;
-  complete = script_ends lawful words a b status h;
+  usage = usage_exactly IsRun form a b status h;
+  own_seed = unasked IsRun form a b status h;
+  too_long = long_ends IsRun form a b status h;
+  bad_line = bad_line_ends IsRun form a b status h;
+  complete = script_ends IsRun form a b status h;
 }

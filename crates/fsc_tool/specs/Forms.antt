@@ -18,7 +18,7 @@ form_behind (name ∷ digits ∷ []) =
     if bytes_eq name (codes "--seed") then option_map Seeded (hex_bytes_of_length 32 digits) else None
 form_behind _ = None
 
--- the form that the words are, where they are one
-abbrev pub form_of : List (List ℕ) → Option Form
-form_of (verb ∷ serial ∷ words) = if is_serial_replay verb serial then form_behind words else None
-form_of _ = None
+-- the form of a run in rotation that the words are, where they are one
+abbrev pub serial_form_of : List (List ℕ) → Option Form
+serial_form_of (verb ∷ serial ∷ words) = if is_serial_replay verb serial then form_behind words else None
+serial_form_of _ = None

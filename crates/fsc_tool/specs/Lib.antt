@@ -4,6 +4,7 @@ pub mod Forms
 pub mod Limits
 pub mod LogOfRun
 pub mod Outside
+pub mod Replay
+pub mod Rotating
+pub mod Runs
 pub mod Seed
-pub mod Serial
-pub mod SerialReplay

@@ -1,11 +1,10 @@
 -- The seed of a run, and how often the seed source is asked for it.
-use Rattle.std.specs.Prelude.{◌≡◌, ℕ, List, length, Some, IfSome, Result, Ok, Err}
+use Rattle.std.specs.Prelude.{◌≡◌, ℕ, List, length, Option, Some, IfSome, Result, Ok, Err}
 use Rattle.fsc_outside.specs.Causes.{Rose, one_more}
 use Rattle.fsc_outside.specs.States.{SeedState}
 use Rattle.fsc_outside.specs.declared.Failed.{Failed}
 use Rattle.fsc_tool.specs.declared.form.Form.{Form}
 use Rattle.fsc_tool.specs.declared.form.Form.TheVariants.{Seeded, Unseeded}
-use Rattle.fsc_tool.specs.Forms.{form_of}
 
 -- the seed source was asked just once and gave this seed: the one that it told, where it told one
 pub record GaveSeed (old new : SeedState) (seed : List ℕ) : Type 0 where
@@ -23,10 +22,10 @@ abbrev pub IsSeedOfForm : Form → SeedState → SeedState → List ℕ → Type
 IsSeedOfForm (Seeded own) old new seed = (seed ≡ own) × (new ≡ old)
 IsSeedOfForm Unseeded old new seed = GaveSeed old new seed
 
--- the seed, of 32 bytes, of a run that these words ask for
-pub record IsSeedOf (words : List (List ℕ)) (old new : SeedState) (seed : List ℕ) : Type 0 where
+-- the seed, of 32 bytes, of a run in the form that was asked for
+pub record IsSeedOf (asked : Option Form) (old new : SeedState) (seed : List ℕ) : Type 0 where
   pub form : Form
-  pub said : form_of words ≡ Some form
+  pub said : asked ≡ Some form
   pub given : IsSeedOfForm form old new seed
   pub size : length seed ≡ 32
 

@@ -2,22 +2,22 @@
 
 ghost use Rattle.std.specs.Prelude.{◌≡◌, ℕ, List, map, Option, string_bytes, codes, ◌&&◌};
 ghost use Rattle.text_words.specs.Digits.{hex_bytes_of_length};
-ghost use Rattle.fsc_tool.specs.Forms.{form_behind, form_of, is_serial_replay};
+ghost use Rattle.fsc_tool.specs.Forms.{form_behind, serial_form_of, is_serial_replay};
 
 use text_words::hex_bytes_into;
 
-/// A form of the command line.
+/// Where a run's seed comes from.
 #[derive(Clone, Copy)]
 pub(crate) enum Form {
-    /// `replay --serial --seed HEX64`, which gives the seed.
+    /// `--seed HEX64`, which gives the seed.
     Seeded([u8; 32]),
-    /// `replay --serial`. The seed source gives the seed.
+    /// No word of it. The seed source gives the seed.
     Unseeded,
 }
 
-/// The form that the words are; none for other words.
-pub(crate) fn read_form(words: &Vec<String>) -> Option<Form>
-    ensures { result ≡ form_of (map string_bytes words.now.items) }
+/// The form of a run in rotation that the words are; none for other words.
+pub(crate) fn read_serial_form(words: &Vec<String>) -> Option<Form>
+    ensures { result ≡ serial_form_of (map string_bytes words.now.items) }
 {
     if words.len() < 2 {
         return None;
@@ -34,7 +34,7 @@ fn is_serial_replay(verb: &str, serial: &str) -> bool
     verb == "replay" && serial == "--serial"
 }
 
-// The form that the words behind the first two make.
+// The form that the words behind those of the run make.
 fn read_form_behind(words: &[String]) -> Option<Form>
     ensures { result ≡ form_behind (map string_bytes words.now) }
 {

@@ -1,11 +1,18 @@
-//! The tool: words, a source, a sink and a seed source in; a status and a log out.
+//! The tool: words, a source, a sink, a seed source and a machine in; a status and a log out.
 #![tactic(auto)]
 
 mod form;
 mod limits;
-mod run;
+mod replay;
+mod rotation;
 mod seed;
-mod serial;
+mod top;
+mod ways;
 
+use call_history::Entry;
 pub use limits::{MOST_INPUT_BYTES, MOST_INPUT_LINES};
-pub use serial::tool_serial;
+use mount_model::{Call, Reply};
+pub use top::tool_serial;
+
+// Entries with their places.
+pub(crate) type PlacedVec = Vec<(u64, Entry<Call, Reply>)>;

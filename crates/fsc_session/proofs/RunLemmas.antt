@@ -1,0 +1,108 @@
+-- A run goes on by one command.
+use Rattle.std.proofs.Common.{◌≡◌, ◌≢◌, ◌<◌, leb, get_or, ℕ, suc, ◌+◌, List, [], ◌∷◌, ◌++◌, length, drop, Some, refl, ap, ap₂, sym, ◌∙◌, subst, ⊎_elim, arith, drop_of_length-le, length-append}
+use Rattle.std.specs.Prelude.{Bool, true, false, ◌≤◌, ◌*◌, slice_get}
+use Rattle.std.proofs.Math.Seq.{drop-cons}
+use Rattle.std.proofs.lemmas.Option.{slice_get_within, get_or_from_slice_get, slice_get_cases, slice_get_read}
+use Rattle.std.proofs.lemmas.Bool.{cases_Bool, leb-true, leb-false}
+use Rattle.script_lang.specs.declared.commands.Section.{Section}
+use Rattle.script_lang.specs.declared.commands.Command.{Command}
+use Rattle.mount_model.specs.Port.{PlacedCalls}
+use Rattle.call_history.specs.Placed.{entries_of}
+use Rattle.fsc_session.specs.Steps.{Reaches, names_from}
+use Rattle.fsc_session.specs.Steps.Steps.{Done}
+use Rattle.fsc_session.specs.Commands.{command_steps}
+use Rattle.fsc_session.specs.Session.{steps_from, section_steps, IsRunOfSection, IsRunSoFar, names_in}
+use Rattle.fsc_session.specs.Running.{RunnerView, Made, Stepped, StepMakes}
+use Rattle.fsc_session.proofs.StepsLemmas.{entries_of-append, names_from-append, Reaches-on, Reaches-and_then}
+
+drop-at : {A : Type 0} (n : ℕ) (xs : List A) (x : A) → slice_get xs n ≡ Some x → drop n xs ≡ x ∷ drop (n + 1) xs
+drop-at {A} n xs x here =
+    let within = slice_get_within xs n x here in
+    let next : suc n ≡ n + 1 = omega arith in
+    drop-cons xs n x within
+    ∙ ap₂ (λ (y : A) (m : ℕ). y ∷ drop m xs) (get_or_from_slice_get xs n x x here) next
+
+-- the last names of a run that went on
+pub names_in-append : (placed made : PlacedCalls) → names_in (placed ++ made) ≡ names_from (names_in placed) (entries_of made)
+names_in-append placed made = ap (names_from []) (entries_of-append placed made) ∙ names_from-append [] (entries_of placed) (entries_of made)
+
+-- by one command more
+pub run_goes_on : (seed : List ℕ) (caller : ℕ) (section : Section) (n : ℕ) (command : Command) (placed made : PlacedCalls)
+    → IsRunSoFar seed caller section n placed → slice_get section.commands n ≡ Some command
+    → Reaches (command_steps seed caller section.uid n (names_in placed) command.verb) (entries_of made) (Done tt)
+    → IsRunSoFar seed caller section (n + 1) (placed ++ made)
+run_goes_on seed caller section n command placed made so here more =
+    let uid = section.uid in
+    let names = names_in placed in
+    let then_it : Reaches (steps_from seed caller uid n names (command ∷ drop (n + 1) section.commands)) (entries_of made)
+    (steps_from seed caller uid (n + 1) (names_from names (entries_of made)) (drop (n + 1) section.commands)) =
+    Reaches-and_then names (command_steps seed caller uid n names command.verb)
+    (λ told done. steps_from seed caller uid (n + 1) told (drop (n + 1) section.commands)) (entries_of made) tt more in
+    let whole = Reaches-on (section_steps seed caller section) (steps_from seed caller uid n names (drop n section.commands)) _ (entries_of placed) (entries_of made) so
+    (subst (λ (rest : List Command). Reaches (steps_from seed caller uid n names rest) (entries_of made)
+    (steps_from seed caller uid (n + 1) (names_from names (entries_of made)) (drop (n + 1) section.commands))) (sym (drop-at n section.commands command here)) then_it) in
+    subst (λ (es : _). Reaches (section_steps seed caller section) es (steps_from seed caller uid (n + 1) (names_in (placed ++ made)) (drop (n + 1) section.commands)))
+    (sym (entries_of-append placed made))
+    (subst (λ (told : List (List ℕ)). Reaches (section_steps seed caller section) (entries_of placed ++ entries_of made) (steps_from seed caller uid (n + 1) told (drop (n + 1) section.commands)))
+    (sym (names_in-append placed made)) whole)
+
+-- the command that stands at a number below the last
+pub there : (read commands : List Command) (n : ℕ) (command : Command) → read ≡ commands → n ≤ length commands → n ≢ length read
+    → command ≡ get_or read n command → slice_get commands n ≡ Some command
+there read commands n command same within differ is =
+    let long = ap length same in
+    subst (λ (xs : List Command). slice_get xs n ≡ Some command) same (slice_get_read read (length read) n command refl (below n (length read) differ (omega (arith, long, within))) is)
+  where
+    below : (a b : ℕ) → a ≢ b → a ≤ b → a < b
+    below a b differ low = ⊎_elim (λ (lt : leb (suc a) b ≡ true). let l = leb-true (suc a) b lt in omega (arith, l))
+        (λ (ge : leb (suc a) b ≡ false). let g = leb-false (suc a) b ge in absurd (differ (omega (arith, g, low)))) (cases_Bool (leb (suc a) b))
+
+-- a command that was made is a step of its runner
+pub stepped : {P : Type 0} (came : PlacedCalls → P → Type 0) (port : P) (left before_left : ℕ) (seed : List ℕ) (command : Command) (old new : RunnerView)
+    → slice_get old.section.commands old.next ≡ Some command → new.caller ≡ old.caller → new.section ≡ old.section → new.next ≡ old.next + 1
+    → Made came port left before_left (command_steps seed old.caller old.section.uid old.next (names_in old.entries) command.verb) old.entries new.entries
+    → Stepped came port left before_left seed true old new
+stepped came port left before_left seed command old new here caller section next made = record {
+  made = made.made;
+  came_by = made.came_by;
+  grown = made.grown;
+  few = made.few;
+  counted = made.counted;
+  caller = caller;
+  section = section;
+  step = (command, here, next, made.follows);
+}
+
+pub made_goes_on : {P : Type 0} (came : PlacedCalls → P → Type 0) (port : P) (left before_left : ℕ) (seed : List ℕ) (caller : ℕ) (section : Section) (n : ℕ) (command : Command)
+    (placed after : PlacedCalls) → slice_get section.commands n ≡ Some command
+    → Made came port left before_left (command_steps seed caller section.uid n (names_in placed) command.verb) placed after
+    → IsRunSoFar seed caller section n placed → IsRunSoFar seed caller section (n + 1) after
+made_goes_on came port left before_left seed caller section n command placed after here made so =
+    subst (IsRunSoFar seed caller section (n + 1)) (sym made.grown) (run_goes_on seed caller section n command placed made.made so here made.follows)
+
+-- a run of all commands is a run of the section
+pub run_is_whole : (seed : List ℕ) (caller : ℕ) (section : Section) (n : ℕ) (placed : PlacedCalls) → length section.commands ≤ n
+    → IsRunSoFar seed caller section n placed → IsRunOfSection seed caller section placed
+run_is_whole seed caller section n placed all so =
+    let none : drop n section.commands ≡ [] = drop_of_length-le section.commands all in
+    subst (λ (rest : List Command). Reaches (section_steps seed caller section) (entries_of placed) (steps_from seed caller section.uid n (names_in placed) rest)) none so
+
+-- ---- what a caller's steps add up to
+
+pub few_after : (n : ℕ) (old made new : PlacedCalls) → new ≡ old ++ made → length made ≤ 4 → length old ≤ 4 * n → length new ≤ 4 * (n + 1)
+few_after n old made new grown few before =
+    let sum = ap length grown ∙ length-append old made in omega (arith, sum, few, before)
+
+pub counted_after : (first between left : ℕ) (old made new : PlacedCalls) → new ≡ old ++ made → left + length made ≡ between → between + length old ≡ first
+    → left + length new ≡ first
+counted_after first between left old made new grown last before =
+    let sum = ap length grown ∙ length-append old made in omega (arith, sum, last, before)
+
+-- where a command is left, a step makes it
+pub next_after : (seed : List ℕ) (more : Bool) (old new : RunnerView) (made : PlacedCalls) → StepMakes seed more old new made
+    → old.next < length old.section.commands → new.next ≡ old.next + 1
+next_after seed true old new made so below = so.2
+next_after seed false old new made so below = ⊎_elim
+    (λ there. let none = sym there.2 ∙ so.2 in absurd (cc none))
+    (λ past. let over = past.0 in absurd (omega (arith, over, below)))
+    (slice_get_cases old.section.commands old.next).1

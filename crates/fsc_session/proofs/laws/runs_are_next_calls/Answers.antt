@@ -1,0 +1,10 @@
+use Rattle.call_history.specs.Placed.{entries_of}
+use Rattle.fsc_session.specs.Session.{section_steps}
+use Rattle.fsc_session.proofs.LawLemmas.{next_calls, next_calls_reach}
+use Rattle.fsc_session.proofs.laws.runs_are_next_calls.Goals as goal
+
+pub returns : goal.returns
+returns c seed caller section placed = (
+  next_calls (section_steps seed caller section) (entries_of placed) tt,
+  λ next. (next_calls_reach (section_steps seed caller section) (entries_of placed) next).1,
+)

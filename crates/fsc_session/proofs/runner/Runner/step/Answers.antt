@@ -1,0 +1,46 @@
+use Rattle.std.proofs.Common.{◌≡◌, ◌+◌, true, [], length, refl, ap, subst, sym, ◌∙◌, arith, append-nil, None}
+use Rattle.std.specs.Prelude.{slice_get}
+use Rattle.std.proofs.lemmas.Option.{slice_get_past}
+use Rattle.fsc_session.specs.Session.{IsRunSoFar}
+use Rattle.fsc_session.specs.Running.{HasRun, Stepped, runner_view}
+use Rattle.fsc_session.proofs.RunLemmas.{stepped, made_goes_on, there}
+use Rattle.fsc_session.proofs.runner.Runner.step.Goals as goal
+
+pub returns-then-self-commands-clause-stepped : goal.returns-then-self-commands-clause-stepped
+returns-then-self-commands-clause-stepped g c =
+    let all = c.if-self-commands.true ∙ ap (λ commands. length commands) c.as_slice-commands.ensures in
+    record {
+      made = [];
+      came_by = g.met.P.MountPort.by_none c.args.port.now;
+      grown = sym (append-nil c.args.self.now.entries);
+      few = omega arith;
+      counted = omega arith;
+      caller = refl;
+      section = refl;
+      step = (
+        refl,
+        refl,
+        subst (λ old. slice_get old.section.commands old.next ≡ None) c.self.view_is
+            (slice_get_past c.self.inside.section.now.commands c.self.inside.next (omega (arith, all))),
+      );
+    }
+
+pub returns-clause-stepped : goal.returns-clause-stepped
+returns-clause-stepped g c =
+    subst (λ old. Stepped (g.P.MountPort.came c.args.port.now) c.run_command.new.port (g.P.MountPort.calls_left c.run_command.new.port)
+    (g.P.MountPort.calls_left c.args.port.now) c.args.seed.now true old
+    (runner_view c.self.inside.caller c.self.inside.section.now (c.self.inside.next + 1) c.run_command.new.entries)) c.self.view_is
+    (stepped (g.P.MountPort.came c.args.port.now) c.run_command.new.port (g.P.MountPort.calls_left c.run_command.new.port)
+    (g.P.MountPort.calls_left c.args.port.now) c.args.seed.now c.index-commands-self.result
+    (runner_view c.self.inside.caller c.self.inside.section.now c.self.inside.next c.self.inside.entries)
+    (runner_view c.self.inside.caller c.self.inside.section.now (c.self.inside.next + 1) c.run_command.new.entries)
+    (there _ _ _ _ c.as_slice-commands.ensures c.self.invariant c.if-self-commands.false c.index-commands-self.is)
+    refl refl refl c.in_ok-run_command.ensures.made)
+
+pub returns-clause-run : goal.returns-clause-run
+returns-clause-run g c =
+    subst (λ old. HasRun c.args.seed.now old → IsRunSoFar c.args.seed.now c.self.inside.caller c.self.inside.section.now (c.self.inside.next + 1) c.run_command.new.entries) c.self.view_is
+    (made_goes_on (g.P.MountPort.came c.args.port.now) c.run_command.new.port (g.P.MountPort.calls_left c.run_command.new.port)
+    (g.P.MountPort.calls_left c.args.port.now) c.args.seed.now c.self.inside.caller c.self.inside.section.now c.self.inside.next c.index-commands-self.result c.self.inside.entries c.run_command.new.entries
+    (there _ _ _ _ c.as_slice-commands.ensures c.self.invariant c.if-self-commands.false c.index-commands-self.is)
+    c.in_ok-run_command.ensures.made)

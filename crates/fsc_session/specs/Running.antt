@@ -1,0 +1,62 @@
+-- What a runner is between two commands, and what a command makes of it and of its port.
+use Rattle.std.specs.Prelude.{◌≡◌, ℕ, ◌+◌, ◌≤◌, Bool, true, false, List, [], ◌++◌, length, slice_get, Some, None}
+use Rattle.call_history.specs.Placed.{entries_of}
+use Rattle.mount_model.specs.Port.{PlacedCalls}
+use Rattle.script_lang.specs.declared.commands.Section.{Section}
+use Rattle.script_lang.specs.declared.commands.Command.{Command}
+use Rattle.fsc_session.specs.Steps.{Steps, Reaches}
+use Rattle.fsc_session.specs.Steps.Steps.{Done}
+use Rattle.fsc_session.specs.Commands.{command_steps}
+use Rattle.fsc_session.specs.Session.{IsRunSoFar, names_in}
+use Rattle.fsc_session.specs.Rotation.{Waiting, waiting}
+
+-- a caller with its section, the number of its next command, and what it asked and was replied so far
+pub record RunnerView : Type 0 where
+  pub caller : ℕ
+  pub section : Section
+  pub next : ℕ
+  pub entries : PlacedCalls
+
+abbrev pub runner_view : ℕ → Section → ℕ → PlacedCalls → RunnerView
+runner_view caller section next entries = record { caller = caller; section = section; next = next; entries = entries }
+
+-- its entries are a run of the commands before its next, with this seed
+abbrev pub HasRun : List ℕ → RunnerView → Type 0
+HasRun seed runner = IsRunSoFar seed runner.caller runner.section runner.next runner.entries
+
+-- the runner between two turns
+abbrev pub state_of : RunnerView → Waiting
+state_of runner = waiting runner.section (names_in runner.entries)
+
+-- the port came by calls which are these steps, and the list has them behind its others
+pub record Made {P : Type 0} (came : PlacedCalls → P → Type 0) (port : P) (left before_left : ℕ) (steps : Steps (Unit {0})) (old new : PlacedCalls)
+    : Type 0 where
+  pub made : PlacedCalls
+  pub came_by : came made port
+  pub follows : Reaches steps (entries_of made) (Done tt)
+  pub grown : new ≡ old ++ made
+  pub few : length made ≤ 4
+  pub counted : left + length made ≡ before_left
+
+-- no command was left, and nothing was called; or the next command made these calls
+abbrev pub StepMakes : List ℕ → Bool → RunnerView → RunnerView → PlacedCalls → Type 0
+StepMakes seed false old new made = (made ≡ []) × (new ≡ old) × (slice_get old.section.commands old.next ≡ None)
+StepMakes seed true old new made =
+    (command : Command) × (slice_get old.section.commands old.next ≡ Some command) × (new.next ≡ old.next + 1)
+    × Reaches (command_steps seed old.caller old.section.uid old.next (names_in old.entries) command.verb) (entries_of made) (Done tt)
+
+-- what a step of a runner makes of it and of its port
+pub record Stepped {P : Type 0} (came : PlacedCalls → P → Type 0) (port : P) (left before_left : ℕ) (seed : List ℕ) (more : Bool) (old new : RunnerView)
+    : Type 0 where
+  pub made : PlacedCalls
+  pub came_by : came made port
+  pub grown : new.entries ≡ old.entries ++ made
+  pub few : length made ≤ 4
+  pub counted : left + length made ≡ before_left
+  pub caller : new.caller ≡ old.caller
+  pub section : new.section ≡ old.section
+  pub step : StepMakes seed more old new made
+
+-- the port came by some calls, of which nothing else is told
+abbrev pub CameBySome : {P : Type 0} → (PlacedCalls → P → Type 0) → P → Type 0
+CameBySome came port = (made : PlacedCalls) × came made port

@@ -1,0 +1,26 @@
+//! Laws of runs, each a function without work whose contract is the law.
+
+ghost use Rattle.std.specs.Prelude.{◌≡◌, ◌↔◌, ℕ, List};
+ghost use Rattle.call_history.specs.Placed.{entries_of};
+ghost use Rattle.mount_model.specs.Port.{PlacedCalls};
+ghost use Rattle.mount_model.specs.History.{History, IsLegal, NeverWantsMemory};
+ghost use Rattle.script_lang.specs.declared.commands.Section.{Section};
+ghost use Rattle.fsc_session.specs.Steps.{Reaches};
+ghost use Rattle.fsc_session.specs.Steps.Steps.{Done};
+ghost use Rattle.fsc_session.specs.Session.{AreNextCalls, IsRunOfSection, section_steps};
+ghost use Rattle.fsc_session.specs.Rotation.{Waiting, rotation_steps};
+ghost use Rattle.fsc_session.specs.Serial.{serial_history};
+
+/// Entries are a run of a section exactly where each makes the call that comes next after those before
+/// it, and none comes after all of them.
+pub fn runs_are_next_calls()
+    ensures { (seed : List ℕ) (caller : ℕ) (section : Section) (placed : PlacedCalls)
+        → IsRunOfSection seed caller section placed ↔ AreNextCalls (section_steps seed caller section) (entries_of placed) }
+{}
+
+/// A legal history in rotation in which no call wants memory is a function of script and seed.
+pub fn answers_determine_the_run()
+    ensures { (seed : List ℕ) (script : List Section) (history : History) (after : List Waiting)
+        → Reaches (rotation_steps seed script) history (Done after) → IsLegal history → NeverWantsMemory history
+        → history ≡ serial_history seed script }
+{}

@@ -1,0 +1,40 @@
+//! A caller's whole section, run on its port.
+
+ghost use Rattle.std.specs.Prelude.{◌≡◌, ◌≤◌, ◌+◌, ◌*◌, length, IfOk, OnErr};
+ghost use Rattle.fsc_session.specs.Commands.{AsksRightly};
+ghost use Rattle.fsc_session.specs.Session.{IsRunOfSection};
+ghost use Rattle.fsc_session.specs.Running.{CameBySome};
+ghost use Rattle.fsc_session.specs.declared.TheConstants.{MOST_CALLS};
+
+use crate::EntryList;
+use crate::runner::Runner;
+use fsc_outside::Gate;
+use mount_model::MountPort;
+use script_lang::Section;
+use std::alloc::{AllocError, Global};
+
+/// Runs the section's commands one after another on the caller's port, each between the gate's two calls.
+/// The port has four calls left for each command.
+pub fn run_caller<P: MountPort, G: Gate>(
+    alloc: Global,
+    port: &mut P,
+    gate: &G,
+    section: &Section,
+    seed: &[u8; 32],
+) -> Result<EntryList, AllocError>
+    requires left { MOST_CALLS * length section.now.commands ≤ P.calls_left port.old }
+    requires asked { AsksRightly section.now }
+    ensures came { IfOk result (λ entries. P.came port.old entries port.new) }
+    ensures run { IfOk result (λ entries. IsRunOfSection seed.now (P.who port.old) section.now entries) }
+    ensures counted { IfOk result (λ entries. P.calls_left port.new + length entries ≡ P.calls_left port.old) }
+    ensures failed { OnErr result (CameBySome (P.came port.old) port.new) }
+{
+    let caller = port.caller();
+    let mut runner = Runner::new(alloc, caller, section);
+    'commands: for number in 0..section.commands.len() {
+        gate.before(caller, number as u64);
+        runner.step(alloc, port, seed)?;
+        gate.after(caller, number as u64);
+    }
+    Ok(runner.ran())
+}

@@ -1,0 +1,54 @@
+use Rattle.std.proofs.Common.{◌≡◌, ◌<◌, ◌≤◌, ◌+◌, ◌-◌, length, map, take, drop, get_or, refl, sym, ap, ◌∙◌, subst, arith}
+use Rattle.std.proofs.lemmas.Option.{slice_get-get_or}
+use Rattle.std.proofs.lemmas.List.{length-set, length-map}
+use Rattle.fsc_session.specs.Running.{state_of}
+use Rattle.fsc_session.specs.Rotation.{round_steps, rounds_steps}
+use Rattle.fsc_tool.specs.Rotating.{Rotating, sections_of}
+use Rattle.fsc_tool.proofs.TurnLemmas.{goes_on, round_begins, round_over, rounds_over}
+use Rattle.fsc_tool.proofs.rotation.run_rounds.Goals as goal
+
+pub turns-init : goal.turns-init
+turns-init g c = record {
+  count = refl;
+  turn = round_begins g.M.Machine.leads c.args.seed.now (sections_of c.args.runners.now) (rounds_steps c.args.seed.now c.args.rounds 0 (map state_of c.args.runners.now))
+      c.args.rounds c.rounds.number c.rounds.runners c.rounds.mount.machine c.rounds.mount.places c.rounds-test.true c.rounds.invariant;
+}
+
+pub take_turn-requires : goal.take_turn-requires
+take_turn-requires g c =
+    let below = c.turns-test.true in
+    let count = c.turns.invariant.count in
+    (c.turns.invariant.turn.each c.turns.i (get_or c.turns.runners c.turns.i c.index-runners-i.result)
+    (slice_get-get_or c.turns.runners c.turns.i c.index-runners-i.result (omega (arith, below, count)))).asked
+
+pub turns-preserved : goal.turns-preserved
+turns-preserved g c =
+    let below = c.turns-test.true in
+    let count = c.turns.invariant.count in
+    record {
+      count = length-set c.turns.runners c.turns.i c.take_turn.new.runner ∙ count;
+      turn = goes_on g.M.Machine.leads c.args.seed.now (sections_of c.args.runners.now) (rounds_steps c.args.seed.now c.args.rounds 0 (map state_of c.args.runners.now))
+          (rounds_steps c.args.seed.now (c.args.rounds - (c.rounds.number + 1)) (c.rounds.number + 1))
+          c.rounds.number c.turns.i c.turns.runners (get_or c.turns.runners c.turns.i c.index-runners-i.result) c.take_turn.new.runner
+          c.turns.mount.machine c.in_ok-mount.mount.machine c.turns.mount.places c.in_ok-mount.mount.places
+          (slice_get-get_or c.turns.runners c.turns.i c.index-runners-i.result (omega (arith, below, count)))
+          c.turns.invariant.turn c.in_ok-mount.ensures;
+    }
+
+pub rounds-preserved : goal.rounds-preserved
+rounds-preserved g c =
+    let above = c.turns-test.false in
+    let count = c.turns.invariant.count in
+    round_over g.M.Machine.leads c.args.seed.now (sections_of c.args.runners.now) (rounds_steps c.args.seed.now c.args.rounds 0 (map state_of c.args.runners.now))
+    (rounds_steps c.args.seed.now (c.args.rounds - (c.rounds.number + 1)) (c.rounds.number + 1))
+    c.rounds.number c.turns.i c.turns.runners c.turns.mount.machine c.turns.mount.places (omega (arith, above, count)) c.turns.invariant.turn
+
+pub returns-clause-turned : goal.returns-clause-turned
+returns-clause-turned g c =
+    let above = c.rounds-test.false in
+    let below = c.rounds.auto.number-end in
+    rounds_over g.M.Machine.leads c.args.seed.now (sections_of c.args.runners.now) (rounds_steps c.args.seed.now c.args.rounds 0 (map state_of c.args.runners.now))
+    c.args.rounds c.rounds.number c.rounds.runners c.rounds.mount.machine c.rounds.mount.places below above c.rounds.invariant
+
+pub returns-clause-same : goal.returns-clause-same
+returns-clause-same g c = c.rounds.invariant.count ∙ length-map c.args.runners.now (λ runner. runner.section)

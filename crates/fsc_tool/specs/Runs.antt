@@ -1,0 +1,22 @@
+-- What a run of a script is: by callers that don't wait for one another, and in rotation.
+use Rattle.std.specs.Prelude.{◌≡◌, ℕ, List}
+use Rattle.mount_model.specs.History.{History, IsLegal, NeverWantsMemory}
+use Rattle.script_lang.specs.declared.commands.Section.{Section}
+use Rattle.fsc_session.specs.Steps.{Reaches}
+use Rattle.fsc_session.specs.Steps.Steps.{Done}
+use Rattle.fsc_session.specs.Session.{IsRunOf}
+use Rattle.fsc_session.specs.Rotation.{Waiting, rotation_steps}
+use Rattle.fsc_session.specs.Serial.{serial_history}
+
+-- the machine could answer so; and it holds each caller's calls, those of its section in order, and no
+-- other calls
+pub record IsLawfulRun (lawful : History → Type 0) (seed : List ℕ) (script : List Section) (history : History) : Type 0 where
+  pub lawfully : lawful history
+  pub callers : IsRunOf seed script history
+
+-- such a run in which the callers took turns; where the one-thread mount could answer so and no call wanted
+-- memory, it is a function of script and seed
+pub record IsSerialRun (lawful : History → Type 0) (seed : List ℕ) (script : List Section) (history : History) : Type 0 where
+  pub run : IsLawfulRun lawful seed script history
+  pub order : (after : List Waiting) × Reaches (rotation_steps seed script) history (Done after)
+  pub serial : IsLegal history → NeverWantsMemory history → history ≡ serial_history seed script

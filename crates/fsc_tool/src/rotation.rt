@@ -1,0 +1,136 @@
+//! Runs a script on a machine that nobody else calls: the callers take turns, command by command.
+
+ghost use Rattle.std.specs.Prelude.{◌≡◌, ◌≤◌, ℕ, ◌+◌, ◌^◌, [], length, map, IfOk, OnOk};
+ghost use Rattle.call_history.specs.Entries.{numbered};
+ghost use Rattle.mount_model.specs.History.{History};
+ghost use Rattle.script_lang.specs.Spelled.{IsSpelled};
+ghost use Rattle.fsc_session.specs.Steps.{Steps};
+ghost use Rattle.fsc_session.specs.Steps.Steps.{Done};
+ghost use Rattle.fsc_session.specs.Commands.{AsksRightly};
+ghost use Rattle.fsc_session.specs.Running.{state_of};
+ghost use Rattle.fsc_session.specs.Rotation.{Waiting, longest, rounds_steps};
+ghost use Rattle.fsc_tool.specs.Rotating.{Rotating, TurnMade, fresh_runners, sections_of, told_by};
+ghost use Rattle.fsc_tool.specs.Runs.{IsSerialRun};
+
+use crate::PlacedVec;
+use call_history::sort_by_place;
+use fsc_session::{MOST_CALLS, Runner};
+use mount_shared::{MountMachine, SerialMount};
+use script_lang::{Script, Section};
+use std::alloc::{AllocError, Global};
+
+// The most places that a history has.
+const MOST_PLACES: u64 = 1_099_511_627_776;
+
+/// The entries of a run of the script in rotation, in order of place: command 0 of each caller that has
+/// one, then command 1, and so on.
+pub(crate) fn run_in_rotation<M: MountMachine>(
+    alloc: Global,
+    script: &Script,
+    seed: &[u8; 32],
+    machine: M,
+) -> Result<PlacedVec, AllocError>
+    requires spelled { IsSpelled script.now }
+    requires leads { M.leads [] machine }
+    ensures { IfOk result (λ entries. (history : History) × IsSerialRun M.lawful seed.now script.now history × (entries.items ≡ numbered 0 history)) }
+{
+    let sections = script.as_slice();
+    let runners = fresh_runners(alloc, sections)?;
+    let (_mount, runners) = run_all(
+        alloc,
+        SerialMount::new(machine),
+        runners,
+        longest(sections),
+        seed,
+    )?;
+    let mut entries = told_by(alloc, runners)?;
+    sort_by_place(&mut entries)?;
+    Ok(entries)
+}
+
+// The number of commands of the longest section.
+fn longest(sections: &[Section]) -> usize
+    ensures { result ≡ longest sections.now }
+{
+    sections
+        .iter()
+        .fold(0, |most, section| most.max(section.commands.len()))
+}
+
+// A runner for each section, before its first command.
+fn fresh_runners(alloc: Global, sections: &[Section]) -> Result<Vec<Runner<'_>>, AllocError>
+    requires { length sections.now ≤ 8 }
+    ensures { IfOk result (λ runners. runners.items ≡ fresh_runners 0 sections.now) }
+{
+    let mut runners = Vec::new(alloc);
+    'sections: for (caller, section) in sections.iter().enumerate() {
+        runners.push(Runner::new(alloc, caller as u32, section))?;
+    }
+    Ok(runners)
+}
+
+// The callers take so many rounds of turns.
+fn run_all<'a, M: MountMachine>(
+    alloc: Global,
+    mount: SerialMount<M>,
+    mut runners: Vec<Runner<'a>>,
+    rounds: usize,
+    seed: &[u8; 32],
+) -> Result<(SerialMount<M>, Vec<Runner<'a>>), AllocError>
+    requires { Rotating M.leads seed.now (sections_of runners.items) (rounds_steps seed.now rounds 0 (map state_of runners.items)) (rounds_steps seed.now rounds 0 (map state_of runners.items)) (λ j. 0) runners.items mount.machine mount.places }
+    ensures { IfOk result (λ r. Rotating M.leads seed.now (sections_of runners.entry.items) (rounds_steps seed.now rounds 0 (map state_of runners.entry.items)) (Done (map state_of r.1.items)) (λ j. rounds) r.1.items r.0.machine r.0.places) }
+{
+    let mount = run_rounds(alloc, mount, runners.as_mut_slice(), rounds, seed)?;
+    Ok((mount, runners))
+}
+
+// The same, on a slice.
+fn run_rounds<M: MountMachine>(
+    alloc: Global,
+    mount: SerialMount<M>,
+    runners: &mut [Runner],
+    rounds: usize,
+    seed: &[u8; 32],
+) -> Result<SerialMount<M>, AllocError>
+    requires { Rotating M.leads seed.now (sections_of runners.old) (rounds_steps seed.now rounds 0 (map state_of runners.old)) (rounds_steps seed.now rounds 0 (map state_of runners.old)) (λ j. 0) runners.old mount.machine mount.places }
+    ensures turned { IfOk result (λ after. Rotating M.leads seed.now (sections_of runners.old) (rounds_steps seed.now rounds 0 (map state_of runners.old)) (Done (map state_of runners.new)) (λ j. rounds) runners.new after.machine after.places) }
+    ensures same { OnOk result (length runners.new ≡ length runners.old) }
+{
+    let mut mount = mount;
+    'rounds: for number in 0..rounds {
+        'turns: for i in 0..runners.len() {
+            mount = take_turn(alloc, mount, &mut runners[i], seed)?;
+        }
+    }
+    Ok(mount)
+}
+
+// The caller's next command, on a port of its own.
+fn take_turn<M: MountMachine>(
+    alloc: Global,
+    mount: SerialMount<M>,
+    runner: &mut Runner,
+    seed: &[u8; 32],
+) -> Result<SerialMount<M>, AllocError>
+    requires { AsksRightly runner.old.section }
+    ensures { IfOk result (λ after. TurnMade M.leads seed.now mount.machine mount.places runner.old after.machine after.places runner.new) }
+{
+    if mount.places > MOST_PLACES - MOST_CALLS {
+        return Err(AllocError);
+    }
+    let mut port = mount.port(runner.caller(), MOST_CALLS);
+    runner.step(alloc, &mut port, seed)?;
+    Ok(port.back())
+}
+
+// All that the runners were told.
+fn told_by(alloc: Global, runners: Vec<Runner>) -> Result<PlacedVec, AllocError>
+    ensures { IfOk result (λ entries. entries.items ≡ told_by runners.entry.items) }
+{
+    let mut entries = Vec::new(alloc);
+    'runners: for runner in runners {
+        let mut more = runner.ran().into_vec();
+        entries.append(&mut more)?;
+    }
+    Ok(entries)
+}

@@ -1,0 +1,37 @@
+//! The tool's call, which waits for nobody.
+
+ghost use Rattle.std.specs.Prelude.{[], map, string_bytes};
+ghost use Rattle.fsc_tool.specs.Forms.{serial_form_of};
+ghost use Rattle.fsc_tool.specs.Outside.{outside};
+ghost use Rattle.fsc_tool.specs.Replay.{IsReplay};
+ghost use Rattle.fsc_tool.specs.Runs.{IsSerialRun};
+
+use crate::form::read_serial_form;
+use crate::replay::replay;
+use crate::ways::InRotation;
+use fsc_outside::{SeedSource, Sink, Source};
+use mount_shared::MountMachine;
+use reply_text::Status;
+use std::alloc::Global;
+
+/// Replays the script that the source gives on the machine, which no call was made on, and writes its
+/// log into the sink; the callers take turns. The words are those of the command line without the
+/// program's own name, and are Usage unless they are `replay --serial` or `replay --serial --seed HEX64`.
+/// Nothing is written before the whole log stands. The seed source is asked once for each script in the
+/// grammar, where the words give no seed.
+pub fn tool_serial<S: Source, K: Sink, E: SeedSource, M: MountMachine>(
+    alloc: Global,
+    words: &Vec<String>,
+    source: &mut S,
+    sink: &mut K,
+    seeds: &mut E,
+    machine: M,
+) -> Status
+    requires { M.leads [] machine }
+    ensures { let before = outside (S.state source.old) (K.state sink.old) (E.state seeds.old) in
+        let after = outside (S.state source.new) (K.state sink.new) (E.state seeds.new) in
+        IsReplay (IsSerialRun M.lawful) (serial_form_of (map string_bytes words.now.items)) before after result }
+{
+    let form = read_serial_form(words);
+    replay(alloc, form, source, sink, seeds, InRotation { machine })
+}
