@@ -7,7 +7,8 @@ use Rattle.fsc_outside.specs.Causes.{Rose}
 use Rattle.fsc_outside.specs.Input.{ReadWhole, ReadTooMuch}
 use Rattle.fsc_outside.specs.Whole.{GotWhole, GotPart}
 use Rattle.reply_text.specs.declared.status.Status.{Status}
-use Rattle.reply_text.specs.declared.status.Status.TheVariants.{Done, Usage, BadLine, ReadFault, WriteFault, SeedFault, TooLong, NoMemory}
+use Rattle.reply_text.specs.declared.status.Status.TheVariants.{Done, Usage, BadLine, ReadFault}
+use Rattle.reply_text.specs.declared.status.Status.TheVariants.{WriteFault, SeedFault, TooLong, NoMemory}
 use Rattle.fsc_tool.specs.declared.form.Form.{Form}
 use Rattle.fsc_tool.specs.declared.form.Form.TheVariants.{Unseeded}
 use Rattle.fsc_tool.specs.Limits.{input_limits}
@@ -20,13 +21,15 @@ abbrev pub IsScript : List ℕ → Type 0
 IsScript text = (script : List Section) × (parsed_script text ≡ Ok script)
 
 -- the log was written whole
-pub record EndsDone (IsRun : List ℕ → List Section → History → Type 0) (form : Option Form) (a b : Outside) : Type 0 where
+pub record EndsDone (IsRun : List ℕ → List Section → History → Type 0)
+    (form : Option Form) (a b : Outside) : Type 0 where
   pub text : List ℕ
   pub log : HasLog IsRun form a b text
   pub written : GotWhole a.sink b.sink text
 
 -- the sink failed short of the log's end
-pub record EndsWriteFault (IsRun : List ℕ → List Section → History → Type 0) (form : Option Form) (a b : Outside) : Type 0 where
+pub record EndsWriteFault (IsRun : List ℕ → List Section → History → Type 0)
+    (form : Option Form) (a b : Outside) : Type 0 where
   pub text : List ℕ
   pub log : HasLog IsRun form a b text
   pub written : GotPart a.sink b.sink text
@@ -76,7 +79,8 @@ pub record EndsNoMemory (form : Option Form) (a b : Outside) : Type 0 where
   pub unwritten : b.sink ≡ a.sink
 
 -- what the status means of a run in the form that the words are, if they are one
-abbrev pub Ends : (List ℕ → List Section → History → Type 0) → Option Form → Outside → Outside → Status → Type 0
+abbrev pub Ends : (List ℕ → List Section → History → Type 0)
+    → Option Form → Outside → Outside → Status → Type 0
 Ends IsRun form a b Done = EndsDone IsRun form a b
 Ends IsRun form a b Usage = EndsUsage form a b
 Ends IsRun form a b (BadLine line) = EndsBadLine line form a b

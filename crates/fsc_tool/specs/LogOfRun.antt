@@ -11,13 +11,15 @@ use Rattle.fsc_tool.specs.Outside.{Outside}
 use Rattle.fsc_tool.specs.Seed.{IsSeedOf}
 
 -- the text is the log of one history, which is a run of the script with this seed
-pub record LogOfRun (IsRun : List ℕ → List Section → History → Type 0) (seed : List ℕ) (script : List Section) (text : List ℕ) : Type 0 where
+pub record LogOfRun (IsRun : List ℕ → List Section → History → Type 0)
+    (seed : List ℕ) (script : List Section) (text : List ℕ) : Type 0 where
   pub history : History
   pub run : IsRun seed script history
   pub log : text ≡ log_text history
 
 -- the source gave a script within the limits, the run had this seed, and this is its log
-pub record HasLog (IsRun : List ℕ → List Section → History → Type 0) (form : Option Form) (a b : Outside) (text : List ℕ) : Type 0 where
+pub record HasLog (IsRun : List ℕ → List Section → History → Type 0)
+    (form : Option Form) (a b : Outside) (text : List ℕ) : Type 0 where
   pub input : List ℕ
   pub read : ReadWhole input_limits a.source b.source input
   pub script : List Section

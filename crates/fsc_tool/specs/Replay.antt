@@ -32,8 +32,8 @@ abbrev pub IsOrNoMemory : Status → Status → Type 0
 IsOrNoMemory wanted status = (status ≡ wanted) ⊎ (status ≡ NoMemory)
 
 -- a run in a form of the words, where IsRun says what makes a history a run of a script with a seed
-pub record IsReplay (IsRun : List ℕ → List Section → History → Type 0) (form : Option Form) (a b : Outside) (status : Status)
-    : Type 0 where
+pub record IsReplay (IsRun : List ℕ → List Section → History → Type 0)
+    (form : Option Form) (a b : Outside) (status : Status) : Type 0 where
   -- what the status means, with its cause; the log is of a history that is such a run
   pub ends : Ends IsRun form a b status
   -- Usage comes exactly where the words are no form

@@ -12,7 +12,8 @@ use Rattle.fsc_session.specs.Rotation.{Waiting}
 
 -- runner j is caller j of the script and had so many turns: its entries are those among all that it made,
 -- and they are a run of the commands before its next
-pub record InTurn (seed : List ℕ) (script : List Section) (told : PlacedCalls) (turns j : ℕ) (runner : RunnerView) : Type 0 where
+pub record InTurn (seed : List ℕ) (script : List Section) (told : PlacedCalls)
+    (turns j : ℕ) (runner : RunnerView) : Type 0 where
   pub caller : runner.caller ≡ j
   pub section : slice_get script j ≡ Some runner.section
   pub asked : AsksRightly runner.section
@@ -22,19 +23,22 @@ pub record InTurn (seed : List ℕ) (script : List Section) (told : PlacedCalls)
 
 -- the machine stands after all entries so far, whose places count from 0, and so many are given; they are
 -- the runners' alone; and after them the steps of the whole script have these left
-pub record Rotating {M : Type 0} (leads : History → M → Type 0) (seed : List ℕ) (script : List Section) (whole rest : Steps (List Waiting))
+pub record Rotating {M : Type 0} (leads : History → M → Type 0) (seed : List ℕ) (script : List Section)
+    (whole rest : Steps (List Waiting))
     (turns : ℕ → ℕ) (runners : List RunnerView) (machine : M) (places : ℕ) : Type 0 where
   pub told : PlacedCalls
   pub placed : told ≡ numbered 0 (entries_of told)
   pub given : places ≡ length told
   pub count : length runners ≡ length script
   pub led : leads (entries_of told) machine
-  pub each : (j : ℕ) (runner : RunnerView) → slice_get runners j ≡ Some runner → InTurn seed script told (turns j) j runner
+  pub each : (j : ℕ) (runner : RunnerView) → slice_get runners j ≡ Some runner
+      → InTurn seed script told (turns j) j runner
   pub others : (caller : ℕ) → slice_get runners caller ≡ None → by caller told ≡ []
   pub order : Reaches whole (entries_of told) rest
 
 -- a runner's turn on the machine: these calls, whose places count on
-pub record TurnMade {M : Type 0} (leads : History → M → Type 0) (seed : List ℕ) (machine : M) (places : ℕ) (old : RunnerView)
+pub record TurnMade {M : Type 0} (leads : History → M → Type 0) (seed : List ℕ) (machine : M)
+    (places : ℕ) (old : RunnerView)
     (machine' : M) (places' : ℕ) (new : RunnerView) : Type 0 where
   pub more : Bool
   pub made : PlacedCalls

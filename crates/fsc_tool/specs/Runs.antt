@@ -10,13 +10,15 @@ use Rattle.fsc_session.specs.Serial.{serial_history}
 
 -- the machine could answer so; and it holds each caller's calls, those of its section in order, and no
 -- other calls
-pub record IsLawfulRun (lawful : History → Type 0) (seed : List ℕ) (script : List Section) (history : History) : Type 0 where
+pub record IsLawfulRun (lawful : History → Type 0)
+    (seed : List ℕ) (script : List Section) (history : History) : Type 0 where
   pub lawfully : lawful history
   pub callers : IsRunOf seed script history
 
 -- such a run in which the callers took turns; where the one-thread mount could answer so and no call wanted
 -- memory, it is a function of script and seed
-pub record IsSerialRun (lawful : History → Type 0) (seed : List ℕ) (script : List Section) (history : History) : Type 0 where
+pub record IsSerialRun (lawful : History → Type 0)
+    (seed : List ℕ) (script : List Section) (history : History) : Type 0 where
   pub run : IsLawfulRun lawful seed script history
   pub order : (after : List Waiting) × Reaches (rotation_steps seed script) history (Done after)
   pub serial : IsLegal history → NeverWantsMemory history → history ≡ serial_history seed script

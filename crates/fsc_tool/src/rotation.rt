@@ -32,7 +32,8 @@ pub(crate) fn run_in_rotation<M: MountMachine>(
 ) -> Result<PlacedVec, AllocError>
     requires spelled { IsSpelled script.now }
     requires leads { M.leads [] machine }
-    ensures { IfOk result (λ entries. (history : History) × IsSerialRun M.lawful seed.now script.now history × (entries.items ≡ numbered 0 history)) }
+    ensures { IfOk result (λ entries. (history : History)
+        × IsSerialRun M.lawful seed.now script.now history × (entries.items ≡ numbered 0 history)) }
 {
     let sections = script.as_slice();
     let runners = fresh_runners(alloc, sections)?;
@@ -77,8 +78,14 @@ fn run_all<'a, M: MountMachine>(
     rounds: usize,
     seed: &[u8; 32],
 ) -> Result<(SerialMount<M>, Vec<Runner<'a>>), AllocError>
-    requires { Rotating M.leads seed.now (sections_of runners.items) (rounds_steps seed.now rounds 0 (map state_of runners.items)) (rounds_steps seed.now rounds 0 (map state_of runners.items)) (λ j. 0) runners.items mount.machine mount.places }
-    ensures { IfOk result (λ r. Rotating M.leads seed.now (sections_of runners.entry.items) (rounds_steps seed.now rounds 0 (map state_of runners.entry.items)) (Done (map state_of r.1.items)) (λ j. rounds) r.1.items r.0.machine r.0.places) }
+    requires { Rotating M.leads seed.now (sections_of runners.items)
+        (rounds_steps seed.now rounds 0 (map state_of runners.items))
+        (rounds_steps seed.now rounds 0 (map state_of runners.items))
+        (λ j. 0) runners.items mount.machine mount.places }
+    ensures { IfOk result (λ r. Rotating M.leads seed.now (sections_of runners.entry.items)
+        (rounds_steps seed.now rounds 0 (map state_of runners.entry.items))
+        (Done (map state_of r.1.items))
+        (λ j. rounds) r.1.items r.0.machine r.0.places) }
 {
     let mount = run_rounds(alloc, mount, runners.as_mut_slice(), rounds, seed)?;
     Ok((mount, runners))
@@ -92,8 +99,14 @@ fn run_rounds<M: MountMachine>(
     rounds: usize,
     seed: &[u8; 32],
 ) -> Result<SerialMount<M>, AllocError>
-    requires { Rotating M.leads seed.now (sections_of runners.old) (rounds_steps seed.now rounds 0 (map state_of runners.old)) (rounds_steps seed.now rounds 0 (map state_of runners.old)) (λ j. 0) runners.old mount.machine mount.places }
-    ensures turned { IfOk result (λ after. Rotating M.leads seed.now (sections_of runners.old) (rounds_steps seed.now rounds 0 (map state_of runners.old)) (Done (map state_of runners.new)) (λ j. rounds) runners.new after.machine after.places) }
+    requires { Rotating M.leads seed.now (sections_of runners.old)
+        (rounds_steps seed.now rounds 0 (map state_of runners.old))
+        (rounds_steps seed.now rounds 0 (map state_of runners.old))
+        (λ j. 0) runners.old mount.machine mount.places }
+    ensures turned { IfOk result (λ after. Rotating M.leads seed.now (sections_of runners.old)
+        (rounds_steps seed.now rounds 0 (map state_of runners.old))
+        (Done (map state_of runners.new))
+        (λ j. rounds) runners.new after.machine after.places) }
     ensures same { OnOk result (length runners.new ≡ length runners.old) }
 {
     let mut mount = mount;
@@ -113,7 +126,8 @@ fn take_turn<M: MountMachine>(
     seed: &[u8; 32],
 ) -> Result<SerialMount<M>, AllocError>
     requires { AsksRightly runner.old.section }
-    ensures { IfOk result (λ after. TurnMade M.leads seed.now mount.machine mount.places runner.old after.machine after.places runner.new) }
+    ensures { IfOk result (λ after. TurnMade M.leads seed.now mount.machine mount.places
+        runner.old after.machine after.places runner.new) }
 {
     if mount.places > MOST_PLACES - MOST_CALLS {
         return Err(AllocError);

@@ -30,7 +30,8 @@ pub fn tool_serial<S: Source, K: Sink, E: SeedSource, M: MountMachine>(
     requires { M.leads [] machine }
     ensures { let before = outside (S.state source.old) (K.state sink.old) (E.state seeds.old) in
         let after = outside (S.state source.new) (K.state sink.new) (E.state seeds.new) in
-        IsReplay (IsSerialRun M.lawful) (serial_form_of (map string_bytes words.now.items)) before after result }
+        IsReplay (IsSerialRun M.lawful) (serial_form_of (map string_bytes words.now.items))
+        before after result }
 {
     let form = read_serial_form(words);
     replay(alloc, form, source, sink, seeds, InRotation { machine })

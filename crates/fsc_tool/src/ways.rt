@@ -24,7 +24,8 @@ pub(crate) trait Way: Drop {
     fn run(self, alloc: Global, script: &Script, seed: &[u8; 32]) -> Result<PlacedVec, AllocError>
         requires ready { ready self }
         requires spelled { IsSpelled script.now }
-        ensures { IfOk result (λ entries. (history : History) × run_of seed.now script.now history × (entries.items ≡ numbered 0 history)) };
+        ensures { IfOk result (λ entries. (history : History)
+            × run_of seed.now script.now history × (entries.items ≡ numbered 0 history)) };
 }
 
 /// The callers take turns.
