@@ -1,7 +1,7 @@
 -- What a script's path means after a listing: a star is a name of it, by number.
 use Rattle.std.specs.Prelude.{ℕ, Bool, ◌&&◌, nat_le, List, ◌∷◌, length, map, slice_get, Option, Some, None, if◌then◌else◌}
 use Rattle.text_words.specs.Numbers.{decimal_of}
-use Rattle.mount_model.specs.declared.limits.TheConstants.{MOST_PART_BYTES}
+use Rattle.mount_limits.specs.declared.TheConstants.{MOST_PART_BYTES}
 use Rattle.script_lang.specs.Path.{may_be_part}
 use Rattle.script_lang.specs.declared.path.ScriptPart.{ScriptPart}
 use Rattle.script_lang.specs.declared.path.ScriptPart.TheVariants.{Given, Star}

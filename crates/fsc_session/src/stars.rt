@@ -9,7 +9,7 @@ ghost use Rattle.fsc_session.specs.Stars.{path_meant, name_or_star};
 
 use byte_words::slice_is_bytes;
 use item_list::Bytes;
-use mount_model::limits::MOST_PART_BYTES;
+use mount_limits::MOST_PART_BYTES;
 use mount_model::{Part, Path};
 use script_lang::{ScriptPart, ScriptPath};
 use std::alloc::{AllocError, Global};

@@ -19,7 +19,7 @@ returns-clause-made g c =
       );
       grown = c.in_ok-push.ensures.appended
           ∙ ap₂ (λ (who : ℕ) (call : Call). c.args.entries.now ++ (c.call-placed.result.place, entry who call c.call-placed.result.reply) ∷ [])
-          c.requires.caller c.in_ok-kept.ensures;
+          c.requires.caller c.in_ok-kept.ensures.equal;
       few = omega arith;
       counted = fewer;
     }
