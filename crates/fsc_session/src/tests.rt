@@ -104,15 +104,22 @@ fn a_raw_key_means_its_identifier(rt: HostRuntime) -> Result<(), Fail> {
     Ok(())
 }
 
-// A command asks for what it says; the key of 32 bytes 07 has this identifier by Python.
+// A command asks for what it says: adding, for the bytes.
 #[test]
-fn commands_make_their_calls(rt: HostRuntime) -> Result<(), Fail> {
+fn adding_makes_its_call(rt: HostRuntime) -> Result<(), Fail> {
     let alloc = rt.alloc();
     let bytes = Bytes::from_vec(vec![in alloc; 7; 32]?);
     assert_eq!(rt; bytes.len(), 32);
     slice_is_bytes(bytes.as_slice());
     let op = plain_op(alloc, &Verb::AddKey(bytes))?;
     assert!(rt; matches!(&op, Op::AddKey { raw } if raw.as_slice() == [7; 32].as_slice()));
+    Ok(())
+}
+
+// Removing, for the identifier: the key of 32 bytes 07 has this one by Python.
+#[test]
+fn removing_makes_its_call(rt: HostRuntime) -> Result<(), Fail> {
+    let alloc = rt.alloc();
     let raw = RawKey::read(&[7; 32])?;
     slice_is_bytes(raw.bytes());
     match plain_op(alloc, &Verb::RemoveKey(KeyRef::Raw(raw)))? {
