@@ -15,7 +15,7 @@ pub(crate) enum Form {
     Unseeded,
 }
 
-/// The form of a run in rotation that the words are; none for other words.
+// The form of a run in rotation that the words are; none for other words.
 pub(crate) fn read_serial_form(words: &Vec<String>) -> Option<Form>
     ensures { result ≡ serial_form_of (map string_bytes words.now.items) }
 {

@@ -23,8 +23,8 @@ use reply_text::{Status, write_log};
 use script_lang::{Script, ScriptFault, read_script};
 use std::alloc::{AllocError, Global};
 
-/// Replays the script that the source gives, and writes its log into the sink. Nothing is written before
-/// the whole log stands.
+// Replays the script that the source gives, and writes its log into the sink. Nothing is written before
+// the whole log stands.
 pub(crate) fn replay<S: Source, K: Sink, E: SeedSource, W: Way>(
     alloc: Global,
     form: Option<Form>,

@@ -22,8 +22,8 @@ use std::alloc::{AllocError, Global};
 // The most places that a history has.
 const MOST_PLACES: u64 = 1_099_511_627_776;
 
-/// The entries of a run of the script in rotation, in order of place: command 0 of each caller that has
-/// one, then command 1, and so on.
+// The entries of a run of the script in rotation, in order of place: command 0 of each caller that has
+// one, then command 1, and so on.
 pub(crate) fn run_in_rotation<M: MountMachine>(
     alloc: Global,
     script: &Script,

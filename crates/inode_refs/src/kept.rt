@@ -18,7 +18,7 @@ use std::collections::BTreeMap;
 /// The keys of nodes, each in a box of its own.
 pub(crate) type Keys = BTreeMap<u32, Box<NodeKey>>;
 
-/// Whether the node has pins.
+// Whether the node has pins.
 pub(crate) fn is_pinned(pins: &BTreeMap<u32, u32>, node: u32) -> bool
     ensures { result ≡ not (pins_at (pins_in pins.now.entries) node == 0) }
 {

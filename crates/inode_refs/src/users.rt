@@ -21,7 +21,7 @@ pub(crate) struct Users {
 }
 
 impl Users {
-    /// No users. It takes no memory before the first one.
+    // No users. It takes no memory before the first one.
     pub(crate) fn new(alloc: Global) -> Users
         ensures counts { tree.IsEmpty result.counts }
         ensures whole { result.is_whole ≡ true }
@@ -32,8 +32,8 @@ impl Users {
         }
     }
 
-    /// Counts one user more for the identifier, where there is one. Only an identifier without users takes
-    /// memory; where there is none, all is as before.
+    // Counts one user more for the identifier, where there is one. Only an identifier without users takes
+    // memory; where there is none, all is as before.
     pub(crate) fn more(&mut self, id: Option<KeyId>) -> Result<(), AllocError>
         ensures more { OnOk result (HasOneMore self.old self.new id) }
         ensures kept { OnErr result (IsAsBefore self.old self.new) }
@@ -52,7 +52,7 @@ impl Users {
         counts::one_more(&mut self.counts, id)
     }
 
-    /// Counts one user less for the identifier, where there is one. It takes no memory.
+    // Counts one user less for the identifier, where there is one. It takes no memory.
     pub(crate) fn less(&mut self, id: Option<KeyId>)
         requires { IsCountedFor self.old id }
         ensures { HasOneLess self.old self.new id }
@@ -64,8 +64,8 @@ impl Users {
         }
     }
 
-    /// Counts a user of the older identifier for the newer one. Where there is no memory for that, users
-    /// are counted no longer.
+    // Counts a user of the older identifier for the newer one. Where there is no memory for that, users
+    // are counted no longer.
     pub(crate) fn exchange(&mut self, older: KeyId, newer: KeyId)
         requires { IsCountedFor self.old (Some older) }
         ensures { HasOther self.old self.new older newer }
@@ -81,7 +81,7 @@ impl Users {
         self.is_whole = false;
     }
 
-    /// How many users the identifier has, where users are counted.
+    // How many users the identifier has, where users are counted.
     pub(crate) fn count(&self, id: &KeyId) -> Option<u32>
         ensures { (f : KeyId → ℕ) → AreCounted self.now f → IfSome result (λ count. count ≡ f id.now) }
     {

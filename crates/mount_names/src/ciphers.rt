@@ -16,8 +16,8 @@ use mount_state::MountState;
 use name_crypt::NameCipher;
 use policy_ctx::Context;
 
-/// The cipher of the names of the directory, or of the target of the symlink; none where its key is not
-/// at hand.
+// The cipher of the names of the directory, or of the target of the symlink; none where its key is not
+// at hand.
 pub(crate) fn cipher_of(state: &MountState, number: u32, context: &Context) -> Option<NameCipher>
     ensures keyed { IsCipherOf state.now number context.now result }
     ensures ranged { IfSome result (λ cipher. AreBytes cipher.key) }

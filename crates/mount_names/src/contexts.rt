@@ -12,7 +12,7 @@ use disk_tree::{DiskTree, StoredNode};
 use mount_state::MountState;
 use policy_ctx::{Context, decode_context};
 
-/// The context of the node; none where it has no policy, or there is no such node.
+// The context of the node; none where it has no policy, or there is no such node.
 pub(crate) fn context_of(state: &MountState, number: u32) -> Option<Context>
     ensures { (m : PlainMount) → StandsFor state.now m → result ≡ context_at m.nodes number }
 {

@@ -31,8 +31,8 @@ pub(crate) struct Place {
     pub stored: Filled<MOST_NAME_BYTES>,
 }
 
-/// The place of the path's last part, where it can be made: refused as a creation is for every cause
-/// but want of memory. `long` tells whether a target of too many bytes comes with it.
+// The place of the path's last part, where it can be made: refused as a creation is for every cause
+// but want of memory. `long` tells whether a target of too many bytes comes with it.
 pub(crate) fn place_at<L: Ledger>(
     alloc: Global,
     state: &mut MountState,

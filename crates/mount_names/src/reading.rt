@@ -20,7 +20,7 @@ pub(crate) enum Reading {
     Locked,
 }
 
-/// How the names of the directory, or the target of the symlink, are read.
+// How the names of the directory, or the target of the symlink, are read.
 pub(crate) fn reading_of(state: &MountState, number: u32) -> Reading
     ensures { ReadsAs state.now number result }
 {
@@ -39,8 +39,8 @@ pub(crate) fn reading_of(state: &MountState, number: u32) -> Reading
 }
 
 impl Reading {
-    /// The name as which stored bytes are shown, which some name is stored as. Of bytes that are no
-    /// stored name none is left.
+    // The name as which stored bytes are shown, which some name is stored as. Of bytes that are no
+    // stored name none is left.
     pub(crate) fn shown(&self, stored: &[u8]) -> Filled<MOST_NAME_BYTES>
         ensures { (name : List ℕ) → ShowsAs self.now stored.now name → result ≡ name }
     {

@@ -24,8 +24,8 @@ use policy_ctx::{Context, Pad};
 use short_bytes::Filled;
 use std::sync::ledger::Ledger;
 
-/// The name of the directory, or the target of the symlink, as it is stored: itself where the node has
-/// no context, else by one encryption; none where the key is not at hand.
+// The name of the directory, or the target of the symlink, as it is stored: itself where the node has
+// no context, else by one encryption; none where the key is not at hand.
 pub(crate) fn stored_as<L: Ledger>(
     state: &MountState,
     number: u32,
@@ -49,7 +49,7 @@ pub(crate) fn stored_as<L: Ledger>(
     }
 }
 
-/// The name under the cipher. `steps` counts one more.
+// The name under the cipher. `steps` counts one more.
 pub(crate) fn enciphered<L: Ledger>(
     cipher: &NameCipher,
     pad: Pad,
@@ -62,8 +62,8 @@ pub(crate) fn enciphered<L: Ledger>(
     Filled::of(cipher.encrypt(pad, name, steps).bytes())
 }
 
-/// Whether the directory has a policy, and a name in it has the no-key text of this stored one, which
-/// isn't there itself.
+// Whether the directory has a policy, and a name in it has the no-key text of this stored one, which
+// isn't there itself.
 pub(crate) fn clashes(
     state: &MountState,
     dir: u32,

@@ -14,8 +14,8 @@ use fsc_keys::KeyKind;
 use policy_ctx::{CONTEXT_LEN, Context, decode_context};
 use std::alloc::Global;
 
-/// Caches the key of the directory's names, where it is the directory's own and can be drawn. Where
-/// there is no memory for it, it isn't cached.
+// Caches the key of the directory's names, where it is the directory's own and can be drawn. Where
+// there is no memory for it, it isn't cached.
 pub(crate) fn keep_key(alloc: Global, state: &mut MountState, dir: u32)
     requires { IsDirAt state.old.disk dir }
     ensures same { SameButKeys state.old state.new }

@@ -7,8 +7,8 @@ use crate::state::MountState;
 use name_crypt::{Plain, Steps};
 use std::sync::ledger::Ledger;
 
-/// The node to which the part leads in the directory: plain where it has no policy, by one encryption
-/// where its key is at hand, else by the part as a no-key text, and nothing is deciphered.
+// The node to which the part leads in the directory: plain where it has no policy, by one encryption
+// where its key is at hand, else by the part as a no-key text, and nothing is deciphered.
 pub(crate) fn number_of<L: Ledger>(
     state: &MountState,
     dir: u32,

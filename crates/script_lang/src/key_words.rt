@@ -10,7 +10,7 @@ use item_list::Bytes;
 use std::alloc::{AllocError, Global};
 use text_words::{hex_bytes, hex_bytes_into};
 
-/// The bytes that the digits spell, if there are from `least` to `most` of them.
+// The bytes that the digits spell, if there are from `least` to `most` of them.
 pub(crate) fn read_hex(
     alloc: Global,
     word: &[u8],
@@ -31,7 +31,7 @@ pub(crate) fn read_hex(
     }
 }
 
-/// The 1 to `most` bytes that the digits spell, or none for `-`.
+// The 1 to `most` bytes that the digits spell, or none for `-`.
 pub(crate) fn read_hex_or_none(
     alloc: Global,
     word: &[u8],
@@ -46,7 +46,7 @@ pub(crate) fn read_hex_or_none(
     read_hex(alloc, word, 1, most)
 }
 
-/// The key that the word names.
+// The key that the word names.
 pub(crate) fn read_key_ref(word: &[u8]) -> Option<KeyRef>
     ensures { result ≡ spec.key_ref_of word.now }
 {

@@ -84,7 +84,7 @@ const ALL_NAMES: [CommandName; 34] = [
 ];
 
 impl CommandName {
-    /// The name that the word is, if it is one.
+    // The name that the word is, if it is one.
     pub(crate) fn read(word: &[u8]) -> Option<CommandName>
         ensures { result ≡ spec.name_of word.now }
     {
@@ -98,7 +98,7 @@ impl CommandName {
         self.text() == word
     }
 
-    /// The word that is the name.
+    // The word that is the name.
     pub(crate) fn text(self) -> &'static [u8]
         ensures { result.now ≡ spec.name_text self }
     {
@@ -149,7 +149,7 @@ fn name_among<'a>(names: &'a [CommandName], word: &[u8]) -> Option<&'a CommandNa
 }
 
 impl Verb {
-    /// The name of the command.
+    // The name of the command.
     pub(crate) fn name(&self) -> CommandName
         ensures { result ≡ spec.name_in self.now }
     {

@@ -14,7 +14,7 @@ const READABLE: [CommandName; 3] = [
 ];
 
 impl CommandName {
-    /// Whether a script may use the command already.
+    // Whether a script may use the command already.
     pub(crate) fn is_readable(self) -> bool
         ensures { result ≡ spec.is_readable self }
     {

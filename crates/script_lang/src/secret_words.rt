@@ -11,7 +11,7 @@ use argon_kdf::Costs;
 use std::alloc::{AllocError, Global};
 use text_words::{decimal_value, hex_bytes};
 
-/// The secret that the word tells.
+// The secret that the word tells.
 pub(crate) fn read_secret(alloc: Global, word: &[u8]) -> Result<Option<Secret>, AllocError>
     ensures { IfOk result (λ secret. secret ≡ spec.secret_of word.now) }
 {
@@ -24,7 +24,7 @@ pub(crate) fn read_secret(alloc: Global, word: &[u8]) -> Result<Option<Secret>, 
     Ok(None)
 }
 
-/// The new secret that the word tells.
+// The new secret that the word tells.
 pub(crate) fn read_new_secret(alloc: Global, word: &[u8]) -> Result<Option<NewSecret>, AllocError>
     ensures { IfOk result (λ secret. secret ≡ spec.new_secret_of word.now) }
 {

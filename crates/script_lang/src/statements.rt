@@ -24,8 +24,8 @@ pub enum Statement {
     Order(Verb),
 }
 
-/// What a line of a script says, or none where it is outside the grammar by itself, or names a command
-/// that a script may not use yet.
+// What a line of a script says, or none where it is outside the grammar by itself, or names a command
+// that a script may not use yet.
 pub(crate) fn read_readable(alloc: Global, line: &[u8]) -> Result<Option<Statement>, AllocError>
     ensures { IfOk result (λ said. said ≡ readable_statement_of line.now) }
 {
@@ -47,7 +47,7 @@ fn if_readable(said: Option<Statement>) -> Option<Statement>
     }
 }
 
-/// What a line says, or none where it is outside the grammar by itself.
+// What a line says, or none where it is outside the grammar by itself.
 pub(crate) fn read_statement(alloc: Global, line: &[u8]) -> Result<Option<Statement>, AllocError>
     ensures { IfOk result (λ said. said ≡ statement_of line.now) }
 {

@@ -11,7 +11,7 @@ use crate::word_writer::{
 };
 use std::alloc::{AllocError, Global};
 
-/// Writes a command behind a text.
+// Writes a command behind a text.
 #[tactic(auto, unfolding(crate::specs::VerbText::verb_text))]
 pub(crate) fn write_verb(alloc: Global, text: &mut Vec<u8>, verb: &Verb) -> Result<(), AllocError>
     ensures { OnOk result (text.new.items ≡ text.old.items ++ verb_text verb.now) }

@@ -15,7 +15,7 @@ use crate::verb::Verb;
 use crate::words::{Unread, Words};
 use std::alloc::{AllocError, Global};
 
-/// The command of a name and of the words behind it, which are all to be taken.
+// The command of a name and of the words behind it, which are all to be taken.
 pub(crate) fn read_verb(
     alloc: Global,
     first: &[u8],

@@ -75,7 +75,7 @@ pub fn write_word(alloc: Global, bytes: &[u8]) -> Result<String, AllocError>
     Ok(text)
 }
 
-/// Writes bytes as a word behind a text. After want of memory the text is as before.
+// Writes bytes as a word behind a text. After want of memory the text is as before.
 pub(crate) fn append_word(text: &mut String, bytes: &[u8]) -> Result<(), AllocError>
     ensures appended { OnOk result (string_bytes text.new ≡ string_bytes text.old ++ word_text bytes.now) }
     ensures kept { OnErr result (string_bytes text.new ≡ string_bytes text.old) }
