@@ -4,8 +4,8 @@ ghost use Rattle.std.specs.Prelude.{◌≡◌, ◌<◌};
 ghost use Rattle.argon_kdf.specs.Permutation.{mixed, permuted, product_sum};
 ghost use Rattle.argon_kdf.specs.Blocks.{joined, row, row_permuted, rows_permuted, transposed, xored};
 
-/// 1,024 bytes, as words.
-pub type Block = [u64; 128];
+// 1,024 bytes, as words.
+pub(crate) type Block = [u64; 128];
 
 // A block has this many words.
 pub(crate) const BLOCK_WORDS: usize = 128;

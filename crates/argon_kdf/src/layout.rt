@@ -6,9 +6,9 @@ ghost use Rattle.argon_kdf.specs.declared.limits.TheConstants.{MOST_KIB, MOST_LA
 
 use crate::Costs;
 
-/// How often the memory is gone through, in how many lanes, and how many columns a segment has.
+// How often the memory is gone through, in how many lanes, and how many columns a segment has.
 #[derive(Clone, Copy)]
-pub struct Layout {
+pub(crate) struct Layout {
     pub passes: usize,
     pub lanes: usize,
     pub width: usize,
@@ -20,10 +20,10 @@ pub struct Layout {
     ghost narrow: { lanes * (4 * width) ≤ MOST_KIB },
 }
 
-/// The place of a block in the order in which blocks are made: the pass, the slice of the pass, the
-/// lane, and the index in the segment that the slice has in the lane.
+// The place of a block in the order in which blocks are made: the pass, the slice of the pass, the
+// lane, and the index in the segment that the slice has in the lane.
 #[derive(Clone, Copy)]
-pub struct Place {
+pub(crate) struct Place {
     pub pass: usize,
     pub slice: usize,
     pub lane: usize,

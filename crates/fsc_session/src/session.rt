@@ -13,8 +13,9 @@ use mount_model::MountPort;
 use script_lang::Section;
 use std::alloc::{AllocError, Global};
 
-/// Runs the section's commands one after another on the caller's port, each between the gate's two calls.
-/// The port has four calls left for each command.
+/// Runs the section's commands one after another on the caller's port. The gate is called before each, and
+/// behind each that was run: after want of memory in a command it is not. The port has four calls left for
+/// each command.
 pub fn run_caller<P: MountPort, G: Gate>(
     alloc: Global,
     port: &mut P,

@@ -21,7 +21,8 @@ use std::marker::Model;
 /// overwritten first.
 ///
 /// A node is found, and a master key's users are told, in a time that grows with the logarithm of how many
-/// there are; only an eviction goes over all nodes with a key.
+/// there are. An eviction goes over all nodes with a key, and so does `users_of` once there was no memory
+/// for its counts.
 #[derive(Drop)]
 pub struct InodeCache {
     keys: Keys,

@@ -25,8 +25,8 @@ use std::alloc::Global;
 /// whatever it was before, and all that is cached stays.
 ///
 /// Inval for fewer than `LEAST_RAW_KEY_BYTES` or more than `MOST_RAW_KEY_BYTES`, then Quota where the claim
-/// would be a new one and the user has `MOST_CLAIMS`. After a refusal the state is as before. No copy of the
-/// bytes is left but the secret.
+/// would be a new one and the user has `MOST_CLAIMS`. After a refusal the state is as before. The copy
+/// that the call makes of the bytes is overwritten; the caller's own stays.
 pub fn add_key(alloc: Global, state: &mut MountState, uid: u32, raw: &Bytes) -> Reply
     ensures refused { IfSome (add_fault state.old.ring.claims uid raw.now)
         (λ refusal. result ≡ Reply.Refused refusal) }

@@ -19,6 +19,13 @@ pub const MOST_FILE_BYTES: usize = 1_048_576;
 /// The most bytes that one read may ask for.
 pub const MOST_READ_BYTES: usize = 4096;
 
+/// The most bytes that one write may carry.
+pub const MOST_WRITE_BYTES: usize = 65_536;
+
+/// The most bytes that a call may carry for a record: more than one may have, so that TooBig is the
+/// mount's own.
+pub const MOST_CARRIED_BYTES: usize = 9000;
+
 /// The most parts of a path.
 pub const MOST_PARTS: usize = 32;
 

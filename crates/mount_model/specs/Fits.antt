@@ -7,9 +7,8 @@ use Rattle.mount_model.specs.declared.call.Op.TheVariants.{SetPolicy, GetPolicy,
 use Rattle.mount_model.specs.declared.call.Op.TheVariants.{ReadLink, Unlink, Rmdir, Rename, OpenNode}
 use Rattle.mount_model.specs.declared.call.Op.TheVariants.{Write, Close, DropCaches, MetaLoad, MetaStore}
 use Rattle.mount_model.specs.declared.call.Op.TheVariants as op
-use Rattle.mount_limits.specs.declared.TheConstants.{MOST_RAW_BYTES}
-use Rattle.mount_model.specs.declared.limits.TheConstants.{MOST_WRITE_BYTES, MOST_RECORD_NAME_BYTES}
-use Rattle.mount_model.specs.declared.limits.TheConstants.{MOST_CARRIED_BYTES}
+use Rattle.mount_limits.specs.declared.TheConstants.{MOST_RAW_BYTES, MOST_WRITE_BYTES, MOST_CARRIED_BYTES}
+use Rattle.mount_model.specs.declared.limits.TheConstants.{MOST_RECORD_NAME_BYTES}
 use Rattle.mount_model.specs.Carried.{HasLength, IsPath, IsTarget, AreFewBytes}
 
 -- a raw key has 1 to 128 bytes, a write at most 65,536; a record's name has 1 to 64, its bytes are at

@@ -4,8 +4,8 @@
 pub use fsc_keys::{LEAST_RAW_KEY_BYTES, MOST_RAW_KEY_BYTES};
 pub use meta_files::{LAST_VERSION, MOST_RECORD_BYTES, MOST_RECORDS};
 pub use mount_limits::{
-    BLOCK_SIZE, MOST_BLOCKS, MOST_CHILDREN, MOST_FILE_BYTES, MOST_NODES, MOST_PART_BYTES,
-    MOST_PARTS, MOST_RAW_BYTES, MOST_READ_BYTES,
+    BLOCK_SIZE, MOST_BLOCKS, MOST_CARRIED_BYTES, MOST_CHILDREN, MOST_FILE_BYTES, MOST_NODES,
+    MOST_PART_BYTES, MOST_PARTS, MOST_RAW_BYTES, MOST_READ_BYTES, MOST_WRITE_BYTES,
 };
 pub use name_crypt::MOST_NAME_BYTES;
 
@@ -13,15 +13,8 @@ pub use name_crypt::MOST_NAME_BYTES;
 /// mount's own.
 pub const MOST_TARGET_BYTES: usize = 1000;
 
-/// The bytes of one write.
-pub const MOST_WRITE_BYTES: usize = 65_536;
-
 /// The bytes of a record's name.
 pub const MOST_RECORD_NAME_BYTES: usize = 64;
-
-/// The bytes that a call may carry for a record: more than one may have, so that TooBig is the
-/// mount's own.
-pub const MOST_CARRIED_BYTES: usize = 9000;
 
 /// The number that no node gets: a creation is refused where it would come next.
 pub const LAST_NODE: usize = 4_294_967_295;

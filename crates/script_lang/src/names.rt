@@ -6,9 +6,9 @@ ghost use Rattle.script_lang.specs.Names as spec;
 
 use crate::verb::Verb;
 
-/// Which command it is. Each name belongs to one variant of `Verb`.
+// Which command it is. Each name belongs to one variant of `Verb`.
 #[derive(Clone, Copy, Debug, PartialEq, Eq)]
-pub enum CommandName {
+pub(crate) enum CommandName {
     AddKey,
     RemoveKey,
     RemoveKeyAll,
@@ -45,7 +45,7 @@ pub enum CommandName {
     Migrate,
 }
 
-/// All names, those of plain calls first.
+// All names, those of plain calls first.
 const ALL_NAMES: [CommandName; 34] = [
     CommandName::AddKey,
     CommandName::RemoveKey,

@@ -13,14 +13,14 @@ use crate::words::Words;
 use std::alloc::{AllocError, Global};
 use text_words::decimal_value;
 
-/// What a line says.
+// What a line says.
 #[derive(Drop)]
-pub enum Statement {
-    /// It is empty, or a comment.
+pub(crate) enum Statement {
+    // It is empty, or a comment.
     Nothing,
-    /// From here on this user calls.
+    // From here on this user calls.
     Caller(u32),
-    /// The caller asks for this.
+    // The caller asks for this.
     Order(Verb),
 }
 

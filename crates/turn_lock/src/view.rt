@@ -8,8 +8,8 @@ use call_history::Entry;
 use std::alloc::Global;
 use std::collections::LinkedList;
 
-/// What a seat knows. No value of it is made.
-pub struct View<C, R> {
+// What a seat knows. No value of it is made.
+pub(crate) struct View<C, R> {
     pub who: u32,
     pub high: u32,
     pub left: u64,
@@ -22,9 +22,9 @@ pub struct View<C, R> {
     pub past: LinkedList<(u64, Entry<C, R>)>,
 }
 
-/// How many caller numbers there are, and how many calls in all.
+// How many caller numbers there are, and how many calls in all.
 #[derive(Drop)]
-pub struct Limits {
+pub(crate) struct Limits {
     pub numbers: u32,
     pub allowance: u64,
 }
