@@ -1,0 +1,31 @@
+-- What the contents of a file are sealed with, by the parts of a state.
+use Rattle.std.specs.Prelude.{◌≡◌, ℕ, Option, Some, None, option_map, if◌then◌else◌}
+use Rattle.policy_ctx.specs.declared.policy.Context.{Context}
+use Rattle.policy_ctx.specs.Context.{context_bytes, HasSizes}
+use Rattle.fsc_keys.specs.Keys.{key_bytes}
+use Rattle.fsc_keys.specs.declared.file_keys.KeyKind.TheVariants.{Contents}
+use Rattle.fsc_keys.specs.declared.file_keys.FileKey.{FileKey}
+use Rattle.number_map.specs.Numbered.{get}
+use Rattle.key_ring.specs.Modes.{Modes, mode_at}
+use Rattle.inode_refs.specs.Cached.{Cache, key_at}
+use Rattle.data_crypt.specs.Blocks.{Seal}
+use Rattle.mount_model.specs.Sealed.{node_start}
+use Rattle.mount_state.specs.Contexts.{context_in}
+use Rattle.mount_state.specs.declared.state.MountState.{MountState}
+
+-- the key of the contents that is held: under flag 8 that of the mode, else the file's own
+abbrev pub contents_key : Cache → Modes → ℕ → Context → Option FileKey
+contents_key cache modes file c =
+    if c.policy.by_mode then option_map (λ mode. mode.key) (mode_at modes c.policy.id Contents)
+    else option_map (λ key. key.key) (key_at cache file)
+
+-- the seal of a file of this context under the key
+abbrev pub seal_with : ℕ → Context → FileKey → Seal
+seal_with file c key = record { key = key_bytes key; start = node_start file c; unit = c.policy.unit }
+
+-- the contents of the file are sealed so: under the key that is held for it, where its context on the
+-- disk is one, and not at all where it has none
+pub record IsSealOf (s : MountState) (file : ℕ) (seal : Option Seal) : Type 0 where
+  pub plain : context_in (get s.disk file) ≡ None → seal ≡ None
+  pub sealed : (c : Context) → HasSizes c → context_in (get s.disk file) ≡ Some (context_bytes c)
+      → seal ≡ option_map (seal_with file c) (contents_key s.inodes s.modes file c)
