@@ -1,5 +1,5 @@
 -- What a file holds, and what a read that has begun gives.
-use Rattle.std.specs.Prelude.{◌≡◌, ℕ, ◌*◌, ◌/◌, List, [], length, Option}
+use Rattle.std.specs.Prelude.{◌≡◌, ℕ, ◌+◌, ◌*◌, ◌/◌, List, [], length, Option}
 use Rattle.std.specs.Prelude.{None, Some, option_map, nat_le, if◌then◌else◌}
 use Rattle.mount_limits.specs.declared.TheConstants.{BLOCK_SIZE}
 use Rattle.byte_words.specs.Bytes.{AreBytes}
@@ -27,6 +27,10 @@ abbrev pub whole_size : Disk → ℕ → ℕ
 whole_size disk file =
     if nat_le (file_size disk file) (BLOCK_SIZE * length (file_blocks disk file))
     then file_size disk file else 0
+
+-- the content begins at this byte of the file
+abbrev pub IsAt : ℕ → LentRead → Type 0
+IsAt offset read = BLOCK_SIZE * read.block + read.skip ≡ offset
 
 -- the text is the stored blocks that it begins and ends with
 abbrev pub IsCopied : Disk → ℕ → LentRead → Type 0

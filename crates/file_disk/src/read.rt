@@ -6,7 +6,7 @@ ghost use Rattle.data_crypt.specs.Laws.{IsKeyOfBytes};
 ghost use Rattle.data_crypt.specs.Parts.{blocks_joined, content_of, opened_text};
 ghost use Rattle.disk_tree.specs.DiskTree.{file_blocks, file_size};
 ghost use Rattle.file_disk.specs.Keys.{seal_by, seal_of};
-ghost use Rattle.file_disk.specs.Lent.{IsCopied, IsPart, whole_size};
+ghost use Rattle.file_disk.specs.Lent.{IsAt, IsCopied, IsPart, whole_size};
 
 use crate::cipher::{cipher_of, read};
 use crate::key::{ContentsKey, FileCipher};
@@ -31,6 +31,7 @@ pub fn begin_read(
     requires { len ≤ MOST_READ_BYTES }
     ensures past { whole_size disk.now file ≤ offset → result ≡ Ok None }
     ensures none { len ≡ 0 → result ≡ Ok None }
+    ensures place { IfOk result (λ lent. IfSome lent (IsAt offset)) }
     ensures text { IfOk result (λ lent. IfSome lent (IsCopied disk.now file)) }
     ensures key { IfOk result (λ lent. IfSome lent (λ read. seal_of read.key ≡ seal_of key.now)) }
     ensures content { IfOk result (IsPart disk.now file (seal_of key.now) offset len) }

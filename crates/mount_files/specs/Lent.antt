@@ -1,8 +1,17 @@
 -- What a read lends out of the turn, and the reply that it comes to.
-use Rattle.std.specs.Prelude.{Some}
-use Rattle.file_disk.specs.Lent.{lent_content}
+use Rattle.std.specs.Prelude.{◌≡◌, ℕ, Bool, true, false, [], Option, Some, None}
+use Rattle.file_disk.specs.Keys.{seal_of}
+use Rattle.file_disk.specs.Lent.{IsAt, IsCopied, lent_content}
+use Rattle.file_disk.specs.declared.lent.LentRead.{LentRead}
 use Rattle.mount_model.specs.declared.reply.Reply.{Reply}
-use Rattle.mount_model.specs.declared.reply.Reply.TheVariants.{Content}
+use Rattle.mount_model.specs.declared.reply.Reply.TheVariants.{Content, Refused}
+use Rattle.mount_model.specs.PlainMount.{PlainMount}
+use Rattle.mount_model.specs.FileAnswers.{content_of}
+use Rattle.mount_state.specs.Given.{IsToldOrNoMemory}
+use Rattle.mount_state.specs.StandsFor.{StandsFor}
+use Rattle.mount_state.specs.declared.state.MountState.{MountState}
+use Rattle.mount_files.specs.OpenFile.{IsOpen}
+use Rattle.mount_files.specs.Seals.{IsSealOf}
 use Rattle.mount_files.specs.declared.lent.Lent.{Lent}
 use Rattle.mount_files.specs.declared.lent.Lent.TheVariants.{Ready, Read}
 
@@ -10,3 +19,32 @@ use Rattle.mount_files.specs.declared.lent.Lent.TheVariants.{Ready, Read}
 abbrev pub reply_of : Lent → Reply
 reply_of (Ready reply) = reply
 reply_of (Read read) = Content (lent_content (Some read))
+
+-- nothing was read: a refusal, or an empty content
+abbrev pub tells_nothing : Reply → Bool
+tells_nothing (Refused refusal) = true
+tells_nothing (Content []) = true
+tells_nothing other = false
+
+-- what is lent of a file is the stored bytes of some of its blocks, from the one on in which the content
+-- begins, and what these are sealed with
+pub record IsLentOf (s : MountState) (file offset : ℕ) (read : LentRead) : Type 0 where
+  pub place : IsAt offset read
+  pub text : IsCopied s.disk file read
+  pub key : IsSealOf s file (seal_of read.key)
+
+-- a reply that is ready tells nothing of the file; all else is lent of it
+abbrev pub IsLentOn : MountState → ℕ → ℕ → Lent → Type 0
+IsLentOn s file offset (Ready reply) = tells_nothing reply ≡ true
+IsLentOn s file offset (Read read) = IsLentOf s file offset read
+
+-- so it is for the file on which a handle is; without one nothing is lent
+abbrev pub IsLent : MountState → Option ℕ → ℕ → Lent → Type 0
+IsLent s None offset (Ready reply) = tells_nothing reply ≡ true
+IsLent s None offset (Read read) = ⊥
+IsLent s (Some file) offset lent = IsLentOn s file offset lent
+
+-- in whatever mount the state stands for and has the file open, it is told what is read of the file
+abbrev pub IsReadAs : MountState → ℕ → ℕ → ℕ → Reply → Type 0
+IsReadAs s file offset len reply =
+    (m : PlainMount) → StandsFor s m → IsOpen m file → IsToldOrNoMemory (content_of m file offset len) reply

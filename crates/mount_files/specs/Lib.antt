@@ -1,2 +1,4 @@
-pub mod Lent
+pub mod OpenFile
 pub mod Seals
+pub mod Lent
+pub mod Written

@@ -1,7 +1,7 @@
 -- What the contents of a file are sealed with, by the parts of a state.
-use Rattle.std.specs.Prelude.{◌≡◌, ℕ, Option, Some, None, option_map, if◌then◌else◌}
+use Rattle.std.specs.Prelude.{◌≡◌, ℕ, List, length, Option, Some, None, option_map, if◌then◌else◌}
 use Rattle.policy_ctx.specs.declared.policy.Context.{Context}
-use Rattle.policy_ctx.specs.Context.{context_bytes, HasSizes}
+use Rattle.policy_ctx.specs.Context.{context_bytes, context_fault}
 use Rattle.fsc_keys.specs.Keys.{key_bytes}
 use Rattle.fsc_keys.specs.declared.file_keys.KeyKind.TheVariants.{Contents}
 use Rattle.fsc_keys.specs.declared.file_keys.FileKey.{FileKey}
@@ -23,9 +23,10 @@ contents_key cache modes file c =
 abbrev pub seal_with : ℕ → Context → FileKey → Seal
 seal_with file c key = record { key = key_bytes key; start = node_start file c; unit = c.policy.unit }
 
--- the contents of the file are sealed so: under the key that is held for it, where its context on the
--- disk is one, and not at all where it has none
+-- The contents of the file are sealed so: under the key that is held for it by its context on the disk, and
+-- not at all where it has none. What lies there as a context is one.
 pub record IsSealOf (s : MountState) (file : ℕ) (seal : Option Seal) : Type 0 where
+  pub read : (bytes : List ℕ) → context_in (get s.disk file) ≡ Some bytes → context_fault bytes ≡ None
   pub plain : context_in (get s.disk file) ≡ None → seal ≡ None
-  pub sealed : (c : Context) → HasSizes c → context_in (get s.disk file) ≡ Some (context_bytes c)
+  pub sealed : (c : Context) → length c.policy.id.0 ≡ 16 → context_in (get s.disk file) ≡ Some (context_bytes c)
       → seal ≡ option_map (seal_with file c) (contents_key s.inodes s.modes file c)

@@ -1,13 +1,64 @@
 //! A part of an open file is read: under the turn its stored blocks are copied, and outside they are
 //! deciphered.
 
-ghost use Rattle.std.specs.Prelude.{◌≡◌};
-ghost use Rattle.mount_files.specs.Lent.{reply_of};
+ghost use Rattle.std.specs.Prelude.{◌≡◌, ◌≤◌, Some};
+ghost use Rattle.mount_model.specs.PlainMount.{PlainMount, node_of};
+ghost use Rattle.mount_model.specs.FileAnswers.{answer_to_read};
+ghost use Rattle.mount_state.specs.Given.{IsToldOrNoMemory};
+ghost use Rattle.mount_state.specs.StandsFor.{StandsFor};
+ghost use Rattle.mount_files.specs.Lent.{reply_of, IsLent, IsLentOn, IsReadAs};
 
+use crate::files::open_file;
+use crate::keys::key_of;
 use crate::lent::Lent;
-use file_disk::{LentRead, finish_read};
+use file_disk::{LentRead, MOST_READ_BYTES, begin_read, finish_read};
 use item_list::Bytes;
-use mount_model::Reply;
+use mount_model::{Refusal, Reply};
+use mount_state::MountState;
+use std::alloc::Global;
+
+/// Begins to read at most `len` bytes from byte `offset` on of the file that the caller has open under
+/// the number: the stored blocks of that part are copied, with the key that deciphers them, and nothing
+/// is deciphered.
+///
+/// The reply is ready where the part is empty and where the read is refused: BadHandle where the caller
+/// has no such handle, then IsDir, then TooBig for more than `MOST_READ_BYTES`; NoMemory where there is
+/// none for the copy.
+pub fn read_begin(
+    alloc: Global,
+    state: &MountState,
+    caller: u32,
+    handle: u32,
+    offset: u32,
+    len: u32,
+) -> Lent
+    ensures stands { (m : PlainMount) → StandsFor state.now m
+        → IsToldOrNoMemory (answer_to_read m caller handle offset len).reply (reply_of result) }
+    ensures lent { IsLent state.now (node_of state.now.handles.live caller handle) offset result }
+{
+    match open_file(state, caller, handle) {
+        Ok(_) if len as usize > MOST_READ_BYTES => Lent::Ready(Reply::Refused(Refusal::TooBig)),
+        Ok(file) => lend(alloc, state, file, offset, len),
+        Err(refusal) => Lent::Ready(Reply::Refused(refusal)),
+    }
+}
+
+// Copies the stored blocks of the part of the file.
+fn lend(alloc: Global, state: &MountState, file: u32, offset: u32, len: u32) -> Lent
+    requires few { len ≤ MOST_READ_BYTES }
+    ensures read { IsReadAs state.now file offset len (reply_of result) }
+    ensures lent { IsLentOn state.now file offset result }
+{
+    let key = match key_of(state, file) {
+        Ok(key) => key,
+        Err(refusal) => return Lent::Ready(Reply::Refused(refusal)),
+    };
+    match begin_read(&state.disk, alloc, file, &key, offset, len) {
+        Ok(Some(read)) => Lent::Read(read),
+        Ok(None) => Lent::Ready(Reply::Content(Bytes::new(alloc))),
+        Err(_) => Lent::Ready(Reply::Refused(Refusal::NoMemory)),
+    }
+}
 
 /// Deciphers in place what was lent, and cuts it to the content. It takes no memory; the key is
 /// overwritten.
@@ -27,4 +78,20 @@ impl Lent {
             Lent::Read(lent) => read_finish(lent),
         }
     }
+}
+
+/// Reads at most `len` bytes from byte `offset` on, as far as the file goes, of the file that the caller
+/// has open under the number. Refused as `read_begin` is.
+pub fn read(
+    alloc: Global,
+    state: &MountState,
+    caller: u32,
+    handle: u32,
+    offset: u32,
+    len: u32,
+) -> Reply
+    ensures { (m : PlainMount) → StandsFor state.now m
+        → IsToldOrNoMemory (answer_to_read m caller handle offset len).reply result }
+{
+    read_begin(alloc, state, caller, handle, offset, len).finish()
 }

@@ -1,0 +1,6 @@
+pub mod SealLemmas
+pub mod OpenLemmas
+pub mod RoomLemmas
+pub mod WrittenLemmas
+pub mod ReadLemmas
+pub mod WriteLemmas

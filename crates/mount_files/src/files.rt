@@ -1,0 +1,28 @@
+//! The file that a caller has open.
+
+ghost use Rattle.std.specs.Prelude.{◌≡◌, Some, IfOk, IfErr};
+ghost use Rattle.disk_tree.specs.DiskTree.{IsFileAt};
+ghost use Rattle.mount_model.specs.PlainMount.{node_of};
+ghost use Rattle.mount_files.specs.OpenFile.{IsRefusedAt};
+
+use mount_model::Refusal;
+use mount_state::MountState;
+
+// The file that the caller has open under the number. BadHandle where there is none, IsDir where that is
+// a directory.
+pub(crate) fn open_file(state: &MountState, caller: u32, handle: u32) -> Result<u32, Refusal>
+    ensures held { IfOk result (λ file. node_of state.now.handles.live caller handle ≡ Some file) }
+    ensures file { IfOk result (IsFileAt state.now.disk) }
+    ensures refused { IfErr result (IsRefusedAt state.now caller handle) }
+{
+    let Some(node) = state.handles.node_of(caller, handle) else {
+        return Err(Refusal::BadHandle);
+    };
+    if state.disk.is_dir(node) {
+        return Err(Refusal::IsDir);
+    }
+    if !state.disk.is_file(node) {
+        return Err(Refusal::BadHandle);
+    }
+    Ok(node)
+}

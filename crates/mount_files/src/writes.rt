@@ -1,0 +1,63 @@
+//! Bytes are written into an open file.
+
+ghost use Rattle.std.specs.Prelude.{◌≡◌, true, false};
+ghost use Rattle.mount_model.specs.ClaimHistory.{is_refused};
+ghost use Rattle.mount_model.specs.FileAnswers.{answer_to_write};
+ghost use Rattle.mount_model.specs.PlainMount.{PlainMount, node_of};
+ghost use Rattle.mount_state.specs.Given.{IsGivenOrNoMemory};
+ghost use Rattle.mount_state.specs.StandsFor.{StandsFor};
+ghost use Rattle.mount_files.specs.Written.{IsWrittenTo, SameButDisk};
+
+use crate::files::open_file;
+use crate::keys::key_of;
+use byte_words::slice_is_bytes;
+use file_disk::{DiskFault, MOST_FILE_BYTES, write_file};
+use item_list::Bytes;
+use mount_model::{Refusal, Reply};
+use mount_state::MountState;
+use std::alloc::Global;
+
+/// Writes the bytes from byte `offset` on into the file that the caller has open under the number. A gap
+/// before them is zeros, enciphered as all else; no bytes change nothing. Only the blocks that the bytes
+/// touch and those that are new are stored anew.
+///
+/// BadHandle where the caller has no such handle, then IsDir, then TooBig where the bytes would end behind
+/// `MOST_FILE_BYTES`, then NoSpace where all files would have more than `MOST_BLOCKS` blocks; NoMemory
+/// where there is none for new blocks. After a refusal the state is as before.
+pub fn write(
+    alloc: Global,
+    state: &mut MountState,
+    caller: u32,
+    handle: u32,
+    offset: u32,
+    bytes: &Bytes,
+) -> Reply
+    ensures stands { (m : PlainMount) → StandsFor state.old m
+        → IsGivenOrNoMemory m (answer_to_write m caller handle offset bytes.now) result state.new }
+    ensures refused { (m : PlainMount) → StandsFor state.old m
+        → is_refused (answer_to_write m caller handle offset bytes.now).reply ≡ true
+        → result ≡ (answer_to_write m caller handle offset bytes.now).reply }
+    ensures kept { is_refused result ≡ true → state.new.disk ≡ state.old.disk }
+    ensures written { is_refused result ≡ false
+        → IsWrittenTo state.old state.new.disk (node_of state.old.handles.live caller handle) offset bytes.now }
+    ensures same { SameButDisk state.old state.new }
+{
+    let file = match open_file(state, caller, handle) {
+        Ok(file) => file,
+        Err(refusal) => return Reply::Refused(refusal),
+    };
+    let piece = bytes.as_slice();
+    if u64::from(offset) + piece.len() as u64 > MOST_FILE_BYTES as u64 {
+        return Reply::Refused(Refusal::TooBig);
+    }
+    let key = match key_of(state, file) {
+        Ok(key) => key,
+        Err(refusal) => return Reply::Refused(refusal),
+    };
+    slice_is_bytes(piece);
+    match write_file(&mut state.disk, alloc, file, &key, offset, piece) {
+        Ok(()) => Reply::Done,
+        Err(DiskFault::NoSpace) => Reply::Refused(Refusal::NoSpace),
+        Err(DiskFault::NoMemory) => Reply::Refused(Refusal::NoMemory),
+    }
+}
