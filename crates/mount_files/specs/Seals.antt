@@ -19,6 +19,9 @@ contents_key cache modes file c =
     if c.policy.by_mode then option_map (λ mode. mode.key) (mode_at modes c.policy.id Contents)
     else option_map (λ key. key.key) (key_at cache file)
 
+abbrev pub held_key : MountState → ℕ → Context → Option FileKey
+held_key s file c = contents_key s.inodes s.modes file c
+
 -- the seal of a file of this context under the key
 abbrev pub seal_with : ℕ → Context → FileKey → Seal
 seal_with file c key = record { key = key_bytes key; start = node_start file c; unit = c.policy.unit }
@@ -28,5 +31,6 @@ seal_with file c key = record { key = key_bytes key; start = node_start file c; 
 pub record IsSealOf (s : MountState) (file : ℕ) (seal : Option Seal) : Type 0 where
   pub read : (bytes : List ℕ) → context_in (get s.disk file) ≡ Some bytes → context_fault bytes ≡ None
   pub plain : context_in (get s.disk file) ≡ None → seal ≡ None
-  pub sealed : (c : Context) → length c.policy.id.0 ≡ 16 → context_in (get s.disk file) ≡ Some (context_bytes c)
-      → seal ≡ option_map (seal_with file c) (contents_key s.inodes s.modes file c)
+  pub sealed : (c : Context) → length c.policy.id.0 ≡ 16
+      → context_in (get s.disk file) ≡ Some (context_bytes c)
+      → seal ≡ option_map (seal_with file c) (held_key s file c)

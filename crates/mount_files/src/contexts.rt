@@ -17,7 +17,8 @@ pub(crate) fn context_on(disk: &DiskTree, number: u32) -> Result<Option<Context>
         → context_in (get disk.now number) ≡ Some (context_bytes c) → result ≡ Ok (Some c) }
     ensures known { IsOk result → (bytes : List ℕ) → context_in (get disk.now number) ≡ Some bytes
         → context_fault bytes ≡ None }
-    ensures found { IfOk result (λ context. context_in (get disk.now number) ≡ option_map context_bytes context) }
+    ensures found { IfOk result (λ context.
+        context_in (get disk.now number) ≡ option_map context_bytes context) }
 {
     match disk.node(number) {
         Some(

@@ -5,7 +5,7 @@ ghost use Rattle.data_crypt.specs.Laws.{IsKeyOfBytes};
 ghost use Rattle.fsc_keys.specs.declared.file_keys.FileKey.TheVariants as key;
 ghost use Rattle.file_disk.specs.Keys.{seal_of};
 ghost use Rattle.mount_model.specs.Sealed.{node_start};
-ghost use Rattle.mount_files.specs.Seals.{IsSealOf, contents_key, seal_with};
+ghost use Rattle.mount_files.specs.Seals.{IsSealOf, held_key, seal_with};
 ghost use Rattle.mount_files.specs.OpenFile.{HasOpen};
 
 use crate::contexts::context_on;
@@ -38,10 +38,10 @@ fn key_under(
     context: &Context,
 ) -> Result<Option<ContentsKey>, Refusal>
     ensures sealed { IfOk result (λ key. seal_of key
-        ≡ option_map (seal_with file context.now) (contents_key state.now.inodes state.now.modes file context.now)) }
+        ≡ option_map (seal_with file context.now) (held_key state.now file context.now)) }
     ensures ranged { IfOk result (λ key. IsKeyOfBytes (seal_of key)) }
     ensures held { (bytes : List ℕ)
-        → contents_key state.now.inodes state.now.modes file context.now ≡ Some (key.Contents bytes) → IsOk result }
+        → held_key state.now file context.now ≡ Some (key.Contents bytes) → IsOk result }
 {
     match held_key(state, file, context) {
         Some(FileKey::Contents(bytes)) => {
@@ -58,7 +58,7 @@ fn key_under(
 
 // The key that is held: the mode key under flag 8, else the file's own.
 fn held_key<'a>(state: &'a MountState, file: u32, context: &Context) -> Option<&'a FileKey>
-    ensures { option_copied result ≡ contents_key state.now.inodes state.now.modes file context.now }
+    ensures { option_copied result ≡ held_key state.now file context.now }
 {
     if context.policy.by_mode {
         return state.modes.key_of(&context.policy.id, KeyKind::Contents);

@@ -38,8 +38,8 @@ pub fn write(
         → is_refused (answer_to_write m caller handle offset bytes.now).reply ≡ true
         → result ≡ (answer_to_write m caller handle offset bytes.now).reply }
     ensures kept { is_refused result ≡ true → state.new.disk ≡ state.old.disk }
-    ensures written { is_refused result ≡ false
-        → IsWrittenTo state.old state.new.disk (node_of state.old.handles.live caller handle) offset bytes.now }
+    ensures written { is_refused result ≡ false → IsWrittenTo state.old state.new.disk
+        (node_of state.old.handles.live caller handle) offset bytes.now }
     ensures same { SameButDisk state.old state.new }
 {
     let file = match open_file(state, caller, handle) {
