@@ -143,7 +143,7 @@ module _ (disk : Disk) (next : ℕ) (claims : ClaimSet) (cache : Cache) (modes :
     abbrev without_key : Cache
     without_key = record cache { keys = remove cache.keys x }
 
-    still : (n : ℕ) (key : NodeKey) → key_at without_key n ≡ Some key → (n ≢ x) × (key_at cache n ≡ Some key)
+    pub still : (n : ℕ) (key : NodeKey) → key_at without_key n ≡ Some key → (n ≢ x) × (key_at cache n ≡ Some key)
     still n key is = elim (cases_eq n x) [
       | inl same ↦ let none : None ≡ Some key = sym (ap (get (remove cache.keys x)) same ∙ remove_here cache.keys x) ∙ is in absurd (cc)
       | inr differ ↦ (differ, sym (read_removed (λ o. o) cache.keys x n differ) ∙ is)

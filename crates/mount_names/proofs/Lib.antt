@@ -10,3 +10,6 @@ pub mod LenLemmas
 pub mod ClashLemmas
 pub mod PlaceLemmas
 pub mod MakeLemmas
+pub mod FoundLemmas
+pub mod NodesLemmas
+pub mod RemovalLemmas

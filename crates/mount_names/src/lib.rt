@@ -3,12 +3,14 @@
 
 mod ciphers;
 mod contexts;
+mod entries;
 mod links;
 mod looks;
 mod lookups;
 mod makes;
 mod places;
 mod reading;
+mod removals;
 mod stored_names;
 #[cfg(test)]
 mod tests;
@@ -17,3 +19,4 @@ pub use links::read_link;
 pub use looks::{get_policy, stat};
 pub use lookups::lookup;
 pub use makes::{create, mkdir};
+pub use removals::{rmdir, unlink};

@@ -1,0 +1,51 @@
+-- The entry of a directory that is found by a part, as the state has it: with the name as it is stored.
+use Rattle.std.specs.Prelude.{◌≡◌, ℕ, Bool, List, Option, Some, None, IfSome, option_map, Result, Ok, Err, if◌then◌else◌}
+use Rattle.plain_tree.specs.Nodes.{Name, context_at}
+use Rattle.disk_tree.specs.DiskTree.{Disk, children}
+use Rattle.disk_tree.specs.Entries.{number_under}
+use Rattle.mount_model.specs.declared.reply.Refusal.{Refusal}
+use Rattle.mount_model.specs.declared.reply.Refusal.TheVariants.{NotFound}
+use Rattle.mount_model.specs.PlainMount.{PlainMount}
+use Rattle.mount_model.specs.Walk.{PathParts, Walked, found, last_part, parent}
+use Rattle.mount_state.specs.Stored.{stored_form}
+use Rattle.mount_names.specs.declared.entries.Entry.{Entry}
+
+-- on the disk the stored name leads to the node
+abbrev pub IsEntryOn : Disk → Entry → Type 0
+IsEntryOn disk entry = number_under entry.stored (children disk entry.dir) ≡ Some entry.number
+
+-- the bytes, where this holds of them
+abbrev pub stored_if : Bool → List ℕ → Option (List ℕ)
+stored_if holds bytes = if holds then Some bytes else None
+
+-- ---- in a mount
+
+-- the stored form of a name of the directory
+abbrev pub form_in : PlainMount → ℕ → Name → List ℕ
+form_in m d name = stored_form m.raws d (context_at m.nodes d) name
+
+abbrev pub entry_in : PlainMount → ℕ → Name × ℕ → Entry
+entry_in m d e = record { dir = d; stored = form_in m d e.0; number = e.1 }
+
+-- the entry that is found by the part
+abbrev pub entry_found : PlainMount → ℕ → Name → Option Entry
+entry_found m d part = option_map (entry_in m d) (found m d part)
+
+-- the stored form of what was found; where nothing was, none or one that leads nowhere
+abbrev pub IsStoredFor : Disk → PlainMount → ℕ → Option (Name × ℕ) → Option (List ℕ) → Type 0
+IsStoredFor disk m d None stored = IfSome stored (λ bytes. number_under bytes (children disk d) ≡ None)
+IsStoredFor disk m d (Some e) stored = stored ≡ Some (form_in m d e.0)
+
+-- ---- at the end of a path
+
+abbrev pub or_not_found : Option Entry → Result Entry Refusal
+or_not_found None = Err NotFound
+or_not_found (Some entry) = Ok entry
+
+abbrev pub entry_walked : PlainMount → Name → Walked → Result Entry Refusal
+entry_walked m part (Err refusal) = Err refusal
+entry_walked m part (Ok d) = or_not_found (entry_found m d part)
+
+-- the entry that is found by the path's last part, or why there is none
+abbrev pub entry_end : PlainMount → PathParts → Result Entry Refusal
+entry_end m path = entry_walked m (last_part path) (parent m path)

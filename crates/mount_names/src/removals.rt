@@ -1,0 +1,118 @@
+//! The calls that take a name away: of a file or a symlink, and of an empty directory.
+
+ghost use Rattle.std.specs.Prelude.{◌≡◌, ◌+◌, ◌≤◌, true, false, length};
+ghost use Rattle.mount_model.specs.Carried.{IsPath};
+ghost use Rattle.mount_model.specs.ClaimHistory.{is_refused};
+ghost use Rattle.mount_model.specs.NameAnswers.{answer_to_unlink, answer_to_rmdir};
+ghost use Rattle.mount_model.specs.PlainMount.{PlainMount, has_handle};
+ghost use Rattle.mount_state.specs.SameButKeys.{SameButKeys};
+ghost use Rattle.mount_state.specs.StandsFor.{StandsFor};
+ghost use Rattle.mount_names.specs.Found.{IsEntryOn};
+ghost use Rattle.mount_names.specs.Given.{IsGiven};
+ghost use Rattle.mount_names.specs.Removed.{Drops, Unlinks, RemovesDir};
+ghost use Rattle.mount_names.specs.SameButTree.{SameButTree};
+
+use crate::entries::{Entry, entry_at};
+use mount_model::{Path, Refusal, Reply};
+use mount_state::MountState;
+use name_crypt::Steps;
+use std::alloc::Global;
+use std::sync::ledger::Ledger;
+
+/// Takes the name of the file or the symlink at the end of the path away. The node goes with it where no
+/// handle is open on it; else it stays, without name, for those handles.
+///
+/// Refused with IsDir for the root, then as the walk to the directory is, then NotFound, and IsDir for a
+/// directory. It takes no memory that can be wanting, and enciphers nothing but what the look-up of each
+/// part does.
+pub fn unlink<L: Ledger>(
+    alloc: Global,
+    state: &mut MountState,
+    path: &Path,
+    steps: &mut Steps<L>,
+) -> Reply
+    ensures stands { (m : PlainMount) → StandsFor state.old m → IsPath path.now
+        → IsGiven (answer_to_unlink m path.now) result state.new }
+    ensures refused { is_refused result ≡ true → SameButKeys state.old state.new }
+    ensures same { SameButTree state.old state.new }
+    ensures ticks { steps.new ≤ steps.old + length path.now + 1 }
+{
+    if path.is_empty() {
+        return Reply::Refused(Refusal::IsDir);
+    }
+    match entry_at(alloc, state, path, steps) {
+        Ok(entry) => unlink_entry(state, &entry),
+        Err(refusal) => Reply::Refused(refusal),
+    }
+}
+
+/// Takes the name of the empty directory at the end of the path away, as `unlink` does a file's.
+///
+/// Refused with Inval for the root, then as the walk to the directory that holds it is, then NotFound,
+/// NotDir for what is no directory, and NotEmpty. It takes no memory that can be wanting.
+pub fn rmdir<L: Ledger>(
+    alloc: Global,
+    state: &mut MountState,
+    path: &Path,
+    steps: &mut Steps<L>,
+) -> Reply
+    ensures stands { (m : PlainMount) → StandsFor state.old m → IsPath path.now
+        → IsGiven (answer_to_rmdir m path.now) result state.new }
+    ensures refused { is_refused result ≡ true → SameButKeys state.old state.new }
+    ensures same { SameButTree state.old state.new }
+    ensures ticks { steps.new ≤ steps.old + length path.now + 1 }
+{
+    if path.is_empty() {
+        return Reply::Refused(Refusal::Inval);
+    }
+    match entry_at(alloc, state, path, steps) {
+        Ok(entry) => remove_dir(state, &entry),
+        Err(refusal) => Reply::Refused(refusal),
+    }
+}
+
+// Drops the entry, where it leads to no directory.
+fn unlink_entry(state: &mut MountState, entry: &Entry) -> Reply
+    requires { IsEntryOn state.old.disk entry.now }
+    ensures stands { Unlinks state.old state.new entry.now result }
+    ensures refused { is_refused result ≡ true → SameButKeys state.old state.new }
+    ensures same { SameButTree state.old state.new }
+{
+    if state.disk.is_dir(entry.number) {
+        return Reply::Refused(Refusal::IsDir);
+    }
+    drop_entry(state, entry);
+    Reply::Done
+}
+
+// Drops the entry, where it leads to an empty directory.
+fn remove_dir(state: &mut MountState, entry: &Entry) -> Reply
+    requires { IsEntryOn state.old.disk entry.now }
+    ensures stands { RemovesDir state.old state.new entry.now result }
+    ensures refused { is_refused result ≡ true → SameButKeys state.old state.new }
+    ensures same { SameButTree state.old state.new }
+{
+    if !state.disk.is_dir(entry.number) {
+        return Reply::Refused(Refusal::NotDir);
+    }
+    if state.disk.entry_count(entry.number) > 0 {
+        return Reply::Refused(Refusal::NotEmpty);
+    }
+    drop_entry(state, entry);
+    Reply::Done
+}
+
+// Takes the name away; where no handle is on the node, its cached key goes, and then the node.
+fn drop_entry(state: &mut MountState, entry: &Entry)
+    requires { IsEntryOn state.old.disk entry.now }
+    ensures stands { Drops state.old state.new entry.now }
+    ensures same { SameButTree state.old state.new }
+{
+    let number = entry.number;
+    state.disk.drop_entry(entry.dir, entry.stored.bytes());
+    if state.inodes.pins(number) > 0 {
+        return;
+    }
+    state.inodes.drop_key(number);
+    state.disk.remove_node(number);
+}
