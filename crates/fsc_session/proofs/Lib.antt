@@ -1,5 +1,8 @@
 pub mod Asked
+pub mod BuiltLemmas
+pub mod CallLemmas
 pub mod LawLemmas
 pub mod RunLemmas
 pub mod StarLemmas
 pub mod StepsLemmas
+pub mod ToldLemmas

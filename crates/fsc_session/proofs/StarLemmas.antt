@@ -31,13 +31,13 @@ all-more meant bytes all here = All-append carried.IsPart meant (bytes ∷ []) a
 
 -- ---- what fits
 
-are_bytes : (xs : List ℕ) → All (λ b. b < 256) xs → AreBytes xs
+pub are_bytes : (xs : List ℕ) → All (λ b. b < 256) xs → AreBytes xs
 are_bytes [] h i = lit< tt
 are_bytes (x ∷ xs) h zero = All-head (λ b. b < 256) x xs h
 are_bytes (x ∷ xs) h (suc i) = are_bytes xs (All-tail (λ b. b < 256) x xs h) i
 
-absent : (bytes : List ℕ) (b : ℕ) → is_slash_or_nul b ≡ true → not (list_any is_slash_or_nul bytes) ≡ true → ¬ Contains bytes b
-absent bytes b is none (k, below, here) = never (list_any is_slash_or_nul bytes) (list_any_at is_slash_or_nul bytes k b below (ap is_slash_or_nul here ∙ is)) none
+pub absent : (test : ℕ → Bool) (bytes : List ℕ) (b : ℕ) → test b ≡ true → not (list_any test bytes) ≡ true → ¬ Contains bytes b
+absent test bytes b is none (k, below, here) = never (list_any test bytes) (list_any_at test bytes k b below (ap test here ∙ is)) none
   where
     never : (any : Bool) → any ≡ true → not any ≡ true → ⊥
     never true e h = absurd (cc h)
@@ -49,8 +49,8 @@ part_fits bytes ranged low high may =
     record {
       bytes = ranged;
       size = (low, high);
-      slash = absent bytes 47 refl parts.0;
-      nul = absent bytes 0 refl parts.0;
+      slash = absent is_slash_or_nul bytes 47 refl parts.0;
+      nul = absent is_slash_or_nul bytes 0 refl parts.0;
       dot = λ e. dots (46 ∷ []) e refl parts.1;
       dots = λ e. dots (46 ∷ 46 ∷ []) e refl parts.1;
     }

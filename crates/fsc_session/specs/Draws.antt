@@ -1,5 +1,5 @@
 -- Bytes drawn from a seed, for what the commands of a script make.
-use Rattle.std.specs.Prelude.{◌≡◌, ℕ, ◌+◌, ◌*◌, ◌^◌, ◌<◌, List, [], ◌∷◌, ◌++◌, codes}
+use Rattle.std.specs.Prelude.{◌≡◌, ℕ, ◌+◌, ◌*◌, ◌%◌, ◌^◌, ◌<◌, List, [], ◌∷◌, ◌++◌, codes}
 use Rattle.byte_words.specs.Numbers.{little_endian_bytes}
 use Rattle.hmac_kdf.specs.Hkdf.{hkdf_sha512}
 use Rattle.fsc_session.specs.declared.draws.Purpose.{Purpose}
@@ -16,6 +16,10 @@ purpose_number Salt = 2
 abbrev pub draw_info : ℕ → ℕ → Purpose → List ℕ
 draw_info caller command purpose =
     codes "fsc draw" ++ caller ∷ little_endian_bytes 8 (16 * command + purpose_number purpose)
+
+-- the caller's byte: the lowest of its number, and so each caller of a script has its own
+abbrev pub caller_byte : ℕ → ℕ
+caller_byte caller = caller % 256
 
 -- 64 bytes of HKDF-SHA512 (RFC 5869) without salt, of which the seed is the key material; a shorter
 -- draw is their beginning

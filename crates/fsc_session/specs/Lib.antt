@@ -1,5 +1,6 @@
 pub mod Commands
 pub mod Draws
+pub mod PlainCalls
 pub mod Rotation
 pub mod Running
 pub mod Serial

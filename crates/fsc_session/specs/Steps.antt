@@ -27,6 +27,11 @@ abbrev pub names_after : List (List ℕ) → Reply → List (List ℕ)
 names_after names (Names listed more) = listed
 names_after names other = names
 
+-- the names that a reply tells
+abbrev pub names_told : Reply → Option (List (List ℕ))
+names_told (Names listed more) = Some listed
+names_told other = None
+
 -- the names that a caller was last told by these entries, and otherwise those before
 abbrev pub names_from : List (List ℕ) → History → List (List ℕ)
 names_from names [] = names

@@ -1,32 +1,26 @@
 //! One command of a caller, run on a port.
 
-ghost use Rattle.std.specs.Prelude.{◌≡◌, ◌≤◌, OnOk, OnErr};
+ghost use Rattle.std.specs.Prelude.{◌≡◌, ◌≤◌, Some, OnOk, OnErr, IsTrue};
+ghost use Rattle.mount_model.specs.Fits.{OpFits, is_built};
 ghost use Rattle.script_lang.specs.Readable.{IsCommand};
-ghost use Rattle.fsc_session.specs.Commands.{command_steps};
+ghost use Rattle.fsc_session.specs.Commands.{command_steps, single_call};
 ghost use Rattle.fsc_session.specs.Session.{names_in};
 ghost use Rattle.fsc_session.specs.Running.{Made, CameBySome};
 ghost use Rattle.fsc_session.specs.declared.TheConstants.{MOST_CALLS};
 
 use crate::calls::plain_op;
+use crate::turn::Turn;
 use crate::{EntryList, MOST_CALLS};
 use call_history::Entry;
-use mount_model::{Call, MountPort};
+use mount_model::{Call, MountPort, Op};
 use script_lang::Verb;
 use std::alloc::{AllocError, Global};
-
-// Whose command it is: the caller, the user for whom it calls, and the command's number in its section.
-#[derive(Clone, Copy)]
-pub(crate) struct Turn {
-    pub(crate) caller: u32,
-    pub(crate) uid: u32,
-    pub(crate) number: usize,
-}
 
 // Runs a command, and puts what it asked and was replied behind the caller's other entries.
 pub(crate) fn run_command<P: MountPort>(
     alloc: Global,
     port: &mut P,
-    _seed: &[u8; 32],
+    seed: &[u8; 32],
     turn: Turn,
     verb: &Verb,
     entries: &mut EntryList,
@@ -34,11 +28,32 @@ pub(crate) fn run_command<P: MountPort>(
     requires caller { turn.caller ≡ P.who port.old }
     requires left { MOST_CALLS ≤ P.calls_left port.old }
     requires asked { IsCommand verb.now }
-    ensures made { OnOk result (Made (P.came port.old) port.new (P.calls_left port.new) (P.calls_left port.old) (command_steps _seed.now turn.caller turn.uid turn.number (names_in entries.old) verb.now) entries.old entries.new) }
+    ensures made { OnOk result (Made (P.came port.old) port.new (P.calls_left port.new) (P.calls_left port.old) (command_steps seed.now turn.caller turn.uid turn.number (names_in entries.old) verb.now) entries.old entries.new) }
     ensures caller { P.who port.new ≡ P.who port.old }
     ensures failed { OnErr result (CameBySome (P.came port.old) port.new) }
 {
-    let op = plain_op(alloc, verb)?;
+    match plain_op(alloc, seed, turn, entries, verb)? {
+        Some(op) => make_call(alloc, port, turn, op, entries),
+        None => Ok(()),
+    }
+}
+
+// Makes a call, and puts what was replied behind the caller's other entries.
+fn make_call<P: MountPort>(
+    alloc: Global,
+    port: &mut P,
+    turn: Turn,
+    op: Op,
+    entries: &mut EntryList,
+) -> Result<(), AllocError>
+    requires caller { turn.caller ≡ P.who port.old }
+    requires left { MOST_CALLS ≤ P.calls_left port.old }
+    requires fits { OpFits op }
+    requires built { IsTrue (is_built op) }
+    ensures made { OnOk result (Made (P.came port.old) port.new (P.calls_left port.new) (P.calls_left port.old) (single_call turn.caller turn.uid (Some op)) entries.old entries.new) }
+    ensures caller { P.who port.new ≡ P.who port.old }
+    ensures failed { OnErr result (CameBySome (P.came port.old) port.new) }
+{
     let call = Call { uid: turn.uid, op };
     // Its copy is made first, so that want of memory comes before the call.
     let kept = call.copy(alloc)?;

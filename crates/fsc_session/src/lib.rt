@@ -6,17 +6,20 @@ mod calls;
 mod command;
 mod draws;
 mod laws;
+mod meant;
 mod runner;
 mod session;
 mod stars;
 #[cfg(test)]
 mod tests;
+mod told;
+mod turn;
 
 use call_history::Entry;
-pub use calls::id_meant;
-pub use draws::{Purpose, distinct_draws, draw};
+pub use draws::{NONCE_BYTES, Purpose, distinct_draws, draw};
 use item_list::Items;
 pub use laws::{answers_determine_the_run, runs_are_next_calls};
+pub use meant::id_meant;
 use mount_model::{Call, Reply};
 pub use runner::Runner;
 pub use session::run_caller;

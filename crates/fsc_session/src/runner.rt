@@ -5,7 +5,8 @@ ghost use Rattle.fsc_session.specs.Commands.{AsksRightly};
 ghost use Rattle.fsc_session.specs.Running.{RunnerView, runner_view, HasRun, Stepped, CameBySome};
 ghost use Rattle.fsc_session.specs.declared.TheConstants.{MOST_CALLS};
 
-use crate::command::{Turn, run_command};
+use crate::command::run_command;
+use crate::turn::Turn;
 use crate::{EntryList, MOST_CALLS};
 use mount_model::MountPort;
 use script_lang::Section;

@@ -4,50 +4,62 @@ ghost use Rattle.std.specs.Prelude.{◌≡◌, IfOk, slice_get};
 ghost use Rattle.std.specs.List.{list_any};
 ghost use Rattle.mount_model.specs.Carried as carried;
 ghost use Rattle.script_lang.specs.Path as script;
+ghost use Rattle.fsc_session.specs.Session.{names_in};
 ghost use Rattle.fsc_session.specs.Stars as spec;
 ghost use Rattle.fsc_session.specs.Stars.{path_meant, name_or_star};
 
+use crate::EntryList;
+use crate::told::last_names;
 use byte_words::slice_is_bytes;
+use call_history::Entry;
 use item_list::Bytes;
 use mount_limits::MOST_PART_BYTES;
-use mount_model::{Part, Path};
+use mount_model::{Call, Part, Path, Reply};
 use script_lang::{ScriptPart, ScriptPath};
 use std::alloc::{AllocError, Global};
 use text_words::push_decimal;
 
-/// The path that a script's path means, where these are the names of the caller's last listing. A
-/// mount may be asked for it. A star means the name of its number, from 0; where there is none, or it
-/// can't be a part of a path, the star means its own text.
-pub fn path_meant(alloc: Global, names: &[Bytes], path: &ScriptPath) -> Result<Path, AllocError>
-    ensures value { IfOk result (λ meant. meant ≡ path_meant names.now path.now) }
+/// The path that a script's path means to a caller that was told these entries. A mount may be asked for
+/// it. A star means the name of its number, from 0, in the caller's last listing; where there is none, or
+/// it can't be a part of a path, the star means its own text.
+pub fn path_meant(alloc: Global, told: &EntryList, path: &ScriptPath) -> Result<Path, AllocError>
+    ensures value { IfOk result (λ meant. meant ≡ path_meant (names_in told.now) path.now) }
     ensures fits { IfOk result carried.IsPath }
 {
-    parts_meant(alloc, names, path.parts())
+    parts_meant(alloc, told.as_slice(), path.parts())
 }
 
 // The path of what each part means.
-fn parts_meant(alloc: Global, names: &[Bytes], parts: &[ScriptPart]) -> Result<Path, AllocError>
+fn parts_meant(
+    alloc: Global,
+    told: &[(u64, Entry<Call, Reply>)],
+    parts: &[ScriptPart],
+) -> Result<Path, AllocError>
     requires { script.IsPath parts.now }
-    ensures value { IfOk result (λ meant. meant ≡ path_meant names.now parts.now) }
+    ensures value { IfOk result (λ meant. meant ≡ path_meant (names_in told.now) parts.now) }
     ensures fits { IfOk result carried.IsPath }
 {
     let mut meant = Path::root(alloc);
     'parts: for part in parts {
-        let bytes = part_meant(alloc, names, part)?;
+        let bytes = part_meant(alloc, told, part)?;
         meant.push(Part::new(bytes))?;
     }
     Ok(meant)
 }
 
 // What a part means.
-fn part_meant(alloc: Global, names: &[Bytes], part: &ScriptPart) -> Result<Bytes, AllocError>
+fn part_meant(
+    alloc: Global,
+    told: &[(u64, Entry<Call, Reply>)],
+    part: &ScriptPart,
+) -> Result<Bytes, AllocError>
     requires { script.IsPart part.now }
-    ensures value { IfOk result (λ meant. meant ≡ spec.part_meant names.now part.now) }
+    ensures value { IfOk result (λ meant. meant ≡ spec.part_meant (names_in told.now) part.now) }
     ensures fits { IfOk result carried.IsPart }
 {
     match part {
         ScriptPart::Given(bytes) => bytes.copy(alloc),
-        ScriptPart::Star(number) => name_or_star(alloc, names, *number),
+        ScriptPart::Star(number) => name_or_star(alloc, last_names(told), *number),
     }
 }
 

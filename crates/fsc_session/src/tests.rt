@@ -1,15 +1,18 @@
-use crate::calls::plain_op;
-use crate::{Purpose, draw, id_meant, path_meant};
-use byte_words::slice_is_bytes;
+use crate::draws::nonce_drawn;
+use crate::meant::{filled, policy_said};
+use crate::turn::Turn;
+use crate::{EntryList, Purpose, draw, id_meant, path_meant};
+use call_history::Entry;
 use fsc_keys::RawKey;
 use item_list::Bytes;
-use mount_model::Op;
-use script_lang::{KeyRef, Verb, read_path};
+use mount_model::{Call, NameList, Op, Refusal, Reply};
+use policy_ctx::{Pad, Unit, encode_policy};
+use script_lang::{KeyRef, Settings, read_path};
 use std::alloc::{AllocError, Global};
 use std::test::Fail;
 
 // A caller, a command, a purpose, and what is drawn for them.
-type DrawRow = (u8, u32, Purpose, &'static str);
+type DrawRow = (u8, u64, Purpose, &'static str);
 
 // What Python's hmac and hashlib draw from 32 zeros.
 const DRAWN_FROM_ZEROS: [DrawRow; 5] = [
@@ -49,7 +52,7 @@ const DRAWN_FROM_ZEROS: [DrawRow; 5] = [
 const DRAWN_FROM_COUNTING: [DrawRow; 2] = [
     (
         7,
-        u32::MAX,
+        4_294_967_295,
         Purpose::Salt,
         "8cd7c8342bdd01bb1d5839421d0e6624e75533aaeae6c58e819a3c840b7eda56b8bec886c2a93a1052d75da883ef211e4b704daaff84727e48a5796c86c2d1d2",
     ),
@@ -85,7 +88,7 @@ fn drawn(
     alloc: Global,
     seed: &[u8; 32],
     caller: u8,
-    command: u32,
+    command: u64,
     purpose: Purpose,
 ) -> Result<(String, String), AllocError> {
     let mut bytes = [0; 64];
@@ -95,40 +98,37 @@ fn drawn(
     Ok((hex::encode(alloc, bytes)?, hex::encode(alloc, nonce)?))
 }
 
-// The key of 32 bytes 07 has this identifier by Python.
+// The second command of a caller that was told nothing.
+const SECOND_TURN: Turn = Turn {
+    caller: 0,
+    uid: 1000,
+    number: 1,
+};
+
+// A directory is encrypted by the 24 bytes of Linux's policy, with the drawn nonce: names are padded to 32
+// bytes, contents cut into units of 512, and the key of 32 bytes 07 has this identifier by Python.
 #[test]
-fn a_raw_key_means_its_identifier(rt: HostRuntime) -> Result<(), Fail> {
+fn a_policy_is_set_by_its_bytes(rt: HostRuntime) -> Result<(), Fail> {
     let id = id_meant(&KeyRef::Raw(RawKey::read(&[7; 32])?));
-    let digits = hex::encode(rt.alloc(), id.0)?;
-    assert_eq!(rt; digits.as_str(), "1101420d499290b005fc681527257159");
+    let settings = Settings {
+        pad: Pad::P32,
+        unit: Some(Unit::U512),
+    };
+    let policy = hex::encode(rt.alloc(), encode_policy(&policy_said(id, settings)))?;
+    assert_eq!(rt;
+        policy.as_str(),
+        "02010403090000001101420d499290b005fc681527257159"
+    );
+    let nonce = hex::encode(rt.alloc(), nonce_drawn(&[0; 32], SECOND_TURN))?;
+    assert_eq!(rt; nonce.as_str(), "3028da3f8a808b52077b909eb29c5152");
     Ok(())
 }
 
-// A command asks for what it says: adding, for the bytes.
+// Filling writes one byte again and again.
 #[test]
-fn adding_makes_its_call(rt: HostRuntime) -> Result<(), Fail> {
-    let alloc = rt.alloc();
-    let bytes = Bytes::from_vec(vec![in alloc; 7; 32]?);
-    assert_eq!(rt; bytes.len(), 32);
-    slice_is_bytes(bytes.as_slice());
-    let op = plain_op(alloc, &Verb::AddKey(bytes))?;
-    assert!(rt; matches!(&op, Op::AddKey { raw } if raw.as_slice() == [7; 32].as_slice()));
-    Ok(())
-}
-
-// Removing, for the identifier: the key of 32 bytes 07 has this one by Python.
-#[test]
-fn removing_makes_its_call(rt: HostRuntime) -> Result<(), Fail> {
-    let alloc = rt.alloc();
-    let raw = RawKey::read(&[7; 32])?;
-    slice_is_bytes(raw.bytes());
-    match plain_op(alloc, &Verb::RemoveKey(KeyRef::Raw(raw)))? {
-        Op::RemoveKey { id } => {
-            let digits = hex::encode(alloc, id.0)?;
-            assert_eq!(rt; digits.as_str(), "1101420d499290b005fc681527257159");
-        }
-        _ => assert!(rt; false),
-    }
+fn what_fills_is_one_byte(rt: HostRuntime) -> Result<(), Fail> {
+    let bytes = filled(rt.alloc(), 4, 7)?;
+    assert!(rt; bytes.as_slice() == [7; 4].as_slice());
     Ok(())
 }
 
@@ -136,15 +136,17 @@ fn removing_makes_its_call(rt: HostRuntime) -> Result<(), Fail> {
 #[test]
 fn stars_mean_listed_names(rt: HostRuntime) -> Result<(), Fail> {
     let alloc = rt.alloc();
-    let names = vec![in alloc;
+    let mut told = EntryList::new(alloc);
+    told.push(listing(vec![in alloc;
         Bytes::from_vec(Vec::from_slice(alloc, b"a b")?),
         Bytes::from_vec(Vec::from_slice(alloc, b"..")?),
-    ]?;
+    ]?))?;
+    told.push(entry(Reply::Refused(Refusal::NotFound)))?;
     let Some(path) = read_path(alloc, b"/e/*0/*1/*2/%2A0")? else {
         assert!(rt; false);
         return Ok(());
     };
-    let meant = path_meant(alloc, &names, &path)?;
+    let meant = path_meant(alloc, &told, &path)?;
     for (index, wanted) in ["e", "a b", "*1", "*2", "*0"].iter().enumerate() {
         assert!(rt;
             meant
@@ -154,4 +156,28 @@ fn stars_mean_listed_names(rt: HostRuntime) -> Result<(), Fail> {
     }
     assert_eq!(rt; meant.len(), 5);
     Ok(())
+}
+
+// A listing that told these names.
+fn listing(names: Vec<Bytes>) -> (u64, Entry<Call, Reply>) {
+    entry(Reply::Names {
+        names: NameList::from_vec(names),
+        more: false,
+    })
+}
+
+// A call with this reply.
+fn entry(reply: Reply) -> (u64, Entry<Call, Reply>) {
+    let call = Call {
+        uid: 0,
+        op: Op::DropCaches,
+    };
+    (
+        0,
+        Entry {
+            who: 0,
+            call,
+            reply,
+        },
+    )
 }

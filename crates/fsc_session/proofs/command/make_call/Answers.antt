@@ -1,20 +1,17 @@
-use Rattle.std.proofs.Common.{ℕ, [], ◌∷◌, ◌++◌, refl, ap, ap₂, sym, ◌∙◌, arith}
+use Rattle.std.proofs.Common.{ℕ, [], ◌∷◌, ◌++◌, refl, ap₂, sym, ◌∙◌, arith}
 use Rattle.call_history.specs.Entries.{entry}
 use Rattle.mount_model.specs.declared.call.Call.{Call}
-use Rattle.mount_model.specs.declared.call.Op.{Op}
-use Rattle.fsc_session.specs.Session.{names_in}
-use Rattle.fsc_session.proofs.command.run_command.Goals as goal
+use Rattle.fsc_session.proofs.command.make_call.Goals as goal
 
 pub returns-clause-made : goal.returns-clause-made
 returns-clause-made g c =
     let fewer = c.call-placed.ensures.one_fewer in
     record {
-      made = (c.call-placed.result.place, entry (g.P.MountPort.who c.args.port.now) (record { uid = c.args.turn.uid; op = c.in_ok-op.op }) c.call-placed.result.reply) ∷ [];
+      made = (c.call-placed.result.place, entry (g.P.MountPort.who c.args.port.now) (record { uid = c.args.turn.uid; op = c.args.op }) c.call-placed.result.reply) ∷ [];
       came_by = c.call-placed.ensures.came;
       follows = (
         sym c.requires.caller,
-        ap (λ (op : Op). let call : Call = record { uid = c.args.turn.uid; op = op } in call)
-            (c.in_ok-op.ensures.value c.args._seed.now c.args.turn.caller c.args.turn.number (names_in c.args.entries.now)),
+        refl,
         refl,
       );
       grown = c.in_ok-push.ensures.appended
