@@ -13,3 +13,4 @@ pub mod RoundTrip
 pub mod EscapeLemmas
 pub mod PathLemmas
 pub mod PartSteps
+pub mod FaultLemmas

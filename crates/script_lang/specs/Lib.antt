@@ -18,4 +18,6 @@ pub mod Script
 pub mod Reading
 pub mod Writing
 pub mod Spelled
+pub mod WordKinds
+pub mod LineFaults
 pub mod WordLaws

@@ -3,6 +3,9 @@
 
 mod argument_words;
 mod commands;
+mod fault_laws;
+mod faults;
+mod faulty_lines;
 mod file_forms;
 mod key_words;
 mod limits;
@@ -19,16 +22,21 @@ mod settings_writer;
 mod statements;
 #[cfg(test)]
 mod tests;
+mod usable;
 mod verb;
 mod verb_writer;
 mod verbs;
 mod word;
+mod word_kinds;
 mod word_laws;
 mod word_writer;
 mod words;
 mod writer;
 
 pub use commands::{Command, CommandList, Script, Section};
+pub use fault_laws::faults_are_where_reading_ends;
+pub use faults::{FaultyLine, LineFault};
+pub use faulty_lines::line_fault;
 pub use path::{ScriptPart, ScriptPath, read_part, read_path, write_path};
 pub use reader::{ScriptFault, read_script};
 pub use script_laws::{
@@ -36,8 +44,10 @@ pub use script_laws::{
     what_is_written_is_a_script,
 };
 pub use secrets::{AllowedCosts, NewSecret, Secret};
+pub use usable::is_usable;
 pub use verb::{KeyRef, Options, Record, Settings, Verb};
 pub use word::{read_target, read_word, write_word};
+pub use word_kinds::WordKind;
 pub use word_laws::{
     distinct_paths_have_distinct_texts, distinct_words_have_distinct_texts, paths_read_back,
     texts_spell_paths, texts_spell_words, words_read_back,
