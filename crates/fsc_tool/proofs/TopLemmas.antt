@@ -17,6 +17,14 @@ use Rattle.fsc_tool.specs.Outside.{Outside}
 use Rattle.fsc_tool.specs.Seed.{IsSeedOfForm, IsSeedOf}
 use Rattle.fsc_tool.specs.Ends.{Ends}
 use Rattle.fsc_tool.specs.Replay.{Told, IsReplayable, IsOrNoMemory, IsReplay}
+use Rattle.fsc_tool.specs.Prepared.{IsPrepared, NoRun}
+use Rattle.fsc_tool.specs.LogOfRun.{HasLog}
+use Rattle.fsc_tool.specs.Written.{EndsLog}
+use Rattle.call_history.specs.Entries.{numbered}
+use Rattle.call_history.specs.Placed.{entries_of}
+use Rattle.call_history.proofs.Placing.{map-numbered}
+use Rattle.mount_model.specs.Port.{PlacedCalls}
+use Rattle.reply_text.specs.Log.{log_text}
 
 -- ---- words
 
@@ -72,10 +80,10 @@ same_script old new input bytes told gave = ap parsed_script (gave_told old new 
 
 usage_exactly : (IsRun : List ℕ → List Section → History → Type 0) (form : Option Form) (a b : Outside) (status : Status) → Ends IsRun form a b status → (status ≡ Usage) ↔ (form ≡ None)
 usage_exactly IsRun form a b Usage h = (λ _. h.no_form, λ _. refl)
-usage_exactly IsRun form a b Done h = (λ e. absurd (cc e), λ none. absurd (other_form _ _ h.log.seeded.said none))
+usage_exactly IsRun form a b Done h = (λ e. absurd (cc e), λ none. absurd (other_form _ _ h.log.prepared.seeded.said none))
 usage_exactly IsRun form a b (BadLine line) h = (λ e. absurd (cc e), λ none. absurd (no_form _ h.early.asked none))
 usage_exactly IsRun form a b ReadFault h = (λ e. absurd (cc e), λ none. absurd (no_form _ h.early.asked none))
-usage_exactly IsRun form a b WriteFault h = (λ e. absurd (cc e), λ none. absurd (other_form _ _ h.log.seeded.said none))
+usage_exactly IsRun form a b WriteFault h = (λ e. absurd (cc e), λ none. absurd (other_form _ _ h.log.prepared.seeded.said none))
 usage_exactly IsRun form a b SeedFault h = (λ e. absurd (cc e), λ none. absurd (other_form _ _ h.asked none))
 usage_exactly IsRun form a b TooLong h = (λ e. absurd (cc e), λ none. absurd (no_form _ h.early.asked none))
 usage_exactly IsRun form a b NoMemory h = (λ e. absurd (cc e), λ none. absurd (no_form _ h.asked none))
@@ -93,8 +101,8 @@ own_seed form old new seed own said given =
 
 unasked : (IsRun : List ℕ → List Section → History → Type 0) (form : Option Form) (a b : Outside) (status : Status) → Ends IsRun form a b status
     → (own : List ℕ) → form ≡ Some (Seeded own) → b.seeds ≡ a.seeds
-unasked IsRun form a b Done h own said = own_seed form a.seeds b.seeds h.log.seed own said h.log.seeded
-unasked IsRun form a b WriteFault h own said = own_seed form a.seeds b.seeds h.log.seed own said h.log.seeded
+unasked IsRun form a b Done h own said = own_seed form a.seeds b.seeds h.log.seed own said h.log.prepared.seeded
+unasked IsRun form a b WriteFault h own said = own_seed form a.seeds b.seeds h.log.seed own said h.log.prepared.seeded
 unasked IsRun form a b Usage h own said = ap (λ (o : Outside). o.seeds) h.still
 unasked IsRun form a b (BadLine line) h own said = h.early.unasked
 unasked IsRun form a b ReadFault h own said = h.early.unasked
@@ -114,9 +122,9 @@ long_ends IsRun form a b NoMemory h input told long = inr refl
 long_ends IsRun form a b Usage h input told long = absurd (no_form _ told.asked h.no_form)
 long_ends IsRun form a b ReadFault h input told long = absurd (told.read h.cause)
 long_ends IsRun form a b Done h input told long =
-    absurd (not_short a.source b.source input h.log.input told.left h.log.read.gave h.log.read.within long)
+    absurd (not_short a.source b.source input h.log.prepared.input told.left h.log.prepared.read.gave h.log.prepared.read.within long)
 long_ends IsRun form a b WriteFault h input told long =
-    absurd (not_short a.source b.source input h.log.input told.left h.log.read.gave h.log.read.within long)
+    absurd (not_short a.source b.source input h.log.prepared.input told.left h.log.prepared.read.gave h.log.prepared.read.within long)
 long_ends IsRun form a b (BadLine line) h input told long =
     absurd (not_short a.source b.source input h.input told.left h.read.gave h.read.within long)
 long_ends IsRun form a b SeedFault h input told long =
@@ -134,9 +142,9 @@ bad_line_ends IsRun form a b (BadLine other) h input line told within bad =
     let same = sym h.bad ∙ same_script a.source b.source input h.input told.left h.read.gave ∙ bad in
     inl (ap BadLine (cc same))
 bad_line_ends IsRun form a b Done h input line told within bad =
-    let same = sym h.log.spelled ∙ same_script a.source b.source input h.log.input told.left h.log.read.gave ∙ bad in absurd (cc same)
+    let same = sym h.log.prepared.spelled ∙ same_script a.source b.source input h.log.prepared.input told.left h.log.prepared.read.gave ∙ bad in absurd (cc same)
 bad_line_ends IsRun form a b WriteFault h input line told within bad =
-    let same = sym h.log.spelled ∙ same_script a.source b.source input h.log.input told.left h.log.read.gave ∙ bad in absurd (cc same)
+    let same = sym h.log.prepared.spelled ∙ same_script a.source b.source input h.log.prepared.input told.left h.log.prepared.read.gave ∙ bad in absurd (cc same)
 bad_line_ends IsRun form a b SeedFault h input line told within bad =
     let same = sym h.script.1 ∙ same_script a.source b.source input h.input told.left h.read.gave ∙ bad in absurd (cc same)
 
@@ -164,3 +172,55 @@ replay_is IsRun form a b status h = record {
   bad_line = bad_line_ends IsRun form a b status h;
   complete = script_ends IsRun form a b status h;
 }
+
+-- ---- what a run does, from its parts
+
+-- a run that ended before its first call
+pub unrun_ends : (IsRun : List ℕ → List Section → History → Type 0) (form : Option Form) (a b : Outside) (status : Status)
+    → Ends NoRun form a b status → IsReplay IsRun form a b status
+unrun_ends IsRun form a b status h = replay_is IsRun form a b status (ends status h)
+  where
+    ends : (status : Status) → Ends NoRun form a b status → Ends IsRun form a b status
+    ends Done h = absurd h.log.run.run
+    ends WriteFault h = absurd h.log.run.run
+    ends Usage h = h
+    ends (BadLine line) h = h
+    ends ReadFault h = h
+    ends SeedFault h = h
+    ends TooLong h = h
+    ends NoMemory h = h
+
+-- a run that found no memory for its calls
+pub want_ends : (IsRun : List ℕ → List Section → History → Type 0) (form : Option Form) (a b : Outside) (script : List Section) (seed : List ℕ)
+    → IsPrepared form a.source b.source a.seeds b.seeds script seed → b.sink ≡ a.sink → IsReplay IsRun form a b NoMemory
+want_ends IsRun form a b script seed prepared unwritten = replay_is IsRun form a b NoMemory (record {
+  asked = subst IsSome (sym prepared.seeded.said) refl;
+  quiet = prepared.read.quiet;
+  seeds = inr (seed, prepared.seeded);
+  unwritten = unwritten;
+})
+
+-- a run whose entries were made
+pub run_ends : (IsRun : List ℕ → List Section → History → Type 0) (form : Option Form) (a b : Outside) (script : List Section) (seed : List ℕ)
+    (told : PlacedCalls) (status : Status) → IsPrepared form a.source b.source a.seeds b.seeds script seed
+    → (history : History) × IsRun seed script history × (told ≡ numbered 0 history)
+    → EndsLog (log_text (entries_of told)) a.sink b.sink status → IsReplay IsRun form a b status
+run_ends IsRun form a b script seed told status prepared ran h = ended status h
+  where
+    log : HasLog IsRun form a b (log_text (entries_of told))
+    log = record {
+      script = script;
+      seed = seed;
+      prepared = prepared;
+      run = record { history = ran.0; run = ran.1; log = ap log_text (ap entries_of ran.2 ∙ map-numbered 0 ran.0) };
+    }
+
+    ended : (status : Status) → EndsLog (log_text (entries_of told)) a.sink b.sink status → IsReplay IsRun form a b status
+    ended Done h = replay_is IsRun form a b Done (record { text = _; log = log; written = h })
+    ended WriteFault h = replay_is IsRun form a b WriteFault (record { text = _; log = log; written = h })
+    ended NoMemory h = want_ends IsRun form a b script seed prepared h
+    ended Usage h = absurd h
+    ended (BadLine line) h = absurd h
+    ended ReadFault h = absurd h
+    ended SeedFault h = absurd h
+    ended TooLong h = absurd h

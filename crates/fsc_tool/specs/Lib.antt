@@ -4,7 +4,9 @@ pub mod Forms
 pub mod Limits
 pub mod LogOfRun
 pub mod Outside
+pub mod Prepared
 pub mod Replay
 pub mod Rotating
 pub mod Runs
 pub mod Seed
+pub mod Written

@@ -7,7 +7,6 @@ mod replay;
 mod rotation;
 mod seed;
 mod top;
-mod ways;
 
 use call_history::Entry;
 pub use limits::{MOST_INPUT_BYTES, MOST_INPUT_LINES};

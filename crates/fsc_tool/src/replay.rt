@@ -1,20 +1,21 @@
-//! A replay: from the bytes that come in to the log that goes out. What it means stands in
-//! `specs/Replay.antt`.
+//! What comes before a run's calls and after them: a script with a seed from the bytes that come in, and
+//! the log that goes out. What a run as a whole means stands in `specs/Replay.antt`.
 
-ghost use Rattle.std.specs.Prelude.{◌≡◌, IfOk};
+ghost use Rattle.std.specs.Prelude.{◌≡◌, IfOk, IfErr};
 ghost use Rattle.call_history.specs.Placed.{entries_of};
+ghost use Rattle.fsc_outside.specs.States.{SinkState};
+ghost use Rattle.reply_text.specs.Log.{log_text};
 ghost use Rattle.script_lang.specs.Spelled.{IsSpelled};
 ghost use Rattle.fsc_tool.specs.Ends.{Ends};
 ghost use Rattle.fsc_tool.specs.Faults.{input_status, script_status};
-ghost use Rattle.fsc_tool.specs.LogOfRun.{LogOfRun};
 ghost use Rattle.fsc_tool.specs.Outside.{outside};
-ghost use Rattle.fsc_tool.specs.Replay.{IsReplay};
+ghost use Rattle.fsc_tool.specs.Prepared.{IsPrepared, NoRun};
+ghost use Rattle.fsc_tool.specs.Written.{EndsLog};
 
 use crate::PlacedVec;
 use crate::form::Form;
 use crate::limits::INPUT_LIMITS;
 use crate::seed::take_seed;
-use crate::ways::Way;
 use call_history::Entry;
 use fsc_outside::{InputFault, SeedSource, Sink, Source, read_all, write_all};
 use item_list::Bytes;
@@ -23,61 +24,45 @@ use reply_text::{Status, write_log};
 use script_lang::{Script, ScriptFault, read_script};
 use std::alloc::{AllocError, Global};
 
-// Replays the script that the source gives, and writes its log into the sink. Nothing is written before
-// the whole log stands.
-pub(crate) fn replay<S: Source, K: Sink, E: SeedSource, W: Way>(
-    alloc: Global,
-    form: Option<Form>,
-    source: &mut S,
-    sink: &mut K,
-    seeds: &mut E,
-    way: W,
-) -> Status
-    requires { W.ready way }
-    ensures { let before = outside (S.state source.old) (K.state sink.old) (E.state seeds.old) in
-        let after = outside (S.state source.new) (K.state sink.new) (E.state seeds.new) in
-        IsReplay W.run_of form before after result }
-{
-    end_replay(alloc, form, source, sink, seeds, way)
+// What a run starts from.
+#[derive(Drop)]
+pub(crate) struct Prepared {
+    pub(crate) script: Script,
+    pub(crate) seed: [u8; 32],
 }
 
-fn end_replay<S: Source, K: Sink, E: SeedSource, W: Way>(
+// The script that the source gives and the seed of a run in this form, or else the status with which the
+// run ends before its first call.
+pub(crate) fn prepare<S: Source, E: SeedSource>(
     alloc: Global,
     form: Option<Form>,
     source: &mut S,
-    sink: &mut K,
     seeds: &mut E,
-    way: W,
-) -> Status
-    requires { W.ready way }
-    ensures { let before = outside (S.state source.old) (K.state sink.old) (E.state seeds.old) in
-        let after = outside (S.state source.new) (K.state sink.new) (E.state seeds.new) in
-        Ends W.run_of form before after result }
+) -> Result<Prepared, Status>
+    ensures prepared { IfOk result (λ run. IsPrepared form (S.state source.old) (S.state source.new)
+        (E.state seeds.old) (E.state seeds.new) run.script run.seed) }
+    ensures spelled { IfOk result (λ run. IsSpelled run.script) }
+    ensures ended { IfErr result (λ status. (sink : SinkState)
+        → Ends NoRun form (outside (S.state source.old) sink (E.state seeds.old))
+        (outside (S.state source.new) sink (E.state seeds.new)) status) }
 {
     let form = match form {
         Some(form) => form,
-        None => return Status::Usage,
+        None => return Err(Status::Usage),
     };
     let input = match read_all(alloc, source, INPUT_LIMITS) {
         Ok(input) => input,
-        Err(fault) => return input_status(fault),
+        Err(fault) => return Err(input_status(fault)),
     };
     let script = match read_script(alloc, input.as_slice()) {
         Ok(script) => script,
-        Err(fault) => return script_status(fault),
+        Err(fault) => return Err(script_status(fault)),
     };
     let seed = match take_seed(form, seeds) {
         Ok(seed) => seed,
-        Err(_) => return Status::SeedFault,
+        Err(_) => return Err(Status::SeedFault),
     };
-    let log = match log_of_run(alloc, &script, &seed, way) {
-        Ok(log) => log,
-        Err(_) => return Status::NoMemory,
-    };
-    match write_all(sink, log.as_slice()) {
-        Ok(()) => Status::Done,
-        Err(_) => Status::WriteFault,
-    }
+    Ok(Prepared { script, seed })
 }
 
 // How a run ends whose input isn't read.
@@ -101,18 +86,24 @@ fn script_status(fault: ScriptFault) -> Status
     }
 }
 
-// The log of a run of the script.
-fn log_of_run<W: Way>(
-    alloc: Global,
-    script: &Script,
-    seed: &[u8; 32],
-    way: W,
-) -> Result<Bytes, AllocError>
-    requires ready { W.ready way }
-    requires spelled { IsSpelled script.now }
-    ensures { IfOk result (λ log. LogOfRun W.run_of seed.now script.now log) }
+// Writes the log of a run's entries into the sink, once the whole log stands, and tells how the run ends.
+pub(crate) fn finish<K: Sink>(alloc: Global, entries: PlacedVec, sink: &mut K) -> Status
+    ensures { EndsLog (log_text (entries_of entries.items)) (K.state sink.old) (K.state sink.new) result }
 {
-    let entries = way.run(alloc, script, seed)?;
+    let log = match log_of(alloc, entries) {
+        Ok(log) => log,
+        Err(_) => return Status::NoMemory,
+    };
+    match write_all(sink, log.as_slice()) {
+        Ok(()) => Status::Done,
+        Err(_) => Status::WriteFault,
+    }
+}
+
+// The log of the entries, whose places are their numbers.
+fn log_of(alloc: Global, entries: PlacedVec) -> Result<Bytes, AllocError>
+    ensures { IfOk result (λ log. log ≡ log_text (entries_of entries.items)) }
+{
     let history = history_of(alloc, entries)?;
     let log = write_log(alloc, history.as_slice())?;
     Ok(log)

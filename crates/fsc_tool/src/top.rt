@@ -6,9 +6,9 @@ ghost use Rattle.fsc_tool.specs.Outside.{outside};
 ghost use Rattle.fsc_tool.specs.Replay.{IsReplay};
 ghost use Rattle.fsc_tool.specs.Runs.{IsSerialRun};
 
-use crate::form::read_serial_form;
-use crate::replay::replay;
-use crate::ways::InRotation;
+use crate::form::{Form, read_serial_form};
+use crate::replay::{finish, prepare};
+use crate::rotation::run_in_rotation;
 use fsc_outside::{SeedSource, Sink, Source};
 use mount_shared::MountMachine;
 use reply_text::Status;
@@ -34,5 +34,30 @@ pub fn tool_serial<S: Source, K: Sink, E: SeedSource, M: MountMachine>(
         before after result }
 {
     let form = read_serial_form(words);
-    replay(alloc, form, source, sink, seeds, InRotation { machine })
+    replay_in_rotation(alloc, form, source, sink, seeds, machine)
+}
+
+// A replay in this form whose callers take turns.
+fn replay_in_rotation<S: Source, K: Sink, E: SeedSource, M: MountMachine>(
+    alloc: Global,
+    form: Option<Form>,
+    source: &mut S,
+    sink: &mut K,
+    seeds: &mut E,
+    machine: M,
+) -> Status
+    requires { M.leads [] machine }
+    ensures { let before = outside (S.state source.old) (K.state sink.old) (E.state seeds.old) in
+        let after = outside (S.state source.new) (K.state sink.new) (E.state seeds.new) in
+        IsReplay (IsSerialRun M.lawful) form before after result }
+{
+    let run = match prepare(alloc, form, source, seeds) {
+        Ok(run) => run,
+        Err(status) => return status,
+    };
+    let entries = match run_in_rotation(alloc, &run.script, &run.seed, machine) {
+        Ok(entries) => entries,
+        Err(_) => return Status::NoMemory,
+    };
+    finish(alloc, entries, sink)
 }
