@@ -10,7 +10,7 @@ use Rattle.mount_model.specs.PolicyAnswers.{policy_told}
 use Rattle.mount_model.specs.Walk.{Walked}
 use Rattle.mount_state.specs.StandsFor.{StandsFor}
 use Rattle.mount_state.specs.declared.state.MountState.{MountState}
-use Rattle.mount_names.specs.Given.{IsGiven, IsGivenOrNoMemory, IsToldOrNoMemory}
+use Rattle.mount_state.specs.Given.{IsGiven, IsGivenOrNoMemory, IsToldOrNoMemory, IsRefusedAsDue}
 
 -- ---- answers that leave the mount
 
@@ -42,3 +42,12 @@ module _ (m : PlainMount) (f : ℕ → Answer) (leaves : (n : ℕ) → (f n).mou
     | inl is ↦ inl (given_at reply is)
     | inr wanting ↦ inr (wanting, stands)
   ]
+
+-- what is due at the node is due
+pub due_at : (m : PlainMount) (f : ℕ → Answer) (w : Walked) (n : ℕ) → Ok n ≡ w → (reply : Reply) → IsRefusedAsDue (f n) reply → IsRefusedAsDue (at_node m f w) reply
+due_at m f w n led reply due = subst (λ (x : Walked). IsRefusedAsDue (at_node m f x) reply) led due
+
+-- what was answered to a node stands for the answer
+pub answered_at : (m : PlainMount) (f : ℕ → Answer) (w : Walked) (n : ℕ) → Ok n ≡ w → (new : MountState) (reply : Reply) → IsGivenOrNoMemory m (f n) reply new
+    → IsGivenOrNoMemory m (at_node m f w) reply new
+answered_at m f w n led new reply given = subst (λ (x : Walked). IsGivenOrNoMemory m (at_node m f x) reply new) led given

@@ -10,6 +10,11 @@ pub mod LenLemmas
 pub mod ClashLemmas
 pub mod PlaceLemmas
 pub mod MakeLemmas
+pub mod LinkLemmas
+pub mod ListedLemmas
+pub mod PolicyRules
+pub mod PolicyStands
+pub mod SetLemmas
 pub mod FoundLemmas
 pub mod NodesLemmas
 pub mod RemovalLemmas

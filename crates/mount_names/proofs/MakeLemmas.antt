@@ -1,6 +1,7 @@
 -- A state in which a node was made stands for the mount in which it was.
 use Rattle.std.proofs.Common.{◌≡◌, ◌≢◌, ℕ, ◌+◌, true, false, List, [], Option, Some, None, option_map, inl, refl, sym, ap, subst, ◌∙◌}
 use Rattle.policy_ctx.specs.Context.{context_bytes}
+use Rattle.std.proofs.lemmas.Bool.{true≢false}
 use Rattle.number_map.specs.Numbered.{get, insert}
 use Rattle.number_map.proofs.NumberedLemmas.{insert_other}
 use Rattle.inode_refs.specs.Cached.{Cache}
@@ -16,6 +17,8 @@ use Rattle.key_ring.specs.Modes.{Modes}
 use Rattle.policy_ctx.specs.declared.policy.Context.{Context}
 use Rattle.mount_state.specs.Handles.{Handles}
 use Rattle.mount_model.specs.declared.reply.Reply.TheVariants.{Done}
+use Rattle.mount_model.specs.ClaimHistory.{is_refused}
+use Rattle.mount_model.specs.declared.reply.Reply.{Reply}
 use Rattle.mount_model.specs.PlainMount.{PlainMount}
 use Rattle.mount_model.specs.Answered.{Answer, done}
 use Rattle.mount_model.specs.Walk.{PathParts, last_part}
@@ -31,7 +34,7 @@ use Rattle.mount_state.specs.StandsFor.{StandsFor, CachesStand}
 use Rattle.mount_state.specs.StandsFor.{kind_of as plain_kind_of, kind_in as plain_kind}
 use Rattle.mount_state.specs.declared.state.MountState.{MountState}
 use Rattle.mount_names.specs.declared.places.Place.{Place}
-use Rattle.mount_names.specs.Given.{IsGivenOrNoMemory}
+use Rattle.mount_state.specs.Given.{IsGivenOrNoMemory, IsRefusedAsDue}
 use Rattle.mount_names.specs.Made.{IsPlaceAt}
 use Rattle.mount_names.proofs.AgreeLemmas.{made_agrees}
 use Rattle.mount_names.proofs.DiskRules.{none_at_next, unheld}
@@ -128,6 +131,10 @@ module _ (old : MountState) (m : PlainMount) (st : StandsFor old m) (path : Path
     sym (ap (λ (a : Answer). a.reply) (answer_is short)),
     subst (StandsFor new) (sym (ap (λ (a : Answer). a.mount) (answer_is short))) stands,
   )
+
+  -- where it can be made it isn't refused
+  pub made_due : is_long_target body ≡ false → (reply : Reply) → IsRefusedAsDue (answer_to_make m path nonce body) reply
+  made_due short reply due = absurd (true≢false (sym due ∙ ap (λ (a : Answer). is_refused a.reply) (answer_is short)))
 
   pub well_after : is_long_target body ≡ false → IsWellFormed (answer_to_make m path nonce body).mount → IsWellFormed after
   well_after short well = subst IsWellFormed (ap (λ (a : Answer). a.mount) (answer_is short)) well

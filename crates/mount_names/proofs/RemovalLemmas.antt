@@ -30,7 +30,7 @@ use Rattle.mount_state.specs.declared.state.MountState.{MountState}
 use Rattle.mount_state.proofs.UserLemmas.{pins_tell}
 use Rattle.mount_names.specs.declared.entries.Entry.{Entry}
 use Rattle.mount_names.specs.Found.{IsEntryOn}
-use Rattle.mount_names.specs.Given.{IsGiven}
+use Rattle.mount_state.specs.Given.{IsGiven}
 use Rattle.mount_names.specs.Removed.{IsEntryOf}
 use Rattle.mount_names.specs.SameButTree.{SameButTree}
 use Rattle.mount_names.proofs.AgreeLemmas.{dropped_agrees}

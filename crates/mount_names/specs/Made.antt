@@ -4,7 +4,7 @@ use Rattle.byte_words.specs.Bytes.{AreBytes}
 use Rattle.policy_ctx.specs.declared.policy.Context.{Context}
 use Rattle.fsc_keys.specs.Keys.{key_bytes}
 use Rattle.fsc_keys.specs.declared.file_keys.KeyKind.TheVariants.{Names}
-use Rattle.plain_tree.specs.Nodes.{Name, Body, context_at, is_dir_at, entry}
+use Rattle.plain_tree.specs.Nodes.{Name, Body, Link, context_at, is_dir_at, entry}
 use Rattle.mount_model.specs.declared.reply.Refusal.{Refusal}
 use Rattle.mount_model.specs.PlainMount.{PlainMount}
 use Rattle.mount_model.specs.Answered.{refused}
@@ -12,14 +12,14 @@ use Rattle.mount_model.specs.Sealed.{node_key}
 use Rattle.mount_model.specs.NameAnswers.{lacks_key, clashes, is_full, is_long_target, inherited, answer_to_make_in, answer_to_make}
 use Rattle.mount_model.specs.Walk.{PathParts, is_root, last_part, parent}
 use Rattle.mount_model.specs.WellFormed.{IsName, IsWellFormed}
-use Rattle.mount_model.specs.Carried.{IsPath}
+use Rattle.mount_model.specs.Carried.{IsPath, IsTarget}
 use Rattle.mount_state.specs.Stored.{stored_form}
 use Rattle.mount_state.specs.StandsFor.{StandsFor}
 use Rattle.mount_state.specs.declared.state.MountState.{MountState}
 use Rattle.mount_state.specs.Stored.{stored_body}
 use Rattle.disk_tree.specs.declared.node.Body.{Body as StoredBody}
 use Rattle.mount_model.specs.declared.reply.Reply.{Reply}
-use Rattle.mount_names.specs.Given.{IsGivenOrNoMemory}
+use Rattle.mount_state.specs.Given.{IsGivenOrNoMemory}
 use Rattle.mount_names.specs.declared.places.Place.{Place}
 
 -- in the mount the place's directory can get the name, and the place has its stored form
@@ -58,3 +58,10 @@ MakesAt old new place nonce stored reply = (m : PlainMount) (path : PathParts) (
     → is_long_target body ≡ false → stored ≡ stored_body m.raws m.next (inherited nonce place.context) body
     → IsWellFormed (answer_to_make m path nonce body).mount
     → IsGivenOrNoMemory m (answer_to_make m path nonce body) reply new
+
+-- the symlink is made there, as the call that creates it answers
+abbrev pub LinksAt : MountState → MountState → Place → List ℕ → List ℕ → Reply → Type 0
+LinksAt old new place nonce target reply = (m : PlainMount) (path : PathParts) → StandsFor old m
+    → IsPlaceAt m path place → is_long_target (Link target) ≡ false → IsTarget target
+    → IsWellFormed (answer_to_make m path nonce (Link target)).mount
+    → IsGivenOrNoMemory m (answer_to_make m path nonce (Link target)) reply new

@@ -11,7 +11,7 @@ use Rattle.mount_state.specs.StandsFor.{StandsFor}
 use Rattle.mount_state.specs.declared.state.MountState.{MountState}
 use Rattle.mount_names.specs.declared.entries.Entry.{Entry}
 use Rattle.mount_names.specs.Found.{form_in, entry_end}
-use Rattle.mount_names.specs.Given.{IsGiven}
+use Rattle.mount_state.specs.Given.{IsGiven}
 
 -- in the mount the entry is this name's
 pub record IsEntryOf (m : PlainMount) (name : Name) (e : Entry) : Type 0 where

@@ -9,3 +9,11 @@ pub record SameButTree (old new : MountState) : Type 0 where
   pub pins : new.inodes.pins ≡ old.inodes.pins
   pub handles : new.handles ≡ old.handles
   pub modes : new.modes ≡ old.modes
+
+-- What giving a policy may change of a state: contexts, which keys of nodes are cached, and mode keys.
+pub record SameButPolicies (old new : MountState) : Type 0 where
+  pub next_node : new.next_node ≡ old.next_node
+  pub ring : new.ring ≡ old.ring
+  pub meta : new.meta ≡ old.meta
+  pub pins : new.inodes.pins ≡ old.inodes.pins
+  pub handles : new.handles ≡ old.handles

@@ -41,7 +41,7 @@ fn dir_cipher(state: &MountState, dir: u32, context: &Context) -> Option<NameCip
 }
 
 // That under a key which is drawn from the secret; none where no user has a claim.
-fn drawn_cipher(state: &MountState, number: u32, context: &Context) -> Option<NameCipher>
+pub(crate) fn drawn_cipher(state: &MountState, number: u32, context: &Context) -> Option<NameCipher>
     ensures value { result ≡ option_map (cipher_with number context.now) (drawn_key state.now.ring context.now) }
     ensures claimed { HoldsClaimedSecrets state.now.ring }
     ensures ranged { IfSome result (λ cipher. AreBytes cipher.key) }
@@ -67,7 +67,7 @@ fn cached_key<'a>(state: &'a MountState, number: u32, context: &Context) -> Opti
 }
 
 // The same key drawn from the secret, where a user has a claim.
-fn drawn_key(state: &MountState, context: &Context) -> Option<FileKey>
+pub(crate) fn drawn_key(state: &MountState, context: &Context) -> Option<FileKey>
     ensures value { result ≡ drawn_key state.now.ring context.now }
     ensures kind { IfSome result (λ key. is_of_kind Names key ≡ true) }
     ensures claimed { HoldsClaimedSecrets state.now.ring }

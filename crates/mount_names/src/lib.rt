@@ -5,18 +5,24 @@ mod ciphers;
 mod contexts;
 mod entries;
 mod links;
+mod listings;
 mod looks;
 mod lookups;
 mod makes;
 mod places;
+mod policies;
 mod reading;
 mod removals;
 mod stored_names;
+mod symlinks;
 #[cfg(test)]
 mod tests;
 
 pub use links::read_link;
+pub use listings::list;
 pub use looks::{get_policy, stat};
 pub use lookups::lookup;
 pub use makes::{create, mkdir};
+pub use policies::set_policy;
 pub use removals::{rmdir, unlink};
+pub use symlinks::symlink;

@@ -6,7 +6,7 @@ ghost use Rattle.mount_model.specs.PlainMount.{PlainMount};
 ghost use Rattle.mount_model.specs.LookAnswers.{answer_to_read_link, target_told};
 ghost use Rattle.mount_state.specs.SameButKeys.{SameButKeys};
 ghost use Rattle.mount_state.specs.StandsFor.{StandsFor};
-ghost use Rattle.mount_names.specs.Given.{IsGivenOrNoMemory, IsToldOrNoMemory};
+ghost use Rattle.mount_state.specs.Given.{IsGivenOrNoMemory, IsToldOrNoMemory, IsRefusedAsDue};
 
 use crate::reading::reading_of;
 use disk_tree::{Body, StoredNode};
@@ -28,6 +28,8 @@ pub fn read_link<L: Ledger>(
 ) -> Reply
     ensures stands { (m : PlainMount) → StandsFor state.old m
         → IsGivenOrNoMemory m (answer_to_read_link m path.now) result state.new }
+    ensures due { (m : PlainMount) → StandsFor state.old m
+        → IsRefusedAsDue (answer_to_read_link m path.now) result }
     ensures same { SameButKeys state.old state.new }
     ensures ticks { steps.new ≤ steps.old + length path.now }
 {
@@ -39,8 +41,10 @@ pub fn read_link<L: Ledger>(
 
 // What the node tells as a symlink.
 fn link_told(alloc: Global, state: &MountState, number: u32) -> Reply
-    ensures { (m : PlainMount) → StandsFor state.now m
+    ensures told { (m : PlainMount) → StandsFor state.now m
         → IsToldOrNoMemory (target_told m number (get m.nodes number)).reply result }
+    ensures due { (m : PlainMount) → StandsFor state.now m
+        → IsRefusedAsDue (target_told m number (get m.nodes number)) result }
 {
     let Some(node) = state.disk.node(number) else {
         return Reply::Refused(Refusal::NotFound);

@@ -11,7 +11,7 @@ ghost use Rattle.mount_model.specs.PolicyAnswers.{answer_to_get_policy};
 ghost use Rattle.mount_state.specs.SameButKeys.{SameButKeys};
 ghost use Rattle.mount_state.specs.StandsFor.{StandsFor};
 ghost use Rattle.mount_state.specs.Stored.{stored_body};
-ghost use Rattle.mount_names.specs.Given.{IsGiven};
+ghost use Rattle.mount_state.specs.Given.{IsGiven};
 
 use crate::contexts::context_of;
 use crate::reading::reading_of;

@@ -12,7 +12,7 @@ ghost use Rattle.mount_model.specs.NameAnswers.{answer_to_make, inherited};
 ghost use Rattle.mount_model.specs.PlainMount.{PlainMount};
 ghost use Rattle.mount_state.specs.SameButKeys.{SameButKeys};
 ghost use Rattle.mount_state.specs.StandsFor.{StandsFor};
-ghost use Rattle.mount_names.specs.Given.{IsGivenOrNoMemory};
+ghost use Rattle.mount_state.specs.Given.{IsGivenOrNoMemory, IsRefusedAsDue};
 ghost use Rattle.mount_names.specs.Made.{MakesAt};
 ghost use Rattle.mount_names.specs.SameButTree.{SameButTree};
 
@@ -39,9 +39,11 @@ pub fn mkdir<L: Ledger>(
 ) -> Reply
     ensures stands { (m : PlainMount) → StandsFor state.old m → IsPath path.now
         → IsGivenOrNoMemory m (answer_to_make m path.now nonce.now (node.Dir [])) result state.new }
+    ensures due { (m : PlainMount) → StandsFor state.old m → IsPath path.now
+        → IsRefusedAsDue (answer_to_make m path.now nonce.now (node.Dir [])) result }
     ensures refused { is_refused result ≡ true → SameButKeys state.old state.new }
     ensures same { SameButTree state.old state.new }
-    ensures ticks { steps.new ≤ steps.old + length path.now + 1 }
+    ensures ticks { steps.new ≤ steps.old + length path.now }
 {
     match place_at(alloc, state, path, false, steps) {
         Ok(place) => make(alloc, state, &place, nonce, empty_dir(alloc)),
@@ -59,9 +61,11 @@ pub fn create<L: Ledger>(
 ) -> Reply
     ensures stands { (m : PlainMount) → StandsFor state.old m → IsPath path.now
         → IsGivenOrNoMemory m (answer_to_make m path.now nonce.now (node.File [])) result state.new }
+    ensures due { (m : PlainMount) → StandsFor state.old m → IsPath path.now
+        → IsRefusedAsDue (answer_to_make m path.now nonce.now (node.File [])) result }
     ensures refused { is_refused result ≡ true → SameButKeys state.old state.new }
     ensures same { SameButTree state.old state.new }
-    ensures ticks { steps.new ≤ steps.old + length path.now + 1 }
+    ensures ticks { steps.new ≤ steps.old + length path.now }
 {
     match place_at(alloc, state, path, false, steps) {
         Ok(place) => make(alloc, state, &place, nonce, empty_file(alloc)),
@@ -103,7 +107,7 @@ pub(crate) fn make(
 {
     let number = state.next_node;
     let node = StoredNode {
-        context: context_of_new(place, nonce),
+        context: stored_context(&context_of_new(place, nonce)),
         named: true,
         body,
     };
@@ -116,15 +120,25 @@ pub(crate) fn make(
     }
 }
 
-// The bytes of the context that a node made there gets: the policy of the directory, and its own nonce.
-fn context_of_new(place: &Place, nonce: &[u8; 16]) -> Option<[u8; CONTEXT_LEN]>
-    ensures { result ≡ option_map context_bytes (inherited nonce.now place.now.context) }
+// The context that a node made there gets: the policy of the directory, and its own nonce.
+pub(crate) fn context_of_new(place: &Place, nonce: &[u8; 16]) -> Option<Context>
+    ensures { result ≡ inherited nonce.now place.now.context }
 {
     match &place.context {
-        Some(context) => Some(encode_context(&Context {
+        Some(context) => Some(Context {
             policy: context.policy,
             nonce: *nonce,
-        })),
+        }),
+        None => None,
+    }
+}
+
+// The bytes of the context.
+fn stored_context(context: &Option<Context>) -> Option<[u8; CONTEXT_LEN]>
+    ensures { result ≡ option_map context_bytes context.now }
+{
+    match context {
+        Some(context) => Some(encode_context(context)),
         None => None,
     }
 }

@@ -47,7 +47,7 @@ pub(crate) fn place_at<L: Ledger>(
     ensures room { IfOk result (λ _. state.new.next_node + 1 < 2 ^ 32) }
     ensures stands { StaysFor state.old state.new }
     ensures same { SameButKeys state.old state.new }
-    ensures ticks { steps.new ≤ steps.old + length path.now + 1 }
+    ensures ticks { steps.new ≤ steps.old + length path.now }
 {
     if path.is_empty() {
         return Err(Refusal::Exists);

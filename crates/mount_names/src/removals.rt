@@ -8,7 +8,7 @@ ghost use Rattle.mount_model.specs.PlainMount.{PlainMount, has_handle};
 ghost use Rattle.mount_state.specs.SameButKeys.{SameButKeys};
 ghost use Rattle.mount_state.specs.StandsFor.{StandsFor};
 ghost use Rattle.mount_names.specs.Found.{IsEntryOn};
-ghost use Rattle.mount_names.specs.Given.{IsGiven};
+ghost use Rattle.mount_state.specs.Given.{IsGiven};
 ghost use Rattle.mount_names.specs.Removed.{Drops, Unlinks, RemovesDir};
 ghost use Rattle.mount_names.specs.SameButTree.{SameButTree};
 

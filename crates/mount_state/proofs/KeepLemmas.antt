@@ -98,7 +98,7 @@ pub own_there : (on_disk : Disk) (node : ℕ) (c : Context) → disk.context_in 
     → c.policy.by_mode ≡ false → uses_own on_disk node c.policy.id ≡ true
 own_there on_disk node c there size own = ap (has_own c.policy.id) there ∙ own_of c size own
 
-dir_kind : (o : Option StoredNode) → of_node ⊥ (λ node. IsDir node.body) o → disk.kind_in o ≡ Names
+pub dir_kind : (o : Option StoredNode) → of_node ⊥ (λ node. IsDir node.body) o → disk.kind_in o ≡ Names
 dir_kind None bad = absurd bad
 dir_kind (Some v) is = of_body v.body is
   where

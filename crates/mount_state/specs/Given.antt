@@ -1,10 +1,11 @@
 -- That a call is answered as the one-thread mount answers it.
-use Rattle.std.specs.Prelude.{◌≡◌, ◌⊎◌}
+use Rattle.std.specs.Prelude.{◌≡◌, ◌⊎◌, true}
 use Rattle.mount_model.specs.declared.reply.Reply.{Reply}
 use Rattle.mount_model.specs.declared.reply.Reply.TheVariants.{Refused}
 use Rattle.mount_model.specs.declared.reply.Refusal.TheVariants.{NoMemory}
 use Rattle.mount_model.specs.PlainMount.{PlainMount}
 use Rattle.mount_model.specs.Answered.{Answer}
+use Rattle.mount_model.specs.ClaimHistory.{is_refused}
 use Rattle.mount_state.specs.StandsFor.{StandsFor}
 use Rattle.mount_state.specs.declared.state.MountState.{MountState}
 
@@ -20,3 +21,7 @@ IsGivenOrNoMemory m answer reply state =
 -- this was told, or there was no memory
 abbrev pub IsToldOrNoMemory : Reply → Reply → Type 0
 IsToldOrNoMemory told reply = (reply ≡ told) ⊎ (reply ≡ Refused NoMemory)
+
+-- where the answer is a refusal, the reply is that one, also where there is no memory
+abbrev pub IsRefusedAsDue : Answer → Reply → Type 0
+IsRefusedAsDue answer reply = is_refused answer.reply ≡ true → reply ≡ answer.reply

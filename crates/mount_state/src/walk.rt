@@ -1,6 +1,6 @@
 //! Where paths lead, in the stored tree.
 
-ghost use Rattle.std.specs.Prelude.{◌≡◌, ◌+◌, ◌≤◌, take, length, OnOk};
+ghost use Rattle.std.specs.Prelude.{◌≡◌, ◌+◌, ◌-◌, ◌≤◌, take, length, OnOk};
 ghost use Rattle.disk_tree.specs.DiskTree.{IsDirAt};
 ghost use Rattle.mount_model.specs.PlainMount.{PlainMount};
 ghost use Rattle.mount_model.specs.Walk.{looked_in, stepped, walked, parent};
@@ -62,7 +62,7 @@ pub fn walked_node<L: Ledger>(
 
 /// The directory in which the path's last part is to be looked up. Refused as the parts before it are,
 /// then NotDir, then NameTooLong for the last one. A path with no part is taken for one with an empty
-/// part.
+/// part. At most one name is encrypted for each part but the last.
 pub fn walked_parent<L: Ledger>(
     alloc: Global,
     state: &mut MountState,
@@ -72,7 +72,7 @@ pub fn walked_parent<L: Ledger>(
     ensures value { (m : PlainMount) → StandsFor state.old m → result ≡ parent m path.now }
     ensures stands { StaysFor state.old state.new }
     ensures same { SameButKeys state.old state.new }
-    ensures ticks { steps.new ≤ steps.old + length path.now }
+    ensures ticks { steps.new ≤ steps.old + (length path.now - 1) }
 {
     let before = path.len().saturating_sub(1);
     match walked_parts(alloc, state, path, before, steps) {

@@ -1,4 +1,6 @@
-use Rattle.std.proofs.Common.{◌+◌, true, refl, sym, subst}
+use Rattle.std.proofs.Common.{◌+◌, true, Option, option_map, refl, sym, ap, subst, ◌∙◌}
+use Rattle.policy_ctx.specs.declared.policy.Context.{Context}
+use Rattle.policy_ctx.specs.Context.{context_bytes}
 use Rattle.disk_tree.specs.DiskTree.{Disk}
 use Rattle.mount_state.specs.Discipline.{Forgets}
 use Rattle.mount_state.specs.Safe.{IsSafe}
@@ -12,15 +14,15 @@ invariant_of-state c =
     record {
       forgets = subst (λ (x : Disk). Forgets x s.ring.claims s.inodes s.modes s.handles.live) (sym c.in-Ok.ensures.added)
           (made_rule s.disk s.next_node s.ring.claims s.inodes s.modes s.handles.live s.forgets s.safe
-          (record { context = c.context_of_new.result; named = true; body = c.args.body }) c.args.place.now.dir c.args.place.now.stored);
+          (record { context = c.stored_context.result; named = true; body = c.args.body }) c.args.place.now.dir c.args.place.now.stored);
       safe = subst (λ (x : Disk). IsSafe x (s.next_node + 1) s.handles.live) (sym c.in-Ok.ensures.added)
           (made_safe s.disk s.next_node s.ring.claims s.inodes s.modes s.handles.live s.forgets s.safe
-          (record { context = c.context_of_new.result; named = true; body = c.args.body }) c.args.place.now.dir c.args.place.now.stored);
+          (record { context = c.stored_context.result; named = true; body = c.args.body }) c.args.place.now.dir c.args.place.now.stored);
     }
 
 pub returns-in-Ok-clause-stands : goal.returns-in-Ok-clause-stands
 returns-in-Ok-clause-stands c = λ m path body st at short stored well.
     made_given c.args.state.now m st path c.args.place.now at c.args.nonce.now body short _
     (made_stands c.args.state.now m st path c.args.place.now at c.args.nonce.now body _ _ c.in-Ok.ensures.added refl refl refl refl refl refl
-    (made_node c.args.state.now m st path c.args.place.now at c.args.nonce.now body c.args.body stored _ (λ i. record { context = c.context_of_new.ensures i; named = true; body = c.args.body }))
+    (made_node c.args.state.now m st path c.args.place.now at c.args.nonce.now body c.args.body stored _ (λ i. record { context = (c.stored_context.ensures ∙ ap (λ (o : Option Context). option_map context_bytes o) c.context_of_new.ensures) i; named = true; body = c.args.body }))
     (well_after c.args.state.now m st path c.args.place.now at c.args.nonce.now body short well))

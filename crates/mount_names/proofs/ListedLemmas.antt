@@ -1,0 +1,276 @@
+-- Names in the order of their bytes: of the same names there is one list in order.
+use Rattle.std.proofs.Common.{◌≡◌, ℕ, ◌+◌, ◌-◌, suc, ◌<◌, min, nat_lt, length, take, drop, ◌++◌, Some, Bool, true, false, cond, not, List, [], ◌∷◌, map, get_or, bytes_eq, inl, inr, ◌⊎◌, refl, sym, ap, subst, ◌∙◌, arith}
+use Rattle.std.specs.Bool.{⊤}
+use Rattle.std.specs.List.{sum_by, AllZip}
+use Rattle.std.specs.List.Sorted.{IsPermutation, IsSortedBy}
+use Rattle.std.specs.declared.cmp.Ordering.{Ordering}
+use Rattle.std.specs.declared.cmp.Ordering.TheVariants.{Less, Equal, Greater}
+use Rattle.std.specs.Ordering.{nat_cmp, ordering_reverse, is_lt, is_gt, is_eq}
+use Rattle.std.specs.Cmp.{IsStrictWeakOrder}
+use Rattle.std.specs.Cmp.Lexicographic.{slice_cmp, nat_list_cmp_total}
+use Rattle.std.proofs.lemmas.Bool.{cases_Bool, cases_lt, lt-ltb, le-ltb}
+use Rattle.std.proofs.lemmas.List.{append-nil, drop_min, length-drop, take_all, take-append-le}
+use Rattle.std.proofs.lemmas.List.MinMax.{ranks_by}
+use Rattle.std.proofs.lemmas.List.Sorted.{sum_by-IsPermutation}
+use Rattle.std.proofs.lemmas.List.Sums.{sum_by-cons}
+use Rattle.std.proofs.lemmas.Map.Text.{is_eq-slice_cmp}
+use Rattle.std.proofs.lemmas.Slice.Eq.{bytes_eq-Decides}
+use Rattle.byte_words.specs.Bytes.{AreBytes}
+use Rattle.name_crypt.specs.Plain.{IsPlain}
+use Rattle.plain_tree.specs.Nodes.{Name, Children, children, context_at, is_dir_at}
+use Rattle.plain_tree.specs.Stored.{IsNameOf, stored_children}
+use Rattle.plain_tree.proofs.ChildLemmas.{same_name}
+use Rattle.plain_tree.proofs.StoredLemmas.{name_behind, name_front}
+use Rattle.number_map.specs.Numbered.{get}
+use Rattle.disk_tree.specs.DiskTree.{Disk, IsDirAt, of_node, entries_in}
+use Rattle.disk_tree.specs.Nodes.{IsDir, entries_of}
+use Rattle.disk_tree.specs.declared.node.StoredNode.{StoredNode}
+use Rattle.disk_tree.specs.declared.node.Body.TheVariants as stored
+use Rattle.disk_tree.specs.DiskTree.{children as stored_entries}
+use Rattle.disk_tree.specs.Entries.{Entries}
+use Rattle.mount_model.specs.LookAnswers.{put_in_order, in_order, listed, page_of}
+use Rattle.mount_model.specs.declared.reply.Refusal.TheVariants.{NotDir}
+use Rattle.mount_model.specs.PlainMount.{PlainMount}
+use Rattle.mount_model.specs.Answered.{Answer, refused, told}
+use Rattle.mount_model.specs.States.{shown}
+use Rattle.mount_model.specs.WellFormed.{IsWellFormed}
+use Rattle.mount_state.specs.Stored.{stored_form}
+use Rattle.mount_state.specs.StandsFor.{TreeStands}
+use Rattle.mount_state.proofs.EntryLemmas.{children_stand, name_there}
+use Rattle.mount_names.specs.declared.reading.Reading.{Reading}
+use Rattle.mount_names.specs.Shown.{ShowsAs}
+use Rattle.mount_names.specs.Listed.{IsShown, ShowsAll, page_at}
+use Rattle.mount_names.proofs.PlaceLemmas.{name_plain}
+
+-- ---- the order of names
+
+abbrev pub below : Name → Name → Bool
+below a b = is_lt (slice_cmp nat_cmp a b)
+
+pub order : IsStrictWeakOrder below
+order = ranks_by nat_list_cmp_total (λ (x : Name). x)
+
+reversed : (o : Ordering) → is_gt (ordering_reverse o) ≡ is_lt o
+reversed Less = refl
+reversed Equal = refl
+reversed Greater = refl
+
+above_is : (a b : Name) → is_gt (slice_cmp nat_cmp a b) ≡ below b a
+above_is a b = ap is_gt (nat_list_cmp_total.antisymm a b) ∙ reversed (slice_cmp nat_cmp b a)
+
+neither : (o : Ordering) → is_lt o ≡ false → is_gt o ≡ false → is_eq o ≡ true
+neither Less bad other = sym bad
+neither Equal one other = refl
+neither Greater one bad = sym bad
+
+same_from : (a b : Name) → below a b ≡ false → below b a ≡ false → a ≡ b
+same_from a b up down = same_name a b (sym (is_eq-slice_cmp a b) ∙ neither (slice_cmp nat_cmp a b) up (above_is a b ∙ down))
+
+not_itself : (x : Name) → below x x ≡ false
+not_itself x = elim (cases_Bool (below x x)) [
+  | inl is ↦ order.one_way x x is
+  | inr not_so ↦ not_so
+]
+
+-- ---- how often a name stands
+
+abbrev one : Name → Name → ℕ
+one z x = cond (bytes_eq z x) 1 0
+
+abbrev count : Name → List Name → ℕ
+count z xs = sum_by (one z) xs
+
+at_head : (x : Name) (xs : List Name) → 0 < count x (x ∷ xs)
+at_head x xs =
+    let parts = sum_by-cons (one x) x xs in
+    let is : one x x ≡ 1 = ap (λ b. cond b 1 0) ((bytes_eq-Decides x x).1 refl) in
+    omega arith
+
+head_or_behind : (z x : Name) (xs : List Name) → 0 < count z (x ∷ xs) → (z ≡ x) ⊎ (0 < count z xs)
+head_or_behind z x xs there = elim (cases_Bool (bytes_eq z x)) [
+  | inl is ↦ inl (same_name z x is)
+  | inr other ↦ inr (
+      let parts = sum_by-cons (one z) x xs in
+      let none : one z x ≡ 0 = ap (λ b. cond b 1 0) other in
+      omega arith)
+]
+
+-- ---- lists in order
+
+abbrev Rises : List Name → Type 0
+Rises [] = ⊤
+Rises (x ∷ xs) = ((z : Name) → 0 < count z xs → below z x ≡ false) × Rises xs
+
+least : (x : Name) (xs : List Name) → Rises (x ∷ xs) → (z : Name) → 0 < count z (x ∷ xs) → below z x ≡ false
+least x xs rises z there = elim (head_or_behind z x xs there) [
+  | inl same ↦ ap (λ y. below y x) same ∙ not_itself x
+  | inr behind ↦ rises.0 z behind
+]
+
+unique : (xs ys : List Name) → Rises xs → Rises ys → ((z : Name) → count z xs ≡ count z ys) → xs ≡ ys
+unique [] [] up too same = refl
+unique [] (y ∷ ys) up too same =
+    let here = at_head y ys in
+    let none : count y [] ≡ 0 = refl in
+    let tied = same y in
+    absurd (omega arith)
+unique (x ∷ xs) [] up too same =
+    let here = at_head x xs in
+    let none : count x [] ≡ 0 = refl in
+    let tied = same x in
+    absurd (omega arith)
+unique (x ∷ xs) (y ∷ ys) up too same =
+    let first : x ≡ y = same_from x y
+    (least y ys too x (let here = at_head x xs in let tied = same x in omega arith))
+    (least x xs up y (let here = at_head y ys in let tied = same y in omega arith)) in
+    let rest : xs ≡ ys = unique xs ys up.1 too.1 (λ z.
+    let parts = sum_by-cons (one z) x xs in
+    let others = sum_by-cons (one z) y ys in
+    let heads : one z x ≡ one z y = ap (one z) first in
+    let tied = same z in
+    omega arith) in
+    λ i. first i ∷ rest i
+
+put_count : (z x : Name) (xs : List Name) → count z (put_in_order x xs) ≡ count z (x ∷ xs)
+put_count z x [] = refl
+put_count z x (y ∷ ys) = elim (is_gt (slice_cmp nat_cmp x y)) as (λ b. count z (cond b (y ∷ put_in_order x ys) (x ∷ y ∷ ys)) ≡ count z (x ∷ y ∷ ys)) [
+  | true ↦
+      let a = sum_by-cons (one z) y (put_in_order x ys) in
+      let b = sum_by-cons (one z) x (y ∷ ys) in
+      let c = sum_by-cons (one z) y ys in
+      let d = sum_by-cons (one z) x ys in
+      let e = put_count z x ys in
+      omega arith
+  | false ↦ refl
+]
+
+put_rises : (x : Name) (xs : List Name) → Rises xs → Rises (put_in_order x xs)
+put_rises x [] rises = ((λ z there. let none : count z [] ≡ 0 = refl in absurd (omega arith)), tt)
+put_rises x (y ∷ ys) rises = by_case (put_rises x ys rises.1) (is_gt (slice_cmp nat_cmp x y)) (above_is x y)
+  where
+    by_case : Rises (put_in_order x ys) → (b : Bool) → b ≡ below y x → Rises (cond b (y ∷ put_in_order x ys) (x ∷ y ∷ ys))
+    by_case later true is = (
+      (λ z there. elim (head_or_behind z x ys (let tied = put_count z x ys in omega arith)) [
+        | inl same ↦ ap (λ w. below w y) same ∙ order.one_way y x (sym is)
+        | inr behind ↦ rises.0 z behind
+      ]),
+      later,
+    )
+    by_case later false is = (
+      (λ z there. elim (head_or_behind z y ys there) [
+        | inl same ↦ ap (λ w. below w x) same ∙ sym is
+        | inr behind ↦ order.chain z y x (rises.0 z behind) (sym is)
+      ]),
+      rises,
+    )
+
+order_count : (z : Name) (xs : List Name) → count z (in_order xs) ≡ count z xs
+order_count z [] = refl
+order_count z (x ∷ xs) =
+    let a = put_count z x (in_order xs) in
+    let b = sum_by-cons (one z) x (in_order xs) in
+    let c = sum_by-cons (one z) x xs in
+    let d = order_count z xs in
+    omega arith
+
+order_rises : (xs : List Name) → Rises (in_order xs)
+order_rises [] = tt
+order_rises (x ∷ xs) = put_rises x (in_order xs) (order_rises xs)
+
+sorted_rises : (xs : List Name) → IsSortedBy below xs → Rises xs
+sorted_rises [] up = tt
+sorted_rises (x ∷ []) up = ((λ z there. let none : count z [] ≡ 0 = refl in absurd (omega arith)), tt)
+sorted_rises (x ∷ y ∷ ys) up =
+    let rest : Rises (y ∷ ys) = sorted_rises (y ∷ ys) (λ k d low high.
+    let next : suc k + 1 ≡ suc (k + 1) = omega arith in
+    subst (λ (n : ℕ). below (get_or (x ∷ y ∷ ys) n d) (get_or (y ∷ ys) k d) ≡ false) next (up (suc k) d (omega arith) (omega (arith, high)))) in
+    let first : below y x ≡ false = up 0 x (omega arith) (omega arith) in (
+      (λ z there. elim (head_or_behind z y ys there) [
+        | inl same ↦ ap (λ w. below w x) same ∙ first
+        | inr behind ↦ order.chain z y x (rest.0 z behind) first
+      ]),
+      rest,
+    )
+
+-- a sorted list of the names is the names in order
+pub in_order_is : (xs ys : List Name) → IsPermutation xs ys → IsSortedBy below ys → ys ≡ in_order xs
+in_order_is xs ys moved up =
+    unique ys (in_order xs) (sorted_rises ys up) (order_rises xs)
+    (λ z. sum_by-IsPermutation (one z) xs ys moved ∙ sym (order_count z xs))
+
+-- ---- the names as which entries are shown
+
+module _ (reading : Reading) where
+  pub all_same : (es : Entries) (ns others : List Name) → AllZip (IsShown reading) es ns → AllZip (λ e. ShowsAs reading e.0) es others → ns ≡ others
+  all_same [] [] [] each shows = refl
+  all_same [] [] (o ∷ os) each shows = absurd shows
+  all_same [] (n ∷ ns) os each shows = absurd each
+  all_same (e ∷ es) [] os each shows = absurd each
+  all_same (e ∷ es) (n ∷ ns) [] each shows = absurd shows
+  all_same (e ∷ es) (n ∷ ns) (o ∷ os) each shows =
+      let first : n ≡ o = each.0 o shows.0 in
+      let rest : ns ≡ os = all_same es ns os each.1 shows.1 in
+      λ i. first i ∷ rest i
+
+  pub each_shown : (store show : Name → List ℕ) (cs : Children) → ((name : Name) → IsNameOf cs name → ShowsAs reading (store name) (show name))
+      → AllZip (λ e. ShowsAs reading e.0) (stored_children store cs) (map (λ e. show e.0) cs)
+  each_shown store show [] each = tt
+  each_shown store show (c ∷ cs) each =
+      (each c.0 (name_front c cs), each_shown store show cs (λ name there. each name (name_behind c cs name there)))
+
+-- ---- what is told of a directory
+
+pub page_leaves : (m : PlainMount) (start d : ℕ) → (page_at m start d).mount ≡ m
+page_leaves m start d = elim (is_dir_at m.nodes d) as (λ b. (let a : Answer = cond (not b) (refused m NotDir) (told m (page_of m d start)) in a.mount) ≡ m) [
+  | true ↦ refl
+  | false ↦ refl
+]
+
+module _ (m : PlainMount) (start d : ℕ) where
+  pub no_dir : is_dir_at m.nodes d ≡ false → page_at m start d ≡ refused m NotDir
+  no_dir is = ap (λ b. cond (not b) (refused m NotDir) (told m (page_of m d start))) is
+
+  pub at_dir : is_dir_at m.nodes d ≡ true → page_at m start d ≡ told m (page_of m d start)
+  at_dir is = ap (λ b. cond (not b) (refused m NotDir) (told m (page_of m d start))) is
+
+-- what entries of the directory are shown as, in order, is what is listed
+pub listed_is : (disk : Disk) (next : ℕ) (m : PlainMount) → IsWellFormed m → TreeStands disk next m → (d : ℕ) (reading : Reading)
+    → ((name : Name) → IsPlain name → AreBytes name → ShowsAs reading (stored_form m.raws d (context_at m.nodes d) name) (shown m d name))
+    → (names : List Name) → ShowsAll reading (stored_entries disk d) names → names ≡ listed m d
+listed_is disk next m well tree d reading reads names all =
+    all (map (λ e. shown m d e.0) (children m.nodes d))
+    (subst (λ (es : Entries). AllZip (λ e. ShowsAs reading e.0) es (map (λ e. shown m d e.0) (children m.nodes d))) (sym (children_stand disk next m well tree d))
+    (each_shown reading (stored_form m.raws d (context_at m.nodes d)) (shown m d) (children m.nodes d)
+    (λ name there. let is = name_there disk next m well tree d name there in reads name (name_plain name is) is.0.bytes)))
+
+-- the directory whose entries lie on the disk
+module _ (disk : Disk) (d : ℕ) (w : StoredNode) (es : Entries) (there : Some w ≡ get disk d) (is : w.body ≡ stored.Dir es) where
+  pub dir_there : IsDirAt disk d
+  dir_there = subst (of_node ⊥ (λ node. IsDir node.body)) there (subst IsDir (sym is) tt)
+
+  pub entries_there : es ≡ stored_entries disk d
+  entries_there = sym (ap entries_of is) ∙ ap entries_in there
+
+-- ---- a page
+
+module _ {X : Type 0} where
+  pub rest_is : (xs : List X) (start n : ℕ) → n ≡ min start (length xs) → take (length xs - n) (drop n xs) ≡ drop start xs
+  rest_is xs start n is =
+      let size = length-drop n xs in
+      take_all (length xs - n) (drop n xs) (omega (arith, size)) ∙ (ap (λ k. drop k xs) is ∙ drop_min start xs)
+
+  pub whole_is : (new ys : List X) (len : ℕ) → len ≡ length new → take len (new ++ ys) ≡ new
+  whole_is new ys len is = ap (λ n. take n (new ++ ys)) is ∙ (take-append-le (length new) new ys (omega arith) ∙ take_all (length new) new (omega arith))
+
+  pub more_is : (xs : List X) (start most : ℕ) → nat_lt most (length (drop start xs)) ≡ nat_lt (start + most) (length xs)
+  more_is xs start most =
+      let size = length-drop start xs in
+      elim (cases_lt (start + most) (length xs)) [
+        | inl more ↦ lt-ltb most (length (drop start xs)) (omega (arith, size, more)) ∙ sym (lt-ltb (start + most) (length xs) more)
+        | inr few ↦ le-ltb most (length (drop start xs)) (omega (arith, size, few)) ∙ sym (le-ltb (start + most) (length xs) few)
+      ]
+
+pub nothing_left : (reading : Reading) (left es : Entries) (ns : List Name) → left ≡ []
+    → ((rest : List Name) → AllZip (IsShown reading) left rest → AllZip (IsShown reading) es (ns ++ rest)) → AllZip (IsShown reading) es ns
+nothing_left reading left es ns none all =
+    subst (AllZip (IsShown reading) es) (append-nil ns) (all [] (subst (λ (x : Entries). AllZip (IsShown reading) x []) (sym none) tt))

@@ -1,0 +1,62 @@
+-- What a directory that gets a policy needs of its key, and what the call answers there.
+use Rattle.std.specs.Prelude.{◌≡◌, ◌==◌, ℕ, true, List, [], None, is_some, not, if◌then◌else◌}
+use Rattle.number_map.specs.Numbered.{insert}
+use Rattle.policy_ctx.specs.declared.policy.Context.{Context}
+use Rattle.policy_ctx.specs.Policy.{policy_fault}
+use Rattle.fsc_keys.specs.declared.file_keys.FileKey.{FileKey}
+use Rattle.fsc_keys.specs.declared.file_keys.KeyKind.TheVariants.{Names}
+use Rattle.key_ring.specs.Modes.{Modes, of_kind, with_kind, with_users}
+use Rattle.inode_refs.specs.Cached.{Cache}
+use Rattle.user_claims.specs.Claims.{is_present}
+use Rattle.plain_tree.specs.Nodes.{children, context_at, is_dir_at}
+use Rattle.mount_model.specs.declared.reply.Reply.{Reply}
+use Rattle.mount_model.specs.declared.reply.Refusal.TheVariants.{Inval, NotDir}
+use Rattle.mount_model.specs.PlainMount.{PlainMount}
+use Rattle.mount_model.specs.Answered.{Answer, refused, done}
+use Rattle.mount_model.specs.PolicyAnswers.{context_of, answer_to_encrypt}
+use Rattle.mount_model.specs.WellFormed.{IsWellFormed}
+use Rattle.plain_tree.specs.Changes.{encrypted}
+use Rattle.mount_state.specs.Given.{IsGivenOrNoMemory}
+use Rattle.mount_state.specs.StandsFor.{StandsFor}
+use Rattle.mount_state.specs.declared.state.MountState.{MountState}
+
+-- the file keys once the directory's own is cached; under flag 8 none is
+abbrev pub keys_with : Cache → ℕ → Context → FileKey → Cache
+keys_with cache dir c key =
+    if c.policy.by_mode then cache
+    else record cache { keys = insert cache.keys dir (record { id = c.policy.id; key = key }) }
+
+-- the mode keys once the one of names has so many users more; without flag 8 it has none more
+abbrev pub modes_with : Modes → ℕ → Context → FileKey → Modes
+modes_with modes handles c key =
+    if c.policy.by_mode then with_kind modes Names (with_users (of_kind modes Names) c.policy.id key handles)
+    else modes
+
+-- what is answered to a policy for node n
+abbrev pub answer_to_set_at : PlainMount → ℕ → List ℕ → List ℕ → ℕ → Answer
+answer_to_set_at m uid policy nonce n =
+    if not (is_dir_at m.nodes n) then refused m NotDir else
+    if n == 0 then refused m Inval else
+    if is_some (policy_fault policy) then refused m Inval else
+    answer_to_encrypt m uid n (context_of policy nonce) (context_at m.nodes n)
+
+abbrev pub SetsAt : MountState → MountState → ℕ → ℕ → List ℕ → List ℕ → Reply → Type 0
+SetsAt old new uid n policy nonce reply = (m : PlainMount) → StandsFor old m
+    → IsWellFormed (answer_to_set_at m uid policy nonce n).mount
+    → IsGivenOrNoMemory m (answer_to_set_at m uid policy nonce n) reply new
+
+-- the directory without policy is given this context, as the call answers
+abbrev pub EncryptsAt : MountState → MountState → ℕ → ℕ → Context → Reply → Type 0
+EncryptsAt old new uid d c reply = (m : PlainMount) → StandsFor old m
+    → IsWellFormed (answer_to_encrypt m uid d c None).mount
+    → IsGivenOrNoMemory m (answer_to_encrypt m uid d c None) reply new
+
+-- the mount in which the directory has this context
+abbrev pub with_policy : PlainMount → ℕ → Context → PlainMount
+with_policy m d c = record m { nodes = encrypted m.nodes d c }
+
+-- the same where nothing is in the way
+abbrev pub EncryptsOpen : MountState → MountState → ℕ → Context → Reply → Type 0
+EncryptsOpen old new d c reply = (m : PlainMount) → StandsFor old m → children m.nodes d ≡ []
+    → is_present m.claims c.policy.id ≡ true → IsWellFormed (with_policy m d c)
+    → IsGivenOrNoMemory m (done (with_policy m d c)) reply new
