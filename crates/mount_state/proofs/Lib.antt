@@ -9,3 +9,4 @@ pub mod ContextLemmas
 pub mod EntryLemmas
 pub mod KeepLemmas
 pub mod WalkLemmas
+pub mod PassedLemmas

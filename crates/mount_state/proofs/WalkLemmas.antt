@@ -15,7 +15,7 @@ same_part : (a b : Name) → Some a ≡ Some b → a ≡ b
 same_part a b is = cc
 
 -- what is left begins with the part
-at_part : (path : PathParts) (count i : ℕ) (part : Name) → Some part ≡ slice_get path i → i < count → drop i (take count path) ≡ part ∷ drop (suc i) (take count path)
+pub at_part : (path : PathParts) (count i : ℕ) (part : Name) → Some part ≡ slice_get path i → i < count → drop i (take count path) ≡ part ∷ drop (suc i) (take count path)
 at_part [] count i part there below = absurd (cc)
 at_part (p ∷ ps) zero i part there below = absurd (omega arith)
 at_part (p ∷ ps) (suc n) zero part there below = ap (λ x. x ∷ take n ps) (sym (same_part part p there))

@@ -10,3 +10,4 @@ pub mod Led
 pub mod NamesKey
 pub mod SameButKeys
 pub mod Given
+pub mod Passed

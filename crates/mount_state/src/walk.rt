@@ -3,7 +3,9 @@
 ghost use Rattle.std.specs.Prelude.{◌≡◌, ◌+◌, ◌-◌, ◌≤◌, take, length, OnOk};
 ghost use Rattle.disk_tree.specs.DiskTree.{IsDirAt};
 ghost use Rattle.mount_model.specs.PlainMount.{PlainMount};
-ghost use Rattle.mount_model.specs.Walk.{looked_in, stepped, walked, parent};
+ghost use Rattle.mount_model.specs.Walk.{looked_in, stepped, walked, parent, last_part};
+ghost use Rattle.mount_model.specs.Walk.{is_at_or_above};
+ghost use Rattle.mount_state.specs.Passed.{passes, with_past};
 ghost use Rattle.mount_state.specs.SameButKeys.{SameButKeys, StaysFor};
 ghost use Rattle.mount_state.specs.StandsFor.{StandsFor};
 
@@ -82,6 +84,75 @@ pub fn walked_parent<L: Ledger>(
         },
         Err(refusal) => Err(refusal),
     }
+}
+
+/// The directory in which the path's last part is to be looked up, refused as `walked_parent` is; and
+/// whether this node is that directory or stands above it: whether the walk there passes it.
+pub fn walked_parent_past<L: Ledger>(
+    alloc: Global,
+    state: &mut MountState,
+    path: &Path,
+    node: u32,
+    steps: &mut Steps<L>,
+) -> Result<(u32, bool), Refusal>
+    ensures value { (m : PlainMount) → StandsFor state.old m
+        → result ≡ with_past (is_at_or_above m node path.now) (parent m path.now) }
+    ensures stands { StaysFor state.old state.new }
+    ensures same { SameButKeys state.old state.new }
+    ensures ticks { steps.new ≤ steps.old + (length path.now - 1) }
+{
+    let before = path.len().saturating_sub(1);
+    match walked_past(alloc, state, path, before, node, steps) {
+        Ok((dir, past)) => match directory_for(state, dir, last_bytes(path)) {
+            Ok(dir) => Ok((dir, past)),
+            Err(refusal) => Err(refusal),
+        },
+        Err(refusal) => Err(refusal),
+    }
+}
+
+// The path's last part; no bytes where it has none.
+fn last_bytes(path: &Path) -> &[u8]
+    ensures { result.now ≡ last_part path.now }
+{
+    match path.part(path.len().saturating_sub(1)) {
+        Some(part) => part.bytes(),
+        None => b"",
+    }
+}
+
+// The node to which the first parts of the path lead, so many of them, and whether it or one before it
+// is this node.
+fn walked_past<L: Ledger>(
+    alloc: Global,
+    state: &mut MountState,
+    path: &Path,
+    count: usize,
+    node: u32,
+    steps: &mut Steps<L>,
+) -> Result<(u32, bool), Refusal>
+    requires { count ≤ length path.now }
+    ensures value { (m : PlainMount) → StandsFor state.old m
+        → result ≡ with_past (passes m 0 (take count path.now) node) (walked m (take count path.now)) }
+    ensures stands { StaysFor state.old state.new }
+    ensures same { SameButKeys state.old state.new }
+    ensures ticks { steps.new ≤ steps.old + count }
+{
+    let mut at = 0;
+    let mut past = false;
+    for i in 0..count {
+        let Some(part) = path.part(i) else {
+            unreachable!()
+        };
+        match entry_of(alloc, state, at, part.bytes(), steps) {
+            Ok(next) => {
+                past = past | (at == node);
+                at = next;
+            }
+            Err(refusal) => return Err(refusal),
+        }
+    }
+    Ok((at, past | (at == node)))
 }
 
 // The node to which the first parts of the path lead, so many of them.

@@ -1,0 +1,17 @@
+-- The parts that are left lead from the node reached to where all lead from the root, and pass the node
+-- where all do that did not pass it so far; the state stands for the same mount.
+use Rattle.std.proofs.Common.{◌≡◌, ◌+◌, ◌≤◌, ◌||◌, take, drop}
+use Rattle.mount_model.specs.PlainMount.{PlainMount}
+use Rattle.mount_model.specs.Walk.{walked_from, walked}
+use Rattle.mount_state.specs.Passed.{passes}
+use Rattle.mount_state.specs.SameButKeys.{SameButKeys}
+use Rattle.mount_state.specs.StandsFor.{StandsFor}
+use Rattle.mount_state.proofs.walk.walked_past.Given as goal
+
+abbrev pub invariant-loop-i : goal.invariant-loop-i
+invariant-loop-i g l =
+    ((m : PlainMount) → StandsFor l.fn.state m → walked_from m l.at (drop l.i (take l.count l.path)) ≡ walked m (take l.count l.path))
+    × ((m : PlainMount) → StandsFor l.fn.state m → (l.past || passes m l.at (drop l.i (take l.count l.path)) l.node) ≡ passes m 0 (take l.count l.path) l.node)
+    × ((m : PlainMount) → StandsFor l.fn.state m → StandsFor l.state m)
+    × SameButKeys l.fn.state l.state
+    × (l.steps ≤ l.fn.steps + l.i)

@@ -1,0 +1,15 @@
+-- Whether a walk passes a node.
+use Rattle.std.specs.Prelude.{ℕ, Bool, Result, Ok, Err, ◌==◌}
+use Rattle.std.specs.List.{list_any}
+use Rattle.mount_model.specs.declared.reply.Refusal.{Refusal}
+use Rattle.mount_model.specs.PlainMount.{PlainMount}
+use Rattle.mount_model.specs.Walk.{PathParts, Walked, passed_from}
+
+-- the node is on the walk, or is its first or its last
+abbrev pub passes : PlainMount → ℕ → PathParts → ℕ → Bool
+passes m n path node = list_any (λ x. x == node) (passed_from m n path)
+
+-- where the walk leads, and whether it passes the node
+abbrev pub with_past : Bool → Walked → Result (ℕ × Bool) Refusal
+with_past past (Err refusal) = Err refusal
+with_past past (Ok n) = Ok (n, past)
