@@ -3,7 +3,7 @@
 
 use fsc_outside::{RuntimeSeed, StdSink, StdSource, write_all};
 use fsc_tool::tool_serial;
-use mount_shared::KeyMount;
+use mount_shared::Mount;
 use reply_text::Status;
 use std::env;
 use std::io::ErrorKind;
@@ -46,6 +46,9 @@ fn main(rt: HostRuntime) -> ExitCode {
             _ => {}
         }
     }
+    let Ok(mount) = Mount::new(rt.alloc()) else {
+        return end(rt, Status::NoMemory);
+    };
     let mut source = StdSource::new(&rt);
     let mut sink = StdSink::new(&rt);
     let mut seeds = RuntimeSeed::new(&rt);
@@ -55,7 +58,7 @@ fn main(rt: HostRuntime) -> ExitCode {
         &mut source,
         &mut sink,
         &mut seeds,
-        KeyMount::new(rt.alloc()),
+        mount,
     );
     end(rt, status)
 }

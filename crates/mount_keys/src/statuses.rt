@@ -1,19 +1,23 @@
 //! What is told of a key.
 
-ghost use Rattle.std.specs.Prelude.{◌≡◌};
+ghost use Rattle.std.specs.Prelude.{◌≡◌, ℕ, Bool};
+ghost use Rattle.mount_model.specs.declared.reply.KeyState.TheVariants.{Absent};
 ghost use Rattle.mount_model.specs.PlainMount.{PlainMount};
 ghost use Rattle.mount_model.specs.KeyAnswers.{answer_to_key_status};
 ghost use Rattle.mount_state.specs.Given.{IsGiven};
 ghost use Rattle.mount_keys.specs.Told.{told_of_status};
+ghost use Rattle.mount_state.specs.Held.{HoldsNothing};
 ghost use Rattle.mount_state.specs.StandsFor.{StandsFor};
 
 use mount_model::{KeyId, Reply};
 use mount_state::MountState;
 
-/// Tells the state of the key, whether the user has a claim on it, and how many users have one. It takes
-/// no memory, and is never refused.
+/// Tells the state of the key, whether the user has a claim on it, and how many users have one. Where it
+/// tells Absent, nothing of the key is held. It takes no memory, and is never refused.
 pub fn key_status(state: &MountState, uid: u32, id: &KeyId) -> Reply
     ensures told { result ≡ told_of_status state.now uid id.now }
+    ensures gone { (by_self : Bool) (users : ℕ) → result ≡ Reply.Status Absent by_self users
+        → HoldsNothing state.now.ring state.now.inodes state.now.modes id.now }
     ensures stands { (m : PlainMount) → StandsFor state.now m
         → IsGiven (answer_to_key_status m uid id.now) result state.now }
 {

@@ -20,6 +20,7 @@ pub mod HandleSteps
 pub mod AddedLemmas
 pub mod FirstMount
 pub mod WellSteps
+pub mod AgreeLemmas
 pub mod LawfulLemmas
 pub mod ShownLemmas
 pub mod RemovalLemmas

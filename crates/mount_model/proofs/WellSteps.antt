@@ -60,10 +60,10 @@ step_well m caller call reply after well fits agrees step = ⊎_elim
 -- ---- histories whose raw keys are among some that agree
 
 module _ (among : List (List ℕ)) where
-  abbrev AreAmong : Raws → Type 0
+  abbrev pub AreAmong : Raws → Type 0
   AreAmong raws = (id : KeyId) (raw : List ℕ) → raw_in raws id ≡ Some raw → Contains among raw
 
-  abbrev IsAmong : Op → Type 0
+  abbrev pub IsAmong : Op → Type 0
   IsAmong (op.AddKey raw) = Contains among raw
   IsAmong other = ⊤
 
@@ -104,25 +104,25 @@ module _ (among : List (List ℕ)) where
   raws_step m caller uid (op.MetaLoad name) are given = at_meta_load Kept m name (covers m are)
   raws_step m caller uid (op.MetaStore name expected bytes) are given = at_meta_store Kept m name expected bytes (covers m are) (λ _ _. are)
 
-  entry_raws : (m : PlainMount) (e : MountEntry) → AreAmong m.raws → (is_refused e.reply ≡ false → IsAmong e.call.op) → IsMountStep m e.who e.call e.reply (mount_left m e) → AreAmong (mount_left m e).raws
+  pub entry_raws : (m : PlainMount) (e : MountEntry) → AreAmong m.raws → (is_refused e.reply ≡ false → IsAmong e.call.op) → IsMountStep m e.who e.call e.reply (mount_left m e) → AreAmong (mount_left m e).raws
   entry_raws m e are given step = ⊎_elim
       (λ a. subst (λ (x : PlainMount). AreAmong x.raws) (sym a.1) (raws_step m e.who e.call.uid e.call.op are (λ told. given (ap is_refused a.0 ∙ told))))
       (λ w. subst (λ (x : PlainMount). AreAmong x.raws) (sym w.2) are)
       step
 
+  -- the raw key that an entry added
+  pub entry_among : (e : MountEntry) (h : History) → ((r : List ℕ) → Contains (raws_added (e ∷ h)) r → Contains among r) → is_refused e.reply ≡ false → IsAmong e.call.op
+  entry_among e h all told = by e.call.op (λ r has. all r (Contains-append_left (cond (is_refused e.reply) [] (raw_of e.call.op)) (raws_added h) r
+      (subst (λ (l : List (List ℕ)). Contains l r) (sym (cond-false (is_refused e.reply) [] (raw_of e.call.op) told)) has)))
+    where
+      by : (o : Op) → ((r : List ℕ) → Contains (raw_of o) r → Contains among r) → IsAmong o
+      by (op.AddKey raw) all = all raw (Contains-push [] raw)
+      by other all = tt
+
   module _ (agree : (a b : List ℕ) → Contains among a → Contains among b → key_id_of a ≡ key_id_of b → a ≡ b) where
-    key_agrees : (m : PlainMount) → HasKeys m.claims m.raws → AreAmong m.raws → (o : Op) → IsAmong o → KeyAgrees m.raws o
+    pub key_agrees : (m : PlainMount) → HasKeys m.claims m.raws → AreAmong m.raws → (o : Op) → IsAmong o → KeyAgrees m.raws o
     key_agrees m keys are (op.AddKey raw) here = λ old is. agree old raw (are (key_id_of raw) old is) here (keys.filed (key_id_of raw) old is)
     key_agrees m keys are other here = tt
-
-    -- the raw key that an entry added
-    entry_among : (e : MountEntry) (h : History) → ((r : List ℕ) → Contains (raws_added (e ∷ h)) r → Contains among r) → is_refused e.reply ≡ false → IsAmong e.call.op
-    entry_among e h all told = by e.call.op (λ r has. all r (Contains-append_left (cond (is_refused e.reply) [] (raw_of e.call.op)) (raws_added h) r
-        (subst (λ (l : List (List ℕ)). Contains l r) (sym (cond-false (is_refused e.reply) [] (raw_of e.call.op) told)) has)))
-      where
-        by : (o : Op) → ((r : List ℕ) → Contains (raw_of o) r → Contains among r) → IsAmong o
-        by (op.AddKey raw) all = all raw (Contains-push [] raw)
-        by other all = tt
 
     history_well : (m : PlainMount) (h : History) → ((r : List ℕ) → Contains (raws_added h) r → Contains among r) → AreAmong m.raws → AllFit h → IsLegalFrom m h → IsWellFormed m → IsWellFormed (mount_from m h)
     history_well m [] all are fit legal well = well
@@ -135,7 +135,7 @@ module _ (among : List (List ℕ)) where
         legal.1
         (step_well m e.who e.call e.reply (mount_left m e) well (All-head (λ (x : MountEntry). Fits x.call) e h fit) (λ told. key_agrees m well.keys are e.call.op (mine told)) legal.0)
 
-none_added : (among : List (List ℕ)) (id : KeyId) (raw : List ℕ) → raw_in empty_mount.raws id ≡ Some raw → Contains among raw
+pub none_added : (among : List (List ℕ)) (id : KeyId) (raw : List ℕ) → raw_in empty_mount.raws id ≡ Some raw → Contains among raw
 none_added among id raw is = let none : None ≡ Some raw = sym (get-empty (slice_cmp nat_cmp) id.0) ∙ is in absurd (cc)
 
 pub mount_well : (h : History) → AllFit h → KeysAgree h → IsLegal h → IsWellFormed (mount_after h)

@@ -46,11 +46,20 @@ carries_bytes (Close handle) = false
 carries_bytes DropCaches = false
 carries_bytes other = true
 
--- the calls that stand behind a mount already: the three on single keys
+-- the calls that stand behind a mount already
 abbrev pub is_built : Op → Bool
 is_built (AddKey raw) = true
 is_built (RemoveKey id) = true
+is_built (RemoveKeyAll id) = true
 is_built (KeyStatus id) = true
+is_built DropCaches = true
+is_built (MetaLoad name) = true
+is_built (MetaStore name expected bytes) = true
+is_built (op.Stat path) = true
+is_built (GetPolicy path) = true
+is_built (ReadLink path) = true
+is_built (Mkdir path nonce) = true
+is_built (Create path nonce) = true
 is_built other = false
 
 -- a call that fits, and that the mount can answer already

@@ -186,7 +186,18 @@ impl Op {
     {
         matches!(
             self,
-            Op::AddKey { .. } | Op::RemoveKey { .. } | Op::KeyStatus { .. }
+            Op::AddKey { .. }
+                | Op::RemoveKey { .. }
+                | Op::RemoveKeyAll { .. }
+                | Op::KeyStatus { .. }
+                | Op::DropCaches
+                | Op::MetaLoad { .. }
+                | Op::MetaStore { .. }
+                | Op::Stat { .. }
+                | Op::GetPolicy { .. }
+                | Op::ReadLink { .. }
+                | Op::Mkdir { .. }
+                | Op::Create { .. }
         )
     }
 }

@@ -1,2 +1,3 @@
-pub mod Stands
+pub mod KeyLemmas
+pub mod MadeLemmas
 pub mod StandsLemmas

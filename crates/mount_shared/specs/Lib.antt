@@ -1,5 +1,7 @@
-pub mod Holding
+pub mod Groups
+pub mod Made
 pub mod PortLaws
 pub mod SerialCalls
 pub mod SharedCalls
 pub mod StandsAfter
+pub mod TellsOfKeys

@@ -1,9 +1,14 @@
 -- After which histories a mount may stand.
-use Rattle.mount_model.specs.History.{History, IsLegal, mount_after}
-use Rattle.key_ring.specs.Holding.{Holding}
-use Rattle.mount_shared.specs.Holding.{StandsFor}
+use Rattle.std.specs.Prelude.{◌≡◌}
+use Rattle.mount_model.specs.History.{History, mount_after}
+use Rattle.mount_model.specs.ClaimHistory.{claims_after}
+use Rattle.mount_model.specs.Lawful.{KeysAgree, IsLawful}
+use Rattle.mount_state.specs.StandsFor.{StandsFor}
+use Rattle.mount_state.specs.declared.state.MountState.{MountState}
 
--- the history is one of the one-thread mount, and what is held stands for the mount that it leaves
-pub record StandsAfter (history : History) (held : Holding) : Type 0 where
-  pub legal : IsLegal history
-  pub stands : StandsFor held (mount_after history)
+-- the history is lawful; the claims are those that it leaves, whatever raw keys were added; and where
+-- these agree, the state stands for the mount that it leaves
+pub record StandsAfter (history : History) (state : MountState) : Type 0 where
+  pub lawful : IsLawful history
+  pub claims : state.ring.claims ≡ claims_after history
+  pub stands : KeysAgree history → StandsFor state (mount_after history)

@@ -1,14 +1,18 @@
-//! Machines that answer the mount's calls one after another, the one that the program shares, and the
-//! callers' ways to them.
+//! The mount as a machine that answers calls one after another, the one that the program shares, and the
+//! callers' ways to it.
 #![tactic(auto)]
 
-mod key_calls;
-mod key_mount;
+mod answers;
+mod crossing;
+mod key_answers;
 mod machine;
+mod mount;
+mod name_answers;
+mod record_answers;
 mod serial;
 mod shared_port;
 
-pub use key_mount::KeyMount;
 pub use machine::MountMachine;
+pub use mount::Mount;
 pub use serial::{SerialMount, SerialPort};
 pub use shared_port::SharedPort;

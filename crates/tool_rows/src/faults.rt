@@ -3,7 +3,7 @@
 use crate::runs::{SEED, calls, replay, sink, words_of};
 use fsc_outside::{FixedSeed, MemSource};
 use fsc_tool::tool_serial;
-use mount_shared::KeyMount;
+use mount_shared::Mount;
 use reply_text::Status;
 use std::test::Fail;
 
@@ -109,7 +109,7 @@ fn a_fault_outside_is_told(rt: HostRuntime) -> Result<(), Fail> {
             &mut source,
             &mut sink,
             &mut FixedSeed::failing(),
-            KeyMount::new(alloc),
+            Mount::new(alloc)?,
         );
         assert_eq!(rt; status, wanted);
         assert_eq!(rt; sink.got(), log.as_bytes());
@@ -132,7 +132,7 @@ fn the_seed_source_gives_the_seed(rt: HostRuntime) -> Result<(), Fail> {
         &mut source,
         &mut sink,
         &mut seeds,
-        KeyMount::new(alloc),
+        Mount::new(alloc)?,
     );
     assert_eq!(rt; status, Status::Done);
     let log = b"0 0 3 key-status 00000000000000000000000000000000 = status absent self=0 users=0\n";

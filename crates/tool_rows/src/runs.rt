@@ -2,7 +2,7 @@
 
 use fsc_outside::{CallList, FixedSeed, MemSink, MemSource};
 use fsc_tool::tool_serial;
-use mount_shared::KeyMount;
+use mount_shared::Mount;
 use reply_text::Status;
 use std::alloc::{AllocError, Global};
 
@@ -46,7 +46,7 @@ pub(crate) fn replay(alloc: Global, input: Vec<u8>) -> Result<(Status, MemSink),
         &mut source,
         &mut sink,
         &mut FixedSeed::failing(),
-        KeyMount::new(alloc),
+        Mount::new(alloc)?,
     );
     Ok((status, sink))
 }

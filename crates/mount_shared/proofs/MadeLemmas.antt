@@ -1,0 +1,85 @@
+-- How the contract of a call makes its entry.
+use Rattle.std.proofs.Common.{◌≡◌, ℕ, Bool, true, false, cond, IsTrue, inl, inr, refl, sym, ap, subst, ◌∙◌, ⊎_elim}
+use Rattle.call_history.specs.Entries.{entry}
+use Rattle.user_claims.specs.Claims.{ClaimSet}
+use Rattle.mount_model.specs.declared.call.Call.{Call}
+use Rattle.mount_model.specs.declared.call.Op.{Op}
+use Rattle.mount_model.specs.declared.reply.Reply.{Reply}
+use Rattle.mount_model.specs.PlainMount.{PlainMount}
+use Rattle.mount_model.specs.Answer.{answer_of, answer_to}
+use Rattle.mount_model.specs.Step.{takes_memory, IsMountStep}
+use Rattle.mount_model.specs.History.{MountEntry, mount_left}
+use Rattle.mount_model.specs.ClaimHistory.{is_refused, claims_made}
+use Rattle.mount_model.specs.Lawful.{TellsBy}
+use Rattle.mount_model.proofs.StepLemmas.{mount_left-step}
+use Rattle.mount_state.specs.Given.{IsGiven, IsGivenOrNoMemory}
+use Rattle.mount_state.specs.StandsFor.{StandsFor}
+use Rattle.mount_state.specs.declared.state.MountState.{MountState}
+use Rattle.mount_shared.specs.Made.{IsStepOf, IsMade}
+
+-- ---- a step
+
+pub step_given : (m : PlainMount) (e : MountEntry) (new : MountState) → IsGiven (answer_of m e.who e.call) e.reply new
+    → IsStepOf m e new
+step_given m e new given =
+    let step : IsMountStep m e.who e.call e.reply (answer_of m e.who e.call).mount = inl (given.0, refl) in
+    let left : (answer_of m e.who e.call).mount ≡ mount_left m e =
+    mount_left-step m e (answer_of m e.who e.call).mount step in (
+      subst (IsMountStep m e.who e.call e.reply) left step,
+      subst (StandsFor new) left given.1,
+    )
+
+pub step_given_or_none : (m : PlainMount) (e : MountEntry) (new : MountState) → IsTrue (takes_memory e.call.op)
+    → IsGivenOrNoMemory m (answer_of m e.who e.call) e.reply new → IsStepOf m e new
+step_given_or_none m e new takes answered = ⊎_elim
+    (λ given. step_given m e new given)
+    (λ wanting.
+    let step : IsMountStep m e.who e.call e.reply m = inr (takes, wanting.0, refl) in
+    let left : m ≡ mount_left m e = mount_left-step m e m step in
+    (subst (IsMountStep m e.who e.call e.reply) left step, subst (StandsFor new) left wanting.1))
+    answered
+
+-- ---- the entry
+
+same_either : (b : Bool) (cs : ClaimSet) → cond b cs cs ≡ cs
+same_either true cs = refl
+same_either false cs = refl
+
+abbrev pub call_with : ℕ → Op → Call
+call_with uid o = record { uid = uid; op = o }
+
+module _ (old new : MountState) (caller : ℕ) where
+  abbrev EntryOf : ℕ → Reply → Op → Type 0
+  EntryOf uid reply o = IsMade old (entry caller (call_with uid o) reply) new
+
+  -- of an operation that makes no claims
+  made_else : (uid : ℕ) (o : Op) (reply : Reply) → ((cs : ClaimSet) → claims_made cs uid o ≡ cs)
+      → ((after : ClaimSet) → TellsBy old.ring.claims after uid o reply) → new.ring ≡ old.ring
+      → ((m : PlainMount) → StandsFor old m → IsStepOf m (entry caller (call_with uid o) reply) new)
+      → EntryOf uid reply o
+  made_else uid o reply none tells same step = record {
+    stands = λ m st agrees. step m st;
+    claims = ap (λ ring. ring.claims) same
+        ∙ sym (ap (cond (is_refused reply) old.ring.claims) (none old.ring.claims)
+        ∙ same_either (is_refused reply) old.ring.claims);
+    told = tells (cond (is_refused reply) old.ring.claims (claims_made old.ring.claims uid o));
+  }
+
+  -- the same of a call, whose answer is given
+  pub made_given : (call : Call) (o : Op) (reply : Reply) → call.op ≡ o → ((cs : ClaimSet) → claims_made cs call.uid o ≡ cs)
+      → ((after : ClaimSet) → TellsBy old.ring.claims after call.uid o reply) → new.ring ≡ old.ring
+      → ((m : PlainMount) → StandsFor old m → IsGiven (answer_to m caller call.uid o) reply new)
+      → IsMade old (entry caller call reply) new
+  made_given call o reply is none tells same stands = subst (EntryOf call.uid reply) (sym is)
+      (made_else call.uid o reply none tells same
+      (λ m st. step_given m (entry caller (call_with call.uid o) reply) new (stands m st)))
+
+  -- or there may be no memory for it
+  pub made_given_or_none : (call : Call) (o : Op) (reply : Reply) → call.op ≡ o → IsTrue (takes_memory o)
+      → ((cs : ClaimSet) → claims_made cs call.uid o ≡ cs)
+      → ((after : ClaimSet) → TellsBy old.ring.claims after call.uid o reply) → new.ring ≡ old.ring
+      → ((m : PlainMount) → StandsFor old m → IsGivenOrNoMemory m (answer_to m caller call.uid o) reply new)
+      → IsMade old (entry caller call reply) new
+  made_given_or_none call o reply is takes none tells same stands = subst (EntryOf call.uid reply) (sym is)
+      (made_else call.uid o reply none tells same
+      (λ m st. step_given_or_none m (entry caller (call_with call.uid o) reply) new takes (stands m st)))

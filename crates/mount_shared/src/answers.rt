@@ -1,0 +1,53 @@
+//! A call is handed to the crate that answers it.
+
+ghost use Rattle.std.specs.Prelude.{◌≡◌, ◌<◌};
+ghost use Rattle.call_history.specs.Entries.{entry};
+ghost use Rattle.mount_files.specs.Lent.{reply_of};
+ghost use Rattle.mount_model.specs.Fits.{CanBeAsked};
+ghost use Rattle.mount_shared.specs.Made.{IsMade};
+ghost use Rattle.mount_shared.specs.TellsOfKeys.{AbsentIsGone, BusyIsOpen};
+
+use crate::key_answers::reply_on_keys;
+use crate::name_answers::reply_on_names;
+use crate::record_answers::reply_on_records;
+use mount_files::Lent;
+use mount_model::{Call, Op};
+use mount_state::MountState;
+use name_crypt::Steps;
+use std::alloc::Global;
+use std::sync::ledger::{Blank, Ledger};
+
+// The answer to a caller's call, which counts the names that it enciphers on a ledger of its own.
+pub(crate) fn answer<L: Ledger>(
+    alloc: Global,
+    state: &mut MountState,
+    caller: u32,
+    call: &Call,
+    blank: Blank,
+) -> Lent
+    requires name { blank.name ≡ L.name }
+    requires parts { blank.parts ≡ L.parts }
+    requires some { 0 < L.parts }
+    requires asked { CanBeAsked call.now }
+    ensures made { IsMade state.old (entry caller call.now (reply_of result)) state.new }
+    ensures absent { AbsentIsGone state.new call.now.op (reply_of result) }
+    ensures busy { BusyIsOpen state.new call.now.op (reply_of result) }
+{
+    let mut steps = Steps::<L>::new(blank);
+    match &call.op {
+        Op::AddKey { .. }
+        | Op::RemoveKey { .. }
+        | Op::RemoveKeyAll { .. }
+        | Op::KeyStatus { .. }
+        | Op::DropCaches => Lent::Ready(reply_on_keys(alloc, state, call)),
+        Op::MetaLoad { .. } | Op::MetaStore { .. } => {
+            Lent::Ready(reply_on_records(alloc, state, call))
+        }
+        Op::Stat { .. }
+        | Op::GetPolicy { .. }
+        | Op::ReadLink { .. }
+        | Op::Mkdir { .. }
+        | Op::Create { .. } => Lent::Ready(reply_on_names(alloc, state, call, &mut steps)),
+        _ => unreachable!(),
+    }
+}
