@@ -2,13 +2,14 @@
 use Rattle.std.specs.Prelude.{◌≡◌, ℕ, ◌+◌, ◌<◌, true, ◌==◌, if◌then◌else◌}
 use Rattle.std.specs.Prelude.{Option, Some, None, is_some, option_map, unwrap_or}
 use Rattle.std.specs.BTreeMap.{get}
+use Rattle.std.specs.FinMap as map
 use Rattle.policy_ctx.specs.declared.policy.KeyId.{KeyId}
 use Rattle.policy_ctx.specs.KeyIds.{same_id}
 use Rattle.key_counts.specs.Counted.{counted}
 use Rattle.user_claims.specs.Claims.{id_cmp}
 use Rattle.inode_refs.specs.declared.node_key.NodeKey.{NodeKey}
 use Rattle.inode_refs.specs.declared.users.Users.{Users}
-use Rattle.inode_refs.specs.Cached.{Cache, key_at, pins_of, is_unpinned}
+use Rattle.inode_refs.specs.Cached.{Cache, PinMap, key_at, pins_of, is_unpinned, users_of}
 
 -- the identifier of the node's key
 abbrev pub id_at : Cache → ℕ → Option KeyId
@@ -38,6 +39,15 @@ one_for (Some id) q = if same_id id q then 1 else 0
 -- there is the count of each identifier, where users are counted
 abbrev pub AreCounted : Users → (KeyId → ℕ) → Type 0
 AreCounted users f = users.is_whole ≡ true → (id : KeyId) → get id_cmp users.counts id ≡ counted (f id)
+
+-- a node that stands among the pins has some
+abbrev pub HasPins : PinMap → Type 0
+HasPins pins = (node count : ℕ) → map.get pins node ≡ Some count → 0 < count
+
+-- what is kept beside the cache's keys and pins
+pub record IsKept (users : Users) (cache : Cache) : Type 0 where
+  pub counted : AreCounted users (users_of cache)
+  pub some : HasPins cache.pins
 
 -- whatever was counted is counted still: with one user more, with one less, and with one of another
 -- identifier

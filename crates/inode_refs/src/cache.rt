@@ -36,9 +36,9 @@ impl Model for InodeCache {
     ghost use Rattle.std.specs.Coded.{code_by, coded×, coded_ℕ};
     ghost use Rattle.std.specs.FinMap.{code};
     ghost use Rattle.inode_refs.specs.contracts.node_key.NodeKey as key;
-    ghost use Rattle.inode_refs.specs.Cached.{Cache, KeyMap, PinMap, users_of};
+    ghost use Rattle.inode_refs.specs.Cached.{Cache, KeyMap, PinMap};
     ghost use Rattle.inode_refs.specs.Kept.{keys_of, pins_in};
-    ghost use Rattle.inode_refs.specs.Users.{AreCounted};
+    ghost use Rattle.inode_refs.specs.Users.{IsKept};
 
     ghost Value = { Cache };
 
@@ -50,8 +50,8 @@ impl Model for InodeCache {
 
     ghost view = { λ c. record { keys = keys_of c.keys.entries; pins = pins_in c.pins.entries } };
 
-    ghost invariant = { λ c. AreCounted c.users
-        (users_of (record { keys = keys_of c.keys.entries; pins = pins_in c.pins.entries })) };
+    ghost invariant = { λ c. IsKept c.users
+        (record { keys = keys_of c.keys.entries; pins = pins_in c.pins.entries }) };
 }
 
 impl InodeCache {
@@ -190,8 +190,8 @@ impl InodeCache {
         forget(&mut self.keys, node);
     }
 
-    /// Pins the node once more, and caches the key that is handed in where it has none. Where there is
-    /// no memory all is as before. A key that isn't cached is overwritten. A node with pins takes no memory
+    /// Pins the node once more, and caches the key that is handed in where it has none. With the pin taken
+    /// away again the pins are as before. Where there is no memory all is as before. A key that isn't cached is overwritten. A node with pins takes no memory
     /// where no key comes to it.
     pub fn pin(&mut self, alloc: Global, node: u32, key: Option<NodeKey>) -> Result<(), AllocError>
         requires { pins_of self.old node + 1 < 2 ^ 32 }
@@ -200,6 +200,7 @@ impl InodeCache {
           pins = with_pins self.old.pins node (pins_of self.old node + 1);
         }) }
         ensures kept { OnErr result (self.new ≡ self.old) }
+        ensures back { OnOk result (with_pins self.new.pins node (pins_of self.old node) ≡ self.old.pins) }
         ensures again { is_unpinned self.old node ≡ false
             → (is_some (key_at self.old node) || is_none key) ≡ true → IsOk result }
     {

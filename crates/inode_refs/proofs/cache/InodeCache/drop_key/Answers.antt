@@ -18,16 +18,19 @@ pub less-requires : goal.less-requires
 less-requires c =
     let seen : Cache = record { keys = keys_of c.self.inside.keys.entries; pins = pins_in c.self.inside.pins.entries } in
     let after : Cache = record seen { keys = map.remove seen.keys c.args.node } in
-    counted_for c.self.inside.users (users_of seen) (users_of after) c.self.invariant c.user_at-user.result
+    counted_for c.self.inside.users (users_of seen) (users_of after) c.self.invariant.counted c.user_at-user.result
     (less seen c.args.self.now c.self.view_is c.args.node c.user_at-user.result c.user_at-user.ensures)
 
 pub invariant_of-self : goal.invariant_of-self
-invariant_of-self c =
-    let seen : Cache = record { keys = keys_of c.self.inside.keys.entries; pins = pins_in c.self.inside.pins.entries } in
-    let after : Cache = record seen { keys = map.remove seen.keys c.args.node } in
-    subst (λ (keys : KeyMap). let new : Cache = record seen { keys = keys } in AreCounted c.less.new.self (users_of new)) (sym c.forget.ensures)
-    (c.less.ensures (users_of seen) (users_of after) c.self.invariant
-    (less seen c.args.self.now c.self.view_is c.args.node c.user_at-user.result c.user_at-user.ensures))
+invariant_of-self c = record {
+  counted =
+      (let seen : Cache = record { keys = keys_of c.self.inside.keys.entries; pins = pins_in c.self.inside.pins.entries } in
+      let after : Cache = record seen { keys = map.remove seen.keys c.args.node } in
+      subst (λ (keys : KeyMap). let new : Cache = record seen { keys = keys } in AreCounted c.less.new.self (users_of new)) (sym c.forget.ensures)
+      (c.less.ensures (users_of seen) (users_of after) c.self.invariant.counted
+      (less seen c.args.self.now c.self.view_is c.args.node c.user_at-user.result c.user_at-user.ensures)));
+  some = c.self.invariant.some;
+}
 
 pub returns : goal.returns
 returns c =

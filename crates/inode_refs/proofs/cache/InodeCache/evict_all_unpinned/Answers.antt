@@ -15,10 +15,13 @@ keys_left c =
     left_by_node c.self.inside.keys c.retain.new.self (λ node. not (eqb (pins_at (pins_in c.self.inside.pins.entries) node) 0)) left
 
 pub invariant_of-self : goal.invariant_of-self
-invariant_of-self c =
-    subst (λ (keys : KeyMap). let new : Cache = record (seen c) { keys = keys } in AreCounted c.self.inside.users (users_of new)) (sym (keys_left c))
-    (counted_alike c.self.inside.users (users_of (seen c)) _ c.self.invariant
-    (users_stay (seen c) (λ node. not (is_unpinned (seen c) node)) (λ x pinned. ap not pinned)))
+invariant_of-self c = record {
+  counted =
+      (subst (λ (keys : KeyMap). let new : Cache = record (seen c) { keys = keys } in AreCounted c.self.inside.users (users_of new)) (sym (keys_left c))
+      (counted_alike c.self.inside.users (users_of (seen c)) _ c.self.invariant.counted
+      (users_stay (seen c) (λ node. not (is_unpinned (seen c) node)) (λ x pinned. ap not pinned))));
+  some = c.self.invariant.some;
+}
 
 pub returns : goal.returns
 returns c =

@@ -27,10 +27,13 @@ keys_left c =
     ∙ sym (ap (λ o. not (eqb (pins_at (pins_in c.self.inside.pins.entries) q) 0 && option_map_or (λ (k : NodeKey). same_id k.id c.args.id.now) o false)) there))
 
 pub invariant_of-self : goal.invariant_of-self
-invariant_of-self c =
-    subst (λ (keys : KeyMap). let new : Cache = record (seen c) { keys = keys } in AreCounted c.self.inside.users (users_of new)) (sym (keys_left c))
-    (counted_alike c.self.inside.users (users_of (seen c)) _ c.self.invariant
-    (users_stay (seen c) (λ node. not (is_unpinned (seen c) node && has_id (seen c) c.args.id.now node)) (λ x pinned. ap (λ b. not (b && has_id (seen c) c.args.id.now x)) pinned)))
+invariant_of-self c = record {
+  counted =
+      (subst (λ (keys : KeyMap). let new : Cache = record (seen c) { keys = keys } in AreCounted c.self.inside.users (users_of new)) (sym (keys_left c))
+      (counted_alike c.self.inside.users (users_of (seen c)) _ c.self.invariant.counted
+      (users_stay (seen c) (λ node. not (is_unpinned (seen c) node && has_id (seen c) c.args.id.now node)) (λ x pinned. ap (λ b. not (b && has_id (seen c) c.args.id.now x)) pinned))));
+  some = c.self.invariant.some;
+}
 
 pub returns : goal.returns
 returns c =

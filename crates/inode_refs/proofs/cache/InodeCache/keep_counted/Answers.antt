@@ -27,42 +27,54 @@ module _ (seen now : Cache) (same : seen ≡ now) (node : ℕ) (pinned : is_unpi
 pub exchange-requires : goal.exchange-requires
 exchange-requires c =
     let seen : Cache = record { keys = keys_of c.self.inside.keys.entries; pins = pins_in c.self.inside.pins.entries } in
-    counted_for c.self.inside.users (users_of seen) _ c.self.invariant (Some c.in-Some.older)
+    counted_for c.self.inside.users (users_of seen) _ c.self.invariant.counted (Some c.in-Some.older)
     (less seen c.args.self.now c.self.view_is c.args.node c.requires (Some c.in-Some.older) c.in-Some.ensures)
 
 pub invariant_of-self : goal.invariant_of-self
-invariant_of-self c =
-    let seen : Cache = record { keys = keys_of c.self.inside.keys.entries; pins = pins_in c.self.inside.pins.entries } in
-    let there = has_key seen c.args.node c.in-Some.older (id_seen seen c.args.self.now c.self.view_is c.args.node c.requires (Some c.in-Some.older) c.in-Some.ensures) in
-    let keys = from_ok c.keep_in.result (c.keep_in.ensures.cached there) c.keep_in.ensures.kept in
-    c.exchange.ensures (users_of seen) _ c.self.invariant
-    (λ q. (λ i. users_of (record { keys = keys i; pins = seen.pins }) q + one_for (Some c.in-Some.older) q)
-    ∙ other seen c.args.self.now c.self.view_is c.args.node c.requires (Some c.in-Some.older) c.in-Some.ensures c.args.key q)
+invariant_of-self c = record {
+  counted =
+      (let seen : Cache = record { keys = keys_of c.self.inside.keys.entries; pins = pins_in c.self.inside.pins.entries } in
+      let there = has_key seen c.args.node c.in-Some.older (id_seen seen c.args.self.now c.self.view_is c.args.node c.requires (Some c.in-Some.older) c.in-Some.ensures) in
+      let keys = from_ok c.keep_in.result (c.keep_in.ensures.cached there) c.keep_in.ensures.kept in
+      c.exchange.ensures (users_of seen) _ c.self.invariant.counted
+      (λ q. (λ i. users_of (record { keys = keys i; pins = seen.pins }) q + one_for (Some c.in-Some.older) q)
+      ∙ other seen c.args.self.now c.self.view_is c.args.node c.requires (Some c.in-Some.older) c.in-Some.ensures c.args.key q));
+  some = c.self.invariant.some;
+}
 
 pub invariant_of-self-then-is_err : goal.invariant_of-self-then-is_err
-invariant_of-self-then-is_err c =
-    at_err c.more.result (sym c.is_err.ensures.value ∙ c.if-is_err.true) c.more.ensures.kept _ c.self.invariant
+invariant_of-self-then-is_err c = record {
+  counted =
+      (at_err c.more.result (sym c.is_err.ensures.value ∙ c.if-is_err.true) c.more.ensures.kept _ c.self.invariant.counted);
+  some = c.self.invariant.some;
+}
 
 pub less-requires : goal.less-requires
 less-requires c =
     let seen : Cache = record { keys = keys_of c.self.inside.keys.entries; pins = pins_in c.self.inside.pins.entries } in
     counted_for c.more.new.self (λ q. users_of seen q + one_for (Some c.args.key.id) q) (users_of seen)
-    (at_ok c.more.result (sym c.is_err.ensures.value ∙ c.if-is_err.false) c.more.ensures.more (users_of seen) _ c.self.invariant (λ q. refl))
+    (at_ok c.more.result (sym c.is_err.ensures.value ∙ c.if-is_err.false) c.more.ensures.more (users_of seen) _ c.self.invariant.counted (λ q. refl))
     (Some c.args.key.id) (λ q. refl)
 
 pub invariant_of-self-then-is_err-2 : goal.invariant_of-self-then-is_err-2
-invariant_of-self-then-is_err-2 c =
-    let seen : Cache = record { keys = keys_of c.self.inside.keys.entries; pins = pins_in c.self.inside.pins.entries } in
-    let keys = at_err c.keep_in-2.result (sym c.is_err-2.ensures.value ∙ c.if-is_err-2.true) c.keep_in-2.ensures.as_before in
-    counted_alike c.less.new.self (users_of seen) _
-    (c.less.ensures (λ q. users_of seen q + one_for (Some c.args.key.id) q) (users_of seen)
-    (at_ok c.more.result (sym c.is_err.ensures.value ∙ c.if-is_err.false) c.more.ensures.more (users_of seen) _ c.self.invariant (λ q. refl)) (λ q. refl))
-    (λ q i. users_of (record { keys = keys i; pins = seen.pins }) q)
+invariant_of-self-then-is_err-2 c = record {
+  counted =
+      (let seen : Cache = record { keys = keys_of c.self.inside.keys.entries; pins = pins_in c.self.inside.pins.entries } in
+      let keys = at_err c.keep_in-2.result (sym c.is_err-2.ensures.value ∙ c.if-is_err-2.true) c.keep_in-2.ensures.as_before in
+      counted_alike c.less.new.self (users_of seen) _
+      (c.less.ensures (λ q. users_of seen q + one_for (Some c.args.key.id) q) (users_of seen)
+      (at_ok c.more.result (sym c.is_err.ensures.value ∙ c.if-is_err.false) c.more.ensures.more (users_of seen) _ c.self.invariant.counted (λ q. refl)) (λ q. refl))
+      (λ q i. users_of (record { keys = keys i; pins = seen.pins }) q));
+  some = c.self.invariant.some;
+}
 
 pub invariant_of-self-else-is_err-2 : goal.invariant_of-self-else-is_err-2
-invariant_of-self-else-is_err-2 c =
-    let seen : Cache = record { keys = keys_of c.self.inside.keys.entries; pins = pins_in c.self.inside.pins.entries } in
-    let keys = at_ok c.keep_in-2.result (sym c.is_err-2.ensures.value ∙ c.if-is_err-2.false) c.keep_in-2.ensures.kept in
-    at_ok c.more.result (sym c.is_err.ensures.value ∙ c.if-is_err.false) c.more.ensures.more (users_of seen) _ c.self.invariant
-    (λ q. (λ i. users_of (record { keys = keys i; pins = seen.pins }) q)
-    ∙ let first = other seen c.args.self.now c.self.view_is c.args.node c.requires None c.in_default.ensures c.args.key q in omega arith)
+invariant_of-self-else-is_err-2 c = record {
+  counted =
+      (let seen : Cache = record { keys = keys_of c.self.inside.keys.entries; pins = pins_in c.self.inside.pins.entries } in
+      let keys = at_ok c.keep_in-2.result (sym c.is_err-2.ensures.value ∙ c.if-is_err-2.false) c.keep_in-2.ensures.kept in
+      at_ok c.more.result (sym c.is_err.ensures.value ∙ c.if-is_err.false) c.more.ensures.more (users_of seen) _ c.self.invariant.counted
+      (λ q. (λ i. users_of (record { keys = keys i; pins = seen.pins }) q)
+      ∙ let first = other seen c.args.self.now c.self.view_is c.args.node c.requires None c.in_default.ensures c.args.key q in omega arith));
+  some = c.self.invariant.some;
+}

@@ -6,6 +6,8 @@ use Rattle.inode_refs.specs.Kept.{keys_of, pins_in}
 use Rattle.inode_refs.specs.Users.{leaving, one_for, AreCounted}
 use Rattle.inode_refs.proofs.CacheLemmas.{pins_seen, pins_less}
 use Rattle.inode_refs.proofs.UserLemmas.{users_unpinned, counted_for}
+use Rattle.inode_refs.specs.Users.{HasPins}
+use Rattle.inode_refs.proofs.PinLemmas.{HasPins-with_pins}
 use Rattle.inode_refs.proofs.cache.InodeCache.unpin.Goals as goal
 
 -- the users that are left, for a user who leaves
@@ -19,17 +21,22 @@ pub less-requires : goal.less-requires
 less-requires c =
     let seen : Cache = record { keys = keys_of c.self.inside.keys.entries; pins = pins_in c.self.inside.pins.entries } in
     let after : Cache = record seen { pins = with_pins seen.pins c.args.node (pins_of seen c.args.node - 1) } in
-    counted_for c.self.inside.users (users_of seen) (users_of after) c.self.invariant c.leaving-user.result
+    counted_for c.self.inside.users (users_of seen) (users_of after) c.self.invariant.counted c.leaving-user.result
     (less seen c.args.self.now c.self.view_is c.args.node c.requires c.leaving-user.result c.leaving-user.ensures)
 
 pub invariant_of-self : goal.invariant_of-self
-invariant_of-self c =
-    let seen : Cache = record { keys = keys_of c.self.inside.keys.entries; pins = pins_in c.self.inside.pins.entries } in
-    let after : Cache = record seen { pins = with_pins seen.pins c.args.node (pins_of seen c.args.node - 1) } in
-    subst (λ (pins : PinMap). let new : Cache = record seen { pins = pins } in AreCounted c.less.new.self (users_of new))
-    (sym (pins_less c.self.inside.pins c.args.node c.one_less.new.counts c.one_less.ensures))
-    (c.less.ensures (users_of seen) (users_of after) c.self.invariant
-    (less seen c.args.self.now c.self.view_is c.args.node c.requires c.leaving-user.result c.leaving-user.ensures))
+invariant_of-self c = record {
+  counted =
+      (let seen : Cache = record { keys = keys_of c.self.inside.keys.entries; pins = pins_in c.self.inside.pins.entries } in
+      let after : Cache = record seen { pins = with_pins seen.pins c.args.node (pins_of seen c.args.node - 1) } in
+      subst (λ (pins : PinMap). let new : Cache = record seen { pins = pins } in AreCounted c.less.new.self (users_of new))
+      (sym (pins_less c.self.inside.pins c.args.node c.one_less.new.counts c.one_less.ensures))
+      (c.less.ensures (users_of seen) (users_of after) c.self.invariant.counted
+      (less seen c.args.self.now c.self.view_is c.args.node c.requires c.leaving-user.result c.leaving-user.ensures)));
+  some = subst HasPins (sym (pins_less c.self.inside.pins c.args.node c.one_less.new.counts c.one_less.ensures))
+      (HasPins-with_pins (pins_in c.self.inside.pins.entries) c.args.node c.self.invariant.some
+      (pins_of (record { keys = keys_of c.self.inside.keys.entries; pins = pins_in c.self.inside.pins.entries }) c.args.node - 1));
+}
 
 pub one_less-requires : goal.one_less-requires
 one_less-requires c = subst (λ n. 0 < n) (sym (pins_seen c.self.inside.pins c.args.node ∙ ap (λ (v : Cache). pins_of v c.args.node) c.self.view_is)) c.requires

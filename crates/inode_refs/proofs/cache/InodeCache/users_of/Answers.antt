@@ -10,7 +10,7 @@ use Rattle.inode_refs.proofs.CacheLemmas.{len-left}
 use Rattle.inode_refs.proofs.cache.InodeCache.users_of.Goals as goal
 
 pub returns-in-Some : goal.returns-in-Some
-returns-in-Some c = c.in-Some.ensures _ c.self.invariant ∙ ap (λ (v : Cache). users_of v c.args.id.now) c.self.view_is
+returns-in-Some c = c.in-Some.ensures _ c.self.invariant.counted ∙ ap (λ (v : Cache). users_of v c.args.id.now) c.self.view_is
 
 pub returns-in-None : goal.returns-in-None
 returns-in-None c =
