@@ -2,6 +2,7 @@
 use Rattle.std.proofs.Common.{◌≡◌, ℕ, ◌+◌, ◌<◌, ◌≤◌, ◌^◌, nat_le, length, Bool, true, false, cond, not, ◌&&◌, ◌||◌, [], ◌∷◌, ◌++◌, eqb, Option, Some, None, option_map, unwrap_or, inl, inr, ◌⊎◌, refl, sym, ap, subst, ◌∙◌, arith}
 use Rattle.std.specs.Option.{option_or}
 use Rattle.std.specs.List.{list_any, find, filter}
+use Rattle.std.specs.Map.{lookup}
 use Rattle.std.specs.Ordering.{nat_cmp, eq_by_cmp}
 use Rattle.std.specs.Cmp.{IsTotalOrder, nat_cmp_total, on_total, then_total, eq_by_cmp_equiv}
 use Rattle.std.specs.FinMap.{IsAntisymmetric, nat_cmp-IsAntisymmetric}
@@ -19,6 +20,7 @@ use Rattle.mount_model.specs.PlainMount.{HandleList, is_handle, node_of, without
 use Rattle.mount_model.specs.WellFormed.{is_live}
 use Rattle.mount_model.specs.declared.limits.TheConstants.{MOST_HANDLES, MOST_OPENS}
 use Rattle.mount_state.specs.KeptHandles.{pair_cmp, opened_in, IsIndexed}
+use Rattle.mount_state.proofs.LossLemmas.{single_put, fewer_left}
 
 -- ---- the index's order
 
@@ -48,6 +50,14 @@ opened_more m n caller updates =
 
 pub opened_same : (m n : BTreeMap ℕ ℕ) → tree.IsUnchanged m n → opened_in n.entries ≡ opened_in m.entries
 opened_same m n same = ap opened_in same
+
+pub index_same : (live : HandleList) (index after : BTreeMap (ℕ × ℕ) ℕ) (opened : Numbered ℕ) → IsIndexed live index opened → tree.IsUnchanged index after
+    → IsIndexed live after opened
+index_same live index after opened kept same = record {
+  indexed = λ c n. ap (lookup (eq_by_cmp pair_cmp (c, n))) same ∙ kept.indexed c n;
+  numbered = kept.numbered;
+  single = kept.single;
+}
 
 -- ---- searches
 
@@ -179,6 +189,11 @@ module _ (live : HandleList) (index : BTreeMap (ℕ × ℕ) ℕ) (opened : Numbe
           let same = same_caller c j new it in
           subst (λ y. j < opens_of counted y) same.0 (subst (λ y. y < opens_of counted caller) same.1 (omega (arith, caller_counted)))
     ];
+    single = λ c j. single_put (is_handle c j) live new
+        (λ it.
+        let same = same_caller c j new it in
+        subst (λ y. is_live live y j ≡ false) same.0 (subst (λ y. is_live live caller y ≡ false) same.1 unused))
+        (kept.single c j);
   }
     where
       unlike : (c n : ℕ) → eq_by_cmp pair_cmp (caller, count) (c, n) ≡ false → is_handle c n new ≡ false
@@ -202,6 +217,7 @@ module _ (live : HandleList) (index : BTreeMap (ℕ × ℕ) ℕ) (opened : Numbe
           ∙ (put (c, n) ∙ ap (λ b. cond b (Some node) (tree.get pair_cmp index (c, n))) apart)
     ] ∙ kept.indexed c n);
     numbered = kept.numbered;
+    single = kept.single;
   }
 
 -- ---- closed
@@ -220,6 +236,10 @@ index_taken live index after opened caller number kept taken = record {
         ∙ sym (ap (option_map (λ (h : Handle). h.node)) (other_found (λ h. not (is_handle caller number h)) (is_handle c n) live (λ h is. stays c n apart h is))))
   ]);
   numbered = λ c n left. kept.numbered c n (some_left (λ h. not (is_handle caller number h)) (is_handle c n) live left);
+  single = λ c n.
+      let fewer = fewer_left (λ h. not (is_handle caller number h)) (is_handle c n) live in
+      let one = kept.single c n in
+      omega arith;
 }
   where
     stays : (c n : ℕ) → eq_by_cmp pair_cmp (caller, number) (c, n) ≡ false → (h : Handle) → is_handle c n h ≡ true → not (is_handle caller number h) ≡ true

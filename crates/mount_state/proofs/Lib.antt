@@ -1,3 +1,4 @@
+pub mod LossLemmas
 pub mod HandleLemmas
 pub mod UserLemmas
 pub mod RuleLemmas

@@ -1,5 +1,5 @@
 -- The open handles, and how many each caller ever opened; what each call makes of them.
-use Rattle.std.specs.Prelude.{ℕ, ◌+◌, Bool, [], ◌∷◌, ◌++◌, length, nat_le, ◌||◌, ◌==◌}
+use Rattle.std.specs.Prelude.{◌≡◌, ℕ, ◌+◌, Bool, [], ◌∷◌, ◌++◌, length, nat_le, ◌||◌, ◌==◌, if◌then◌else◌}
 use Rattle.std.specs.List.{count_by}
 use Rattle.std.specs.FinMap as map
 use Rattle.number_map.specs.Numbered.{Numbered, insert}
@@ -36,3 +36,7 @@ users test live = count_by (λ h. test h.node) live
 
 abbrev pub handles_on : HandleList → ℕ → ℕ
 handles_on live node = users (λ n. n == node) live
+
+-- of all handles one went, on this node
+abbrev pub LosesOne : HandleList → HandleList → ℕ → Type 0
+LosesOne old new node = (test : ℕ → Bool) → users test new + (if test node then 1 else 0) ≡ users test old

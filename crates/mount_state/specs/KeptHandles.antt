@@ -1,11 +1,12 @@
 -- How handles are kept; words of private functions.
-use Rattle.std.specs.Prelude.{◌≡◌, ℕ, ◌<◌, true, List}
+use Rattle.std.specs.Prelude.{◌≡◌, ℕ, ◌<◌, ◌≤◌, true, List}
+use Rattle.std.specs.List.{count_by}
 use Rattle.std.specs.declared.cmp.Ordering.{Ordering}
 use Rattle.std.specs.Ordering.{nat_cmp, ordering_then}
 use Rattle.std.specs.BTreeMap.{BTreeMap, get}
 use Rattle.number_map.specs.Numbered.{Numbered}
 use Rattle.key_counts.specs.Shown.{shown}
-use Rattle.mount_model.specs.PlainMount.{HandleList, node_of, opens_of}
+use Rattle.mount_model.specs.PlainMount.{HandleList, is_handle, node_of, opens_of}
 use Rattle.mount_model.specs.WellFormed.{is_live}
 
 -- the order of the index: by caller, and then by number
@@ -15,7 +16,9 @@ pair_cmp a b = ordering_then (nat_cmp a.0 b.0) (nat_cmp a.1 b.1)
 abbrev pub opened_in : List (ℕ × ℕ) → Numbered ℕ
 opened_in entries = shown nat_cmp (λ count. count) entries
 
--- the index leads to each handle's node, and a number that is live lies below the caller's count
+-- the index leads to each handle's node, a number that is live lies below the caller's count, and no two
+-- handles of a caller have one number
 pub record IsIndexed (live : HandleList) (index : BTreeMap (ℕ × ℕ) ℕ) (opened : Numbered ℕ) : Type 0 where
   pub indexed : (caller number : ℕ) → get pair_cmp index (caller, number) ≡ node_of live caller number
   pub numbered : (caller number : ℕ) → is_live live caller number ≡ true → number < opens_of opened caller
+  pub single : (caller number : ℕ) → count_by (is_handle caller number) live ≤ 1

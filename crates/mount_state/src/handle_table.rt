@@ -1,8 +1,8 @@
 //! The open handles of all callers.
 
-ghost use Rattle.std.specs.Prelude.{◌≡◌, IsTrue, IfOk, IfErr, OnOk, OnErr, false};
+ghost use Rattle.std.specs.Prelude.{◌≡◌, IsTrue, IfOk, IfErr, IfSome, OnOk, OnErr, false};
 ghost use Rattle.mount_model.specs.PlainMount.{is_handle, node_of, opens_of};
-ghost use Rattle.mount_state.specs.Handles.{no_handles, with_handle, without, is_full};
+ghost use Rattle.mount_state.specs.Handles.{no_handles, with_handle, without, is_full, LosesOne};
 
 use super::HandleFault;
 use key_counts as counts;
@@ -127,9 +127,10 @@ impl HandleTable {
         self.index.get(&(caller, number)).copied()
     }
 
-    /// Closes the caller's handle of this number, where it is open. It takes no memory.
+    /// Closes the caller's handle of this number, where it is open, and no other. It takes no memory.
     pub fn close(&mut self, caller: u32, number: u32)
-        ensures { self.new ≡ without self.old caller number }
+        ensures left { self.new ≡ without self.old caller number }
+        ensures one { IfSome (node_of self.old.live caller number) (LosesOne self.old.live self.new.live) }
     {
         self.index.remove(&(caller, number));
         self.live

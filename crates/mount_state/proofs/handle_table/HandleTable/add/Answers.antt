@@ -6,13 +6,19 @@ use Rattle.inode_refs.proofs.CacheLemmas.{at_ok, at_err}
 use Rattle.mount_model.specs.PlainMount.{HandleList, opens_of}
 use Rattle.mount_state.specs.Handles.{Handles, with_handle}
 use Rattle.mount_state.specs.KeptHandles.{pair_cmp, opened_in, IsIndexed}
-use Rattle.mount_state.proofs.HandleLemmas.{opens_seen, opened_more, opened_same, index_put, index_undone, below_most}
+use Rattle.mount_state.proofs.HandleLemmas.{opens_seen, opened_more, opened_same, index_same, index_put, index_undone, below_most}
 use Rattle.mount_state.proofs.handle_table.HandleTable.add.Goals as goal
 
 pub one_more-requires : goal.one_more-requires
 one_more-requires c =
     let seen = opens_seen c.self.inside.opened c.args.caller ∙ ap (λ (v : Handles). opens_of v.opened c.args.caller) c.self.view_is in
     subst (λ n. n + 1 < 2 ^ 32) (sym seen) (below_most c.args.self.now.live (opens_of c.args.self.now.opened c.args.caller) c.requires)
+
+pub invariant_of-self-then-is_err : goal.invariant_of-self-then-is_err
+invariant_of-self-then-is_err c =
+    let same = at_err c.insert.result (sym c.is_err.ensures.value ∙ c.if-is_err.true) c.insert.ensures.err in
+    subst (λ (hs : HandleList). IsIndexed hs c.insert.new.self (opened_in c.self.inside.opened.entries)) (sym c.reserve.ensures.items)
+    (index_same c.self.inside.live.items c.self.inside.index c.insert.new.self (opened_in c.self.inside.opened.entries) c.self.invariant same)
 
 pub invariant_of-self-then-is_err-2 : goal.invariant_of-self-then-is_err-2
 invariant_of-self-then-is_err-2 c =
