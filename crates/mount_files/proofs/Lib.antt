@@ -4,3 +4,13 @@ pub mod RoomLemmas
 pub mod WrittenLemmas
 pub mod ReadLemmas
 pub mod WriteLemmas
+mod HandleCounts
+mod ModeCounts
+mod ContextUses
+mod OpenedLemmas
+mod ClosedLemmas
+mod ClosingLemmas
+mod NeedLemmas
+mod PinnedLemmas
+mod OpenStands
+mod CloseStands

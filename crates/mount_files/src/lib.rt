@@ -1,15 +1,24 @@
 //! The calls on open files and directories, each answered over a state as the one-thread mount answers it.
 #![tactic(auto)]
 
+mod closes;
 mod contexts;
 mod crossing;
 mod files;
+mod holds;
 mod keys;
 mod lent;
+mod need;
+mod needs;
+mod opens;
 mod reads;
+#[cfg(test)]
+mod tests;
 mod writes;
 
+pub use closes::close;
 pub use file_disk::LentRead;
 pub use lent::Lent;
+pub use opens::open_node;
 pub use reads::{read, read_begin, read_finish};
 pub use writes::write;

@@ -1,0 +1,15 @@
+use Rattle.std.proofs.Common.{sym}
+use Rattle.mount_files.proofs.OpenStands.{walked_there, at_given, at_denied}
+use Rattle.mount_files.proofs.opens.open_node.Goals as goal
+
+pub returns-in-Ok-clause-stands : goal.returns-in-Ok-clause-stands
+returns-in-Ok-clause-stands g c = λ m st.
+    let led = c.in-Ok.ensures.value m st in
+    at_given m c.args.caller c.args.path.now c.in-Ok.node led c.open_at.result _
+    (c.open_at.ensures.stands m (c.in-Ok.ensures.stands m st) (walked_there m c.args.path.now c.in-Ok.node st.well (sym led)))
+
+pub returns-in-Ok-clause-denied : goal.returns-in-Ok-clause-denied
+returns-in-Ok-clause-denied g c = λ m st denied.
+    let led = c.in-Ok.ensures.value m st in
+    at_denied m c.args.caller c.args.path.now c.in-Ok.node led c.open_at.result
+    (c.open_at.ensures.denied m (c.in-Ok.ensures.stands m st) (walked_there m c.args.path.now c.in-Ok.node st.well (sym led))) denied

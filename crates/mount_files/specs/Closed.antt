@@ -1,0 +1,42 @@
+-- What goes where a handle is closed.
+use Rattle.std.specs.Prelude.{ℕ, Bool, true, false, ◌&&◌, ◌||◌, ◌==◌, List, Option, Some, None, if◌then◌else◌}
+use Rattle.number_map.specs.Numbered.{get, remove}
+use Rattle.user_claims.specs.Claims.{ClaimSet, is_present}
+use Rattle.policy_ctx.specs.Context.{id_in, is_by_mode_in}
+use Rattle.fsc_keys.specs.declared.file_keys.KeyKind.{KeyKind}
+use Rattle.key_ring.specs.Modes.{Modes, of_kind, with_kind, without_user}
+use Rattle.inode_refs.specs.Cached.{KeyMap}
+use Rattle.disk_tree.specs.DiskTree.{Disk}
+use Rattle.disk_tree.specs.declared.node.StoredNode.{StoredNode}
+use Rattle.mount_state.specs.Contexts.{context_in, kind_in}
+
+abbrev pub is_named_in : Option StoredNode → Bool
+is_named_in None = false
+is_named_in (Some v) = v.named
+
+-- the root, and a node with a name, stay without a handle
+abbrev pub is_lasting : Disk → ℕ → Bool
+is_lasting disk node = (node == 0) || is_named_in (get disk node)
+
+-- the node stays where it has a handle, or stays without one
+abbrev pub disk_left : Disk → Bool → ℕ → Disk
+disk_left disk held node = if held || is_lasting disk node then disk else remove disk node
+
+-- some user has a claim on the master key that the context names; so it is where there is none
+abbrev pub is_key_due : ClaimSet → Option (List ℕ) → Bool
+is_key_due claims None = true
+is_key_due claims (Some context) = is_present claims (id_in context)
+
+-- the node's key stays where the node has a handle, or stays without one and its key is due
+abbrev pub keys_left : Disk → ClaimSet → KeyMap → Bool → ℕ → KeyMap
+keys_left disk claims keys held node =
+    if held || (is_lasting disk node && is_key_due claims (context_in (get disk node))) then keys else remove keys node
+
+-- the mode key that the node uses has one user less
+abbrev pub modes_left_by : Modes → KeyKind → Option (List ℕ) → Modes
+modes_left_by modes kind None = modes
+modes_left_by modes kind (Some context) =
+    if is_by_mode_in context then with_kind modes kind (without_user (of_kind modes kind) (id_in context)) else modes
+
+abbrev pub modes_left : Disk → Modes → ℕ → Modes
+modes_left disk modes node = modes_left_by modes (kind_in (get disk node)) (context_in (get disk node))

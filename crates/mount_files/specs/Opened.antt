@@ -1,0 +1,55 @@
+-- What a call on handles leaves of a state.
+use Rattle.std.specs.Prelude.{◌≡◌, ℕ, Bool, true, false, not, if◌then◌else◌}
+use Rattle.disk_tree.specs.declared.node.Body.{Body}
+use Rattle.disk_tree.specs.declared.node.Body.TheVariants.{Dir, File, Link}
+use Rattle.mount_model.specs.PlainMount.{PlainMount, has_handle}
+use Rattle.mount_model.specs.States.{is_keyed}
+use Rattle.mount_model.specs.Answered.{Answer, refused}
+use Rattle.mount_model.specs.declared.reply.Refusal.TheVariants.{NoKey, Inval, NoSpace}
+use Rattle.mount_model.specs.FileAnswers.{is_link_at, is_out_of_handles, opened_on}
+use Rattle.mount_state.specs.Handles.{with_handle, without}
+use Rattle.mount_state.specs.declared.state.MountState.{MountState}
+use Rattle.mount_files.specs.Closed.{disk_left, keys_left, modes_left}
+
+-- ---- OpenNode
+
+-- a symlink, as it lies on the disk
+abbrev pub is_link_body : Body → Bool
+is_link_body (Dir entries) = false
+is_link_body (File blocks size) = false
+is_link_body (Link target) = true
+
+-- what is answered at the node to which the path leads
+abbrev pub open_told : PlainMount → ℕ → ℕ → Answer
+open_told m caller n =
+    if is_link_at m.nodes n then refused m Inval else
+    if not (is_keyed m n) then refused m NoKey else
+    if is_out_of_handles m caller then refused m NoSpace else
+    opened_on m caller n
+
+-- nothing differs but what is open, and which keys are cached for it
+pub record SameButOpen (old new : MountState) : Type 0 where
+  pub disk : new.disk ≡ old.disk
+  pub next_node : new.next_node ≡ old.next_node
+  pub ring : new.ring ≡ old.ring
+  pub meta : new.meta ≡ old.meta
+
+-- the caller has a new handle on the node
+pub record OpensOne (old new : MountState) (caller node : ℕ) : Type 0 where
+  pub same : SameButOpen old new
+  pub handles : new.handles ≡ with_handle old.handles caller node
+
+-- ---- Close
+
+-- nothing differs but what is open, which keys are cached for it, and the nodes
+pub record SameButClosed (old new : MountState) : Type 0 where
+  pub next_node : new.next_node ≡ old.next_node
+  pub ring : new.ring ≡ old.ring
+  pub meta : new.meta ≡ old.meta
+
+-- the caller's handle of this number, which is on the node, is closed, and with it goes what it needed
+pub record ClosesOne (old new : MountState) (caller number node : ℕ) : Type 0 where
+  pub handles : new.handles ≡ without old.handles caller number
+  pub disk : new.disk ≡ disk_left old.disk (has_handle new.handles.live node) node
+  pub keys : new.inodes.keys ≡ keys_left old.disk old.ring.claims old.inodes.keys (has_handle new.handles.live node) node
+  pub modes : new.modes ≡ modes_left old.disk old.modes node

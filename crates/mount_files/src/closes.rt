@@ -1,0 +1,157 @@
+//! Closing a handle.
+
+ghost use Rattle.std.specs.Prelude.{◌≡◌, ◌<◌, ◌≤◌, ◌==◌, ◌||◌, ℕ, true, not, Some, IfSome, None};
+ghost use Rattle.number_map.specs.Numbered.{get};
+ghost use Rattle.policy_ctx.specs.Context.{id_in};
+ghost use Rattle.policy_ctx.specs.declared.policy.KeyId.{KeyId};
+ghost use Rattle.user_claims.specs.Claims.{is_present};
+ghost use Rattle.fsc_keys.specs.declared.file_keys.KeyKind.{KeyKind};
+ghost use Rattle.key_ring.specs.Modes.{of_kind, users_in};
+ghost use Rattle.inode_refs.specs.Cached.{is_unpinned};
+ghost use Rattle.mount_model.specs.declared.reply.KeyState.TheVariants.{Absent};
+ghost use Rattle.mount_model.specs.ClaimHistory.{is_refused};
+ghost use Rattle.mount_model.specs.FileAnswers.{answer_to_close, with_closed};
+ghost use Rattle.mount_model.specs.PlainMount.{PlainMount, node_of};
+ghost use Rattle.mount_state.specs.Contexts.{context_in, kind_of, uses_mode};
+ghost use Rattle.mount_state.specs.Given.{IsGiven};
+ghost use Rattle.mount_state.specs.Held.{HoldsNothing, key_state};
+ghost use Rattle.mount_state.specs.SameButKeys.{SameButKeys};
+ghost use Rattle.mount_state.specs.StandsFor.{StandsFor};
+ghost use Rattle.mount_files.specs.Closed.{is_lasting, is_key_due, disk_left, keys_left, modes_left};
+ghost use Rattle.mount_files.specs.Opened.{ClosesOne, SameButClosed};
+
+use crate::needs::kind_of;
+use disk_tree::{DiskTree, StoredNode};
+use fsc_keys::KeyId;
+use inode_refs::InodeCache;
+use key_ring::{KeyRing, ModeKeys};
+use mount_model::{Refusal, Reply};
+use mount_state::MountState;
+use policy_ctx::{CONTEXT_LEN, id_in, is_by_mode};
+
+/// Closes the caller's handle of this number. With a node's last handle its key goes where no user has a
+/// claim on the master key, under flag 8 the mode key where no other handle uses it, and the node itself
+/// where it has no name; the root never goes. What goes of keys is overwritten.
+///
+/// BadHandle exactly where the caller has no such handle. It takes no memory.
+pub fn close(state: &mut MountState, caller: u32, handle: u32) -> Reply
+    ensures bad { node_of state.old.handles.live caller handle ≡ None
+        → result ≡ Reply.Refused Refusal.BadHandle }
+    ensures closed { IfSome (node_of state.old.handles.live caller handle) (λ node.
+        (result ≡ Reply.Done) × ClosesOne state.old state.new caller handle node) }
+    ensures refused { is_refused result ≡ true → SameButKeys state.old state.new }
+    ensures same { SameButClosed state.old state.new }
+    ensures gone { (id : KeyId)
+        → key_state state.new.disk state.new.ring.claims state.new.handles.live id ≡ Absent
+        → HoldsNothing state.new.ring state.new.inodes state.new.modes id }
+    ensures stands { (m : PlainMount) → StandsFor state.old m
+        → IsGiven (answer_to_close m caller handle) result state.new }
+{
+    let Some(node) = state.handles.node_of(caller, handle) else {
+        hold_what_is_needed(state);
+        return Reply::Refused(Refusal::BadHandle);
+    };
+    close_on(state, caller, handle, node);
+    hold_what_is_needed(state);
+    Reply::Done
+}
+
+// That of a key that is absent nothing is held.
+fn hold_what_is_needed(state: &MountState)
+    ensures { (id : KeyId) → key_state state.now.disk state.now.ring.claims state.now.handles.live id ≡ Absent
+        → HoldsNothing state.now.ring state.now.inodes state.now.modes id }
+{
+    let _exact = state.ring.claims();
+    let _used = state.modes.users_of(&KeyId([0; 16]));
+}
+
+// Closes the handle, which is on the node.
+fn close_on(state: &mut MountState, caller: u32, handle: u32, node: u32)
+    requires { node_of state.old.handles.live caller handle ≡ Some node }
+    ensures closed { ClosesOne state.old state.new caller handle node }
+    ensures same { SameButClosed state.old state.new }
+    ensures stands { (m : PlainMount) → StandsFor state.old m → StandsFor state.new (with_closed m caller handle node) }
+{
+    state.handles.close(caller, handle);
+    state.inodes.unpin(node);
+    release_mode(&state.disk, &mut state.modes, node);
+    forget_key(&state.disk, &state.ring, &mut state.inodes, node);
+    forget_node(&mut state.disk, &state.inodes, node);
+}
+
+// Takes one user away from the mode key that the node uses.
+fn release_mode(disk: &DiskTree, modes: &mut ModeKeys, node: u32)
+    requires { (id : KeyId) (kind : KeyKind) → uses_mode disk.now id kind node ≡ true
+        → 1 ≤ users_in (of_kind modes.old kind) id }
+    ensures { modes.new ≡ modes_left disk.now modes.old node }
+{
+    let Some(stored) = disk.node(node) else {
+        return;
+    };
+    let Some(context) = &stored.context else {
+        return;
+    };
+    if is_by_mode(context) {
+        modes.release(&id_in(context), kind_of(&stored.body));
+    }
+}
+
+// Forgets the key of a node without pins, where the node is not to stay or no user has a claim on the
+// master key.
+fn forget_key(disk: &DiskTree, ring: &KeyRing, inodes: &mut InodeCache, node: u32)
+    ensures { inodes.new ≡ record inodes.old {
+      keys = keys_left disk.now ring.now.claims inodes.old.keys (not (is_unpinned inodes.old node)) node;
+    } }
+{
+    if inodes.pins(node) > 0 {
+        return;
+    }
+    if is_lasting(disk, node) && is_key_due(disk, ring, node) {
+        return;
+    }
+    inodes.drop_key(node);
+}
+
+// Forgets the node, where it has no pins and isn't to stay.
+fn forget_node(disk: &mut DiskTree, inodes: &InodeCache, node: u32)
+    ensures { disk.new ≡ disk_left disk.old (not (is_unpinned inodes.now node)) node }
+{
+    if inodes.pins(node) > 0 || is_lasting(disk, node) {
+        return;
+    }
+    disk.remove_node(node);
+}
+
+// Whether the node stays without a handle: the root, and a node with a name.
+fn is_lasting(disk: &DiskTree, node: u32) -> bool
+    ensures { result ≡ is_lasting disk.now node }
+{
+    node == 0
+        || match disk.node(node) {
+            Some(stored) => stored.named,
+            None => false,
+        }
+}
+
+// Whether the node's key stays without a handle: some user has a claim on the master key that its context
+// names. So it is where it has none.
+fn is_key_due(disk: &DiskTree, ring: &KeyRing, node: u32) -> bool
+    ensures { result ≡ is_key_due ring.now.claims (context_in (get disk.now node)) }
+{
+    match disk.node(node) {
+        Some(
+            StoredNode {
+                context: Some(context),
+                ..
+            },
+        ) => is_claimed(ring, context),
+        _ => true,
+    }
+}
+
+// Whether some user has a claim on the master key that the context names.
+fn is_claimed(ring: &KeyRing, context: &[u8; CONTEXT_LEN]) -> bool
+    ensures { result ≡ is_present ring.now.claims (id_in context.now) }
+{
+    ring.claims().count_of_id(&id_in(context)) > 0
+}

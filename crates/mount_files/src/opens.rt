@@ -1,0 +1,110 @@
+//! Opening a node.
+
+ghost use Rattle.std.specs.Prelude.{◌≡◌, ◌+◌, ◌≤◌, true, false, length, is_some, IfOk, IfErr, OnOk, OnErr};
+ghost use Rattle.number_map.specs.Numbered.{get};
+ghost use Rattle.mount_model.specs.ClaimHistory.{is_refused};
+ghost use Rattle.mount_model.specs.FileAnswers.{answer_to_open};
+ghost use Rattle.mount_model.specs.PlainMount.{PlainMount, opens_of};
+ghost use Rattle.mount_state.specs.Given.{IsGivenOrNoMemory};
+ghost use Rattle.mount_state.specs.Handles.{is_full};
+ghost use Rattle.mount_state.specs.Held.{is_keyed};
+ghost use Rattle.mount_state.specs.SameButKeys.{SameButKeys};
+ghost use Rattle.mount_state.specs.StandsFor.{StandsFor, CachesStand};
+ghost use Rattle.mount_files.specs.Opened.{is_link_body, open_told, OpensOne, SameButOpen};
+
+use crate::holds::{open_own, open_shared};
+use crate::need::Need;
+use crate::needs::need_of;
+use disk_tree::Body;
+use mount_model::{Path, Refusal, Reply};
+use mount_state::{MountState, walked_node};
+use name_crypt::Steps;
+use std::alloc::{AllocError, Global};
+use std::sync::ledger::Ledger;
+
+/// Opens the directory or file at the end of the path, and answers the number of the caller's new handle:
+/// how many the caller opened before. The key of the node is cached as long as a handle is open on it, or
+/// under flag 8 the mode key of its kind.
+///
+/// Refused as the walk is, then Inval for a symlink, NoKey where the node's key isn't at hand, and NoSpace
+/// where `MOST_HANDLES` handles are open or the caller opened `MOST_OPENS`; NoMemory in place of an answer
+/// that is no refusal. After a refusal all is as before, but for which keys of nodes are cached.
+pub fn open_node<L: Ledger>(
+    alloc: Global,
+    state: &mut MountState,
+    caller: u32,
+    path: &Path,
+    steps: &mut Steps<L>,
+) -> Reply
+    ensures stands { (m : PlainMount) → StandsFor state.old m
+        → IsGivenOrNoMemory m (answer_to_open m caller path.now) result state.new }
+    ensures denied { (m : PlainMount) → StandsFor state.old m
+        → is_refused (answer_to_open m caller path.now).reply ≡ true
+        → result ≡ (answer_to_open m caller path.now).reply }
+    ensures refused { is_refused result ≡ true → SameButKeys state.old state.new }
+    ensures same { SameButOpen state.old state.new }
+    ensures ticks { steps.new ≤ steps.old + length path.now }
+{
+    match walked_node(alloc, state, path, steps) {
+        Ok(node) => open_at(alloc, state, caller, node),
+        Err(refusal) => Reply::Refused(refusal),
+    }
+}
+
+// Opens a handle of the caller on the node to which a walk led.
+fn open_at(alloc: Global, state: &mut MountState, caller: u32, node: u32) -> Reply
+    ensures stands { (m : PlainMount) → StandsFor state.old m → is_some (get m.nodes node) ≡ true
+        → IsGivenOrNoMemory m (open_told m caller node) result state.new }
+    ensures denied { (m : PlainMount) → StandsFor state.old m → is_some (get m.nodes node) ≡ true
+        → is_refused (open_told m caller node).reply ≡ true → result ≡ (open_told m caller node).reply }
+    ensures refused { is_refused result ≡ true → SameButKeys state.old state.new }
+    ensures same { SameButOpen state.old state.new }
+{
+    let Some(stored) = state.disk.node(node) else {
+        return Reply::Refused(Refusal::NotFound);
+    };
+    if is_link(&stored.body) {
+        return Reply::Refused(Refusal::Inval);
+    }
+    if !state.keyed(node) {
+        return Reply::Refused(Refusal::NoKey);
+    }
+    if state.handles.is_full(caller) {
+        return Reply::Refused(Refusal::NoSpace);
+    }
+    match open_keyed(alloc, state, caller, node) {
+        Ok(number) => Reply::Opened(number),
+        Err(_) => Reply::Refused(Refusal::NoMemory),
+    }
+}
+
+// Opens a handle of the caller on the node, which is there and whose key is at hand.
+fn open_keyed(
+    alloc: Global,
+    state: &mut MountState,
+    caller: u32,
+    node: u32,
+) -> Result<u32, AllocError>
+    requires there { is_some (get state.old.disk node) ≡ true }
+    requires keyed { is_keyed state.old.disk state.old.ring.claims state.old.handles.live node ≡ true }
+    requires room { is_full state.old.handles caller ≡ false }
+    ensures number { IfOk result (λ number. number ≡ opens_of state.old.handles.opened caller) }
+    ensures opened { OnOk result (OpensOne state.old state.new caller node) }
+    ensures kept { OnErr result (SameButKeys state.old state.new) }
+    ensures caches { (m : PlainMount) → StandsFor state.old m → CachesStand state.new.inodes state.new.modes m }
+{
+    match need_of(state, node) {
+        Need::Own(key) => open_own(alloc, state, caller, node, key),
+        Need::Shared { id, kind, key } => open_shared(alloc, state, caller, node, id, kind, key),
+    }
+}
+
+// Whether it is a symlink's.
+fn is_link(body: &Body) -> bool
+    ensures { result ≡ is_link_body body.now }
+{
+    match body {
+        Body::Link(_) => true,
+        Body::Dir(_) | Body::File { .. } => false,
+    }
+}
