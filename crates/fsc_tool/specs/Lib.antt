@@ -9,4 +9,6 @@ pub mod Replay
 pub mod Rotating
 pub mod Runs
 pub mod Seed
+pub mod Threaded
+pub mod Tool
 pub mod Written

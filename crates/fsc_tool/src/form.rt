@@ -2,7 +2,7 @@
 
 ghost use Rattle.std.specs.Prelude.{◌≡◌, ℕ, List, map, Option, string_bytes, codes, ◌&&◌};
 ghost use Rattle.text_words.specs.Digits.{hex_bytes_of_length};
-ghost use Rattle.fsc_tool.specs.Forms.{form_behind, serial_form_of, is_serial_replay};
+ghost use Rattle.fsc_tool.specs.Forms.{form_behind, is_serial_replay, serial_form_of, threads_form_of};
 
 use text_words::hex_bytes_into;
 
@@ -26,6 +26,16 @@ pub(crate) fn read_serial_form(words: &Vec<String>) -> Option<Form>
         return None;
     }
     read_form_behind(&words[2..])
+}
+
+// The form of a run in threads that the words are; none for other words.
+pub(crate) fn read_threads_form(words: &Vec<String>) -> Option<Form>
+    ensures { result ≡ threads_form_of (map string_bytes words.now.items) }
+{
+    if words.is_empty() || words[0].as_str() != "replay" {
+        return None;
+    }
+    read_form_behind(&words[1..])
 }
 
 fn is_serial_replay(verb: &str, serial: &str) -> bool

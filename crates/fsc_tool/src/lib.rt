@@ -6,12 +6,13 @@ mod limits;
 mod replay;
 mod rotation;
 mod seed;
+mod threads;
 mod top;
 
 use call_history::Entry;
 pub use limits::{MOST_INPUT_BYTES, MOST_INPUT_LINES};
 use mount_model::{Call, Reply};
-pub use top::tool_serial;
+pub use top::{tool, tool_serial};
 
 // Entries with their places.
 pub(crate) type PlacedVec = Vec<(u64, Entry<Call, Reply>)>;

@@ -13,14 +13,12 @@ ghost use Rattle.fsc_tool.specs.Rotating.{Rotating, TurnMade, fresh_runners, sec
 ghost use Rattle.fsc_tool.specs.Runs.{IsSerialRun};
 
 use crate::PlacedVec;
+use crate::limits::MOST_PLACES;
 use call_history::sort_by_place;
 use fsc_session::{MOST_CALLS, Runner};
 use mount_shared::{MountMachine, SerialMount};
 use script_lang::{Script, Section};
 use std::alloc::{AllocError, Global};
-
-// The most places that a history has.
-const MOST_PLACES: u64 = 1_099_511_627_776;
 
 // The entries of a run of the script in rotation, in order of place: command 0 of each caller that has
 // one, then command 1, and so on.

@@ -1,18 +1,59 @@
-//! The tool's call, which waits for nobody.
+//! The tool's calls: one that starts threads, and one that waits for nobody.
 
 ghost use Rattle.std.specs.Prelude.{[], map, string_bytes};
 ghost use Rattle.fsc_tool.specs.Forms.{serial_form_of};
 ghost use Rattle.fsc_tool.specs.Outside.{outside};
 ghost use Rattle.fsc_tool.specs.Replay.{IsReplay};
-ghost use Rattle.fsc_tool.specs.Runs.{IsSerialRun};
+ghost use Rattle.fsc_tool.specs.Runs.{IsLawfulRun, IsSerialRun};
+ghost use Rattle.fsc_tool.specs.Tool.{IsToolRun};
 
-use crate::form::{Form, read_serial_form};
+use crate::form::{Form, read_serial_form, read_threads_form};
 use crate::replay::{finish, prepare};
 use crate::rotation::run_in_rotation;
-use fsc_outside::{SeedSource, Sink, Source};
+use crate::threads::run_in_threads;
+use fsc_outside::{Gate, SeedSource, Sink, Source};
 use mount_shared::MountMachine;
 use reply_text::Status;
 use std::alloc::Global;
+use std::sync::Wait;
+use std::thread::Threads;
+
+/// Replays the script that the source gives on the machine, which no call was made on, and writes its
+/// log into the sink. The words are those of the command line without the program's own name, and are
+/// Usage unless they are `replay` or `replay --serial`, alone or with `--seed HEX64` behind. With
+/// `--serial` the callers take turns, as in `tool_serial`; else each runs in a thread of its own, command
+/// by command between the gate's two calls, and waits for its turn on the machine at each call. Nothing is
+/// written before all callers have ended and the whole log stands. The seed source is asked once for each
+/// script in the grammar, where the words give no seed.
+pub fn tool<
+    R: Threads + Wait + Sync,
+    S: Source,
+    K: Sink,
+    E: SeedSource,
+    G: Gate + Sync,
+    M: MountMachine + Send,
+>(
+    rt: &R,
+    alloc: Global,
+    words: &Vec<String>,
+    source: &mut S,
+    sink: &mut K,
+    seeds: &mut E,
+    gate: &G,
+    machine: M,
+) -> Status
+    requires { M.leads [] machine }
+    ensures { let before = outside (S.state source.old) (K.state sink.old) (E.state seeds.old) in
+        let after = outside (S.state source.new) (K.state sink.new) (E.state seeds.new) in
+        IsToolRun M.lawful (map string_bytes words.now.items) before after result }
+{
+    let serial = read_serial_form(words);
+    if serial.is_some() {
+        return replay_in_rotation(alloc, serial, source, sink, seeds, machine);
+    }
+    let form = read_threads_form(words);
+    replay_in_threads(rt, alloc, form, source, sink, seeds, gate, machine)
+}
 
 /// Replays the script that the source gives on the machine, which no call was made on, and writes its
 /// log into the sink; the callers take turns. The words are those of the command line without the
@@ -56,6 +97,40 @@ fn replay_in_rotation<S: Source, K: Sink, E: SeedSource, M: MountMachine>(
         Err(status) => return status,
     };
     let entries = match run_in_rotation(alloc, &run.script, &run.seed, machine) {
+        Ok(entries) => entries,
+        Err(_) => return Status::NoMemory,
+    };
+    finish(alloc, entries, sink)
+}
+
+// A replay in this form whose callers run in threads.
+fn replay_in_threads<
+    R: Threads + Wait + Sync,
+    S: Source,
+    K: Sink,
+    E: SeedSource,
+    G: Gate + Sync,
+    M: MountMachine + Send,
+>(
+    rt: &R,
+    alloc: Global,
+    form: Option<Form>,
+    source: &mut S,
+    sink: &mut K,
+    seeds: &mut E,
+    gate: &G,
+    machine: M,
+) -> Status
+    requires { M.leads [] machine }
+    ensures { let before = outside (S.state source.old) (K.state sink.old) (E.state seeds.old) in
+        let after = outside (S.state source.new) (K.state sink.new) (E.state seeds.new) in
+        IsReplay (IsLawfulRun M.lawful) form before after result }
+{
+    let run = match prepare(alloc, form, source, seeds) {
+        Ok(run) => run,
+        Err(status) => return status,
+    };
+    let entries = match run_in_threads(rt, alloc, &run.script, &run.seed, gate, machine) {
         Ok(entries) => entries,
         Err(_) => return Status::NoMemory,
     };

@@ -1,0 +1,22 @@
+use Rattle.std.proofs.Common.{sym, subst}
+use Rattle.std.specs.Prelude.{IfOk}
+use Rattle.fsc_tool.specs.Threaded.{HaveRun}
+use Rattle.fsc_tool.proofs.ThreadLemmas.{both_run}
+use Rattle.fsc_tool.proofs.threads.+fn-run_all-join+arg2+fn-run_all-join+arg3+run_all.Goals as goal
+
+pub returns : goal.returns
+returns g t c =
+    let seed = c.args.seed.now in
+    let lower = c.halve.new.pass in
+    let upper = c.in_ok-first.upper in
+    let first = c.in_ok-first.first.now in
+    let others = c.in_ok-first.others.now in
+    let told = c.in_ok-pass.entries.items in
+    let more = c.in_ok-upper.more.items in
+    let one : HaveRun seed lower first c.in_ok-pass.pass told =
+    subst (λ r. IfOk r (λ ran. HaveRun seed lower first ran.0 ran.1.items)) c.in_ok-pass.was c.join-one.ensures.first in
+    let two : HaveRun seed upper others c.in_ok-upper.upper more =
+    subst (λ r. IfOk r (λ ran. HaveRun seed upper others ran.0 ran.1.items)) c.in_ok-upper.was c.join-one.ensures.second in
+    subst (HaveRun seed c.args.pass c.args.sections.now c.join.new.pass) (sym c.in_ok-append.ensures.items)
+    (both_run seed c.args.shared.now c.args.pass lower upper c.in_ok-pass.pass c.in_ok-upper.upper c.args.sections.now first others told more
+    c.in_ok-first.ensures one two c.join.new.pass c.join.ensures.after)
