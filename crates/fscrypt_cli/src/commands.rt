@@ -1,0 +1,75 @@
+//! The commands of scripts by group, as `--help` lists them.
+
+/// Commands that are listed together: each line begins with the command's name.
+pub(crate) struct Group {
+    pub(crate) title: &'static str,
+    pub(crate) lines: &'static [&'static str],
+}
+
+/// All commands of the grammar.
+pub(crate) const GROUPS: [Group; 6] = [
+    Group {
+        title: "Keys",
+        lines: &[
+            "add-key HEX                        claim the key of these 1 to 128 bytes",
+            "remove-key KEYREF                  give up the claim on the key",
+            "remove-key-all KEYREF              take away every user's claim on it",
+            "key-status KEYREF                  whether the key is there",
+        ],
+    },
+    Group {
+        title: "Policies of directories",
+        lines: &[
+            "set-policy PATH KEYREF PAD [UNIT]  encrypt an empty directory",
+            "set-policy-bytes PATH HEX          the same by the 24 bytes of a policy",
+            "get-policy PATH                    the policy of a node",
+        ],
+    },
+    Group {
+        title: "Names",
+        lines: &[
+            "mkdir PATH                         make a directory",
+            "create PATH                        make an empty file",
+            "symlink PATH TARGET                make a symlink",
+            "readlink PATH                      a symlink's target",
+            "unlink PATH                        take away the name of a file or symlink",
+            "rmdir PATH                         take away an empty directory's name",
+            "rename PATH PATH                   move a node to another name",
+            "list PATH [NUMBER]                 names of a directory, from this one on",
+            "stat PATH                          what a node is",
+        ],
+    },
+    Group {
+        title: "Contents",
+        lines: &[
+            "open PATH                          a handle",
+            "close NUMBER                       the end of a handle",
+            "read NUMBER NUMBER NUMBER          handle, offset, at most so many bytes",
+            "write NUMBER NUMBER HEX            handle, offset, bytes",
+            "fill NUMBER NUMBER NUMBER NUMBER   handle, offset, so many times one byte",
+            "drop-caches                        let go of what is kept for speed",
+        ],
+    },
+    Group {
+        title: "Records",
+        lines: &[
+            "meta-get RECORD                    a record and its version",
+            "meta-put RECORD NUMBER HEX         store one in place of this version",
+        ],
+    },
+    Group {
+        title: "Sessions",
+        lines: &[
+            "protector PROTECTOR NEWSECRET      make a protector",
+            "protector-change PROTECTOR SECRET NEWSECRET give it another secret",
+            "policy-new POLICY PROTECTOR SECRET [PAD UNIT] make a policy",
+            "policy-add POLICY PROTECTOR SECRET ADDED SECRET let ADDED open it too",
+            "policy-drop POLICY PROTECTOR       let a protector open it no longer",
+            "unlock POLICY PROTECTOR SECRET     add a policy's key",
+            "lock POLICY                        give up the claim on a policy's key",
+            "status POLICY                      the state of a policy's key",
+            "encrypt PATH POLICY [PAD [UNIT]]   encrypt an empty directory under it",
+            "migrate POLICY                     give it the options of version 2",
+        ],
+    },
+];
