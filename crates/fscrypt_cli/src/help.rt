@@ -13,7 +13,8 @@ proved with rattle-kit-13f, logic dac8208d650f15bf
 ";
 
 const BEFORE_COMMANDS: &str = "\
-fsc replays a script over an encrypted directory tree in memory, and prints a log.
+fsc replays a script over an encrypted directory tree in memory, and prints a
+log of it.
 
     fsc replay [--serial] [--seed HEX64]
     fsc --help | --version
