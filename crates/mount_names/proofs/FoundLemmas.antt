@@ -36,6 +36,7 @@ use Rattle.mount_names.specs.Removed.{IsEntryOf}
 use Rattle.mount_names.specs.Shown.{ShowsAs}
 use Rattle.mount_names.specs.declared.reading.Reading.TheVariants.{Locked}
 use Rattle.mount_names.proofs.AgreeLemmas.{StoredApart}
+use Rattle.mount_names.proofs.PlaceLemmas.{by_itself}
 use Rattle.mount_names.proofs.ShownLemmas.{locked_shows}
 
 abbrev number_in : Option (Name × ℕ) → Option ℕ
@@ -167,6 +168,16 @@ module _ (disk : Disk) (next : ℕ) (m : PlainMount) (well : IsWellFormed m) (tr
         by : (o : Option (Name × ℕ)) → found m d part ≡ o → IsStoredFor disk m d o (Some s)
         by None none = ap (λ (b : List ℕ). number_under b (stored_entries disk d)) s_is ∙ leads (context_at m.nodes d) refl ∙ ap number_in none
         by (Some e) here = ap (λ (b : List ℕ). Some b) (s_is ∙ ap (form_in m d) (part_is keyed e here))
+
+    -- in a keyed directory the stored form leads where the name does
+    pub keyed_entry : is_keyed m d ≡ true → is_dir_at m.nodes d ≡ true → NamesStayDistinct → HasByteKey m d → IsPlain part → AreBytes part
+        → number_under (form_in m d part) (stored_entries disk d) ≡ entry m.nodes d part
+    unfolding sealed_name
+    keyed_entry keyed is_dir distinct key plain bytes = leads (context_at m.nodes d) refl ∙ by_itself part (shown m d) (children m.nodes d) (shown_plain keyed)
+      where
+        leads : (o : Option Context) → context_at m.nodes d ≡ o → number_under (stored_form m.raws d o part) (stored_entries disk d) ≡ led_to m d part
+        leads None none = plain_led disk next m well tree d part none
+        leads (Some c) here = keyed_led m d c here disk next well tree is_dir distinct keyed (key c here) part plain bytes
 
     -- a text where it is locked
     pub locked_part : StoredNamesFit → is_keyed m d ≡ false

@@ -18,3 +18,4 @@ pub mod SetLemmas
 pub mod FoundLemmas
 pub mod NodesLemmas
 pub mod RemovalLemmas
+pub mod MoveLemmas

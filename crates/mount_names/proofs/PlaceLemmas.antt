@@ -140,7 +140,7 @@ dir_kind (Some v) is = at v.body is
     at (File contents) bad = absurd (true≢false (sym bad))
     at (Link target) bad = refl
 
-by_itself : (part : Name) (show : Name → Name) (cs : Children) → ((n : Name) → show n ≡ n)
+pub by_itself : (part : Name) (show : Name → Name) (cs : Children) → ((n : Name) → show n ≡ n)
     → option_map (λ (e : Name × ℕ). e.1) (lookup_entry (λ n. bytes_eq part (show n)) cs) ≡ lookup (bytes_eq part) cs
 by_itself part show [] itself = refl
 by_itself part show (c ∷ cs) itself =

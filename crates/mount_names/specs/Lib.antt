@@ -5,3 +5,4 @@ pub mod Listed
 pub mod Encrypted
 pub mod Found
 pub mod Removed
+pub mod Moved

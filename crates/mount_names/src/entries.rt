@@ -41,7 +41,7 @@ pub(crate) fn entry_at<L: Ledger>(
     ensures there { IfOk result (IsEntryOn state.old.disk) }
     ensures stands { StaysFor state.old state.new }
     ensures same { SameButKeys state.old state.new }
-    ensures ticks { steps.new ≤ steps.old + length path.now + 1 }
+    ensures ticks { steps.new ≤ steps.old + length path.now }
 {
     let last = path.len() - 1;
     let dir = match walked_parent(alloc, state, path, steps) {

@@ -9,12 +9,14 @@ mod listings;
 mod looks;
 mod lookups;
 mod makes;
+mod moves;
 mod places;
 mod policies;
 mod reading;
 mod removals;
 mod stored_names;
 mod symlinks;
+mod targets;
 #[cfg(test)]
 mod tests;
 
@@ -23,6 +25,7 @@ pub use listings::list;
 pub use looks::{get_policy, stat};
 pub use lookups::lookup;
 pub use makes::{create, mkdir};
+pub use moves::rename;
 pub use policies::set_policy;
 pub use removals::{rmdir, unlink};
 pub use symlinks::symlink;

@@ -130,7 +130,8 @@ fn is_full(state: &MountState, dir: u32) -> bool
     has_most_entries(state, dir) || (has_most_nodes(state) || state.next_node == u32::MAX)
 }
 
-fn has_most_entries(state: &MountState, dir: u32) -> bool
+// Whether the directory has as many entries as one may have.
+pub(crate) fn has_most_entries(state: &MountState, dir: u32) -> bool
     ensures { (m : PlainMount) → StandsFor state.now m
         → result ≡ nat_le MOST_CHILDREN (length (children m.nodes dir)) }
 {

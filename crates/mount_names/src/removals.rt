@@ -35,7 +35,7 @@ pub fn unlink<L: Ledger>(
         → IsGiven (answer_to_unlink m path.now) result state.new }
     ensures refused { is_refused result ≡ true → SameButKeys state.old state.new }
     ensures same { SameButTree state.old state.new }
-    ensures ticks { steps.new ≤ steps.old + length path.now + 1 }
+    ensures ticks { steps.new ≤ steps.old + length path.now }
 {
     if path.is_empty() {
         return Reply::Refused(Refusal::IsDir);
@@ -60,7 +60,7 @@ pub fn rmdir<L: Ledger>(
         → IsGiven (answer_to_rmdir m path.now) result state.new }
     ensures refused { is_refused result ≡ true → SameButKeys state.old state.new }
     ensures same { SameButTree state.old state.new }
-    ensures ticks { steps.new ≤ steps.old + length path.now + 1 }
+    ensures ticks { steps.new ≤ steps.old + length path.now }
 {
     if path.is_empty() {
         return Reply::Refused(Refusal::Inval);

@@ -85,7 +85,7 @@ fn ask_a_new_mount<L: Ledger, A: Abort>(rt: &A, alloc: Global, blank: Blank) -> 
 }
 
 #[test]
-fn names_go_and_nodes_with_them(rt: HostRuntime) -> Result<(), Fail> {
+fn names_move_and_go_and_nodes_with_them(rt: HostRuntime) -> Result<(), Fail> {
     let alloc = rt.alloc();
     take_names_away::<Brand, HostRuntime>(&rt, alloc, Blank::new(1))
 }
@@ -99,7 +99,7 @@ fn path_of(alloc: Global, names: &[&[u8]]) -> Result<Path, AllocError> {
     Ok(path)
 }
 
-// A directory with a file in it.
+// A directory with a file in it, which is moved out.
 fn take_names_away<L: Ledger, A: Abort>(rt: &A, alloc: Global, blank: Blank) -> Result<(), Fail>
     requires name { blank.name ≡ L.name }
     requires parts { blank.parts ≡ L.parts }
@@ -117,10 +117,16 @@ fn take_names_away<L: Ledger, A: Abort>(rt: &A, alloc: Global, blank: Blank) -> 
     assert!(rt; matches!(full, Reply::Refused(Refusal::NotEmpty)));
     let other = unlink(alloc, &mut state, &dir, &mut steps);
     assert!(rt; matches!(other, Reply::Refused(Refusal::IsDir)));
-    let gone = unlink(alloc, &mut state, &file, &mut steps);
-    assert!(rt; matches!(gone, Reply::Done));
+    let below = path_of(alloc, &[b"a".as_slice(), b"b".as_slice()])?;
+    let into_itself = rename(alloc, &mut state, &dir, &below, &mut steps);
+    assert!(rt; matches!(into_itself, Reply::Refused(Refusal::Inval)));
+    let other_file = path_of(alloc, &[b"g".as_slice()])?;
+    let moved = rename(alloc, &mut state, &file, &other_file, &mut steps);
+    assert!(rt; matches!(moved, Reply::Done));
     let again = unlink(alloc, &mut state, &file, &mut steps);
     assert!(rt; matches!(again, Reply::Refused(Refusal::NotFound)));
+    let gone = unlink(alloc, &mut state, &other_file, &mut steps);
+    assert!(rt; matches!(gone, Reply::Done));
     let removed = rmdir(alloc, &mut state, &dir, &mut steps);
     assert!(rt; matches!(removed, Reply::Done));
     assert!(rt; state.disk.node_count() == 1);

@@ -1,0 +1,357 @@
+-- What a rename is refused, cause by cause, and the state in which a name was moved.
+use Rattle.std.proofs.Common.{◌≡◌, ℕ, ◌≤◌, length, arith, Bool, true, false, cond, not, ◌||◌, bytes_eq, List, Option, option_map, IfSome, OnOk, OnErr, Some, None, is_some, Result, Ok, Err, inl, refl, sym, ap, subst, ◌∙◌}
+use Rattle.number_map.specs.Numbered.{changed}
+use Rattle.inode_refs.specs.Cached.{Cache}
+use Rattle.plain_tree.specs.Nodes.{Name, Nodes, context_at, context_in, entry}
+use Rattle.plain_tree.specs.Changes.{on_children, name_taken, moved}
+use Rattle.plain_tree.specs.Nodes.{without_child}
+use Rattle.plain_tree.specs.Facts.{AgreesBy}
+use Rattle.plain_tree.proofs.FoundLemmas.{found_entry}
+use Rattle.disk_tree.specs.DiskTree.{Disk}
+use Rattle.disk_tree.specs.DiskTree as disk
+use Rattle.disk_tree.specs.DiskTree.{children as stored_entries}
+use Rattle.disk_tree.specs.Entries.{number_under}
+use Rattle.disk_tree.specs.Entries.{without_entry}
+use Rattle.disk_tree.specs.Nodes.{on_body, with_entries}
+use Rattle.policy_ctx.specs.declared.policy.Context.{Context}
+use Rattle.mount_model.specs.declared.reply.Refusal.{Refusal}
+use Rattle.mount_model.specs.declared.reply.Refusal.TheVariants.{NoKey, Inval, Exists, XDev, NoSpace, NoKeyClash, NotFound}
+use Rattle.mount_model.specs.declared.reply.Reply.{Reply}
+use Rattle.mount_model.specs.declared.reply.Reply.TheVariants.{Refused}
+use Rattle.mount_model.specs.ClaimHistory.{is_refused}
+use Rattle.std.proofs.lemmas.Bool.{true≢false, ne_eqb}
+use Rattle.mount_state.specs.Given.{IsGivenOrNoMemory, IsRefusedAsDue}
+use Rattle.mount_state.specs.Passed.{with_past}
+use Rattle.mount_model.specs.PlainMount.{PlainMount}
+use Rattle.mount_model.specs.Answered.{Answer, refused, done, at_node, at_entry}
+use Rattle.mount_model.specs.States.{is_keyed, shown}
+use Rattle.mount_model.specs.NameAnswers.{clashes}
+use Rattle.mount_model.specs.RenameAnswer.{may_hold, is_full_elsewhere, with_moved, answer_to_move, answer_to_move_from, answer_to_rename_in, answer_to_rename}
+use Rattle.mount_model.specs.Walk.{PathParts, Walked, found, is_root, last_part, parent, is_at_or_above}
+use Rattle.mount_model.specs.WellFormed.{IsWellFormed}
+use Rattle.mount_model.specs.Carried.{IsPath}
+use Rattle.mount_model.specs.declared.call.Op.TheVariants as op
+use Rattle.mount_model.proofs.WellSteps.{step_well}
+use Rattle.mount_state.specs.Stored.{stored_node, stored_form}
+use Rattle.mount_state.specs.StandsFor.{StandsFor, CachesStand}
+use Rattle.mount_state.specs.StandsFor.{kind_in as plain_kind}
+use Rattle.mount_state.specs.declared.state.MountState.{MountState}
+use Rattle.mount_names.specs.declared.entries.Entry.{Entry}
+use Rattle.mount_names.specs.declared.places.Place.{Place}
+use Rattle.mount_names.specs.Found.{IsEntryOn, entry_in, entry_found, or_not_found}
+use Rattle.mount_names.specs.Moved.{source_walked, source_end, IsNewName, name_refusal, place_refusal, first_of, move_refusal, target_walked, target_refusal, IsTargetAt}
+use Rattle.mount_names.specs.Removed.{IsEntryOf}
+use Rattle.mount_names.specs.SameButTree.{SameButTree}
+use Rattle.mount_names.proofs.AgreeLemmas.{put_agrees, taken_agrees}
+use Rattle.mount_state.specs.Discipline.{Forgets}
+use Rattle.mount_state.specs.Safe.{IsSafe}
+use Rattle.disk_tree.specs.declared.fault.DiskFault.{DiskFault}
+use Rattle.mount_names.proofs.DiskRules.{moved_rule, moved_safe}
+use Rattle.mount_names.proofs.EditLemmas.{read_changed}
+use Rattle.mount_names.proofs.FoundLemmas.{stored_apart, ok_entry, no_entry}
+use Rattle.mount_names.proofs.HeldLemmas.{caches_alike}
+use Rattle.mount_names.proofs.NodesLemmas.{with_nodes, nodes_stand, context_left_so, kind_left_so, read_moved}
+
+-- ---- where the name comes from
+
+pub record IsFrom (m : PlainMount) (path : PathParts) (e : Entry) : Type 0 where
+  pub name : Name
+  pub led : parent m path ≡ Ok e.dir
+  pub keyed : not (is_keyed m e.dir) ≡ false
+  pub found_so : found m e.dir (last_part path) ≡ Some (name, e.number)
+  pub of : IsEntryOf m name e
+
+module _ (m : PlainMount) (path new_path : PathParts) where
+  abbrev rename_at : Walked → Answer
+  rename_at w = at_node m (answer_to_rename_in m (last_part path) new_path) w
+
+  same_refusal : (a b : Refusal) → no_entry a ≡ no_entry b → a ≡ b
+  same_refusal a b e = cc
+
+  same_entry : (a b : Entry) → ok_entry a ≡ ok_entry b → a ≡ b
+  same_entry a b e = cc
+
+  pub source_refused : (r : Refusal) → Err r ≡ source_end m path → rename_at (parent m path) ≡ refused m r
+  source_refused r is = by (parent m path) is
+    where
+      in_dir : (d : ℕ) (o : Option (Name × ℕ)) → Err r ≡ or_not_found (option_map (entry_in m d) o) → at_entry m (answer_to_move_from m new_path d) o ≡ refused m r
+      in_dir d None is = ap (refused m) (sym (same_refusal r NotFound is))
+      in_dir d (Some e) is = let bad : no_entry r ≡ ok_entry (entry_in m d e) = is in absurd (cc)
+
+      keyed_or : (d : ℕ) (locked : Bool) → Err r ≡ cond locked (Err NoKey) (or_not_found (entry_found m d (last_part path)))
+          → cond locked (refused m NoKey) (at_entry m (answer_to_move_from m new_path d) (found m d (last_part path))) ≡ refused m r
+      keyed_or d true is = ap (refused m) (sym (same_refusal r NoKey is))
+      keyed_or d false is = in_dir d (found m d (last_part path)) is
+
+      by : (w : Walked) → Err r ≡ source_walked m (last_part path) w → rename_at w ≡ refused m r
+      by (Err q) is = ap (refused m) (sym (same_refusal r q is))
+      by (Ok d) is = keyed_or d (not (is_keyed m d)) is
+
+  pub source_at : (entry : Entry) → Ok entry ≡ source_end m path → IsFrom m path entry
+  source_at entry is = by (parent m path) refl is
+    where
+      in_dir : (d : ℕ) → parent m path ≡ Ok d → not (is_keyed m d) ≡ false → (o : Option (Name × ℕ)) → found m d (last_part path) ≡ o → Ok entry ≡ or_not_found (option_map (entry_in m d) o) → IsFrom m path entry
+      in_dir d led keyed None none is = let bad : ok_entry entry ≡ no_entry NotFound = is in absurd (cc)
+      in_dir d led keyed (Some e) here is =
+          let entry_is : entry ≡ entry_in m d e = same_entry entry (entry_in m d e) is in
+          subst (IsFrom m path) (sym entry_is) (record {
+            name = e.0;
+            led = led;
+            keyed = keyed;
+            found_so = here;
+            of = record { there = found_entry m.nodes d (λ n. bytes_eq (last_part path) (shown m d n)) e here; stored = refl };
+          })
+
+      keyed_or : (d : ℕ) → parent m path ≡ Ok d → (locked : Bool) → not (is_keyed m d) ≡ locked → Ok entry ≡ cond locked (Err NoKey) (or_not_found (entry_found m d (last_part path))) → IsFrom m path entry
+      keyed_or d led true locked is = let bad : ok_entry entry ≡ no_entry NoKey = is in absurd (cc)
+      keyed_or d led false keyed is = in_dir d led keyed (found m d (last_part path)) refl is
+
+      by : (w : Walked) → parent m path ≡ w → Ok entry ≡ source_walked m (last_part path) w → IsFrom m path entry
+      by (Err q) led is = let bad : ok_entry entry ≡ no_entry q = is in absurd (cc)
+      by (Ok d) led is = keyed_or d led (not (is_keyed m d)) refl is
+
+  pub rename_is : (is_root path || is_root new_path) ≡ false → (e : Entry) (from : IsFrom m path e) → answer_to_rename m path new_path ≡ answer_to_move_from m new_path e.dir from.name e.number
+  rename_is named e from =
+      (λ i. cond (named i) (refused m Inval) (rename_at (from.led i)))
+      ∙ (λ i. cond (from.keyed i) (refused m NoKey) (at_entry m (answer_to_move_from m new_path e.dir) (from.found_so i)))
+
+-- ---- where it goes
+
+abbrev refused_or : PlainMount → Answer → Option Refusal → Answer
+refused_or m answer None = answer
+refused_or m answer (Some refusal) = refused m refusal
+
+module _ (m : PlainMount) (e : Entry) (name : Name) (path : PathParts) where
+  abbrev moved_to : ℕ → Answer
+  moved_to to = done (with_moved m e.dir name to (last_part path) e.number)
+
+  -- a test that refuses
+  one_test : (answer : Answer) (b : Bool) (r : Refusal) (rest : Answer) (more : Option Refusal) → rest ≡ refused_or m answer more → cond b (refused m r) rest ≡ refused_or m answer (cond b (Some r) more)
+  one_test answer true r rest more is = refl
+  one_test answer false r rest more is = is
+
+  joined : (answer : Answer) (b c : Bool) (r q : Refusal) (rest : Answer) (more : Option Refusal) → rest ≡ refused_or m answer more
+      → cond b (refused m r) (cond c (refused m q) rest) ≡ refused_or m answer (first_of (cond b (Some r) (cond c (Some q) None)) more)
+  joined answer true c r q rest more is = refl
+  joined answer false true r q rest more is = refl
+  joined answer false false r q rest more is = is
+
+  move_is : (to : ℕ) → answer_to_move m e.dir name e.number path to ≡ refused_or m (moved_to to) (move_refusal m e to (is_at_or_above m e.number path) (last_part path))
+  move_is to =
+      joined (moved_to to) (not (is_keyed m to)) (is_some (entry m.nodes to (last_part path))) NoKey Exists _ (place_refusal m e to (is_at_or_above m e.number path) (last_part path))
+      (one_test (moved_to to) (is_at_or_above m e.number path) Inval _ _
+      (one_test (moved_to to) (not (may_hold (context_at m.nodes to) (context_at m.nodes e.number))) XDev _ _
+      (one_test (moved_to to) (clashes m to (last_part path)) NoKeyClash _ _
+      (one_test (moved_to to) (is_full_elsewhere m e.dir to) NoSpace _ None refl))))
+
+  pub target_refused : (r : Refusal) → target_refusal m e path ≡ Some r → answer_to_move_from m path e.dir name e.number ≡ refused m r
+  target_refused r is = by (parent m path) is
+    where
+      same : (a b : Refusal) → Some a ≡ Some b → a ≡ b
+      same a b e = cc
+
+      by : (w : Walked) → target_walked m e path w ≡ Some r → at_node m (answer_to_move m e.dir name e.number path) w ≡ refused m r
+      by (Err q) is = ap (refused m) (same q r is)
+      by (Ok to) is = move_is to ∙ ap (refused_or m (moved_to to)) is
+
+  pub target_free : (to : ℕ) → parent m path ≡ Ok to → target_refusal m e path ≡ None → answer_to_move_from m path e.dir name e.number ≡ moved_to to
+  target_free to led free =
+      ap (at_node m (answer_to_move m e.dir name e.number path)) led
+      ∙ move_is to ∙ ap (refused_or m (moved_to to)) (ap (target_walked m e path) (sym led) ∙ free)
+
+-- ---- the state in which it was moved
+
+module _ (old : MountState) (m : PlainMount) (st : StandsFor old m) (e : Entry) (name : Name) (of : IsEntryOf m name e) (place : Place) (new_name : Name) (at : IsNewName m place.dir new_name place) where
+  abbrev after_move : Nodes
+  after_move = moved m.nodes e.dir name place.dir new_name e.number
+
+  abbrev taken_disk : Disk
+  taken_disk = changed old.disk e.dir (on_body (with_entries (without_entry e.stored)))
+
+  form_left : place.stored ≡ stored_form m.raws place.dir (context_at (name_taken m.nodes e.dir name) place.dir) new_name
+  form_left =
+      at.stored ∙ ap (λ (o : Option Context). stored_form m.raws place.dir o new_name)
+      (sym (read_changed context_in m.nodes e.dir (on_children (without_child name)) (λ v. refl) place.dir))
+
+  agree_after : AgreesBy (stored_node m.raws) after_move (disk.moved old.disk e.dir e.stored place.dir place.stored e.number)
+  agree_after = put_agrees m.raws (name_taken m.nodes e.dir name) taken_disk
+      (taken_agrees m.raws m.nodes old.disk st.tree.nodes e.dir e.stored name of.stored (stored_apart old.disk old.next_node m st.well st.tree e.dir name (ap is_some of.there)))
+      place.dir place.stored new_name e.number form_left
+
+  pub moved_stands : (new : MountState) → SameButTree old new → new.next_node ≡ old.next_node → new.disk ≡ disk.moved old.disk e.dir e.stored place.dir place.stored e.number → new.inodes ≡ old.inodes
+      → IsWellFormed (with_moved m e.dir name place.dir new_name e.number) → StandsFor new (with_moved m e.dir name place.dir new_name e.number)
+  moved_stands new same next disk_is inodes well =
+      nodes_stand old new m after_move st same next
+      (subst (λ (x : Disk). AgreesBy (stored_node m.raws) after_move x) (sym disk_is) agree_after)
+      (subst (λ (x : Cache). CachesStand x old.modes (with_nodes m after_move)) (sym inodes)
+      (caches_alike old.inodes old.modes m after_move m.next (record {
+        contexts = λ n key there. read_moved context_in context_left_so m.nodes e.dir name place.dir new_name e.number n;
+        kinds = λ n key there. read_moved plain_kind kind_left_so m.nodes e.dir name place.dir new_name e.number n;
+      }) st.caches))
+      well
+
+pub rename_well : (m : PlainMount) (path new_path : PathParts) → IsWellFormed m → IsPath path → IsPath new_path → IsWellFormed (answer_to_rename m path new_path).mount
+rename_well m path new_path well fits new_fits =
+    step_well m 0 (record { uid = 0; op = op.Rename path new_path }) (answer_to_rename m path new_path).reply (answer_to_rename m path new_path).mount
+    well (fits, new_fits) (λ _. tt) (inl (refl, refl))
+
+-- the disk once the entry was moved
+pub move_seen : (old new : Disk) (e : Entry) (place : Place) (from to : List ℕ) → from ≡ e.stored → to ≡ place.stored → IsEntryOn old e
+    → IfSome (number_under from (stored_entries old e.dir)) (λ n. new ≡ disk.moved old e.dir from place.dir to n) → new ≡ disk.moved old e.dir e.stored place.dir place.stored e.number
+move_seen old new e place from to from_is to_is there moved_so =
+    subst (λ (o : Option ℕ). IfSome o (λ n. new ≡ disk.moved old e.dir e.stored place.dir place.stored n)) there
+    (subst (λ (b : List ℕ). IfSome (number_under e.stored (stored_entries old e.dir)) (λ n. new ≡ disk.moved old e.dir e.stored place.dir b n)) to_is
+    (subst (λ (b : List ℕ). IfSome (number_under b (stored_entries old e.dir)) (λ n. new ≡ disk.moved old e.dir b place.dir to n)) from_is moved_so))
+
+-- ---- why no name can come to the directory
+
+module _ (m : PlainMount) (to : ℕ) (name : Name) where
+  pub name_locked : is_keyed m to ≡ false → name_refusal m to name ≡ Some NoKey
+  name_locked locked = ap (λ b. cond (not b) (Some NoKey) (cond (is_some (entry m.nodes to name)) (Some Exists) None)) locked
+
+  module _ (keyed : is_keyed m to ≡ true) where
+    pub taken_there : is_some (entry m.nodes to name) ≡ true → name_refusal m to name ≡ Some Exists
+    taken_there taken = λ i. cond (not (keyed i)) (Some NoKey) (cond (taken i) (Some Exists) None)
+
+    pub name_free : is_some (entry m.nodes to name) ≡ false → name_refusal m to name ≡ None
+    name_free free = λ i. cond (not (keyed i)) (Some NoKey) (cond (free i) (Some Exists) None)
+
+-- why it can't come there
+module _ (m : PlainMount) (e : Entry) (to : ℕ) (past : Bool) (name : Name) where
+  abbrev holds : Bool
+  holds = may_hold (context_at m.nodes to) (context_at m.nodes e.number)
+
+  abbrev after_holds : Option Refusal
+  after_holds = cond (clashes m to name) (Some NoKeyClash) (cond (is_full_elsewhere m e.dir to) (Some NoSpace) None)
+
+  pub below_itself : past ≡ true → place_refusal m e to past name ≡ Some Inval
+  below_itself is = ap (λ b. cond b (Some Inval) (cond (not holds) (Some XDev) after_holds)) is
+
+  module _ (outside : past ≡ false) where
+    pub other_policy : holds ≡ false → place_refusal m e to past name ≡ Some XDev
+    other_policy other = λ i. cond (outside i) (Some Inval) (cond (not (other i)) (Some XDev) after_holds)
+
+    module _ (alike : holds ≡ true) where
+      pub clash_there : clashes m to name ≡ true → place_refusal m e to past name ≡ Some NoKeyClash
+      clash_there clash = λ i. cond (outside i) (Some Inval) (cond (not (alike i)) (Some XDev) (cond (clash i) (Some NoKeyClash) (cond (is_full_elsewhere m e.dir to) (Some NoSpace) None)))
+
+      module _ (apart : clashes m to name ≡ false) where
+        pub full_there : is_full_elsewhere m e.dir to ≡ true → place_refusal m e to past name ≡ Some NoSpace
+        full_there full = λ i. cond (outside i) (Some Inval) (cond (not (alike i)) (Some XDev) (cond (apart i) (Some NoKeyClash) (cond (full i) (Some NoSpace) None)))
+
+        pub nothing_against : is_full_elsewhere m e.dir to ≡ false → place_refusal m e to past name ≡ None
+        nothing_against room = λ i. cond (outside i) (Some Inval) (cond (not (alike i)) (Some XDev) (cond (apart i) (Some NoKeyClash) (cond (room i) (Some NoSpace) None)))
+
+  pub move_told : {r : Option Refusal} → is_keyed m to ≡ true → is_some (entry m.nodes to name) ≡ false → r ≡ place_refusal m e to past name → move_refusal m e to past name ≡ r
+  move_told keyed free is = ap (λ (o : Option Refusal). first_of o (place_refusal m e to past name)) (name_free m to name keyed free) ∙ sym is
+
+  pub move_stopped : (r : Refusal) → name_refusal m to name ≡ Some r → move_refusal m e to past name ≡ Some r
+  move_stopped r is = ap (λ (o : Option Refusal). first_of o (place_refusal m e to past name)) is
+
+-- ---- the walk to the new directory
+
+abbrev ok_past : ℕ → Bool → Result (ℕ × Bool) Refusal
+ok_past n past = Ok (n, past)
+
+abbrev no_past : Refusal → Result (ℕ × Bool) Refusal
+no_past r = Err r
+
+abbrev ok_at : ℕ → Walked
+ok_at n = Ok n
+
+abbrev no_at : Refusal → Walked
+no_at r = Err r
+
+pub walk_led : (past whole : Bool) (n : ℕ) (w : Walked) → ok_past n past ≡ with_past whole w → ok_at n ≡ w
+walk_led past whole n (Ok k) is = ap ok_at (number is)
+  where
+    number : ok_past n past ≡ ok_past k whole → n ≡ k
+    number is = let pair : (ℕ × Bool) = (n, past) in let other : (ℕ × Bool) = (k, whole) in let both : pair ≡ other = cc in ap (λ (p : ℕ × Bool). p.0) both
+walk_led past whole n (Err r) is = let bad : ok_past n past ≡ no_past r = is in absurd (cc)
+
+pub walk_passed : (past whole : Bool) (n : ℕ) (w : Walked) → ok_past n past ≡ with_past whole w → past ≡ whole
+walk_passed past whole n (Ok k) is = flag is
+  where
+    flag : ok_past n past ≡ ok_past k whole → past ≡ whole
+    flag is = let pair : (ℕ × Bool) = (n, past) in let other : (ℕ × Bool) = (k, whole) in let both : pair ≡ other = cc in ap (λ (p : ℕ × Bool). p.1) both
+walk_passed past whole n (Err r) is = let bad : ok_past n past ≡ no_past r = is in absurd (cc)
+
+pub walk_stopped : (whole : Bool) (r : Refusal) (w : Walked) → no_past r ≡ with_past whole w → no_at r ≡ w
+walk_stopped whole r (Err q) is = ap no_at (same is)
+  where
+    same : no_past r ≡ no_past q → r ≡ q
+    same is = cc
+walk_stopped whole r (Ok n) is = let bad : no_past r ≡ ok_past n whole = is in absurd (cc)
+
+module _ (m : PlainMount) (e : Entry) (path : PathParts) where
+  pub refused_walk : (r : Refusal) → no_at r ≡ parent m path → target_refusal m e path ≡ Some r
+  refused_walk r is = ap (target_walked m e path) (sym is)
+
+  -- at the directory that was reached
+  pub target_there : (to : ℕ) (past : Bool) (part : Name) → ok_at to ≡ parent m path → past ≡ is_at_or_above m e.number path → part ≡ last_part path
+      → target_refusal m e path ≡ move_refusal m e to past part
+  target_there to past part led passed is = ap (target_walked m e path) (sym led) ∙ (λ i. move_refusal m e to (sym passed i) (sym is i))
+
+-- ---- what was answered
+
+pub due_refused : (m : PlainMount) (answer : Answer) (r : Refusal) → answer ≡ refused m r → IsRefusedAsDue answer (Refused r)
+due_refused m answer r is _ = sym (ap (λ (a : Answer). a.reply) is)
+
+pub due_done : (after : PlainMount) (answer : Answer) (reply : Reply) → answer ≡ done after → IsRefusedAsDue answer reply
+due_done after answer reply is bad = absurd (true≢false (sym bad ∙ ap (λ (a : Answer). is_refused a.reply) is))
+
+pub named_path : (path : PathParts) → 1 ≤ length path → is_root path ≡ false
+named_path path some = ne_eqb (length path) 0 (λ none. absurd (omega arith))
+
+pub same_bytes : (a b : List ℕ) → Some a ≡ Some b → a ≡ b
+same_bytes a b is = cc
+
+-- what is told at the place's own directory is told at this one
+pub why_here : (m : PlainMount) (e : Entry) (to : ℕ) (past : Bool) (name : Name) (place : Place) → IsNewName m to name place → (r : Option Refusal)
+    → (IsNewName m place.dir name place → r ≡ place_refusal m e place.dir past name) → r ≡ place_refusal m e to past name
+why_here m e to past name place at r told =
+    told (subst (λ (d : ℕ). IsNewName m d name place) (sym at.dir) at)
+    ∙ ap (λ (d : ℕ). place_refusal m e d past name) at.dir
+
+pub placed_at : (m : PlainMount) (e : Entry) (path : PathParts) (place : Place) (to : ℕ) (past : Bool) (part : Name) → ok_at to ≡ parent m path → past ≡ is_at_or_above m e.number path
+    → part ≡ last_part path → place.dir ≡ to → IsNewName m to part place → move_refusal m e to past part ≡ None → IsTargetAt m e path place
+placed_at m e path place to past part led passed part_is dir_is named free = record {
+  led = sym led ∙ ap ok_at (sym dir_is);
+  named = subst (λ (d : ℕ). IsNewName m d (last_part path) place) (sym dir_is) (subst (λ (p : Name). IsNewName m to p place) part_is named);
+  free = target_there m e path to past part led passed part_is ∙ free;
+}
+
+-- ---- at the entry
+
+module _ (m : PlainMount) (e : Entry) (name : Name) (path : PathParts) (place : Place) (at : IsTargetAt m e path place) where
+  abbrev pub after_moving : PlainMount
+  after_moving = with_moved m e.dir name place.dir (last_part path) e.number
+
+  pub moved_is : answer_to_move_from m path e.dir name e.number ≡ done after_moving
+  moved_is = target_free m e name path place.dir at.led at.free
+
+  pub moved_given : (reply : Reply) (new : MountState) → IsGivenOrNoMemory m (done after_moving) reply new → IsGivenOrNoMemory m (answer_to_move_from m path e.dir name e.number) reply new
+  moved_given reply new given = subst (λ (a : Answer). IsGivenOrNoMemory m a reply new) (sym moved_is) given
+
+  pub moved_well : IsWellFormed (answer_to_move_from m path e.dir name e.number).mount → IsWellFormed after_moving
+  moved_well well = subst IsWellFormed (ap (λ (a : Answer). a.mount) moved_is) well
+
+-- a refusal is answered
+pub refused_so : (m : PlainMount) (answer : Answer) (r : Refusal) → answer ≡ refused m r → (new : MountState) → StandsFor new m → IsGivenOrNoMemory m answer (Refused r) new
+refused_so m answer r is new st = inl (sym (ap (λ (a : Answer). a.reply) is), subst (StandsFor new) (sym (ap (λ (a : Answer). a.mount) is)) st)
+
+-- ---- what must be forgotten goes on being forgotten, whether the entry was moved or not
+
+module _ (s : MountState) (e : Entry) (place : Place) (new : Disk) (from to : List ℕ) (from_is : from ≡ e.stored) (to_is : to ≡ place.stored) (there : IsEntryOn s.disk e) where
+  abbrev MovedSo : Type 0
+  MovedSo = IfSome (number_under from (stored_entries s.disk e.dir)) (λ n. new ≡ disk.moved s.disk e.dir from place.dir to n)
+
+  pub moved_keeps : {T : Type 0} (r : Result T DiskFault) → OnOk r MovedSo → OnErr r (new ≡ s.disk) → Forgets new s.ring.claims s.inodes s.modes s.handles.live
+  moved_keeps (Ok t) so kept = subst (λ (x : Disk). Forgets x s.ring.claims s.inodes s.modes s.handles.live) (sym (move_seen s.disk new e place from to from_is to_is there so))
+      (moved_rule s.disk s.next_node s.ring.claims s.inodes s.modes s.handles.live s.forgets s.safe e.dir e.stored place.dir place.stored e.number)
+  moved_keeps (Err f) so kept = subst (λ (x : Disk). Forgets x s.ring.claims s.inodes s.modes s.handles.live) (sym kept) s.forgets
+
+  pub moved_is_safe : {T : Type 0} (r : Result T DiskFault) → OnOk r MovedSo → OnErr r (new ≡ s.disk) → IsSafe new s.next_node s.handles.live
+  moved_is_safe (Ok t) so kept = subst (λ (x : Disk). IsSafe x s.next_node s.handles.live) (sym (move_seen s.disk new e place from to from_is to_is there so))
+      (moved_safe s.disk s.next_node s.ring.claims s.inodes s.modes s.handles.live s.forgets s.safe e.dir e.stored place.dir place.stored e.number)
+  moved_is_safe (Err f) so kept = subst (λ (x : Disk). IsSafe x s.next_node s.handles.live) (sym kept) s.safe

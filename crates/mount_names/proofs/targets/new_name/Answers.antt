@@ -1,0 +1,48 @@
+use Rattle.std.proofs.Common.{◌≡◌, ℕ, true, List, is_some, refl, sym, ap, ◌∙◌}
+use Rattle.plain_tree.specs.Nodes.{entry}
+use Rattle.disk_tree.specs.DiskTree.{children}
+use Rattle.disk_tree.specs.Entries.{number_under}
+use Rattle.mount_model.specs.States.{is_keyed}
+use Rattle.mount_state.specs.Stored.{stored_form}
+use Rattle.mount_names.specs.Found.{form_in}
+use Rattle.mount_names.proofs.FoundLemmas.{keyed_entry}
+use Rattle.mount_names.proofs.MoveLemmas.{taken_there, same_bytes}
+use Rattle.mount_names.proofs.PlaceLemmas.{dir_names, name_plain}
+use Rattle.mount_names.proofs.targets.new_name.Goals as goal
+
+pub returns-then-is_some-clause-refused : goal.returns-then-is_some-clause-refused
+returns-then-is_some-clause-refused g c = λ m st is_dir named.
+    let s = c.args.state.now in
+    let d = c.args.dir in
+    let keyed : is_keyed m d ≡ true = sym (c.keyed.ensures.stands m st) ∙ c.if-not-keyed.false in
+    let is = c.context_of-context.ensures m st in
+    let names = dir_names s.disk s.next_node m st.well st.tree d is_dir in
+    let form : c.in-Some.stored ≡ form_in m d c.args.part.now
+    = same_bytes _ _ (c.in-Some.ensures.value m st names is keyed) ∙ (λ i. stored_form m.raws d (is i) (c.in-Ok.ensures.value i)) in
+    let found : c.entry.result ≡ entry m.nodes d c.args.part.now
+    = c.entry.ensures
+    ∙ (ap (λ (x : List ℕ). number_under x (children s.disk d)) (c.bytes.ensures.value ∙ form)
+    ∙ keyed_entry s.disk s.next_node m st.well st.tree d c.args.part.now keyed is_dir c.names_come_back.ensures.distinct (c.in-Some.ensures.ranged m st names is keyed) (name_plain c.args.part.now named) named.0.bytes) in
+    taken_there m d c.args.part.now keyed (sym (c.is_some.ensures ∙ ap is_some found) ∙ c.if-is_some.true)
+
+pub returns-clause-placed : goal.returns-clause-placed
+returns-clause-placed g c = λ m st is_dir named.
+    let s = c.args.state.now in
+    let d = c.args.dir in
+    let keyed : is_keyed m d ≡ true = sym (c.keyed.ensures.stands m st) ∙ c.if-not-keyed.false in
+    let is = c.context_of-context.ensures m st in
+    let names = dir_names s.disk s.next_node m st.well st.tree d is_dir in
+    let form : c.in-Some.stored ≡ form_in m d c.args.part.now
+    = same_bytes _ _ (c.in-Some.ensures.value m st names is keyed) ∙ (λ i. stored_form m.raws d (is i) (c.in-Ok.ensures.value i)) in
+    let found : c.entry.result ≡ entry m.nodes d c.args.part.now
+    = c.entry.ensures
+    ∙ (ap (λ (x : List ℕ). number_under x (children s.disk d)) (c.bytes.ensures.value ∙ form)
+    ∙ keyed_entry s.disk s.next_node m st.well st.tree d c.args.part.now keyed is_dir c.names_come_back.ensures.distinct (c.in-Some.ensures.ranged m st names is keyed) (name_plain c.args.part.now named) named.0.bytes) in
+    record {
+      dir = refl;
+      context = is;
+      stored = form;
+      keyed = keyed;
+      free = sym (c.is_some.ensures ∙ ap is_some found) ∙ c.if-is_some.false;
+      key = c.in-Some.ensures.ranged m st names is keyed;
+    }

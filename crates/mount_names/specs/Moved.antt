@@ -1,0 +1,100 @@
+-- A name that moves: where it comes from, why it can't come to the new place, and what is left.
+use Rattle.std.specs.Prelude.{◌≡◌, ℕ, Bool, true, false, Option, Some, None, is_some, not, Result, Ok, Err, if◌then◌else◌}
+use Rattle.plain_tree.specs.Nodes.{Name, context_at, entry}
+use Rattle.mount_model.specs.declared.reply.Refusal.{Refusal}
+use Rattle.mount_model.specs.declared.reply.Refusal.TheVariants.{NoKey, Inval, Exists, XDev, NoSpace, NoKeyClash}
+use Rattle.mount_model.specs.declared.reply.Reply.{Reply}
+use Rattle.mount_model.specs.PlainMount.{PlainMount}
+use Rattle.mount_model.specs.States.{is_keyed}
+use Rattle.mount_model.specs.Answered.{done}
+use Rattle.mount_model.specs.NameAnswers.{clashes}
+use Rattle.mount_model.specs.RenameAnswer.{may_hold, is_full_elsewhere, with_moved, answer_to_move_from}
+use Rattle.mount_model.specs.Walk.{PathParts, Walked, last_part, parent, is_at_or_above}
+use Rattle.mount_model.specs.WellFormed.{IsWellFormed}
+use Rattle.mount_model.specs.Carried.{IsPath}
+use Rattle.mount_state.specs.StandsFor.{StandsFor}
+use Rattle.mount_state.specs.declared.state.MountState.{MountState}
+use Rattle.mount_names.specs.declared.entries.Entry.{Entry}
+use Rattle.mount_names.specs.declared.places.Place.{Place}
+use Rattle.mount_names.specs.Found.{form_in, entry_found, or_not_found}
+use Rattle.mount_state.specs.Given.{IsGivenOrNoMemory, IsRefusedAsDue}
+use Rattle.mount_names.specs.Made.{HasByteKey}
+use Rattle.mount_names.specs.Removed.{IsEntryOf}
+
+-- ---- where it comes from
+
+abbrev pub source_in : PlainMount → Name → ℕ → Result Entry Refusal
+source_in m part d = if not (is_keyed m d) then Err NoKey else or_not_found (entry_found m d part)
+
+abbrev pub source_walked : PlainMount → Name → Walked → Result Entry Refusal
+source_walked m part (Err refusal) = Err refusal
+source_walked m part (Ok d) = source_in m part d
+
+-- the entry at the end of the path, of a keyed directory, or why there is none
+abbrev pub source_end : PlainMount → PathParts → Result Entry Refusal
+source_end m path = source_walked m (last_part path) (parent m path)
+
+-- ---- where it goes
+
+-- the directory is keyed and has no such name, and the place has the name's stored form
+pub record IsNewName (m : PlainMount) (d : ℕ) (name : Name) (place : Place) : Type 0 where
+  pub dir : place.dir ≡ d
+  pub context : place.context ≡ context_at m.nodes d
+  pub stored : place.stored ≡ form_in m d name
+  pub keyed : is_keyed m d ≡ true
+  pub free : is_some (entry m.nodes d name) ≡ false
+  pub key : HasByteKey m d
+
+-- why no name can come to the directory, or not this one
+abbrev pub name_refusal : PlainMount → ℕ → Name → Option Refusal
+name_refusal m to name =
+    if not (is_keyed m to) then Some NoKey else
+    if is_some (entry m.nodes to name) then Some Exists else None
+
+-- why the entry can't come there under the name; `past` where the walk passed its node
+abbrev pub place_refusal : PlainMount → Entry → ℕ → Bool → Name → Option Refusal
+place_refusal m e to past name =
+    if past then Some Inval else
+    if not (may_hold (context_at m.nodes to) (context_at m.nodes e.number)) then Some XDev else
+    if clashes m to name then Some NoKeyClash else
+    if is_full_elsewhere m e.dir to then Some NoSpace else None
+
+abbrev pub first_of : Option Refusal → Option Refusal → Option Refusal
+first_of None rest = rest
+first_of (Some refusal) rest = Some refusal
+
+abbrev pub move_refusal : PlainMount → Entry → ℕ → Bool → Name → Option Refusal
+move_refusal m e to past name = first_of (name_refusal m to name) (place_refusal m e to past name)
+
+abbrev pub target_walked : PlainMount → Entry → PathParts → Walked → Option Refusal
+target_walked m e path (Err refusal) = Some refusal
+target_walked m e path (Ok to) = move_refusal m e to (is_at_or_above m e.number path) (last_part path)
+
+-- why the entry can't be moved to the end of the path
+abbrev pub target_refusal : PlainMount → Entry → PathParts → Option Refusal
+target_refusal m e path = target_walked m e path (parent m path)
+
+-- the place is the one of the path's last part
+pub record IsTargetAt (m : PlainMount) (e : Entry) (path : PathParts) (place : Place) : Type 0 where
+  pub led : parent m path ≡ Ok place.dir
+  pub named : IsNewName m place.dir (last_part path) place
+  pub free : target_refusal m e path ≡ None
+
+-- ---- what is left
+
+-- the entry is moved to the place
+abbrev pub Moves : MountState → MountState → Entry → Place → Reply → Type 0
+Moves old new e place reply = (m : PlainMount) (name new_name : Name) → StandsFor old m → IsEntryOf m name e
+    → IsNewName m place.dir new_name place → IsWellFormed (with_moved m e.dir name place.dir new_name e.number)
+    → IsGivenOrNoMemory m (done (with_moved m e.dir name place.dir new_name e.number)) reply new
+
+-- the entry is moved to the end of the path, as the call answers
+abbrev pub Renames : MountState → MountState → Entry → PathParts → Reply → Type 0
+Renames old new e path reply = (m : PlainMount) (name : Name) → StandsFor old m → IsPath path → IsEntryOf m name e
+    → IsWellFormed (answer_to_move_from m path e.dir name e.number).mount
+    → IsGivenOrNoMemory m (answer_to_move_from m path e.dir name e.number) reply new
+
+-- where the mount refuses, the reply is that refusal
+abbrev pub RefusesAsDue : MountState → Entry → PathParts → Reply → Type 0
+RefusesAsDue old e path reply = (m : PlainMount) (name : Name) → StandsFor old m → IsPath path → IsEntryOf m name e
+    → IsRefusedAsDue (answer_to_move_from m path e.dir name e.number) reply

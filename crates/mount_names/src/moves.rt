@@ -1,0 +1,154 @@
+//! The call that moves a name: within a directory, or to another one.
+
+ghost use Rattle.std.specs.Prelude.{◌≡◌, ◌+◌, ◌≤◌, true, Some, length, IfErr, IfOk};
+ghost use Rattle.disk_tree.specs.DiskTree.{IsDirAt};
+ghost use Rattle.mount_model.specs.Carried.{IsPath};
+ghost use Rattle.mount_model.specs.ClaimHistory.{is_refused};
+ghost use Rattle.mount_model.specs.PlainMount.{PlainMount};
+ghost use Rattle.mount_model.specs.RenameAnswer.{answer_to_rename};
+ghost use Rattle.mount_state.specs.SameButKeys.{SameButKeys, StaysFor};
+ghost use Rattle.mount_state.specs.StandsFor.{StandsFor};
+ghost use Rattle.mount_names.specs.Found.{IsEntryOn};
+ghost use Rattle.mount_state.specs.Given.{IsGivenOrNoMemory, IsRefusedAsDue};
+ghost use Rattle.mount_names.specs.Moved.{IsTargetAt, Moves, RefusesAsDue, Renames, source_end, target_refusal};
+ghost use Rattle.mount_names.specs.SameButTree.{SameButTree};
+
+use crate::entries::{Entry, entry_shown};
+use crate::places::Place;
+use crate::targets::target_in;
+use mount_model::{Path, Refusal, Reply};
+use mount_state::{MountState, walked_parent, walked_parent_past};
+use name_crypt::Steps;
+use std::alloc::Global;
+use std::sync::ledger::Ledger;
+
+/// Gives the node at the end of the old path the name, and the place, that the new path tells. It keeps
+/// its number, its policy, its contents and what it holds, and its handles stay on it.
+///
+/// Refused, in this order: with Inval for the root in either path; as the walk to the old directory is;
+/// NoKey where that is locked; NotFound; as the walk to the new directory is; NoKey where that is locked;
+/// Exists; Inval where the node is a directory that would come to lie in itself; XDev where the new
+/// directory has a policy that the node has not; NoKeyClash; NoSpace where the new directory is another
+/// one and full; NoMemory, after which nothing is changed.
+pub fn rename<L: Ledger>(
+    alloc: Global,
+    state: &mut MountState,
+    old_path: &Path,
+    new_path: &Path,
+    steps: &mut Steps<L>,
+) -> Reply
+    ensures stands { (m : PlainMount) → StandsFor state.old m → IsPath old_path.now → IsPath new_path.now
+        → IsGivenOrNoMemory m (answer_to_rename m old_path.now new_path.now) result state.new }
+    ensures due { (m : PlainMount) → StandsFor state.old m → IsPath old_path.now → IsPath new_path.now
+        → IsRefusedAsDue (answer_to_rename m old_path.now new_path.now) result }
+    ensures refused { is_refused result ≡ true → SameButKeys state.old state.new }
+    ensures same { SameButTree state.old state.new }
+    ensures ticks { steps.new ≤ steps.old + length old_path.now + length new_path.now }
+{
+    if old_path.is_empty() || new_path.is_empty() {
+        return Reply::Refused(Refusal::Inval);
+    }
+    match source_at(alloc, state, old_path, steps) {
+        Ok(entry) => rename_entry(alloc, state, &entry, new_path, steps),
+        Err(refusal) => Reply::Refused(refusal),
+    }
+}
+
+// Moves the entry to the end of the new path.
+fn rename_entry<L: Ledger>(
+    alloc: Global,
+    state: &mut MountState,
+    entry: &Entry,
+    new_path: &Path,
+    steps: &mut Steps<L>,
+) -> Reply
+    requires some { 1 ≤ length new_path.now }
+    requires there { IsEntryOn state.old.disk entry.now }
+    ensures stands { Renames state.old state.new entry.now new_path.now result }
+    ensures due { RefusesAsDue state.old entry.now new_path.now result }
+    ensures refused { is_refused result ≡ true → SameButKeys state.old state.new }
+    ensures same { SameButTree state.old state.new }
+    ensures ticks { steps.new ≤ steps.old + length new_path.now }
+{
+    match target_at(alloc, state, entry, new_path, steps) {
+        Ok(place) => move_to(alloc, state, entry, &place),
+        Err(refusal) => Reply::Refused(refusal),
+    }
+}
+
+// The entry at the end of the old path, of a directory that is keyed.
+fn source_at<L: Ledger>(
+    alloc: Global,
+    state: &mut MountState,
+    path: &Path,
+    steps: &mut Steps<L>,
+) -> Result<Entry, Refusal>
+    requires { 1 ≤ length path.now }
+    ensures value { (m : PlainMount) → StandsFor state.old m → result ≡ source_end m path.now }
+    ensures there { IfOk result (IsEntryOn state.old.disk) }
+    ensures stands { StaysFor state.old state.new }
+    ensures same { SameButKeys state.old state.new }
+    ensures ticks { steps.new ≤ steps.old + length path.now }
+{
+    let last = path.len() - 1;
+    let dir = match walked_parent(alloc, state, path, steps) {
+        Ok(dir) => dir,
+        Err(refusal) => return Err(refusal),
+    };
+    if !state.keyed(dir) {
+        return Err(Refusal::NoKey);
+    }
+    let Some(part) = path.part(last) else {
+        unreachable!()
+    };
+    match entry_shown(state, dir, part.bytes(), steps) {
+        Some(entry) => Ok(entry),
+        None => Err(Refusal::NotFound),
+    }
+}
+
+// The place of the new path's last part, where the entry can be moved to it.
+fn target_at<L: Ledger>(
+    alloc: Global,
+    state: &mut MountState,
+    entry: &Entry,
+    path: &Path,
+    steps: &mut Steps<L>,
+) -> Result<Place, Refusal>
+    requires { 1 ≤ length path.now }
+    ensures refused { IfErr result (λ refusal. (m : PlainMount) → StandsFor state.old m → IsPath path.now
+        → target_refusal m entry.now path.now ≡ Some refusal) }
+    ensures placed { IfOk result (λ place. (m : PlainMount) → StandsFor state.old m → IsPath path.now
+        → IsTargetAt m entry.now path.now place) }
+    ensures dir { IfOk result (λ place. IsDirAt state.new.disk place.dir) }
+    ensures stands { StaysFor state.old state.new }
+    ensures same { SameButKeys state.old state.new }
+    ensures ticks { steps.new ≤ steps.old + length path.now }
+{
+    let last = path.len() - 1;
+    match walked_parent_past(alloc, state, path, entry.number, steps) {
+        Ok((dir, past)) => match path.part(last) {
+            Some(part) => target_in(state, entry, dir, past, part.bytes(), steps),
+            None => unreachable!(),
+        },
+        Err(refusal) => Err(refusal),
+    }
+}
+
+// Moves the entry to its new place, or leaves it where it is.
+fn move_to(alloc: Global, state: &mut MountState, entry: &Entry, place: &Place) -> Reply
+    requires dir { IsDirAt state.old.disk place.now.dir }
+    requires there { IsEntryOn state.old.disk entry.now }
+    ensures stands { Moves state.old state.new entry.now place.now result }
+    ensures refused { is_refused result ≡ true → SameButKeys state.old state.new }
+    ensures same { SameButTree state.old state.new }
+{
+    let stored = place.stored.bytes();
+    match state
+        .disk
+        .move_entry(alloc, entry.dir, entry.stored.bytes(), place.dir, stored)
+    {
+        Ok(()) => Reply::Done,
+        Err(_) => Reply::Refused(Refusal::NoMemory),
+    }
+}

@@ -1,0 +1,131 @@
+//! Where a moved name goes: whether the directory can get it, and the name's stored form.
+
+ghost use Rattle.std.specs.Prelude.{◌≡◌, ◌+◌, ◌≤◌, true, None, Some, IfErr, IfOk};
+ghost use Rattle.disk_tree.specs.DiskTree.{IsDirAt};
+ghost use Rattle.plain_tree.specs.Nodes.{Name, is_dir_at};
+ghost use Rattle.mount_model.specs.PlainMount.{PlainMount};
+ghost use Rattle.mount_model.specs.RenameAnswer as plain;
+ghost use Rattle.mount_model.specs.WellFormed.{IsName};
+ghost use Rattle.mount_state.specs.StandsFor.{StandsFor};
+ghost use Rattle.mount_names.specs.Moved.{IsNewName, name_refusal, place_refusal, move_refusal};
+
+use crate::contexts::context_of;
+use crate::entries::Entry;
+use crate::places::{Place, has_most_entries};
+use crate::stored_names::{clashes, stored_as};
+use mount_model::Refusal;
+use mount_state::MountState;
+use name_crypt::{Plain, Steps, names_come_back};
+use policy_ctx::{Context, Policy, encode_policy};
+use std::sync::ledger::Ledger;
+
+// The place of the name in the directory, where the entry can be moved to it. `past` tells whether the
+// walk to the directory passed the entry's node.
+pub(crate) fn target_in<L: Ledger>(
+    state: &MountState,
+    entry: &Entry,
+    dir: u32,
+    past: bool,
+    part: &[u8],
+    steps: &mut Steps<L>,
+) -> Result<Place, Refusal>
+    ensures refused { IfErr result (λ refusal. (m : PlainMount) → StandsFor state.now m → is_dir_at m.nodes dir ≡ true
+        → IsName part.now → move_refusal m entry.now dir past part.now ≡ Some refusal) }
+    ensures placed { IfOk result (λ place. (m : PlainMount) → StandsFor state.now m → is_dir_at m.nodes dir ≡ true
+        → IsName part.now → IsNewName m dir part.now place × (move_refusal m entry.now dir past part.now ≡ None)) }
+    ensures dir { IfOk result (λ place. (place.dir ≡ dir) × IsDirAt state.now.disk dir) }
+    ensures ticks { steps.new ≤ steps.old + 1 }
+{
+    if !state.disk.is_dir(dir) {
+        return Err(Refusal::NotDir);
+    }
+    match new_name(state, dir, part, steps) {
+        Ok(place) => match why_not(state, entry, &place, past) {
+            Some(refusal) => Err(refusal),
+            None => Ok(place),
+        },
+        Err(refusal) => Err(refusal),
+    }
+}
+
+// The name that the directory would get, where it is keyed and has none such.
+fn new_name<L: Ledger>(
+    state: &MountState,
+    dir: u32,
+    part: &[u8],
+    steps: &mut Steps<L>,
+) -> Result<Place, Refusal>
+    ensures refused { IfErr result (λ refusal. (m : PlainMount) → StandsFor state.now m → is_dir_at m.nodes dir ≡ true
+        → IsName part.now → name_refusal m dir part.now ≡ Some refusal) }
+    ensures placed { IfOk result (λ place. (m : PlainMount) → StandsFor state.now m → is_dir_at m.nodes dir ≡ true
+        → IsName part.now → IsNewName m dir part.now place) }
+    ensures dir { IfOk result (λ place. place.dir ≡ dir) }
+    ensures ticks { steps.new ≤ steps.old + 1 }
+{
+    // That two names are stored alike only where they are the same.
+    names_come_back();
+    if !state.keyed(dir) {
+        return Err(Refusal::NoKey);
+    }
+    let Ok(name) = Plain::read(part) else {
+        return Err(Refusal::Inval);
+    };
+    let context = context_of(state, dir);
+    let Some(stored) = stored_as(state, dir, &context, &name, steps) else {
+        return Err(Refusal::NoKey);
+    };
+    if state.disk.entry(dir, stored.bytes()).is_some() {
+        return Err(Refusal::Exists);
+    }
+    Ok(Place {
+        dir,
+        context,
+        stored,
+    })
+}
+
+// Why the entry can't be moved to that place.
+fn why_not(state: &MountState, entry: &Entry, place: &Place, past: bool) -> Option<Refusal>
+    ensures { (m : PlainMount) (name : Name) → StandsFor state.now m → IsName name → IsNewName m place.now.dir name place.now
+        → result ≡ place_refusal m entry.now place.now.dir past name }
+{
+    if past {
+        return Some(Refusal::Inval);
+    }
+    if !may_hold(&place.context, &context_of(state, entry.number)) {
+        return Some(Refusal::XDev);
+    }
+    if clashes(state, place.dir, &place.context, place.stored.bytes()) {
+        return Some(Refusal::NoKeyClash);
+    }
+    if is_full_elsewhere(state, entry.dir, place.dir) {
+        return Some(Refusal::NoSpace);
+    }
+    None
+}
+
+// Whether a directory of the one context may hold a node of the other.
+fn may_hold(dir: &Option<Context>, held: &Option<Context>) -> bool
+    ensures { result ≡ plain.may_hold dir.now held.now }
+{
+    match dir {
+        Some(context) => has_policy(&context.policy, held),
+        None => true,
+    }
+}
+
+fn has_policy(policy: &Policy, held: &Option<Context>) -> bool
+    ensures { result ≡ plain.has_policy policy.now held.now }
+{
+    match held {
+        Some(context) => encode_policy(&context.policy) == encode_policy(policy),
+        None => false,
+    }
+}
+
+// Whether the name would come to another directory, which is full.
+fn is_full_elsewhere(state: &MountState, from: u32, to: u32) -> bool
+    ensures { (m : PlainMount) → StandsFor state.now m → result ≡ plain.is_full_elsewhere m from to }
+{
+    to != from && has_most_entries(state, to)
+}
