@@ -1,5 +1,4 @@
 pub mod Asked
-pub mod BuiltLemmas
 pub mod CallLemmas
 pub mod LawLemmas
 pub mod RunLemmas

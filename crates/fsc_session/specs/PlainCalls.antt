@@ -8,7 +8,7 @@ use Rattle.policy_ctx.specs.Policy.{policy_bytes}
 use Rattle.fsc_keys.specs.Keys.{key_id_of}
 use Rattle.mount_model.specs.declared.call.Op.{Op}
 use Rattle.mount_model.specs.declared.call.Op.TheVariants as op
-use Rattle.mount_model.specs.Fits.{OpFits, carries_bytes, is_built}
+use Rattle.mount_model.specs.Fits.{OpFits, carries_bytes}
 use Rattle.script_lang.specs.Records.{record_name}
 use Rattle.script_lang.specs.declared.verb.Verb.{Verb}
 use Rattle.script_lang.specs.declared.verb.Verb.TheVariants as verb
@@ -105,10 +105,6 @@ plain_op seed caller number names asked =
 -- where there is a call, a mount may be asked it
 abbrev pub AnyFits : Option Op → Type 0
 AnyFits asked = IfSome asked OpFits
-
--- where there is a call, it stands behind a mount already
-abbrev pub AnyIsBuilt : Option Op → Type 0
-AnyIsBuilt asked = IfSome asked (λ asked. IsTrue (is_built asked))
 
 -- there is a call, and it carries a path or bytes, so that making it may want memory
 abbrev pub MayWantMemory : Option Op → Type 0

@@ -2,9 +2,8 @@
 
 ghost use Rattle.std.specs.Prelude.{◌≡◌, IfOk, OnErr};
 ghost use Rattle.script_lang.specs.Asked.{IsAskable};
-ghost use Rattle.script_lang.specs.Readable.{IsReadable};
 ghost use Rattle.fsc_session.specs.PlainCalls as spec;
-ghost use Rattle.fsc_session.specs.PlainCalls.{nonce_drawn, AnyFits, AnyIsBuilt, MayWantMemory};
+ghost use Rattle.fsc_session.specs.PlainCalls.{nonce_drawn, AnyFits, MayWantMemory};
 ghost use Rattle.fsc_session.specs.Session.{names_in};
 
 use crate::EntryList;
@@ -30,7 +29,6 @@ pub(crate) fn plain_op(
     ensures value { IfOk result (λ op. op
         ≡ spec.plain_op seed.now turn.caller turn.number (names_in told.now) verb.now) }
     ensures fits { IfOk result AnyFits }
-    ensures built { IsReadable verb.now → IfOk result AnyIsBuilt }
     ensures memory { OnErr result (MayWantMemory
         (spec.plain_op seed.now turn.caller turn.number (names_in told.now) verb.now)) }
 {

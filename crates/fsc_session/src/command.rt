@@ -1,7 +1,7 @@
 //! One command of a caller, run on a port.
 
-ghost use Rattle.std.specs.Prelude.{◌≡◌, ◌≤◌, Some, OnOk, OnErr, IsTrue};
-ghost use Rattle.mount_model.specs.Fits.{OpFits, is_built};
+ghost use Rattle.std.specs.Prelude.{◌≡◌, ◌≤◌, Some, OnOk, OnErr};
+ghost use Rattle.mount_model.specs.Fits.{OpFits};
 ghost use Rattle.script_lang.specs.Readable.{IsCommand};
 ghost use Rattle.fsc_session.specs.Commands.{command_steps, single_call};
 ghost use Rattle.fsc_session.specs.Session.{names_in};
@@ -49,7 +49,6 @@ fn make_call<P: MountPort>(
     requires caller { turn.caller ≡ P.who port.old }
     requires left { MOST_CALLS ≤ P.calls_left port.old }
     requires fits { OpFits op }
-    requires built { IsTrue (is_built op) }
     ensures made { OnOk result (Made (P.came port.old) port.new (P.calls_left port.new) (P.calls_left port.old) (single_call turn.caller turn.uid (Some op)) entries.old entries.new) }
     ensures caller { P.who port.new ≡ P.who port.old }
     ensures failed { OnErr result (CameBySome (P.came port.old) port.new) }

@@ -1,5 +1,5 @@
 -- Which calls a mount may be asked.
-use Rattle.std.specs.Prelude.{◌≤◌, ⊤, Bool, true, false, length, IsTrue}
+use Rattle.std.specs.Prelude.{◌≤◌, ⊤, Bool, true, false, length}
 use Rattle.mount_model.specs.declared.call.Call.{Call}
 use Rattle.mount_model.specs.declared.call.Op.{Op}
 use Rattle.mount_model.specs.declared.call.Op.TheVariants.{AddKey, RemoveKey, RemoveKeyAll, KeyStatus}
@@ -45,23 +45,3 @@ carries_bytes (op.Read handle offset len) = false
 carries_bytes (Close handle) = false
 carries_bytes DropCaches = false
 carries_bytes other = true
-
--- the calls that stand behind a mount already
-abbrev pub is_built : Op → Bool
-is_built (AddKey raw) = true
-is_built (RemoveKey id) = true
-is_built (RemoveKeyAll id) = true
-is_built (KeyStatus id) = true
-is_built DropCaches = true
-is_built (MetaLoad name) = true
-is_built (MetaStore name expected bytes) = true
-is_built (op.Stat path) = true
-is_built (GetPolicy path) = true
-is_built (ReadLink path) = true
-is_built (Mkdir path nonce) = true
-is_built (Create path nonce) = true
-is_built other = false
-
--- a call that fits, and that the mount can answer already
-abbrev pub CanBeAsked : Call → Type 0
-CanBeAsked call = Fits call × IsTrue (is_built call.op)

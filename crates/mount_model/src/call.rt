@@ -2,7 +2,7 @@
 
 ghost use Rattle.std.specs.Prelude.{◌≡◌, ◌↔◌, false, IsTrue, IsOk, IfOk};
 ghost use Rattle.mount_model.specs.Carried.{AreFewBytes, HasLength, IsTarget};
-ghost use Rattle.mount_model.specs.Fits.{OpFits, CanBeAsked, carries_bytes, is_built};
+ghost use Rattle.mount_model.specs.Fits.{Fits, OpFits, carries_bytes};
 
 use super::limits::{
     MOST_CARRIED_BYTES, MOST_RAW_BYTES, MOST_RECORD_NAME_BYTES, MOST_TARGET_BYTES, MOST_WRITE_BYTES,
@@ -124,16 +124,15 @@ pub enum Op {
 }
 
 impl Call {
-    /// Whether the mount may be asked this: the operation fits, and is one that the mount can
-    /// answer already.
+    /// Whether the mount may be asked this.
     ///
     /// A raw key has 1 to 128 bytes. A path has at most 32 parts, each of 1 to 1,000 bytes without
     /// `/` and NUL, and neither `.` nor `..`. A target has 1 to 1,000 bytes without NUL, written
     /// bytes are at most 65,536, a record's name has 1 to 64 bytes, its bytes are at most 9,000.
     pub fn fits(&self) -> bool
-        ensures { IsTrue result ↔ CanBeAsked self.now }
+        ensures { IsTrue result ↔ Fits self.now }
     {
-        self.op.fits() && self.op.is_built()
+        self.op.fits()
     }
 
     /// An equal call, in memory of its own: for who hands a call to a port and keeps it too. A call
@@ -178,27 +177,6 @@ impl Op {
             | Op::Close { .. }
             | Op::DropCaches => true,
         }
-    }
-
-    // Whether the mount can answer it already.
-    fn is_built(&self) -> bool
-        ensures { result ≡ is_built self.now }
-    {
-        matches!(
-            self,
-            Op::AddKey { .. }
-                | Op::RemoveKey { .. }
-                | Op::RemoveKeyAll { .. }
-                | Op::KeyStatus { .. }
-                | Op::DropCaches
-                | Op::MetaLoad { .. }
-                | Op::MetaStore { .. }
-                | Op::Stat { .. }
-                | Op::GetPolicy { .. }
-                | Op::ReadLink { .. }
-                | Op::Mkdir { .. }
-                | Op::Create { .. }
-        )
     }
 }
 

@@ -2,7 +2,7 @@
 
 ghost use Rattle.std.specs.Prelude.{◌≡◌, ◌+◌, ◌<◌, ◌≤◌, ℕ, [], ◌∷◌, ◌++◌};
 ghost use Rattle.call_history.specs.Entries.{entry};
-ghost use Rattle.mount_model.specs.Fits.{CanBeAsked};
+ghost use Rattle.mount_model.specs.Fits.{Fits};
 ghost use Rattle.mount_model.specs.Port.{PlacedCalls};
 
 use super::{Call, Placed};
@@ -33,7 +33,7 @@ pub trait MountPort {
     /// Makes a call of the caller, and answers its reply with its place in the history.
     fn call(&mut self, call: Call) -> Placed
         requires left { 0 < calls_left self.old }
-        requires fits { CanBeAsked call }
+        requires fits { Fits call }
         ensures came { came self.old ((result.place, entry (who self.old) call result.reply) ∷ []) self.new }
         ensures caller { who self.new ≡ who self.old }
         ensures one_fewer { calls_left self.new + 1 ≡ calls_left self.old }

@@ -1,3 +1,4 @@
+pub mod FileLemmas
 pub mod KeyLemmas
 pub mod MadeLemmas
 pub mod StandsLemmas

@@ -1,4 +1,5 @@
 pub mod Groups
+pub mod Lends
 pub mod Made
 pub mod PortLaws
 pub mod SerialCalls

@@ -3,10 +3,12 @@
 ghost use Rattle.std.specs.Prelude.{◌≡◌, ◌<◌};
 ghost use Rattle.call_history.specs.Entries.{entry};
 ghost use Rattle.mount_files.specs.Lent.{reply_of};
-ghost use Rattle.mount_model.specs.Fits.{CanBeAsked};
+ghost use Rattle.mount_model.specs.Fits.{Fits};
+ghost use Rattle.mount_shared.specs.Lends.{LendsBlocks};
 ghost use Rattle.mount_shared.specs.Made.{IsMade};
 ghost use Rattle.mount_shared.specs.TellsOfKeys.{AbsentIsGone, BusyIsOpen};
 
+use crate::file_answers::answer_on_files;
 use crate::key_answers::reply_on_keys;
 use crate::name_answers::reply_on_names;
 use crate::record_answers::reply_on_records;
@@ -28,10 +30,11 @@ pub(crate) fn answer<L: Ledger>(
     requires name { blank.name ≡ L.name }
     requires parts { blank.parts ≡ L.parts }
     requires some { 0 < L.parts }
-    requires asked { CanBeAsked call.now }
+    requires asked { Fits call.now }
     ensures made { IsMade state.old (entry caller call.now (reply_of result)) state.new }
     ensures absent { AbsentIsGone state.new call.now.op (reply_of result) }
     ensures busy { BusyIsOpen state.new call.now.op (reply_of result) }
+    ensures lends { LendsBlocks state.old caller call.now.op result }
 {
     let mut steps = Steps::<L>::new(blank);
     match &call.op {
@@ -44,10 +47,18 @@ pub(crate) fn answer<L: Ledger>(
             Lent::Ready(reply_on_records(alloc, state, call))
         }
         Op::Stat { .. }
+        | Op::List { .. }
+        | Op::SetPolicy { .. }
         | Op::GetPolicy { .. }
         | Op::ReadLink { .. }
         | Op::Mkdir { .. }
-        | Op::Create { .. } => Lent::Ready(reply_on_names(alloc, state, call, &mut steps)),
-        _ => unreachable!(),
+        | Op::Create { .. }
+        | Op::Symlink { .. }
+        | Op::Unlink { .. }
+        | Op::Rmdir { .. }
+        | Op::Rename { .. } => Lent::Ready(reply_on_names(alloc, state, call, &mut steps)),
+        Op::OpenNode { .. } | Op::Read { .. } | Op::Write { .. } | Op::Close { .. } => {
+            answer_on_files(alloc, state, caller, call, &mut steps)
+        }
     }
 }

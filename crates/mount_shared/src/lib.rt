@@ -4,6 +4,7 @@
 
 mod answers;
 mod crossing;
+mod file_answers;
 mod key_answers;
 mod machine;
 mod mount;

@@ -2,8 +2,9 @@
 ghost use Rattle.std.specs.Prelude.{[], IfOk};
 ghost use Rattle.call_history.specs.Entries.{entry};
 ghost use Rattle.mount_files.specs.Lent.{reply_of};
-ghost use Rattle.mount_model.specs.Fits.{CanBeAsked};
+ghost use Rattle.mount_model.specs.Fits.{Fits};
 ghost use Rattle.mount_model.specs.Lawful.{IsLawful};
+ghost use Rattle.mount_shared.specs.Lends.{LendsBlocks};
 ghost use Rattle.mount_shared.specs.Made.{IsMade};
 ghost use Rattle.mount_shared.specs.StandsAfter.{StandsAfter};
 ghost use Rattle.mount_shared.specs.TellsOfKeys.{AbsentIsGone, BusyIsOpen};
@@ -37,10 +38,11 @@ impl Mount {
     /// Answers the caller's call. What comes is the reply, or for a Read what is left to be deciphered
     /// once the turn is given back.
     pub fn answer(&mut self, caller: u32, call: &Call) -> Lent
-        requires { CanBeAsked call.now }
+        requires { Fits call.now }
         ensures made { IsMade self.old.state (entry caller call.now (reply_of result)) self.new.state }
         ensures absent { AbsentIsGone self.new.state call.now.op (reply_of result) }
         ensures busy { BusyIsOpen self.new.state call.now.op (reply_of result) }
+        ensures lends { LendsBlocks self.old.state caller call.now.op result }
     {
         answer::<Brand>(self.alloc, &mut self.state, caller, call, Blank::new(1))
     }
@@ -54,7 +56,7 @@ impl Machine for Mount {
 
     type Reply = Reply;
 
-    ghost fits = { CanBeAsked };
+    ghost fits = { Fits };
 
     ghost reply = { reply_of };
 

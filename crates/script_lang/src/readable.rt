@@ -5,12 +5,34 @@ ghost use Rattle.script_lang.specs.Readable as spec;
 
 use crate::names::CommandName;
 
-/// The commands whose calls stand behind a mount. Any other is refused at its line, though the grammar
-/// has it. A command joins with its call; when all are here, this file and its one test go.
-const READABLE: [CommandName; 3] = [
+/// The commands that are single calls of a mount. A session's command is refused at its line, though the
+/// grammar has it. A command joins once a session runs it; when all are here, this file and its one test
+/// go.
+const READABLE: [CommandName; 24] = [
     CommandName::AddKey,
     CommandName::RemoveKey,
+    CommandName::RemoveKeyAll,
     CommandName::KeyStatus,
+    CommandName::SetPolicy,
+    CommandName::SetPolicyBytes,
+    CommandName::GetPolicy,
+    CommandName::Mkdir,
+    CommandName::Create,
+    CommandName::Symlink,
+    CommandName::ReadLink,
+    CommandName::Unlink,
+    CommandName::Rmdir,
+    CommandName::Rename,
+    CommandName::List,
+    CommandName::Stat,
+    CommandName::Open,
+    CommandName::Close,
+    CommandName::Read,
+    CommandName::Write,
+    CommandName::Fill,
+    CommandName::DropCaches,
+    CommandName::MetaGet,
+    CommandName::MetaPut,
 ];
 
 impl CommandName {

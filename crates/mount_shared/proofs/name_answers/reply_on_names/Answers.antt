@@ -1,5 +1,6 @@
 use Rattle.std.proofs.Common.{refl, subst}
-use Rattle.mount_model.specs.declared.call.Op.TheVariants.{Stat, GetPolicy, ReadLink, Mkdir, Create}
+use Rattle.mount_model.specs.declared.call.Op.TheVariants.{Stat, SetPolicy, GetPolicy, ReadLink, Mkdir, Create, Symlink, Unlink, Rmdir, Rename}
+use Rattle.mount_model.specs.declared.call.Op.TheVariants as op
 use Rattle.mount_model.specs.Fits.{OpFits}
 use Rattle.mount_shared.proofs.MadeLemmas.{made_given, made_given_or_none}
 use Rattle.mount_shared.proofs.name_answers.reply_on_names.Goals as goal
@@ -28,3 +29,35 @@ pub returns-in-Create : goal.returns-in-Create
 returns-in-Create g c = λ caller.
     made_given_or_none c.args.state.now c.create.new.state caller c.args.call.now (Create c.in-Create.path c.in-Create.nonce) c.create.result c.in-Create.is refl
     (λ cs. refl) (λ after. tt) c.create.ensures.same.ring (λ m st. c.create.ensures.stands m st (subst OpFits c.in-Create.is c.requires.fits))
+
+pub returns-in-Unlink : goal.returns-in-Unlink
+returns-in-Unlink g c = λ caller.
+    made_given c.args.state.now c.unlink.new.state caller c.args.call.now (Unlink c.in-Unlink.path) c.unlink.result c.in-Unlink.is
+    (λ cs. refl) (λ after. tt) c.unlink.ensures.same.ring (λ m st. c.unlink.ensures.stands m st (subst OpFits c.in-Unlink.is c.requires.fits))
+
+pub returns-in-Rmdir : goal.returns-in-Rmdir
+returns-in-Rmdir g c = λ caller.
+    made_given c.args.state.now c.rmdir.new.state caller c.args.call.now (Rmdir c.in-Rmdir.path) c.rmdir.result c.in-Rmdir.is
+    (λ cs. refl) (λ after. tt) c.rmdir.ensures.same.ring (λ m st. c.rmdir.ensures.stands m st (subst OpFits c.in-Rmdir.is c.requires.fits))
+
+pub returns-in-List : goal.returns-in-List
+returns-in-List g c = λ caller.
+    made_given_or_none c.args.state.now c.list.new.state caller c.args.call.now (op.List c.in-List.path c.in-List.start) c.list.result c.in-List.is refl
+    (λ cs. refl) (λ after. tt) c.list.ensures.same.ring c.list.ensures.stands
+
+pub returns-in-SetPolicy : goal.returns-in-SetPolicy
+returns-in-SetPolicy g c = λ caller.
+    made_given_or_none c.args.state.now c.set_policy.new.state caller c.args.call.now (SetPolicy c.in-SetPolicy.path c.in-SetPolicy.policy c.in-SetPolicy.nonce) c.set_policy.result c.in-SetPolicy.is refl
+    (λ cs. refl) (λ after. tt) c.set_policy.ensures.same.ring (λ m st. c.set_policy.ensures.stands m st (subst OpFits c.in-SetPolicy.is c.requires.fits))
+
+pub returns-in-Symlink : goal.returns-in-Symlink
+returns-in-Symlink g c = λ caller.
+    made_given_or_none c.args.state.now c.symlink.new.state caller c.args.call.now (Symlink c.in-Symlink.path c.in-Symlink.target c.in-Symlink.nonce) c.symlink.result c.in-Symlink.is refl
+    (λ cs. refl) (λ after. tt) c.symlink.ensures.same.ring
+    (λ m st. let fits = subst OpFits c.in-Symlink.is c.requires.fits in c.symlink.ensures.stands m st fits.0 fits.1)
+
+pub returns-in-Rename : goal.returns-in-Rename
+returns-in-Rename g c = λ caller.
+    made_given_or_none c.args.state.now c.rename.new.state caller c.args.call.now (Rename c.in-Rename.old_path c.in-Rename.new_path) c.rename.result c.in-Rename.is refl
+    (λ cs. refl) (λ after. tt) c.rename.ensures.same.ring
+    (λ m st. let fits = subst OpFits c.in-Rename.is c.requires.fits in c.rename.ensures.stands m st fits.0 fits.1)

@@ -1,0 +1,13 @@
+-- What is lent to a Read.
+use Rattle.std.specs.Prelude.{⊤, ℕ}
+use Rattle.mount_model.specs.declared.call.Op.{Op}
+use Rattle.mount_model.specs.declared.call.Op.TheVariants.{Read}
+use Rattle.mount_model.specs.PlainMount.{node_of}
+use Rattle.mount_state.specs.declared.state.MountState.{MountState}
+use Rattle.mount_files.specs.Lent.{IsLent}
+use Rattle.mount_files.specs.declared.lent.Lent.{Lent}
+
+-- it is stored bytes of the file on which the caller's handle is, and what these are sealed with
+abbrev pub LendsBlocks : MountState → ℕ → Op → Lent → Type 0
+LendsBlocks s caller (Read handle offset len) lent = IsLent s (node_of s.handles.live caller handle) offset lent
+LendsBlocks s caller op lent = ⊤

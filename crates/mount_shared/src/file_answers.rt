@@ -1,0 +1,44 @@
+//! The calls on open files and directories.
+
+ghost use Rattle.std.specs.Prelude.{IsTrue};
+ghost use Rattle.call_history.specs.Entries.{entry};
+ghost use Rattle.mount_files.specs.Lent.{reply_of};
+ghost use Rattle.mount_shared.specs.Groups.{is_on_files};
+ghost use Rattle.mount_shared.specs.Lends.{LendsBlocks};
+ghost use Rattle.mount_shared.specs.Made.{IsMade};
+
+use mount_files::{Lent, close, open_node, read_begin, write};
+use mount_model::{Call, Op};
+use mount_state::MountState;
+use name_crypt::Steps;
+use std::alloc::Global;
+use std::sync::ledger::Ledger;
+
+// The answer to a call on open files and directories. `steps` counts the names that are enciphered.
+pub(crate) fn answer_on_files<L: Ledger>(
+    alloc: Global,
+    state: &mut MountState,
+    caller: u32,
+    call: &Call,
+    steps: &mut Steps<L>,
+) -> Lent
+    requires { IsTrue (is_on_files call.now.op) }
+    ensures made { IsMade state.old (entry caller call.now (reply_of result)) state.new }
+    ensures lends { LendsBlocks state.old caller call.now.op result }
+{
+    match &call.op {
+        Op::OpenNode { path } => Lent::Ready(open_node(alloc, state, caller, path, steps)),
+        Op::Read {
+            handle,
+            offset,
+            len,
+        } => read_begin(alloc, state, caller, *handle, *offset, *len),
+        Op::Write {
+            handle,
+            offset,
+            bytes,
+        } => Lent::Ready(write(alloc, state, caller, *handle, *offset, bytes)),
+        Op::Close { handle } => Lent::Ready(close(state, caller, *handle)),
+        _ => unreachable!(),
+    }
+}
