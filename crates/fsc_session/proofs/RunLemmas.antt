@@ -4,13 +4,15 @@ use Rattle.std.specs.Prelude.{Bool, true, false, ◌≤◌, ◌*◌, slice_get}
 use Rattle.std.proofs.Math.Seq.{drop-cons}
 use Rattle.std.proofs.lemmas.Option.{slice_get_within, get_or_from_slice_get, slice_get_cases, slice_get_read}
 use Rattle.std.proofs.lemmas.Bool.{cases_Bool, leb-true, leb-false}
+use Rattle.std.proofs.lemmas.List.Elements.{All-get_or}
+use Rattle.script_lang.specs.Readable.{IsCommand}
 use Rattle.script_lang.specs.declared.commands.Section.{Section}
 use Rattle.script_lang.specs.declared.commands.Command.{Command}
 use Rattle.mount_model.specs.Port.{PlacedCalls}
 use Rattle.call_history.specs.Placed.{entries_of}
 use Rattle.fsc_session.specs.Steps.{Reaches, names_from}
 use Rattle.fsc_session.specs.Steps.Steps.{Done}
-use Rattle.fsc_session.specs.Commands.{command_steps}
+use Rattle.fsc_session.specs.Commands.{AsksRightly, command_steps}
 use Rattle.fsc_session.specs.Session.{steps_from, section_steps, IsRunOfSection, IsRunSoFar, names_in}
 use Rattle.fsc_session.specs.Running.{RunnerView, Made, Stepped, StepMakes}
 use Rattle.fsc_session.proofs.StepsLemmas.{entries_of-append, names_from-append, Reaches-on, Reaches-and_then}
@@ -56,6 +58,14 @@ there read commands n command same within differ is =
     below : (a b : ℕ) → a ≢ b → a ≤ b → a < b
     below a b differ low = ⊎_elim (λ (lt : leb (suc a) b ≡ true). let l = leb-true (suc a) b lt in omega (arith, l))
         (λ (ge : leb (suc a) b ≡ false). let g = leb-false (suc a) b ge in absurd (differ (omega (arith, g, low)))) (cases_Bool (leb (suc a) b))
+
+-- it may stand in a script, as each of its section
+pub asked_there : (section : Section) (n : ℕ) (command : Command) → AsksRightly section
+    → slice_get section.commands n ≡ Some command → IsCommand command.verb
+asked_there section n command asked here =
+    subst (λ (it : Command). IsCommand it.verb) (get_or_from_slice_get section.commands n command command here)
+    (All-get_or (λ (it : Command). IsCommand it.verb) section.commands n command
+    (slice_get_within section.commands n command here) asked)
 
 -- a command that was made is a step of its runner
 pub stepped : {P : Type 0} (came : PlacedCalls → P → Type 0) (port : P) (left before_left : ℕ) (seed : List ℕ) (command : Command) (old new : RunnerView)

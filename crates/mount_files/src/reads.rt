@@ -4,7 +4,7 @@
 ghost use Rattle.std.specs.Prelude.{◌≡◌, ◌≤◌, Some};
 ghost use Rattle.mount_model.specs.PlainMount.{PlainMount, node_of};
 ghost use Rattle.mount_model.specs.FileAnswers.{answer_to_read};
-ghost use Rattle.mount_state.specs.Given.{IsToldOrNoMemory};
+ghost use Rattle.mount_state.specs.Given.{IsToldOrNoMemory, IsRefusedAsDue};
 ghost use Rattle.mount_state.specs.StandsFor.{StandsFor};
 ghost use Rattle.mount_files.specs.Lent.{reply_of, IsLent, IsLentOn, IsReadAs};
 
@@ -34,6 +34,8 @@ pub fn read_begin(
 ) -> Lent
     ensures stands { (m : PlainMount) → StandsFor state.now m
         → IsToldOrNoMemory (answer_to_read m caller handle offset len).reply (reply_of result) }
+    ensures due { (m : PlainMount) → StandsFor state.now m
+        → IsRefusedAsDue (answer_to_read m caller handle offset len) (reply_of result) }
     ensures lent { IsLent state.now (node_of state.now.handles.live caller handle) offset result }
 {
     match open_file(state, caller, handle) {
@@ -90,8 +92,10 @@ pub fn read(
     offset: u32,
     len: u32,
 ) -> Reply
-    ensures { (m : PlainMount) → StandsFor state.now m
+    ensures stands { (m : PlainMount) → StandsFor state.now m
         → IsToldOrNoMemory (answer_to_read m caller handle offset len).reply result }
+    ensures due { (m : PlainMount) → StandsFor state.now m
+        → IsRefusedAsDue (answer_to_read m caller handle offset len) result }
 {
     read_begin(alloc, state, caller, handle, offset, len).finish()
 }

@@ -1,4 +1,5 @@
-use Rattle.std.proofs.Common.{inl, inr, ◌∙◌, arith}
+use Rattle.std.proofs.Common.{◌≡◌, true, inl, inr, ◌∙◌, arith, sym, subst}
+use Rattle.mount_model.specs.ClaimHistory.{is_refused}
 use Rattle.mount_files.proofs.OpenLemmas.{file_at}
 use Rattle.mount_files.proofs.ReadLemmas.{read_refused, read_answered}
 use Rattle.mount_files.proofs.reads.read_begin.Goals as goal
@@ -15,3 +16,14 @@ returns-in-Ok-2-clause-stands c = λ m st.
 pub returns-in-Err-clause-stands : goal.returns-in-Err-clause-stands
 returns-in-Err-clause-stands c = λ m st.
     inl (read_refused c.args.state.now m st c.args.caller c.args.handle c.args.offset c.args.len c.in-Err.refusal c.in-Err.ensures.refused)
+
+pub returns-in-Ok-2-clause-due : goal.returns-in-Ok-2-clause-due
+returns-in-Ok-2-clause-due c = λ m st denied.
+    let s = c.args.state.now in
+    absurd (cc (subst (λ r. is_refused r ≡ true)
+    (sym (read_answered s m st c.args.caller c.args.handle c.args.offset c.args.len c.in-Ok.field-0 c.in-Ok.ensures.held c.in-Ok.ensures.file (omega arith)))
+    denied))
+
+pub returns-in-Err-clause-due : goal.returns-in-Err-clause-due
+returns-in-Err-clause-due c = λ m st denied.
+    read_refused c.args.state.now m st c.args.caller c.args.handle c.args.offset c.args.len c.in-Err.refusal c.in-Err.ensures.refused

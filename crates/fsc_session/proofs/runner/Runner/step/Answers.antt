@@ -1,9 +1,10 @@
 use Rattle.std.proofs.Common.{◌≡◌, ◌+◌, true, [], length, refl, ap, subst, sym, ◌∙◌, arith, append-nil, None}
 use Rattle.std.specs.Prelude.{slice_get}
 use Rattle.std.proofs.lemmas.Option.{slice_get_past}
+use Rattle.fsc_session.specs.Commands.{AsksRightly}
 use Rattle.fsc_session.specs.Session.{IsRunSoFar}
 use Rattle.fsc_session.specs.Running.{HasRun, Stepped, runner_view}
-use Rattle.fsc_session.proofs.RunLemmas.{stepped, made_goes_on, there}
+use Rattle.fsc_session.proofs.RunLemmas.{stepped, made_goes_on, there, asked_there}
 use Rattle.fsc_session.proofs.runner.Runner.step.Goals as goal
 
 pub returns-then-self-commands-clause-stepped : goal.returns-then-self-commands-clause-stepped
@@ -44,3 +45,9 @@ returns-clause-run g c =
     (g.P.MountPort.calls_left c.args.port.now) c.args.seed.now c.self.inside.caller c.self.inside.section.now c.self.inside.next c.index-commands-self.result c.self.inside.entries c.run_command.new.entries
     (there _ _ _ _ c.as_slice-commands.ensures c.self.invariant c.if-self-commands.false c.index-commands-self.is)
     c.in_ok-run_command.ensures.made)
+
+pub run_command-requires-clause-asked : goal.run_command-requires-clause-asked
+run_command-requires-clause-asked g c =
+    asked_there c.self.inside.section.now c.self.inside.next c.index-commands-self.result
+    (subst (λ old. AsksRightly old.section) (sym c.self.view_is) c.requires.asked)
+    (there _ _ _ _ c.as_slice-commands.ensures c.self.invariant c.if-self-commands.false c.index-commands-self.is)
