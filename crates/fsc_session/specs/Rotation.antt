@@ -20,7 +20,8 @@ abbrev pub fresh : Section → Waiting
 fresh section = waiting section []
 
 -- the steps of this command, then what comes after it; where there is no command, that at once
-abbrev pub turn_of : List ℕ → ℕ → ℕ → Waiting → Option Command → (Waiting → Steps (List Waiting)) → Steps (List Waiting)
+abbrev pub turn_of : List ℕ → ℕ → ℕ → Waiting → Option Command → (Waiting → Steps (List Waiting))
+    → Steps (List Waiting)
 turn_of seed n caller state None next = next state
 turn_of seed n caller state (Some command) next =
     and_then state.names (command_steps seed caller state.section.uid n state.names command.verb)
@@ -32,7 +33,8 @@ turn_steps seed n caller state next = turn_of seed n caller state (slice_get sta
 
 -- the commands n of those callers whose turn has not come, of which the first has the number k; then what
 -- comes after the round
-abbrev pub round_steps : List ℕ → ℕ → ℕ → List Waiting → List Waiting → (List Waiting → Steps (List Waiting)) → Steps (List Waiting)
+abbrev pub round_steps : List ℕ → ℕ → ℕ → List Waiting → List Waiting → (List Waiting → Steps (List Waiting))
+    → Steps (List Waiting)
 round_steps seed n k after [] next = next after
 round_steps seed n k after (state ∷ more) next =
     turn_steps seed n k state (λ come. round_steps seed n (k + 1) (after ++ come ∷ []) more next)

@@ -29,8 +29,8 @@ abbrev pub state_of : RunnerView → Waiting
 state_of runner = waiting runner.section (names_in runner.entries)
 
 -- the port came by calls which are these steps, and the list has them behind its others
-pub record Made {P : Type 0} (came : PlacedCalls → P → Type 0) (port : P) (left before_left : ℕ) (steps : Steps (Unit {0})) (old new : PlacedCalls)
-    : Type 0 where
+pub record Made {P : Type 0} (came : PlacedCalls → P → Type 0) (port : P) (left before_left : ℕ)
+    (steps : Steps (Unit {0})) (old new : PlacedCalls) : Type 0 where
   pub made : PlacedCalls
   pub came_by : came made port
   pub follows : Reaches steps (entries_of made) (Done tt)
@@ -43,11 +43,12 @@ abbrev pub StepMakes : List ℕ → Bool → RunnerView → RunnerView → Place
 StepMakes seed false old new made = (made ≡ []) × (new ≡ old) × (slice_get old.section.commands old.next ≡ None)
 StepMakes seed true old new made =
     (command : Command) × (slice_get old.section.commands old.next ≡ Some command) × (new.next ≡ old.next + 1)
-    × Reaches (command_steps seed old.caller old.section.uid old.next (names_in old.entries) command.verb) (entries_of made) (Done tt)
+    × Reaches (command_steps seed old.caller old.section.uid old.next (names_in old.entries) command.verb)
+    (entries_of made) (Done tt)
 
 -- what a step of a runner makes of it and of its port
-pub record Stepped {P : Type 0} (came : PlacedCalls → P → Type 0) (port : P) (left before_left : ℕ) (seed : List ℕ) (more : Bool) (old new : RunnerView)
-    : Type 0 where
+pub record Stepped {P : Type 0} (came : PlacedCalls → P → Type 0) (port : P) (left before_left : ℕ)
+    (seed : List ℕ) (more : Bool) (old new : RunnerView) : Type 0 where
   pub made : PlacedCalls
   pub came_by : came made port
   pub grown : new.entries ≡ old.entries ++ made

@@ -46,9 +46,11 @@ IsRunOfCaller seed caller (Some section) placed = IsRunOfSection seed caller sec
 
 -- each caller's entries are a run of its section, and no other caller has any
 abbrev pub IsRunOf : List ℕ → List Section → History → Type 0
-IsRunOf seed script history = (caller : ℕ) → IsRunOfCaller seed caller (slice_get script caller) (entries_by caller history)
+IsRunOf seed script history =
+    (caller : ℕ) → IsRunOfCaller seed caller (slice_get script caller) (entries_by caller history)
 
 -- each entry makes the call that comes after those before it, and none comes after all of them
 pub record AreNextCalls {A : Type 0} (steps : Steps A) (es : History) : Type 0 where
-  pub each : (before after : History) (e : MountEntry) → es ≡ before ++ e ∷ after → next_of steps before ≡ Some (e.who, e.call)
+  pub each : (before after : History) (e : MountEntry) → es ≡ before ++ e ∷ after
+      → next_of steps before ≡ Some (e.who, e.call)
   pub whole : next_of steps es ≡ None

@@ -28,7 +28,9 @@ pub(crate) fn run_command<P: MountPort>(
     requires caller { turn.caller ≡ P.who port.old }
     requires left { MOST_CALLS ≤ P.calls_left port.old }
     requires asked { IsCommand verb.now }
-    ensures made { OnOk result (Made (P.came port.old) port.new (P.calls_left port.new) (P.calls_left port.old) (command_steps seed.now turn.caller turn.uid turn.number (names_in entries.old) verb.now) entries.old entries.new) }
+    ensures made { OnOk result (Made (P.came port.old) port.new (P.calls_left port.new) (P.calls_left port.old)
+        (command_steps seed.now turn.caller turn.uid turn.number (names_in entries.old) verb.now)
+        entries.old entries.new) }
     ensures caller { P.who port.new ≡ P.who port.old }
     ensures failed { OnErr result (CameBySome (P.came port.old) port.new) }
 {
@@ -49,7 +51,8 @@ fn make_call<P: MountPort>(
     requires caller { turn.caller ≡ P.who port.old }
     requires left { MOST_CALLS ≤ P.calls_left port.old }
     requires fits { OpFits op }
-    ensures made { OnOk result (Made (P.came port.old) port.new (P.calls_left port.new) (P.calls_left port.old) (single_call turn.caller turn.uid (Some op)) entries.old entries.new) }
+    ensures made { OnOk result (Made (P.came port.old) port.new (P.calls_left port.new) (P.calls_left port.old)
+        (single_call turn.caller turn.uid (Some op)) entries.old entries.new) }
     ensures caller { P.who port.new ≡ P.who port.old }
     ensures failed { OnErr result (CameBySome (P.came port.old) port.new) }
 {

@@ -58,7 +58,8 @@ impl<'a> Runner<'a> {
         requires caller { self.old.caller ≡ P.who port.old }
         requires left { MOST_CALLS ≤ P.calls_left port.old }
         requires asked { AsksRightly self.old.section }
-        ensures stepped { IfOk result (λ more. Stepped (P.came port.old) port.new (P.calls_left port.new) (P.calls_left port.old) seed.now more self.old self.new) }
+        ensures stepped { IfOk result (λ more. Stepped (P.came port.old) port.new
+            (P.calls_left port.new) (P.calls_left port.old) seed.now more self.old self.new) }
         ensures run { OnOk result (HasRun seed.now self.old → HasRun seed.now self.new) }
         ensures caller { P.who port.new ≡ P.who port.old }
         ensures failed { OnErr result (CameBySome (P.came port.old) port.new) }
