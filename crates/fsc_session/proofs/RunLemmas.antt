@@ -1,6 +1,6 @@
 -- A run goes on by one command.
 use Rattle.std.proofs.Common.{◌≡◌, ◌≢◌, ◌<◌, leb, get_or, ℕ, suc, ◌+◌, List, [], ◌∷◌, ◌++◌, length, drop, Some, refl, ap, ap₂, sym, ◌∙◌, subst, ⊎_elim, arith, drop_of_length-le, length-append}
-use Rattle.std.specs.Prelude.{Bool, true, false, ◌≤◌, ◌*◌, slice_get}
+use Rattle.std.specs.Prelude.{Bool, true, false, ◌≤◌, ◌*◌, slice_get, Option, unwrap_or}
 use Rattle.std.proofs.Math.Seq.{drop-cons}
 use Rattle.std.proofs.lemmas.Option.{slice_get_within, get_or_from_slice_get, slice_get_cases, slice_get_read}
 use Rattle.std.proofs.lemmas.Bool.{cases_Bool, leb-true, leb-false}
@@ -13,9 +13,11 @@ use Rattle.call_history.specs.Placed.{entries_of}
 use Rattle.fsc_session.specs.Steps.{Reaches, names_from}
 use Rattle.fsc_session.specs.Steps.Steps.{Done}
 use Rattle.fsc_session.specs.Commands.{AsksRightly, command_steps}
-use Rattle.fsc_session.specs.Session.{steps_from, section_steps, IsRunOfSection, IsRunSoFar, names_in}
+use Rattle.reply_text.specs.declared.notes.Note.{Note}
+use Rattle.reply_text.specs.declared.outcome.Outcome.{Outcome}
+use Rattle.fsc_session.specs.Session.{steps_from, section_steps, noted, notes_of_section, IsRunOfSection, IsRunSoFar, names_in}
 use Rattle.fsc_session.specs.Running.{RunnerView, Made, Stepped, StepMakes}
-use Rattle.fsc_session.proofs.StepsLemmas.{entries_of-append, names_from-append, Reaches-on, Reaches-and_then}
+use Rattle.fsc_session.proofs.StepsLemmas.{entries_of-append, names_from-append, Reaches-on, Reaches-and_then, value_reached}
 
 drop-at : {A : Type 0} (n : ℕ) (xs : List A) (x : A) → slice_get xs n ≡ Some x → drop n xs ≡ x ∷ drop (n + 1) xs
 drop-at {A} n xs x here =
@@ -29,23 +31,24 @@ pub names_in-append : (placed made : PlacedCalls) → names_in (placed ++ made) 
 names_in-append placed made = ap (names_from []) (entries_of-append placed made) ∙ names_from-append [] (entries_of placed) (entries_of made)
 
 -- by one command more
-pub run_goes_on : (seed : List ℕ) (caller : ℕ) (section : Section) (n : ℕ) (command : Command) (placed made : PlacedCalls)
-    → IsRunSoFar seed caller section n placed → slice_get section.commands n ≡ Some command
-    → Reaches (command_steps seed caller section.uid n (names_in placed) command.verb) (entries_of made) (Done tt)
-    → IsRunSoFar seed caller section (n + 1) (placed ++ made)
-run_goes_on seed caller section n command placed made so here more =
+pub run_goes_on : (seed : List ℕ) (caller : ℕ) (section : Section) (n : ℕ) (command : Command) (placed made : PlacedCalls) (notes : List Note) (outcome : Option Outcome)
+    → IsRunSoFar seed caller section n placed notes → slice_get section.commands n ≡ Some command
+    → Reaches (command_steps seed caller section.uid n (names_in placed) command.verb) (entries_of made) (Done outcome)
+    → IsRunSoFar seed caller section (n + 1) (placed ++ made) (notes ++ noted caller command outcome)
+run_goes_on seed caller section n command placed made notes outcome so here more =
     let uid = section.uid in
     let names = names_in placed in
-    let then_it : Reaches (steps_from seed caller uid n names (command ∷ drop (n + 1) section.commands)) (entries_of made)
-    (steps_from seed caller uid (n + 1) (names_from names (entries_of made)) (drop (n + 1) section.commands)) =
+    let after = notes ++ noted caller command outcome in
+    let then_it : Reaches (steps_from seed caller uid n names notes (command ∷ drop (n + 1) section.commands)) (entries_of made)
+    (steps_from seed caller uid (n + 1) (names_from names (entries_of made)) after (drop (n + 1) section.commands)) =
     Reaches-and_then names (command_steps seed caller uid n names command.verb)
-    (λ told done. steps_from seed caller uid (n + 1) told (drop (n + 1) section.commands)) (entries_of made) tt more in
-    let whole = Reaches-on (section_steps seed caller section) (steps_from seed caller uid n names (drop n section.commands)) _ (entries_of placed) (entries_of made) so
-    (subst (λ (rest : List Command). Reaches (steps_from seed caller uid n names rest) (entries_of made)
-    (steps_from seed caller uid (n + 1) (names_from names (entries_of made)) (drop (n + 1) section.commands))) (sym (drop-at n section.commands command here)) then_it) in
-    subst (λ (es : _). Reaches (section_steps seed caller section) es (steps_from seed caller uid (n + 1) (names_in (placed ++ made)) (drop (n + 1) section.commands)))
+    (λ told outcome. steps_from seed caller uid (n + 1) told (notes ++ noted caller command outcome) (drop (n + 1) section.commands)) (entries_of made) outcome more in
+    let whole = Reaches-on (section_steps seed caller section) (steps_from seed caller uid n names notes (drop n section.commands)) _ (entries_of placed) (entries_of made) so
+    (subst (λ (rest : List Command). Reaches (steps_from seed caller uid n names notes rest) (entries_of made)
+    (steps_from seed caller uid (n + 1) (names_from names (entries_of made)) after (drop (n + 1) section.commands))) (sym (drop-at n section.commands command here)) then_it) in
+    subst (λ (es : _). Reaches (section_steps seed caller section) es (steps_from seed caller uid (n + 1) (names_in (placed ++ made)) after (drop (n + 1) section.commands)))
     (sym (entries_of-append placed made))
-    (subst (λ (told : List (List ℕ)). Reaches (section_steps seed caller section) (entries_of placed ++ entries_of made) (steps_from seed caller uid (n + 1) told (drop (n + 1) section.commands)))
+    (subst (λ (told : List (List ℕ)). Reaches (section_steps seed caller section) (entries_of placed ++ entries_of made) (steps_from seed caller uid (n + 1) told after (drop (n + 1) section.commands)))
     (sym (names_in-append placed made)) whole)
 
 -- the command that stands at a number below the last
@@ -68,11 +71,12 @@ asked_there section n command asked here =
     (slice_get_within section.commands n command here) asked)
 
 -- a command that was made is a step of its runner
-pub stepped : {P : Type 0} (came : PlacedCalls → P → Type 0) (port : P) (left before_left : ℕ) (seed : List ℕ) (command : Command) (old new : RunnerView)
+pub stepped : {P : Type 0} (came : PlacedCalls → P → Type 0) (port : P) (left before_left : ℕ) (seed : List ℕ) (command : Command) (outcome : Option Outcome) (old new : RunnerView)
     → slice_get old.section.commands old.next ≡ Some command → new.caller ≡ old.caller → new.section ≡ old.section → new.next ≡ old.next + 1
-    → Made came port left before_left (command_steps seed old.caller old.section.uid old.next (names_in old.entries) command.verb) old.entries new.entries
+    → new.notes ≡ old.notes ++ noted old.caller command outcome
+    → Made came port left before_left 4 (command_steps seed old.caller old.section.uid old.next (names_in old.entries) command.verb) outcome old.entries new.entries
     → Stepped came port left before_left seed true old new
-stepped came port left before_left seed command old new here caller section next made = record {
+stepped came port left before_left seed command outcome old new here caller section next notes made = record {
   made = made.made;
   came_by = made.came_by;
   grown = made.grown;
@@ -80,22 +84,34 @@ stepped came port left before_left seed command old new here caller section next
   counted = made.counted;
   caller = caller;
   section = section;
-  step = (command, here, next, made.follows);
+  step = (command, here, next, (outcome, made.follows, notes));
 }
 
 pub made_goes_on : {P : Type 0} (came : PlacedCalls → P → Type 0) (port : P) (left before_left : ℕ) (seed : List ℕ) (caller : ℕ) (section : Section) (n : ℕ) (command : Command)
-    (placed after : PlacedCalls) → slice_get section.commands n ≡ Some command
-    → Made came port left before_left (command_steps seed caller section.uid n (names_in placed) command.verb) placed after
-    → IsRunSoFar seed caller section n placed → IsRunSoFar seed caller section (n + 1) after
-made_goes_on came port left before_left seed caller section n command placed after here made so =
-    subst (IsRunSoFar seed caller section (n + 1)) (sym made.grown) (run_goes_on seed caller section n command placed made.made so here made.follows)
+    (outcome : Option Outcome) (placed after : PlacedCalls) (notes new_notes : List Note) → slice_get section.commands n ≡ Some command
+    → new_notes ≡ notes ++ noted caller command outcome
+    → Made came port left before_left 4 (command_steps seed caller section.uid n (names_in placed) command.verb) outcome placed after
+    → IsRunSoFar seed caller section n placed notes → IsRunSoFar seed caller section (n + 1) after new_notes
+made_goes_on came port left before_left seed caller section n command outcome placed after notes new_notes here noting made so =
+    subst (λ (es : PlacedCalls). IsRunSoFar seed caller section (n + 1) es new_notes) (sym made.grown)
+    (subst (λ (ns : List Note). IsRunSoFar seed caller section (n + 1) (placed ++ made.made) ns) (sym noting)
+    (run_goes_on seed caller section n command placed made.made notes outcome so here made.follows))
 
 -- a run of all commands is a run of the section
-pub run_is_whole : (seed : List ℕ) (caller : ℕ) (section : Section) (n : ℕ) (placed : PlacedCalls) → length section.commands ≤ n
-    → IsRunSoFar seed caller section n placed → IsRunOfSection seed caller section placed
-run_is_whole seed caller section n placed all so =
+pub run_is_whole : (seed : List ℕ) (caller : ℕ) (section : Section) (n : ℕ) (placed : PlacedCalls) (notes : List Note) → length section.commands ≤ n
+    → IsRunSoFar seed caller section n placed notes → IsRunOfSection seed caller section placed
+run_is_whole seed caller section n placed notes all so =
     let none : drop n section.commands ≡ [] = drop_of_length-le section.commands all in
-    subst (λ (rest : List Command). Reaches (section_steps seed caller section) (entries_of placed) (steps_from seed caller section.uid n (names_in placed) rest)) none so
+    (notes, subst (λ (rest : List Command). Reaches (section_steps seed caller section) (entries_of placed) (steps_from seed caller section.uid n (names_in placed) notes rest)) none so)
+
+-- and has its notes
+pub notes_are_whole : (seed : List ℕ) (caller : ℕ) (section : Section) (n : ℕ) (placed : PlacedCalls) (notes : List Note) → length section.commands ≤ n
+    → IsRunSoFar seed caller section n placed notes → notes ≡ notes_of_section seed caller section placed
+notes_are_whole seed caller section n placed notes all so =
+    let none : drop n section.commands ≡ [] = drop_of_length-le section.commands all in
+    let run : Reaches (section_steps seed caller section) (entries_of placed) (Done notes) =
+    subst (λ (rest : List Command). Reaches (section_steps seed caller section) (entries_of placed) (steps_from seed caller section.uid n (names_in placed) notes rest)) none so in
+    sym (ap (λ (o : Option (List Note)). unwrap_or o []) (value_reached (section_steps seed caller section) (entries_of placed) notes run))
 
 -- ---- what a caller's steps add up to
 

@@ -1,10 +1,10 @@
 -- Steps after steps, and what entries make of them.
-use Rattle.std.proofs.Common.{◌≡◌, ℕ, List, [], ◌∷◌, ◌++◌, refl, ap, sym, subst}
+use Rattle.std.proofs.Common.{◌≡◌, ℕ, List, [], ◌∷◌, ◌++◌, Some, refl, ap, sym, subst}
 use Rattle.std.proofs.lemmas.List.{map-append}
 use Rattle.mount_model.specs.History.{History, MountEntry}
 use Rattle.mount_model.specs.Port.{PlacedCalls}
 use Rattle.call_history.specs.Placed.{entries_of}
-use Rattle.fsc_session.specs.Steps.{Steps, Reaches, names_after, names_from, and_then}
+use Rattle.fsc_session.specs.Steps.{Steps, Reaches, value_after, names_after, names_from, and_then}
 use Rattle.fsc_session.specs.Steps.Steps.{Done, Ask}
 
 pub entries_of-append : (es fs : PlacedCalls) → entries_of (es ++ fs) ≡ entries_of es ++ entries_of fs
@@ -27,3 +27,9 @@ Reaches-and_then names steps next [] value so = ap (λ s. and_then names s next)
 Reaches-and_then names (Done other) next (e ∷ es) value so = absurd so
 Reaches-and_then names (Ask who call more) next (e ∷ es) value so =
     (so.0, so.1, Reaches-and_then (names_after names e.reply) (more e.reply) next es value so.2)
+
+-- steps that end with a value have it
+pub value_reached : {A : Type 0} (steps : Steps A) (es : History) (value : A) → Reaches steps es (Done value) → value_after steps es ≡ Some value
+value_reached steps [] value so = ap (λ s. value_after s []) so
+value_reached (Done other) (e ∷ es) value so = absurd so
+value_reached (Ask who call next) (e ∷ es) value so = value_reached (next e.reply) es value so.2

@@ -4,18 +4,20 @@ use Rattle.mount_model.specs.declared.call.Op.{Op}
 use Rattle.script_lang.specs.declared.commands.Section.{Section}
 use Rattle.script_lang.specs.declared.verb.Verb.{Verb}
 use Rattle.script_lang.specs.Readable.{IsCommand}
-use Rattle.fsc_session.specs.Steps.{Steps}
-use Rattle.fsc_session.specs.Steps.Steps.{Done, Ask}
+use Rattle.fsc_session.specs.Steps.Steps.{Done}
+use Rattle.fsc_session.specs.CommandSteps.{CommandSteps, asking}
 use Rattle.fsc_session.specs.PlainCalls.{plain_op}
+use Rattle.fsc_session.specs.SessionSteps.{session_steps}
 
--- one call for a user, and nothing where there is none: no session's work may stand in a script yet
-abbrev pub single_call : ℕ → ℕ → Option Op → Steps (Unit {0})
-single_call caller uid None = Done tt
-single_call caller uid (Some asked) = Ask caller (record { uid = uid; op = asked }) (λ reply. Done tt)
+-- the steps of a command that is a single call, and else those of a session's work
+abbrev pub plain_or_session : ℕ → ℕ → Option Op → CommandSteps → CommandSteps
+plain_or_session caller uid None session = session
+plain_or_session caller uid (Some asked) session = asking caller uid asked (λ reply. Done None)
 
--- the steps of a command: its one call
-abbrev pub command_steps : List ℕ → ℕ → ℕ → ℕ → List (List ℕ) → Verb → Steps (Unit {0})
-command_steps seed caller uid number names asked = single_call caller uid (plain_op seed caller number names asked)
+-- the steps of a command
+abbrev pub command_steps : List ℕ → ℕ → ℕ → ℕ → List (List ℕ) → Verb → CommandSteps
+command_steps seed caller uid number names asked =
+    plain_or_session caller uid (plain_op seed caller number names asked) (session_steps caller uid asked)
 
 -- each command of the section may stand in a script
 abbrev pub AsksRightly : Section → Type 0

@@ -84,7 +84,8 @@ path_op names other = None
 abbrev pub making_op : List ℕ → List (List ℕ) → Verb → Option Op
 making_op nonce names (verb.SetPolicy path key settings) =
     Some (op.SetPolicy (path_meant names path) (policy_bytes (policy_said (id_meant key) settings)) nonce)
-making_op nonce names (verb.SetPolicyBytes path policy) = Some (op.SetPolicy (path_meant names path) policy nonce)
+making_op nonce names (verb.SetPolicyBytes path policy) =
+    Some (op.SetPolicy (path_meant names path) policy nonce)
 making_op nonce names (verb.Mkdir path) = Some (op.Mkdir (path_meant names path) nonce)
 making_op nonce names (verb.Create path) = Some (op.Create (path_meant names path) nonce)
 making_op nonce names (verb.Symlink path target) = Some (op.Symlink (path_meant names path) target nonce)

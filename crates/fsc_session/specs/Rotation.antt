@@ -25,7 +25,7 @@ abbrev pub turn_of : List ℕ → ℕ → ℕ → Waiting → Option Command →
 turn_of seed n caller state None next = next state
 turn_of seed n caller state (Some command) next =
     and_then state.names (command_steps seed caller state.section.uid n state.names command.verb)
-    (λ told done. next (waiting state.section told))
+    (λ told outcome. next (waiting state.section told))
 
 -- a caller's command n
 abbrev pub turn_steps : List ℕ → ℕ → ℕ → Waiting → (Waiting → Steps (List Waiting)) → Steps (List Waiting)

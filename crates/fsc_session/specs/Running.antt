@@ -1,50 +1,76 @@
 -- What a runner is between two commands, and what a command makes of it and of its port.
-use Rattle.std.specs.Prelude.{◌≡◌, ℕ, ◌+◌, ◌≤◌, Bool, true, false, List, [], ◌++◌, length, slice_get, Some, None}
+use Rattle.std.specs.Prelude.{◌≡◌, ℕ, ◌+◌, ◌≤◌, Bool, true, false, List, [], ◌++◌, length, slice_get, Option, Some, None, Result}
 use Rattle.call_history.specs.Placed.{entries_of}
 use Rattle.mount_model.specs.Port.{PlacedCalls}
 use Rattle.script_lang.specs.declared.commands.Section.{Section}
 use Rattle.script_lang.specs.declared.commands.Command.{Command}
+use Rattle.reply_text.specs.declared.notes.Note.{Note}
+use Rattle.reply_text.specs.declared.outcome.Outcome.{Outcome}
 use Rattle.fsc_session.specs.Steps.{Steps, Reaches}
 use Rattle.fsc_session.specs.Steps.Steps.{Done}
 use Rattle.fsc_session.specs.Commands.{command_steps}
-use Rattle.fsc_session.specs.Session.{IsRunSoFar, names_in}
+use Rattle.fsc_session.specs.CommandSteps.{CommandSteps, when_ok}
+use Rattle.fsc_session.specs.Session.{IsRunSoFar, names_in, noted}
 use Rattle.fsc_session.specs.Rotation.{Waiting, waiting}
 
--- a caller with its section, the number of its next command, and what it asked and was replied so far
+-- a caller with its section, the number of its next command, what it asked and was replied so far, and its
+-- notes
 pub record RunnerView : Type 0 where
   pub caller : ℕ
   pub section : Section
   pub next : ℕ
   pub entries : PlacedCalls
+  pub notes : List Note
 
-abbrev pub runner_view : ℕ → Section → ℕ → PlacedCalls → RunnerView
-runner_view caller section next entries = record { caller = caller; section = section; next = next; entries = entries }
+abbrev pub runner_view : ℕ → Section → ℕ → PlacedCalls → List Note → RunnerView
+runner_view caller section next entries notes =
+    record { caller = caller; section = section; next = next; entries = entries; notes = notes }
 
--- its entries are a run of the commands before its next, with this seed
+-- its entries are a run of the commands before its next, with this seed, and the notes are that run's
 abbrev pub HasRun : List ℕ → RunnerView → Type 0
-HasRun seed runner = IsRunSoFar seed runner.caller runner.section runner.next runner.entries
+HasRun seed runner = IsRunSoFar seed runner.caller runner.section runner.next runner.entries runner.notes
 
 -- the runner between two turns
 abbrev pub state_of : RunnerView → Waiting
 state_of runner = waiting runner.section (names_in runner.entries)
 
--- the port came by calls which are these steps, and the list has them behind its others
-pub record Made {P : Type 0} (came : PlacedCalls → P → Type 0) (port : P) (left before_left : ℕ)
-    (steps : Steps (Unit {0})) (old new : PlacedCalls) : Type 0 where
+-- the port came by at most so many calls, which are these steps and leave this value, and the list has them
+-- behind its others
+pub record Made {P A : Type 0} (came : PlacedCalls → P → Type 0) (port : P) (left before_left most : ℕ)
+    (steps : Steps A) (value : A) (old new : PlacedCalls) : Type 0 where
   pub made : PlacedCalls
   pub came_by : came made port
-  pub follows : Reaches steps (entries_of made) (Done tt)
+  pub follows : Reaches steps (entries_of made) (Done value)
   pub grown : new ≡ old ++ made
-  pub few : length made ≤ 4
+  pub few : length made ≤ most
   pub counted : left + length made ≡ before_left
+
+-- the same of a part of a session's work: whatever comes after it, it goes on with what was got
+pub record MadePart {P A : Type 0} (came : PlacedCalls → P → Type 0) (port : P) (left before_left most : ℕ)
+    (steps : (A → CommandSteps) → CommandSteps) (got : Result A Outcome) (old new : PlacedCalls)
+    : Type 0 where
+  pub made : PlacedCalls
+  pub came_by : came made port
+  pub follows : (next : A → CommandSteps) → Reaches (steps next) (entries_of made) (when_ok got next)
+  pub grown : new ≡ old ++ made
+  pub few : length made ≤ most
+  pub counted : left + length made ≡ before_left
+
+-- the steps of a runner's command made these calls, and its note, if it has one, was put behind the others
+abbrev pub CommandMakes : List ℕ → Command → RunnerView → RunnerView → PlacedCalls → Type 0
+CommandMakes seed command old new made =
+    (outcome : Option Outcome)
+    × Reaches (command_steps seed old.caller old.section.uid old.next (names_in old.entries) command.verb)
+    (entries_of made) (Done outcome)
+    × (new.notes ≡ old.notes ++ noted old.caller command outcome)
 
 -- no command was left, and nothing was called; or the next command made these calls
 abbrev pub StepMakes : List ℕ → Bool → RunnerView → RunnerView → PlacedCalls → Type 0
-StepMakes seed false old new made = (made ≡ []) × (new ≡ old) × (slice_get old.section.commands old.next ≡ None)
+StepMakes seed false old new made =
+    (made ≡ []) × (new ≡ old) × (slice_get old.section.commands old.next ≡ None)
 StepMakes seed true old new made =
     (command : Command) × (slice_get old.section.commands old.next ≡ Some command) × (new.next ≡ old.next + 1)
-    × Reaches (command_steps seed old.caller old.section.uid old.next (names_in old.entries) command.verb)
-    (entries_of made) (Done tt)
+    × CommandMakes seed command old new made
 
 -- what a step of a runner makes of it and of its port
 pub record Stepped {P : Type 0} (came : PlacedCalls → P → Type 0) (port : P) (left before_left : ℕ)

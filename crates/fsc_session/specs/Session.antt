@@ -1,25 +1,34 @@
 -- What a caller's section asks of the mount, command after command.
-use Rattle.std.specs.Prelude.{◌≡◌, ℕ, ◌+◌, List, [], ◌∷◌, ◌++◌, drop, slice_get, Option, Some, None}
+use Rattle.std.specs.Prelude.{◌≡◌, ℕ, ◌+◌, List, [], ◌∷◌, ◌++◌, drop, slice_get, Option, Some, None, unwrap_or}
 use Rattle.call_history.specs.Placed.{entries_of}
 use Rattle.mount_model.specs.declared.call.Call.{Call}
 use Rattle.mount_model.specs.Port.{PlacedCalls}
 use Rattle.mount_model.specs.History.{History, MountEntry, entries_by}
 use Rattle.script_lang.specs.declared.commands.Section.{Section}
 use Rattle.script_lang.specs.declared.commands.Command.{Command}
-use Rattle.fsc_session.specs.Steps.{Steps, Reaches, next_of, names_from, and_then}
+use Rattle.reply_text.specs.declared.notes.Note.{Note}
+use Rattle.reply_text.specs.declared.outcome.Outcome.{Outcome}
+use Rattle.fsc_session.specs.Steps.{Steps, Reaches, next_of, value_after, names_from, and_then}
 use Rattle.fsc_session.specs.Steps.Steps.{Done}
 use Rattle.fsc_session.specs.Commands.{command_steps}
 
--- the steps of commands, of which the first has this number, for a caller that was last told these names
-abbrev pub steps_from : List ℕ → ℕ → ℕ → ℕ → List (List ℕ) → List Command → Steps (Unit {0})
-steps_from seed caller uid number names [] = Done tt
-steps_from seed caller uid number names (command ∷ more) =
+-- the note of a command that is a session's work; a single call has none
+abbrev pub noted : ℕ → Command → Option Outcome → List Note
+noted caller command None = []
+noted caller command (Some outcome) = record { caller = caller; line = command.line; outcome = outcome } ∷ []
+
+-- the steps of commands, of which the first has this number, for a caller that was last told these names and
+-- has these notes; they end with all notes
+abbrev pub steps_from : List ℕ → ℕ → ℕ → ℕ → List (List ℕ) → List Note → List Command → Steps (List Note)
+steps_from seed caller uid number names notes [] = Done notes
+steps_from seed caller uid number names notes (command ∷ more) =
     and_then names (command_steps seed caller uid number names command.verb)
-    (λ told done. steps_from seed caller uid (number + 1) told more)
+    (λ told outcome.
+    steps_from seed caller uid (number + 1) told (notes ++ noted caller command outcome) more)
 
 -- the steps of a caller's section
-abbrev pub section_steps : List ℕ → ℕ → Section → Steps (Unit {0})
-section_steps seed caller section = steps_from seed caller section.uid 0 [] section.commands
+abbrev pub section_steps : List ℕ → ℕ → Section → Steps (List Note)
+section_steps seed caller section = steps_from seed caller section.uid 0 [] [] section.commands
 
 -- the call that the caller of a section makes after these entries of its own
 abbrev pub next_call : List ℕ → ℕ → Section → History → Option (ℕ × Call)
@@ -27,17 +36,23 @@ next_call seed caller section es = next_of (section_steps seed caller section) e
 
 -- the entries are a run of the caller's section: from its first command to its last
 abbrev pub IsRunOfSection : List ℕ → ℕ → Section → PlacedCalls → Type 0
-IsRunOfSection seed caller section placed = Reaches (section_steps seed caller section) (entries_of placed) (Done tt)
+IsRunOfSection seed caller section placed =
+    (notes : List Note) × Reaches (section_steps seed caller section) (entries_of placed) (Done notes)
+
+-- the notes of such a run: how each session command ended, in order
+abbrev pub notes_of_section : List ℕ → ℕ → Section → PlacedCalls → List Note
+notes_of_section seed caller section placed =
+    unwrap_or (value_after (section_steps seed caller section) (entries_of placed)) []
 
 -- the names that a caller was last told by its entries
 abbrev pub names_in : PlacedCalls → List (List ℕ)
 names_in placed = names_from [] (entries_of placed)
 
--- the entries are a run of the first n commands
-abbrev pub IsRunSoFar : List ℕ → ℕ → Section → ℕ → PlacedCalls → Type 0
-IsRunSoFar seed caller section n placed =
+-- the entries are a run of the first n commands, which has these notes
+abbrev pub IsRunSoFar : List ℕ → ℕ → Section → ℕ → PlacedCalls → List Note → Type 0
+IsRunSoFar seed caller section n placed notes =
     Reaches (section_steps seed caller section) (entries_of placed)
-    (steps_from seed caller section.uid n (names_in placed) (drop n section.commands))
+    (steps_from seed caller section.uid n (names_in placed) notes (drop n section.commands))
 
 -- the entries are a run of the section that stands at the caller's number; a number without one has none
 abbrev pub IsRunOfCaller : List ℕ → ℕ → Option Section → PlacedCalls → Type 0
@@ -48,6 +63,16 @@ IsRunOfCaller seed caller (Some section) placed = IsRunOfSection seed caller sec
 abbrev pub IsRunOf : List ℕ → List Section → History → Type 0
 IsRunOf seed script history =
     (caller : ℕ) → IsRunOfCaller seed caller (slice_get script caller) (entries_by caller history)
+
+-- the notes of each caller's run in a history, where the first of these callers has the number k
+abbrev pub notes_from : List ℕ → ℕ → List Section → History → List Note
+notes_from seed k [] history = []
+notes_from seed k (section ∷ more) history =
+    notes_of_section seed k section (entries_by k history) ++ notes_from seed (k + 1) more history
+
+-- the notes of a run of a script, caller after caller
+abbrev pub notes_of : List ℕ → List Section → History → List Note
+notes_of seed script history = notes_from seed 0 script history
 
 -- each entry makes the call that comes after those before it, and none comes after all of them
 pub record AreNextCalls {A : Type 0} (steps : Steps A) (es : History) : Type 0 where

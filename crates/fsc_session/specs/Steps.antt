@@ -22,6 +22,12 @@ next_of (Done value) es = None
 next_of (Ask who call next) [] = Some (who, call)
 next_of (Ask who call next) (e ∷ es) = next_of (next e.reply) es
 
+-- the value that the steps are done with after these entries, where they are done
+abbrev pub value_after : {A : Type 0} → Steps A → History → Option A
+value_after (Done value) es = Some value
+value_after (Ask who call next) [] = None
+value_after (Ask who call next) (e ∷ es) = value_after (next e.reply) es
+
 -- the names that a caller was last told: those of a listing, where there are none before it
 abbrev pub names_after : List (List ℕ) → Reply → List (List ℕ)
 names_after names (Names listed more) = listed
@@ -40,4 +46,5 @@ names_from names (e ∷ es) = names_from (names_after names e.reply) es
 -- first the one, then what comes after its value and the last names
 abbrev pub and_then : {A B : Type 0} → List (List ℕ) → Steps A → (List (List ℕ) → A → Steps B) → Steps B
 and_then names (Done value) next = next names value
-and_then names (Ask who call more) next = Ask who call (λ reply. and_then (names_after names reply) (more reply) next)
+and_then names (Ask who call more) next =
+    Ask who call (λ reply. and_then (names_after names reply) (more reply) next)

@@ -2,7 +2,8 @@
 
 ghost use Rattle.std.specs.Prelude.{◌≡◌, ◌≤◌, length, take};
 ghost use Rattle.byte_words.specs.Numbers.{little_endian_bytes};
-ghost use Rattle.fsc_session.specs.Draws.{DrawsAreDistinct, drawn_bytes, draw_info, purpose_number, caller_byte};
+ghost use Rattle.fsc_session.specs.Draws.{DrawsAreDistinct, drawn_bytes, draw_info};
+ghost use Rattle.fsc_session.specs.Draws.{purpose_number, caller_byte};
 ghost use Rattle.fsc_session.specs.PlainCalls.{nonce_drawn};
 
 use crate::turn::Turn;

@@ -15,12 +15,14 @@ ghost use Rattle.fsc_session.specs.Serial.{serial_history};
 /// it, and none comes after all of them.
 pub fn runs_are_next_calls()
     ensures { (seed : List ℕ) (caller : ℕ) (section : Section) (placed : PlacedCalls)
-        → IsRunOfSection seed caller section placed ↔ AreNextCalls (section_steps seed caller section) (entries_of placed) }
+        → IsRunOfSection seed caller section placed
+        ↔ AreNextCalls (section_steps seed caller section) (entries_of placed) }
 {}
 
 /// A legal history in rotation in which no call wants memory is a function of script and seed.
 pub fn answers_determine_the_run()
     ensures { (seed : List ℕ) (script : List Section) (history : History) (after : List Waiting)
-        → Reaches (rotation_steps seed script) history (Done after) → IsLegal history → NeverWantsMemory history
+        → Reaches (rotation_steps seed script) history (Done after) → IsLegal history
+        → NeverWantsMemory history
         → history ≡ serial_history seed script }
 {}

@@ -1,17 +1,26 @@
 //! A caller that makes its section's calls, command by command.
 
-ghost use Rattle.std.specs.Prelude.{◌≡◌, ◌≤◌, [], IfOk, OnOk, OnErr};
+ghost use Rattle.std.specs.Prelude.{◌≡◌, ◌≤◌, [], ◌++◌, IfOk, OnOk, OnErr};
 ghost use Rattle.fsc_session.specs.Commands.{AsksRightly};
 ghost use Rattle.fsc_session.specs.Running.{RunnerView, runner_view, HasRun, Stepped, CameBySome};
+ghost use Rattle.fsc_session.specs.Session.{noted};
 ghost use Rattle.fsc_session.specs.declared.TheConstants.{MOST_CALLS};
 
 use crate::command::run_command;
 use crate::turn::Turn;
-use crate::{EntryList, MOST_CALLS};
+use crate::{EntryList, MOST_CALLS, NoteList};
 use mount_model::MountPort;
-use script_lang::Section;
+use reply_text::{Note, Outcome};
+use script_lang::{Command, Section};
 use std::alloc::{AllocError, Global};
 use std::marker::Model;
+
+/// What a caller's section made: what it asked and was replied, and how its session commands ended.
+#[derive(Drop)]
+pub struct Ran {
+    pub entries: EntryList,
+    pub notes: NoteList,
+}
 
 /// A caller between two commands of its section, with what it asked and was replied so far. In clauses it
 /// is a `RunnerView`.
@@ -21,6 +30,7 @@ pub struct Runner<'a> {
     section: &'a Section,
     next: usize,
     entries: EntryList,
+    notes: NoteList,
 }
 
 impl<'a> Model for Runner<'a> {
@@ -29,7 +39,8 @@ impl<'a> Model for Runner<'a> {
 
     ghost Value = { RunnerView };
 
-    ghost view = { λ runner. runner_view runner.caller runner.section.now runner.next runner.entries };
+    ghost view = { λ runner. runner_view runner.caller runner.section.now runner.next runner.entries
+        runner.notes };
 
     ghost invariant = { λ runner. runner.next ≤ length runner.section.now.commands };
 }
@@ -37,13 +48,14 @@ impl<'a> Model for Runner<'a> {
 impl<'a> Runner<'a> {
     /// The caller of this number, before its first command. It takes no memory.
     pub fn new(alloc: Global, caller: u32, section: &'a Section) -> Runner<'a>
-        ensures { result ≡ runner_view caller section.now 0 [] }
+        ensures { result ≡ runner_view caller section.now 0 [] [] }
     {
         Runner {
             caller,
             section,
             next: 0,
             entries: EntryList::new(alloc),
+            notes: NoteList::new(alloc),
         }
     }
 
@@ -74,7 +86,8 @@ impl<'a> Runner<'a> {
             number: self.next,
         };
         let command = &commands[self.next];
-        run_command(alloc, port, seed, turn, &command.verb, &mut self.entries)?;
+        let outcome = run_command(alloc, port, seed, turn, &command.verb, &mut self.entries)?;
+        note(&mut self.notes, self.caller, command, outcome)?;
         self.next += 1;
         Ok(true)
     }
@@ -86,10 +99,33 @@ impl<'a> Runner<'a> {
         self.caller
     }
 
-    /// What was asked and replied.
-    pub fn ran(self) -> EntryList
-        ensures { result ≡ self.entry.entries }
+    /// What was asked and replied, and the notes.
+    pub fn ran(self) -> Ran
+        ensures entries { result.entries ≡ self.entry.entries }
+        ensures notes { result.notes ≡ self.entry.notes }
     {
-        self.entries
+        Ran {
+            entries: self.entries,
+            notes: self.notes,
+        }
     }
+}
+
+// Puts the note of a command behind the others, if it has one.
+fn note(
+    notes: &mut NoteList,
+    caller: u32,
+    command: &Command,
+    outcome: Option<Outcome>,
+) -> Result<(), AllocError>
+    ensures { OnOk result (notes.new ≡ notes.old ++ noted caller command.now outcome) }
+{
+    if let Some(outcome) = outcome {
+        notes.push(Note {
+            caller,
+            line: command.line,
+            outcome,
+        })?;
+    }
+    Ok(())
 }

@@ -2,12 +2,11 @@
 
 ghost use Rattle.std.specs.Prelude.{◌≡◌, ◌≤◌, ◌+◌, ◌*◌, length, IfOk, OnErr};
 ghost use Rattle.fsc_session.specs.Commands.{AsksRightly};
-ghost use Rattle.fsc_session.specs.Session.{IsRunOfSection};
+ghost use Rattle.fsc_session.specs.Session.{IsRunOfSection, notes_of_section};
 ghost use Rattle.fsc_session.specs.Running.{CameBySome};
 ghost use Rattle.fsc_session.specs.declared.TheConstants.{MOST_CALLS};
 
-use crate::EntryList;
-use crate::runner::Runner;
+use crate::runner::{Ran, Runner};
 use fsc_outside::Gate;
 use mount_model::MountPort;
 use script_lang::Section;
@@ -22,12 +21,15 @@ pub fn run_caller<P: MountPort, G: Gate>(
     gate: &G,
     section: &Section,
     seed: &[u8; 32],
-) -> Result<EntryList, AllocError>
+) -> Result<Ran, AllocError>
     requires left { MOST_CALLS * length section.now.commands ≤ P.calls_left port.old }
     requires asked { AsksRightly section.now }
-    ensures came { IfOk result (λ entries. P.came port.old entries port.new) }
-    ensures run { IfOk result (λ entries. IsRunOfSection seed.now (P.who port.old) section.now entries) }
-    ensures counted { IfOk result (λ entries. P.calls_left port.new + length entries ≡ P.calls_left port.old) }
+    ensures came { IfOk result (λ ran. P.came port.old ran.entries port.new) }
+    ensures run { IfOk result (λ ran. IsRunOfSection seed.now (P.who port.old) section.now ran.entries) }
+    ensures notes { IfOk result (λ ran. ran.notes
+        ≡ notes_of_section seed.now (P.who port.old) section.now ran.entries) }
+    ensures counted { IfOk result (λ ran.
+        P.calls_left port.new + length ran.entries ≡ P.calls_left port.old) }
     ensures failed { OnErr result (CameBySome (P.came port.old) port.new) }
 {
     let caller = port.caller();

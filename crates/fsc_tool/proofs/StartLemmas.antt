@@ -38,12 +38,12 @@ fresh_sections k (section ∷ more) = ap (λ (l : List Section). section ∷ l) 
 pub fresh-step : (i : ℕ) (script : List Section) (section : Section) (made : List RunnerView) (all : List RunnerView)
     → i < length script → section ≡ get_or script i section
     → made ++ fresh_runners i (drop i script) ≡ all
-    → (made ++ runner_view i section 0 [] ∷ []) ++ fresh_runners (i + 1) (drop (i + 1) script) ≡ all
+    → (made ++ runner_view i section 0 [] [] ∷ []) ++ fresh_runners (i + 1) (drop (i + 1) script) ≡ all
 fresh-step i script section made all below here so_far =
     let next : suc i ≡ i + 1 = omega arith in
     let front : drop i script ≡ section ∷ drop (i + 1) script =
     drop-cons script i section below ∙ ap₂ (λ (x : Section) (j : ℕ). x ∷ drop j script) (sym here) next in
-    append_assoc made (runner_view i section 0 [] ∷ []) (fresh_runners (i + 1) (drop (i + 1) script))
+    append_assoc made (runner_view i section 0 [] [] ∷ []) (fresh_runners (i + 1) (drop (i + 1) script))
     ∙ ap (λ (rest : List Section). made ++ fresh_runners i rest) (sym front)
     ∙ so_far
 
@@ -53,19 +53,19 @@ fresh-end i script made all end so_far =
     sym (append-nil made) ∙ ap (λ (rest : List Section). made ++ fresh_runners i rest) (sym (drop_of_length-le script end)) ∙ so_far
 
 fresh_get : (k j : ℕ) (script : List Section) (runner : RunnerView) → slice_get (fresh_runners k script) j ≡ Some runner
-    → (section : Section) × (slice_get script j ≡ Some section) × (runner ≡ runner_view (k + j) section 0 [])
+    → (section : Section) × (slice_get script j ≡ Some section) × (runner ≡ runner_view (k + j) section 0 [] [])
 fresh_get k j [] runner here = absurd (cc here)
 fresh_get k zero (section ∷ more) runner here =
     let first : k ≡ k + 0 = omega arith in
-    let is : runner_view k section 0 [] ≡ runner = cc here in
-    (section, refl, sym is ∙ ap (λ w. runner_view w section 0 []) first)
+    let is : runner_view k section 0 [] [] ≡ runner = cc here in
+    (section, refl, sym is ∙ ap (λ w. runner_view w section 0 [] []) first)
 fresh_get k (suc j) (section ∷ more) runner here =
     let rest = fresh_get (k + 1) j more runner here in
     let next : k + 1 + j ≡ k + suc j = omega arith in
-    (rest.0, rest.1, rest.2 ∙ ap (λ w. runner_view w rest.0 0 []) next)
+    (rest.0, rest.1, rest.2 ∙ ap (λ w. runner_view w rest.0 0 [] []) next)
 
 fresh_turn : (seed : List ℕ) (j : ℕ) (script : List Section) (section : Section) → AsksRightly section → slice_get script j ≡ Some section
-    → InTurn seed script [] 0 j (runner_view j section 0 [])
+    → InTurn seed script [] 0 j (runner_view j section 0 [] [])
 fresh_turn seed j script section asked here = record {
   caller = refl;
   section = here;
@@ -82,7 +82,7 @@ fresh_at seed j script runner asked here =
     let own : 0 + j ≡ j = omega arith in
     let rightly : AsksRightly at.0 =
     subst AsksRightly (get_or_from_slice_get script j at.0 at.0 at.1) (asked j at.0 (slice_get_within script j at.0 at.1)) in
-    subst (InTurn seed script [] 0 j) (sym (at.2 ∙ ap (λ w. runner_view w at.0 0 []) own)) (fresh_turn seed j script at.0 rightly at.1)
+    subst (InTurn seed script [] 0 j) (sym (at.2 ∙ ap (λ w. runner_view w at.0 0 [] []) own)) (fresh_turn seed j script at.0 rightly at.1)
 
 length-fresh : (k : ℕ) (script : List Section) → length (fresh_runners k script) ≡ length script
 length-fresh k [] = refl
@@ -178,7 +178,7 @@ module _ {M : Type 0} (leads : History → M → Type 0) (lawful : History → T
       let done : length r.section.commands ≤ r.next = let most = longest-le 0 script c r.section turn.section in let at = turn.next in omega (arith, most, at, all) in
       subst (λ s. IsRunOfCaller seed c s (by c ended.told)) (sym turn.section)
       (subst (IsRunOfSection seed c r.section) turn.own
-      (subst (λ w. IsRunOfSection seed w r.section r.entries) turn.caller (run_is_whole seed r.caller r.section r.next r.entries done turn.run))))
+      (subst (λ w. IsRunOfSection seed w r.section r.entries) turn.caller (run_is_whole seed r.caller r.section r.next r.entries r.notes done turn.run))))
       (λ past. let over = past.0 in let count = ended.count in
       subst (λ s. IsRunOfCaller seed c s (by c ended.told)) (sym (slice_get_past script c (omega (arith, over, count)))) (ended.others c past.1))
       (slice_get_cases runners c).1)

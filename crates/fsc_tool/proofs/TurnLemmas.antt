@@ -71,15 +71,16 @@ turn_made seed n caller true old new made next who at section grown so =
     let here : slice_get old.section.commands n ≡ Some command = ap (slice_get old.section.commands) (sym same) ∙ so.1 in
     let uid = old.section.uid in
     let names = names_in old.entries in
-    let follows : Reaches (command_steps seed caller uid n names command.verb) (entries_of made) (Done tt) =
-    subst (λ (c : ℕ). Reaches (command_steps seed c uid n names command.verb) (entries_of made) (Done tt)) who
-    (subst (λ (k : ℕ). Reaches (command_steps seed old.caller uid k names command.verb) (entries_of made) (Done tt)) same so.3) in
+    let outcome = so.3.0 in
+    let follows : Reaches (command_steps seed caller uid n names command.verb) (entries_of made) (Done outcome) =
+    subst (λ (c : ℕ). Reaches (command_steps seed c uid n names command.verb) (entries_of made) (Done outcome)) who
+    (subst (λ (k : ℕ). Reaches (command_steps seed old.caller uid k names command.verb) (entries_of made) (Done outcome)) same so.3.1) in
     let state : waiting old.section (names_from names (entries_of made)) ≡ state_of new =
     ap₂ (λ (s : Section) (told : List (List ℕ)). waiting s told) (sym section)
     (sym (names_in-append old.entries made) ∙ ap names_in (sym grown)) in
     subst (λ (o : Option Command). Reaches (turn_of seed n caller (state_of old) o next) (entries_of made) (next (state_of new))) (sym here)
     (subst (λ (w : Waiting). Reaches (turn_of seed n caller (state_of old) (Some command) next) (entries_of made) (next w)) state
-    (Reaches-and_then names (command_steps seed caller uid n names command.verb) (λ told done. next (waiting old.section told)) (entries_of made) tt follows))
+    (Reaches-and_then names (command_steps seed caller uid n names command.verb) (λ told outcome. next (waiting old.section told)) (entries_of made) outcome follows))
 
 -- ---- what stands after a turn
 

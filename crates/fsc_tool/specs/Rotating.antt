@@ -55,7 +55,7 @@ pub record TurnMade {M : Type 0} (leads : History → M → Type 0) (seed : List
 -- the callers of sections before their first commands, of which the first has the number k
 abbrev pub fresh_runners : ℕ → List Section → List RunnerView
 fresh_runners k [] = []
-fresh_runners k (section ∷ more) = runner_view k section 0 [] ∷ fresh_runners (k + 1) more
+fresh_runners k (section ∷ more) = runner_view k section 0 [] [] ∷ fresh_runners (k + 1) more
 
 -- the sections whose callers these are
 abbrev pub sections_of : List RunnerView → List Section

@@ -141,7 +141,7 @@ fn told_by(alloc: Global, runners: Vec<Runner>) -> Result<PlacedVec, AllocError>
 {
     let mut entries = Vec::new(alloc);
     'runners: for runner in runners {
-        let mut more = runner.ran().into_vec();
+        let mut more = runner.ran().entries.into_vec();
         entries.append(&mut more)?;
     }
     Ok(entries)

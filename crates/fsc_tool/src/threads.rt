@@ -125,11 +125,11 @@ fn run_one<R: Wait, G: Gate, M: MountMachine>(
     ensures { IfOk result (λ ran. HaveRun seed.now pass sections.now ran.0 ran.1.items) }
 {
     let mut port = SharedPort::new(rt, shared, pass);
-    let entries = run_caller(alloc, &mut port, gate, &sections[0], seed)?;
+    let ran = run_caller(alloc, &mut port, gate, &sections[0], seed)?;
     let pass = port.back();
     // That its own entries are its caller's.
     let _caller = pass.who();
-    Ok((pass, entries.into_vec()))
+    Ok((pass, ran.entries.into_vec()))
 }
 
 // Cuts the pass in two, with the sections: the pass keeps the numbers and the calls of the first half, and

@@ -5,6 +5,6 @@ use Rattle.fsc_session.proofs.laws.runs_are_next_calls.Goals as goal
 
 pub returns : goal.returns
 returns c seed caller section placed = (
-  next_calls (section_steps seed caller section) (entries_of placed) tt,
-  λ next. (next_calls_reach (section_steps seed caller section) (entries_of placed) next).1,
+  λ run. next_calls (section_steps seed caller section) (entries_of placed) run.0 run.1,
+  λ next. next_calls_reach (section_steps seed caller section) (entries_of placed) next,
 )

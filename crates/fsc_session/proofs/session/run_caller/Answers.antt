@@ -1,6 +1,7 @@
 use Rattle.std.proofs.Common.{◌+◌, ◌++◌, length, sym, ap, ◌∙◌, subst, arith}
 use Rattle.std.proofs.lemmas.Result.{err_from_is_err_and}
-use Rattle.fsc_session.proofs.RunLemmas.{few_after, counted_after, next_after}
+use Rattle.fsc_session.proofs.RunLemmas.{few_after, counted_after, next_after, notes_are_whole}
+use Rattle.fsc_session.specs.Session.{notes_of_section}
 use Rattle.fsc_session.proofs.session.run_caller.Goals as goal
 
 pub returns-in_err-step-clause-failed : goal.returns-in_err-step-clause-failed
@@ -27,3 +28,17 @@ commands-preserved g c =
       few = few_after c.commands.number c.commands.runner.entries made.made c.step.new.self.entries made.grown made.few i.few;
       counted = counted_after _ _ _ c.commands.runner.entries made.made c.step.new.self.entries made.grown made.counted i.counted;
     }
+
+pub returns-clause-notes : goal.returns-clause-notes
+returns-clause-notes g c =
+    let i = c.commands.invariant in
+    let runner = c.commands.runner in
+    let at = i.next in
+    let past = c.commands-test.false in
+    let all = c.len-number-end.ensures ∙ ap (λ section. length section.commands) (sym i.section) in
+    let seed = c.args.seed.now in
+    c.ran.ensures.notes
+    ∙ notes_are_whole seed runner.caller runner.section runner.next runner.entries runner.notes (omega (arith, at, past, all)) i.run
+    ∙ ap (λ caller. notes_of_section seed caller runner.section runner.entries) i.caller
+    ∙ ap (λ section. notes_of_section seed (g.P.MountPort.who c.args.port.now) section runner.entries) i.section
+    ∙ ap (λ entries. notes_of_section seed (g.P.MountPort.who c.args.port.now) c.args.section.now entries) (sym c.ran.ensures.entries)

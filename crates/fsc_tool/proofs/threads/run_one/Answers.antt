@@ -8,9 +8,9 @@ use Rattle.fsc_tool.proofs.threads.run_one.Goals as goal
 
 pub returns : goal.returns
 returns g c =
-    let entries = c.in_ok-entries.entries in
-    let came = c.in_ok-entries.ensures.came in
-    let ran = c.in_ok-entries.ensures.run in
+    let entries = c.in_ok-ran.ran.entries in
+    let came = c.in_ok-ran.ensures.came in
+    let ran = c.in_ok-ran.ensures.run in
     subst (HaveRun c.args.seed.now c.args.pass c.args.sections.now c.back-pass.result) (sym c.into_vec.ensures)
     (one_runs g.M.Machine.lawful c.args.seed.now c.args.shared.now c.args.pass c.back-pass.result c.args.sections.now
     c.index-sections-0.result entries c.requires.can_run c.requires.one

@@ -30,21 +30,23 @@ pub returns-clause-stepped : goal.returns-clause-stepped
 returns-clause-stepped g c =
     subst (λ old. Stepped (g.P.MountPort.came c.args.port.now) c.run_command.new.port (g.P.MountPort.calls_left c.run_command.new.port)
     (g.P.MountPort.calls_left c.args.port.now) c.args.seed.now true old
-    (runner_view c.self.inside.caller c.self.inside.section.now (c.self.inside.next + 1) c.run_command.new.entries)) c.self.view_is
+    (runner_view c.self.inside.caller c.self.inside.section.now (c.self.inside.next + 1) c.run_command.new.entries c.note.new.notes)) c.self.view_is
     (stepped (g.P.MountPort.came c.args.port.now) c.run_command.new.port (g.P.MountPort.calls_left c.run_command.new.port)
-    (g.P.MountPort.calls_left c.args.port.now) c.args.seed.now c.index-commands-self.result
-    (runner_view c.self.inside.caller c.self.inside.section.now c.self.inside.next c.self.inside.entries)
-    (runner_view c.self.inside.caller c.self.inside.section.now (c.self.inside.next + 1) c.run_command.new.entries)
+    (g.P.MountPort.calls_left c.args.port.now) c.args.seed.now c.index-commands-self.result c.in_ok-outcome.outcome
+    (runner_view c.self.inside.caller c.self.inside.section.now c.self.inside.next c.self.inside.entries c.self.inside.notes)
+    (runner_view c.self.inside.caller c.self.inside.section.now (c.self.inside.next + 1) c.run_command.new.entries c.note.new.notes)
     (there _ _ _ _ c.as_slice-commands.ensures c.self.invariant c.if-self-commands.false c.index-commands-self.is)
-    refl refl refl c.in_ok-run_command.ensures.made)
+    refl refl refl c.in_ok-note.ensures c.in_ok-outcome.ensures.made)
 
 pub returns-clause-run : goal.returns-clause-run
 returns-clause-run g c =
-    subst (λ old. HasRun c.args.seed.now old → IsRunSoFar c.args.seed.now c.self.inside.caller c.self.inside.section.now (c.self.inside.next + 1) c.run_command.new.entries) c.self.view_is
+    subst (λ old. HasRun c.args.seed.now old
+    → IsRunSoFar c.args.seed.now c.self.inside.caller c.self.inside.section.now (c.self.inside.next + 1) c.run_command.new.entries c.note.new.notes) c.self.view_is
     (made_goes_on (g.P.MountPort.came c.args.port.now) c.run_command.new.port (g.P.MountPort.calls_left c.run_command.new.port)
-    (g.P.MountPort.calls_left c.args.port.now) c.args.seed.now c.self.inside.caller c.self.inside.section.now c.self.inside.next c.index-commands-self.result c.self.inside.entries c.run_command.new.entries
+    (g.P.MountPort.calls_left c.args.port.now) c.args.seed.now c.self.inside.caller c.self.inside.section.now c.self.inside.next c.index-commands-self.result
+    c.in_ok-outcome.outcome c.self.inside.entries c.run_command.new.entries c.self.inside.notes c.note.new.notes
     (there _ _ _ _ c.as_slice-commands.ensures c.self.invariant c.if-self-commands.false c.index-commands-self.is)
-    c.in_ok-run_command.ensures.made)
+    c.in_ok-note.ensures c.in_ok-outcome.ensures.made)
 
 pub run_command-requires-clause-asked : goal.run_command-requires-clause-asked
 run_command-requires-clause-asked g c =
