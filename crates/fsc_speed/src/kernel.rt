@@ -4,7 +4,8 @@ use crate::lengths::{TextLength, UnitLength};
 use crate::stretching::{ONE_PASS, THREE_PASSES};
 use crate::trees::TreeSize;
 use crate::turns::Callers;
-use crate::{ciphers, claims, hashes, names, sealing, stretching, trees, turns};
+use crate::walks::Walk;
+use crate::{ciphers, claims, hashes, names, scripts, sealing, stretching, trees, turns, walks};
 use policy_ctx::Unit;
 use std::alloc::{AllocError, Global};
 use std::marker::Brand;
@@ -36,6 +37,9 @@ pub(crate) enum Kernel {
     PutEntries(TreeSize),
     Seal(Unit),
     MakeClaims(ClaimCount),
+    ReadScript,
+    EntryLine,
+    Walk(Walk),
 }
 
 impl Kernel {
@@ -64,6 +68,9 @@ impl Kernel {
                 size.strip_prefix("get-")?,
                 65536,
             )?)),
+            ("read", "script") => Some(Kernel::ReadScript),
+            ("entry", "line") => Some(Kernel::EntryLine),
+            ("walk", walk) => Some(Kernel::Walk(Walk::named(walk)?)),
             ("entry", call) => Kernel::of_entries(call),
             _ => None,
         }
@@ -117,6 +124,9 @@ impl Kernel {
             Kernel::PutEntries(size) => trees::put_entries(alloc, size, count),
             Kernel::Seal(unit) => Ok(sealing::seal_blocks(unit, count)),
             Kernel::MakeClaims(size) => claims::make_claims(alloc, size, count),
+            Kernel::ReadScript => scripts::read_scripts(alloc, count),
+            Kernel::EntryLine => scripts::tell_listings(alloc, count),
+            Kernel::Walk(walk) => walks::walk_often::<Brand>(alloc, Blank::new(1), walk, count),
         }
     }
 }

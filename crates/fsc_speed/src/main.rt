@@ -8,10 +8,12 @@ mod hashes;
 mod kernel;
 mod lengths;
 mod names;
+mod scripts;
 mod sealing;
 mod stretching;
 mod trees;
 mod turns;
+mod walks;
 
 use kernel::Kernel;
 use std::process::ExitCode;
@@ -23,7 +25,8 @@ fsc_speed NAME COUNT; names: \
     bytes), cts-LENGTH (16 to 65536 bytes), hkdf-64, sha512-192, file-key, mode-key, \
     encrypt-name-32, nokey-255, blake2b-64m, argon2id-1-65536-1, argon2id-3-65536-4, \
     argon2id-lanes-3-65536-4, turn-1, turn-2, turn-4, node-get-NODES (to 65536), \
-    entry-get-ENTRIES, entry-put-ENTRIES (to 4096), seal-512, seal-4096, claims-CLAIMS (to 38400)";
+    entry-get-ENTRIES, entry-put-ENTRIES (to 4096), seal-512, seal-4096, claims-CLAIMS (to 38400), \
+    read-script, entry-line, walk-3-plain, walk-3-keyed, walk-3-locked";
 
 fn main(rt: HostRuntime) -> io::Result<ExitCode> {
     let mut words = env::args(&rt)?.skip(1);

@@ -1,0 +1,95 @@
+//! The kernels of scripts and logs. They hash how much was read or told, and no contract says how much
+//! that is.
+use call_history::Entry;
+use item_list::{Bytes, Items};
+use mount_model::{Call, Op, Path, Reply};
+use reply_text::entry_line;
+use script_lang::read_script;
+use sha2::{Digest, Sha256};
+use std::alloc::{AllocError, Global};
+use text_words::push_lower_hex;
+
+/// As many lines as a script may have.
+const LINES: u32 = 20_000;
+
+/// More bytes than so many lines have here.
+const MOST_BYTES: usize = 1_048_576;
+
+/// As many names as a listing tells.
+const NAMES: u32 = 128;
+
+/// Reads a script of 20,000 lines.
+pub(crate) fn read_scripts(alloc: Global, count: u32) -> Result<[u8; 32], AllocError> {
+    let text = script_text(alloc)?;
+    let mut read = 0u32;
+    for _ in 0..count {
+        read = read.wrapping_add(commands_in(alloc, text.as_slice())?);
+    }
+    Ok(Sha256::digest(&read.to_be_bytes()))
+}
+
+/// Makes the line of a listing of 128 names.
+pub(crate) fn tell_listings(alloc: Global, count: u32) -> Result<[u8; 32], AllocError> {
+    let listing = listing(alloc)?;
+    let mut told = 0u32;
+    for place in 0..count {
+        let line = entry_line(alloc, u64::from(place), &listing)?;
+        told = told.wrapping_add(size_of(line.len()));
+    }
+    Ok(Sha256::digest(&told.to_be_bytes()))
+}
+
+// How many commands the first caller has.
+fn commands_in(alloc: Global, text: &[u8]) -> Result<u32, AllocError> {
+    if text.len() > MOST_BYTES {
+        return Err(AllocError);
+    }
+    let script = read_script(alloc, text).map_err(|_| AllocError)?;
+    match script.as_slice().first() {
+        Some(section) => Ok(size_of(section.commands.len())),
+        None => Ok(0),
+    }
+}
+
+fn size_of(len: usize) -> u32 {
+    u32::try_from(len).unwrap_or(u32::MAX)
+}
+
+// A caller, and for each further line a command on a key of its own.
+fn script_text(alloc: Global) -> Result<Vec<u8>, AllocError> {
+    let mut text = Vec::from_slice(alloc, b"caller 1000\n")?;
+    for line in 1..LINES {
+        text.extend_from_slice(b"key-status id:")?;
+        push_lower_hex(&mut text, &scattered(line))?;
+        text.push(b'\n')?;
+    }
+    Ok(text)
+}
+
+fn listing(alloc: Global) -> Result<Entry<Call, Reply>, AllocError> {
+    let mut names = Vec::new(alloc);
+    for name in 0..NAMES {
+        let mut bytes = Vec::new(alloc);
+        push_lower_hex(&mut bytes, &scattered(name))?;
+        names.push(Bytes::from_vec(bytes))?;
+    }
+    let op = Op::List {
+        path: Path::root(alloc),
+        start: 0,
+    };
+    Ok(Entry {
+        who: 0,
+        call: Call { uid: 1000, op },
+        reply: Reply::Names {
+            names: Items::from_vec(names),
+            more: false,
+        },
+    })
+}
+
+// 16 bytes that differ from those of each other number.
+pub(crate) fn scattered(number: u32) -> [u8; 16] {
+    let mut bytes = [0x61; 16];
+    bytes[..4].copy_from_slice(&number.wrapping_mul(2246822519).to_be_bytes());
+    bytes
+}
