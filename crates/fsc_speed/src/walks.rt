@@ -113,20 +113,21 @@ fn encrypt_top<L: Ledger>(
     Ok(Some(id))
 }
 
-// Makes the next directory and the files in the directory at that depth.
+// Makes the files and then the next directory in the directory at that depth, so that a search from the
+// first entry on finds it last.
 fn fill<L: Ledger>(
     alloc: Global,
     state: &mut MountState,
     depth: u32,
     steps: &mut Steps<L>,
 ) -> Result<(), AllocError> {
-    let next = path_to(alloc, depth, NEXT)?;
-    let _made = mkdir(alloc, state, &next, &NONCE, steps);
     for number in 0..FILES {
         let name = file_name(alloc, number)?;
         let path = path_to(alloc, depth, name.as_slice())?;
         let _made = create(alloc, state, &path, &NONCE, steps);
     }
+    let next = path_to(alloc, depth, NEXT)?;
+    let _made = mkdir(alloc, state, &next, &NONCE, steps);
     Ok(())
 }
 
