@@ -240,8 +240,8 @@ fn words_of_commands_are_taken_or_refused(rt: HostRuntime) -> Result<(), Fail> {
 
 // A command of the grammar whose call is not built yet is refused in its line.
 #[test]
-fn a_command_without_a_call_is_refused_in_its_line(rt: HostRuntime) -> Result<(), Fail> {
-    let fault = read_script(rt.alloc(), b"caller 1\n\nstat /\n").err();
+fn a_command_of_a_session_is_refused_in_its_line(rt: HostRuntime) -> Result<(), Fail> {
+    let fault = read_script(rt.alloc(), b"caller 1\n\nlock docs\n").err();
     assert_eq!(rt; fault, Some(ScriptFault::BadLine { line: 3 }));
     Ok(())
 }
