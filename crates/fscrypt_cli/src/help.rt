@@ -86,7 +86,8 @@ pub(crate) fn advise(rt: &HostRuntime, status: Status, input: &[u8]) {
     let advice = match status {
         Status::Done => return,
         Status::BadLine { .. } => return show_line(rt, input),
-        Status::Usage => "the forms are: fsc replay [--serial] [--seed HEX64]; fsc --help tells more",
+        Status::Usage =>
+            "the forms are: fsc replay [--serial] [--seed HEX64]; fsc --help tells more",
         Status::ReadFault => "standard input failed: give the script by < FILE",
         Status::WriteFault =>
             "what was written is a beginning of the log; make room and run it again",
