@@ -5,7 +5,7 @@ use item_list::Bytes;
 use mount_model::{NodeKind, Part, Path, Refusal, Reply};
 use mount_state::MountState;
 use name_crypt::Steps;
-use std::alloc::{AllocError, Global};
+use std::alloc::Global;
 use std::marker::Brand;
 use std::process::Abort;
 use std::sync::ledger::{Blank, Ledger};
@@ -81,54 +81,5 @@ fn ask_a_new_mount<L: Ledger, A: Abort>(rt: &A, alloc: Global, blank: Blank) -> 
         }
     );
     assert!(rt; is_file);
-    Ok(())
-}
-
-#[test]
-fn names_move_and_go_and_nodes_with_them(rt: HostRuntime) -> Result<(), Fail> {
-    let alloc = rt.alloc();
-    take_names_away::<Brand, HostRuntime>(&rt, alloc, Blank::new(1))
-}
-
-// The path of these names.
-fn path_of(alloc: Global, names: &[&[u8]]) -> Result<Path, AllocError> {
-    let mut path = Path::root(alloc);
-    for name in names {
-        path.push(Part::new(Bytes::from_vec(Vec::from_slice(alloc, name)?)))?;
-    }
-    Ok(path)
-}
-
-// A directory with a file in it, which is moved out.
-fn take_names_away<L: Ledger, A: Abort>(rt: &A, alloc: Global, blank: Blank) -> Result<(), Fail>
-    requires name { blank.name ≡ L.name }
-    requires parts { blank.parts ≡ L.parts }
-    requires some { 0 < L.parts }
-{
-    let mut state = MountState::new(alloc)?;
-    let mut steps = Steps::<L>::new(blank);
-    let dir = path_of(alloc, &[b"a".as_slice()])?;
-    let file = path_of(alloc, &[b"a".as_slice(), b"f".as_slice()])?;
-    let made = mkdir(alloc, &mut state, &dir, &[7; 16], &mut steps);
-    assert!(rt; matches!(made, Reply::Done));
-    let created = create(alloc, &mut state, &file, &[9; 16], &mut steps);
-    assert!(rt; matches!(created, Reply::Done));
-    let full = rmdir(alloc, &mut state, &dir, &mut steps);
-    assert!(rt; matches!(full, Reply::Refused(Refusal::NotEmpty)));
-    let other = unlink(alloc, &mut state, &dir, &mut steps);
-    assert!(rt; matches!(other, Reply::Refused(Refusal::IsDir)));
-    let below = path_of(alloc, &[b"a".as_slice(), b"b".as_slice()])?;
-    let into_itself = rename(alloc, &mut state, &dir, &below, &mut steps);
-    assert!(rt; matches!(into_itself, Reply::Refused(Refusal::Inval)));
-    let other_file = path_of(alloc, &[b"g".as_slice()])?;
-    let moved = rename(alloc, &mut state, &file, &other_file, &mut steps);
-    assert!(rt; matches!(moved, Reply::Done));
-    let again = unlink(alloc, &mut state, &file, &mut steps);
-    assert!(rt; matches!(again, Reply::Refused(Refusal::NotFound)));
-    let gone = unlink(alloc, &mut state, &other_file, &mut steps);
-    assert!(rt; matches!(gone, Reply::Done));
-    let removed = rmdir(alloc, &mut state, &dir, &mut steps);
-    assert!(rt; matches!(removed, Reply::Done));
-    assert!(rt; state.disk.node_count() == 1);
     Ok(())
 }
