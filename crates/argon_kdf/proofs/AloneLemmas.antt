@@ -1,18 +1,18 @@
 -- The segments of a slice do not see one another: made one after the other, or each from the table before
 -- the slice, they have the same blocks.
 use Rattle.std.proofs.Common.{◌≡◌, ℕ, zero, suc, ◌+◌, ◌-◌, ◌*◌, ◌/◌, ◌%◌, ◌^◌, ◌<◌, ◌≤◌, ◌≢◌, ◌⊎◌, ◌==◌}
-use Rattle.std.proofs.Common.{false, List, [], length, slice_index_or, inl, inr, refl, sym, ◌∙◌, arith}
+use Rattle.std.proofs.Common.{false, List, inl, inr, refl, sym, ◌∙◌, arith}
 use Rattle.std.proofs.lemmas.Bool.{cases_lt, cases_eq}
 use Rattle.std.proofs.lemmas.Bool.Decides.{nat_tests}
 use Rattle.std.specs.Prelude.{if◌then◌else◌}
 use Rattle.argon_kdf.specs.declared.layout.Place.{Place}
 use Rattle.argon_kdf.specs.Blocks.{xored}
-use Rattle.argon_kdf.specs.Shapes.{Shape, IsWithin, place, columns, block_count, column_of, column_before}
+use Rattle.argon_kdf.specs.Shapes.{Shape, IsWithin, place, columns, column_of, column_before}
 use Rattle.argon_kdf.specs.References.{reference_lane, reference_column}
 use Rattle.argon_kdf.specs.Tables.{Table, put, columns_made, latest}
 use Rattle.argon_kdf.specs.Filling.{joined_block, new_block, with_block, with_places, with_lanes}
-use Rattle.argon_kdf.specs.Lanes.{IsOutside}
-use Rattle.argon_kdf.specs.Memory.{Stands}
+use Rattle.argon_kdf.specs.Slices.{IsOutside}
+use Rattle.argon_kdf.specs.Memory.{Shows}
 use Rattle.argon_kdf.proofs.Recursion.{joined_same, new_first_same, new_joined_same}
 use Rattle.argon_kdf.proofs.SegmentLemmas.{side_of, begin_made}
 use Rattle.argon_kdf.proofs.Standing.{put_lane, put_column, latest_made, latest_old, latest_same}
@@ -147,17 +147,15 @@ slice_alone x h0 b w s (suc n) p l z wide slice most low =
 next_row : (s g : ℕ) → (s + 1) * g ≡ s * g + g
 next_row s g = grind arith
 
-pub Stands_placed : (x : Shape) (h0 : List ℕ) (m now : List (List ℕ)) (b : Table) (w s : ℕ) → 2 ≤ x.width
-    → s < 4 → Stands x m b (place w s 0 0) → length now ≡ block_count x
-    → ((l k : ℕ) → l < x.lanes → k < x.width → slice_index_or now (l * columns x + (s * x.width + k)) []
+pub Shows_placed : (x : Shape) (h0 : List ℕ) (m now : ℕ → ℕ → List ℕ) (b : Table) (w s : ℕ) → 2 ≤ x.width
+    → s < 4 → Shows x m b (place w s 0 0)
+    → ((l k : ℕ) → l < x.lanes → k < x.width → now l (s * x.width + k)
     ≡ with_places x h0 b w s l x.width w l (s * x.width + k))
-    → ((l z : ℕ) → l < x.lanes → z < columns x → IsOutside x s z
-    → slice_index_or now (l * columns x + z) [] ≡ slice_index_or m (l * columns x + z) [])
-    → Stands x now (with_lanes x h0 b w s x.lanes) (place w (s + 1) 0 0)
-Stands_placed x h0 m now b w s wide slice st whole placed kept =
+    → ((l z : ℕ) → l < x.lanes → z < columns x → IsOutside x s z → now l z ≡ m l z)
+    → Shows x now (with_lanes x h0 b w s x.lanes) (place w (s + 1) 0 0)
+Shows_placed x h0 m now b w s wide slice st placed kept =
     let t : Table = with_lanes x h0 b w s x.lanes in
     record {
-      whole = whole;
       shows = λ l z low inside.
           let end : columns_made x (place w (s + 1) 0 0) l ≡ s * x.width + x.width =
           begin_made x w (s + 1) l ∙ next_row s x.width in

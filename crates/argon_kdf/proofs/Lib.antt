@@ -9,4 +9,4 @@ pub mod Referring
 pub mod Recursion
 pub mod SegmentLemmas
 pub mod AloneLemmas
-pub mod PlacingLemmas
+pub mod SliceLemmas

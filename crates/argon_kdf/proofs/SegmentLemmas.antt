@@ -1,44 +1,24 @@
 -- A segment in the making: what it sees is the latest block.
-use Rattle.std.proofs.Common.{◌≡◌, ℕ, ◌+◌, ◌-◌, ◌*◌, ◌/◌, ◌%◌, ◌^◌, ◌<◌, ◌≤◌, ◌≢◌, ◌⊎◌, ◌==◌, false, List, []}
+use Rattle.std.proofs.Common.{◌≡◌, ℕ, ◌+◌, ◌*◌, ◌/◌, ◌%◌, ◌^◌, ◌<◌, ◌≤◌, ◌≢◌, ◌⊎◌, ◌==◌, false, List, []}
 use Rattle.std.proofs.Common.{length, slice_index_or, slice_set, inl, inr, refl, sym, ap, ◌∙◌, arith}
 use Rattle.std.proofs.Common.{get_or-set_same, get_or-set_other}
 use Rattle.std.proofs.lemmas.Bool.{cases_lt, cases_eq}
 use Rattle.std.proofs.lemmas.Bool.Decides.{nat_tests}
+use Rattle.std.proofs.lemmas.Nat.{div-add-mod'}
 use Rattle.argon_kdf.specs.declared.layout.Place.{Place}
 use Rattle.argon_kdf.specs.Blocks.{joined, xored}
 use Rattle.argon_kdf.specs.Shapes.{Shape, IsWithin, place, columns, column_of, column_before}
 use Rattle.argon_kdf.specs.References.{reference_word, reference_lane, reference_column}
 use Rattle.argon_kdf.specs.Tables.{Table, put, columns_made, latest}
 use Rattle.argon_kdf.specs.Filling.{joined_block, new_block, with_block}
-use Rattle.argon_kdf.specs.Lanes.{seen_block, IsOutside}
-use Rattle.argon_kdf.specs.Memory.{Stands}
+use Rattle.argon_kdf.specs.Slices.{IsOutside, block_at, seen_block}
+use Rattle.argon_kdf.specs.Memory.{Shows}
 use Rattle.argon_kdf.specs.Segments.{Begun}
 use Rattle.argon_kdf.proofs.Referring.{reference_apart}
+use Rattle.argon_kdf.proofs.SliceLemmas.{slice_of, index_of, slice_outside, block_is, block_same}
+use Rattle.argon_kdf.proofs.SliceLemmas.{seen_own, seen_other}
 use Rattle.argon_kdf.proofs.Standing.{made_before, made_here, made_after, latest_made, latest_old}
 use Rattle.argon_kdf.proofs.Standing.{latest_same, latest_put_here, latest_put_lane, latest_put_column}
-
--- ---- what is seen
-
-seen_own : (x : Shape) (m seg : List (List ℕ)) (w s i k l z : ℕ) → l ≡ i → s * x.width ≤ z
-    → z < s * x.width + k
-    → seen_block x m seg (place w s i k) l z ≡ slice_index_or seg (z - s * x.width) []
-unfolding seen_block
-seen_own x m seg w s i k l z own from to = grind (arith, nat_tests)
-
-seen_past : (x : Shape) (m seg : List (List ℕ)) (w s i k l z : ℕ) → s * x.width + k ≤ z
-    → seen_block x m seg (place w s i k) l z ≡ slice_index_or m (l * columns x + z) []
-unfolding seen_block
-seen_past x m seg w s i k l z from = grind (arith, nat_tests)
-
-seen_before : (x : Shape) (m seg : List (List ℕ)) (w s i k l z : ℕ) → z < s * x.width
-    → seen_block x m seg (place w s i k) l z ≡ slice_index_or m (l * columns x + z) []
-unfolding seen_block
-seen_before x m seg w s i k l z to = grind (arith, nat_tests)
-
-seen_other : (x : Shape) (m seg : List (List ℕ)) (w s i k l z : ℕ) → l ≢ i
-    → seen_block x m seg (place w s i k) l z ≡ slice_index_or m (l * columns x + z) []
-unfolding seen_block
-seen_other x m seg w s i k l z other = grind (arith, nat_tests)
 
 -- ---- at the start
 
@@ -59,14 +39,23 @@ other_made x w s i k l other = elim (cases_lt l i) [
   )
 ]
 
-pub Begun_start : (x : Shape) (m seg : List (List ℕ)) (b : Table) (w s i : ℕ) → Stands x m b (place w s 0 0)
-    → Begun x m seg b (place w s i 0)
-Begun_start x m seg b w s i st = record {
+-- without the slice, memory is what it was
+pub Begun_start : (x : Shape) (before m : List (List (List (List ℕ)))) (seg : List (List ℕ)) (b : Table)
+    (w s i : ℕ) → 2 ≤ x.width → ((n : ℕ) → n ≢ s → slice_index_or m n [] ≡ slice_index_or before n [])
+    → seg ≡ slice_index_or (slice_index_or before s []) i []
+    → Shows x (block_at x before) b (place w s 0 0) → Begun x m seg b (place w s i 0)
+Begun_start x before m seg b w s i wide kept taken st = record {
   shows = λ l z low inside side.
-      let from_memory : seen_block x m seg (place w s i 0) l z ≡ slice_index_or m (l * columns x + z) [] =
-      elim (cases_lt z (s * x.width)) [
-        | inl under ↦ seen_before x m seg w s i 0 l z under
-        | inr over ↦ seen_past x m seg w s i 0 l z (omega arith)
+      let from_memory : seen_block x m seg (place w s i 0) l z ≡ block_at x before l z =
+      elim (cases_eq (z / x.width) s) [
+        | inl here ↦
+            let own : l ≡ i =
+            elim side [ inl own ↦ own | inr outside ↦ absurd (slice_outside x s z (omega arith) outside here) ] in
+            seen_own x m seg (place w s i 0) l z here
+            ∙ ap (λ (segment : List (List ℕ)). slice_index_or segment (z % x.width) []) taken
+            ∙ rw own (sym (block_is x before s i z here))
+        | inr apart ↦ seen_other x m seg (place w s i 0) l z apart
+            ∙ block_same x m before l z (kept (z / x.width) apart)
       ] in
       let begin : columns_made x (place w s 0 0) l ≡ s * x.width = begin_made x w s l in
       from_memory ∙ st.shows l z low inside
@@ -91,67 +80,71 @@ Begun_start x m seg b w s i st = record {
 
 -- ---- one more block
 
-seen_step : (x : Shape) (m seg : List (List ℕ)) (w s i k l z : ℕ) (new : List ℕ)
-    → (l ≢ i) ⊎ (z ≢ s * x.width + k)
-    → seen_block x m (slice_set seg k new) (place w s i (k + 1)) l z ≡ seen_block x m seg (place w s i k) l z
-seen_step x m seg w s i k l z new (inl other) =
-    seen_other x m (slice_set seg k new) w s i (k + 1) l z other ∙ sym (seen_other x m seg w s i k l z other)
-seen_step x m seg w s i k l z new (inr other) = elim (cases_eq l i) [
-  | inr apart ↦ seen_other x m (slice_set seg k new) w s i (k + 1) l z apart
-      ∙ sym (seen_other x m seg w s i k l z apart)
-  | inl own ↦ elim (cases_lt z (s * x.width)) [
-    | inl under ↦ seen_before x m (slice_set seg k new) w s i (k + 1) l z under
-        ∙ sym (seen_before x m seg w s i k l z under)
-    | inr over ↦ elim (cases_lt z (s * x.width + k)) [
-      | inl inside ↦
-          seen_own x m (slice_set seg k new) w s i (k + 1) l z own over (omega arith)
-          ∙ get_or-set_other seg k (z - s * x.width) new [] (omega arith)
-          ∙ sym (seen_own x m seg w s i k l z own over inside)
-      | inr past ↦ seen_past x m (slice_set seg k new) w s i (k + 1) l z (omega arith)
-          ∙ sym (seen_past x m seg w s i k l z past)
-    ]
-  ]
+-- another column is in another slice, or has another index
+apart_of : (g s k z : ℕ) → z ≢ s * g + k → (z / g ≢ s) ⊎ (z % g ≢ k)
+apart_of g s k z other = elim (cases_eq (z / g) s) [
+  | inr apart ↦ inl apart
+  | inl here ↦ inr (λ index. other (
+      sym (div-add-mod' z g) ∙ ap (λ (n : ℕ). n * g + z % g) here ∙ ap (λ (n : ℕ). s * g + n) index))
 ]
 
-Begun_put : (x : Shape) (m seg : List (List ℕ)) (b : Table) (w s i k : ℕ) (new : List ℕ) → k < length seg
-    → Begun x m seg b (place w s i k)
+seen_step : (x : Shape) (m : List (List (List (List ℕ)))) (seg : List (List ℕ)) (w s i k l z : ℕ)
+    (new : List ℕ) → (z / x.width ≢ s) ⊎ (z % x.width ≢ k)
+    → seen_block x m (slice_set seg k new) (place w s i (k + 1)) l z ≡ seen_block x m seg (place w s i k) l z
+seen_step x m seg w s i k l z new apart = elim (cases_eq (z / x.width) s) [
+  | inr other ↦ seen_other x m (slice_set seg k new) (place w s i (k + 1)) l z other
+      ∙ sym (seen_other x m seg (place w s i k) l z other)
+  | inl here ↦
+      let elsewhere : z % x.width ≢ k = elim apart [ inl other ↦ absurd (other here) | inr other ↦ other ] in
+      seen_own x m (slice_set seg k new) (place w s i (k + 1)) l z here
+      ∙ get_or-set_other seg k (z % x.width) new [] elsewhere
+      ∙ sym (seen_own x m seg (place w s i k) l z here)
+]
+
+Begun_put : (x : Shape) (m : List (List (List (List ℕ)))) (seg : List (List ℕ)) (b : Table) (w s i k : ℕ)
+    (new : List ℕ) → k < length seg → k < x.width → Begun x m seg b (place w s i k)
     → Begun x m (slice_set seg k new) (put b w i (s * x.width + k) new) (place w s i (k + 1))
-Begun_put x m seg b w s i k new within begun = record {
-  shows = λ l z low inside side.
+Begun_put x m seg b w s i k new within low begun = record {
+  shows = λ l z lane inside side.
       elim (cases_eq l i) [
         | inl own ↦ elim (cases_eq z (s * x.width + k)) [
           | inl here ↦
-              let place_in : z - s * x.width ≡ k = omega arith in
-              seen_own x m (slice_set seg k new) w s i (k + 1) l z own (omega arith) (omega arith)
-              ∙ ap (λ (n : ℕ). slice_index_or (slice_set seg k new) n []) place_in
+              let slice : z / x.width ≡ s = rw here (slice_of x.width s k low) in
+              let index : z % x.width ≡ k = rw here (index_of x.width s k low) in
+              seen_own x m (slice_set seg k new) (place w s i (k + 1)) l z slice
+              ∙ ap (λ (n : ℕ). slice_index_or (slice_set seg k new) n []) index
               ∙ get_or-set_same seg k new [] within
               ∙ rw (own, here) (sym (latest_put_here x b w s i k new))
-          | inr other ↦ seen_step x m seg w s i k l z new (inr other) ∙ begun.shows l z low inside (inl own)
+          | inr other ↦
+              seen_step x m seg w s i k l z new (apart_of x.width s k z other)
+              ∙ begun.shows l z lane inside (inl own)
               ∙ rw own (latest_put_column x b w s i k new z other)
         ]
-        | inr other ↦ seen_step x m seg w s i k l z new (inl other) ∙ begun.shows l z low inside side
+        | inr other ↦
+            let outside : IsOutside x s z = elim side [ inl own ↦ absurd (other own) | inr outside ↦ outside ] in
+            seen_step x m seg w s i k l z new (inl (slice_outside x s z (omega arith) outside))
+            ∙ begun.shows l z lane inside side
             ∙ latest_put_lane x b w s i k new l z other
       ];
 }
 
-pub Begun_next : (x : Shape) (h0 : List ℕ) (m seg : List (List ℕ)) (b : Table) (w s i k : ℕ) (new : List ℕ)
-    → k < length seg
+pub Begun_next : (x : Shape) (h0 : List ℕ) (m : List (List (List (List ℕ)))) (seg : List (List ℕ)) (b : Table)
+    (w s i k : ℕ) (new : List ℕ) → k < length seg → k < x.width
     → new ≡ new_block x h0 (place w s i k) (latest x b (place w s i k)) → Begun x m seg b (place w s i k)
     → Begun x m (slice_set seg k new) (with_block x h0 b (place w s i k)) (place w s i (k + 1))
 unfolding with_block
-Begun_next x h0 m seg b w s i k new within made begun =
-    rw (← made) (Begun_put x m seg b w s i k new within begun)
+Begun_next x h0 m seg b w s i k new within low made begun =
+    rw (← made) (Begun_put x m seg b w s i k new within low begun)
 
 -- ---- at the end
 
-pub Begun_made : (x : Shape) (m seg : List (List ℕ)) (b : Table) (w s i k : ℕ) → i < x.lanes → s < 4
-    → k < x.width → s * x.width + k < columns x
+pub Begun_made : (x : Shape) (m : List (List (List (List ℕ)))) (seg : List (List ℕ)) (b : Table) (w s i k : ℕ)
+    → i < x.lanes → s < 4 → k < x.width → s * x.width + k < columns x
     → Begun x m seg b (place w s i x.width) → slice_index_or seg k [] ≡ b w i (s * x.width + k)
 Begun_made x m seg b w s i k lane slice low inside begun =
-    let back : s * x.width + k - s * x.width ≡ k = omega arith in
     let made : columns_made x (place w s i x.width) i ≡ s * x.width + x.width = made_here x w s i x.width in
-    ap (λ (n : ℕ). slice_index_or seg n []) (sym back)
-    ∙ sym (seen_own x m seg w s i x.width i (s * x.width + k) refl (omega arith) (omega arith))
+    ap (λ (n : ℕ). slice_index_or seg n []) (sym (index_of x.width s k low))
+    ∙ sym (seen_own x m seg (place w s i x.width) i (s * x.width + k) (slice_of x.width s k low))
     ∙ begun.shows i (s * x.width + k) lane inside (inl refl)
     ∙ latest_made x b (place w s i x.width) i (s * x.width + k) (omega arith)
 
@@ -172,7 +165,7 @@ side_of x at word lane column wide within lane_is column_is = elim (cases_eq lan
       ]
 ]
 
-pub joined_seen : (x : Shape) (m seg : List (List ℕ)) (b : Table) (at : Place) (before word lane column : ℕ)
+pub joined_seen : (x : Shape) (m : List (List (List (List ℕ)))) (seg : List (List ℕ)) (b : Table) (at : Place) (before word lane column : ℕ)
     (previous referred new : List ℕ) → 2 ≤ x.width → IsWithin x at
     → before < columns x → before ≡ column_before x at → previous ≡ seen_block x m seg at at.lane before
     → word ≡ reference_word x at previous
@@ -189,7 +182,7 @@ joined_seen x m seg b at before word lane column previous referred new wide with
     (side_of x at word lane column wide within lane_is column_is) in
     rw (← before_is, ← own, ← word_is, ← lane_is, ← column_is, ← other) made
 
-pub new_later_seen : (x : Shape) (h0 : List ℕ) (m seg : List (List ℕ)) (b : Table) (at : Place) (column : ℕ)
+pub new_later_seen : (x : Shape) (h0 : List ℕ) (m : List (List (List (List ℕ)))) (seg : List (List ℕ)) (b : Table) (at : Place) (column : ℕ)
     (block old new : List ℕ) → 0 < at.pass → at.lane < x.lanes
     → column < columns x → column ≡ column_of x at → Begun x m seg b at
     → block ≡ joined_block x at (latest x b at) → old ≡ seen_block x m seg at at.lane column

@@ -8,7 +8,7 @@ use Rattle.std.proofs.lemmas.Bool.Decides.{nat_tests}
 use Rattle.argon_kdf.specs.Blocks.{zero_block}
 use Rattle.argon_kdf.specs.Shapes.{Shape, columns, block_count, place}
 use Rattle.argon_kdf.specs.Tables.{Table, empty_table, put, columns_made, latest}
-use Rattle.argon_kdf.specs.Memory.{Stands}
+use Rattle.argon_kdf.specs.Memory.{Shows, Stands}
 use Rattle.argon_kdf.specs.declared.layout.Place.{Place}
 
 -- ---- how many columns are made
@@ -198,32 +198,51 @@ none_made x w l z =
     ]
 
 -- from the end of a pass to the next
-pub Stands_pass : (x : Shape) (memory : List (List ℕ)) (b : Table) (w : ℕ) → Stands x memory b (place w 4 0 0)
-    → Stands x memory b (place (w + 1) 0 0 0)
-Stands_pass x memory b w st = record {
-  whole = st.whole;
+pub Shows_pass : (x : Shape) (now : ℕ → ℕ → List ℕ) (b : Table) (w : ℕ) → Shows x now b (place w 4 0 0)
+    → Shows x now b (place (w + 1) 0 0 0)
+Shows_pass x now b w st = record {
   shows = λ l z low inside.
       st.shows l z low inside ∙ latest_made x b (place w 4 0 0) l z (all_made x w l z inside)
       ∙ ap (λ (pass : ℕ). b pass l z) (let back : w ≡ w + 1 - 1 = omega arith in back)
       ∙ sym (latest_old x b (place (w + 1) 0 0 0) l z (none_made x (w + 1) l z));
 }
 
+pub Stands_pass : (x : Shape) (memory : List (List ℕ)) (b : Table) (w : ℕ) → Stands x memory b (place w 4 0 0)
+    → Stands x memory b (place (w + 1) 0 0 0)
+Stands_pass x memory b w st = record {
+  whole = st.whole;
+  shows = (Shows_pass x (λ l z. slice_index_or memory (l * columns x + z) []) b w
+      (record { shows = st.shows })).shows;
+}
+
 -- memory full of zeros stands for the empty table
+pub Shows_start : (x : Shape) (now : ℕ → ℕ → List ℕ)
+    → ((l z : ℕ) → l < x.lanes → z < columns x → now l z ≡ zero_block)
+    → Shows x now empty_table (place 0 0 0 0)
+Shows_start x now zeros = record {
+  shows = λ l z low inside.
+      zeros l z low inside ∙ sym (latest_old x empty_table (place 0 0 0 0) l z (none_made x 0 l z));
+}
+
 pub Stands_start : (x : Shape) (memory : List (List ℕ)) → length memory ≡ block_count x
     → ((n : ℕ) → n < block_count x → slice_index_or memory n [] ≡ zero_block)
     → Stands x memory empty_table (place 0 0 0 0)
 Stands_start x memory whole zeros = record {
   whole = whole;
-  shows = λ l z low inside.
+  shows = (Shows_start x (λ l z. slice_index_or memory (l * columns x + z) []) (λ l z low inside.
       zeros (l * columns x + z) (omega (
         arith,
         mul-le-mul_left (columns x)
             (let next : l + 1 ≤ x.lanes = omega arith in next),
-      ))
-      ∙ sym (latest_old x empty_table (place 0 0 0 0) l z (none_made x 0 l z));
+      )))).shows;
 }
 
 -- what memory has at the end of a pass
+pub Shows_read : (x : Shape) (now : ℕ → ℕ → List ℕ) (b : Table) (t l z : ℕ) → l < x.lanes → z < columns x
+    → Shows x now b (place t 0 0 0) → now l z ≡ b (t - 1) l z
+Shows_read x now b t l z low inside st =
+    st.shows l z low inside ∙ latest_old x b (place t 0 0 0) l z (none_made x t l z)
+
 pub Stands_read : (x : Shape) (memory : List (List ℕ)) (b : Table) (t l z : ℕ) → l < x.lanes → z < columns x
     → Stands x memory b (place t 0 0 0) → slice_index_or memory (l * columns x + z) [] ≡ b (t - 1) l z
 Stands_read x memory b t l z low inside st =

@@ -1,7 +1,7 @@
 pub mod CostLimits
 pub mod Blocks
 pub mod Permutation
-pub mod Lanes
+pub mod Slices
 pub mod LongDigest
 pub mod Segments
 pub mod Shapes

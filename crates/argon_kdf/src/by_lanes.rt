@@ -1,36 +1,23 @@
 //! The tag by lanes at the same time.
 
-ghost use Rattle.std.specs.Prelude.{◌≡◌, ◌≤◌, All, length, IfOk, OnOk, OnErr, Ok};
+ghost use Rattle.std.specs.Prelude.{◌≡◌, ◌≤◌, length, OnOk, OnErr, Ok};
 ghost use Rattle.argon_kdf.specs.CostLimits.{checked_costs};
 ghost use Rattle.argon_kdf.specs.Argon2id.{argon2id_tag};
 
-use crate::block::Block;
+use crate::Costs;
 use crate::digest::{first_digest, write_tag};
-use crate::fill::last_column;
 use crate::lanes::fill_by_lanes;
 use crate::layout::Layout;
 use crate::limits::{LEAST_SALT_BYTES, MOST_TEXT_BYTES};
-use crate::{Costs, zero_blocks};
+use crate::slices::{last_column, zero_slices};
 use std::alloc::{AllocError, Global};
 use std::thread::Threads;
-
-// A vector of zeros for each lane, as long as a segment.
-fn zero_segments(alloc: Global, layout: Layout) -> Result<Vec<Vec<Block>>, AllocError>
-    ensures lanes { IfOk result (λ segments. length segments.items ≡ layout.lanes) }
-    ensures parts { IfOk result (λ segments. All (λ v. length v.items ≡ layout.width) segments.items) }
-{
-    let mut segments = Vec::new(alloc);
-    'lanes: for _ in 0..layout.lanes {
-        segments.push(zero_blocks(alloc, layout.width)?)?;
-    }
-    Ok(segments)
-}
 
 /// Writes the tag that [`argon2id`] writes, with the segments of each slice made at the same time, in at
 /// most one thread a lane.
 ///
-/// A quarter more than `kib` KiB is taken, and all of it first: the one error is want of memory, and then
-/// the tag is as it was.
+/// All memory, `kib` KiB in a vector for each segment, is taken first: the one error is want of memory, and
+/// then the tag is as it was.
 pub fn argon2id_lanes<R: Threads + Sync>(
     threads: &R,
     alloc: Global,
@@ -51,10 +38,9 @@ pub fn argon2id_lanes<R: Threads + Sync>(
     ensures kept { OnErr result (tag.new ≡ tag.old) }
 {
     let layout = Layout::new(costs);
-    let mut memory = zero_blocks(alloc, layout.block_count())?;
-    let mut segments = zero_segments(alloc, layout)?;
+    let mut memory = zero_slices(threads, alloc, layout)?;
     let h0 = first_digest(costs, password, salt, secret, extra);
-    fill_by_lanes(threads, layout, &h0, &mut memory, &mut segments);
+    fill_by_lanes(threads, alloc, layout, &h0, &mut memory);
     write_tag(&last_column(layout, &memory), tag);
     Ok(())
 }

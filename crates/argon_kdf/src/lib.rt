@@ -32,6 +32,7 @@ mod layout;
 mod limits;
 mod reference;
 mod segment;
+mod slices;
 mod stretch;
 #[cfg(test)]
 mod tests;

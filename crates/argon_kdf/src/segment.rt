@@ -1,43 +1,41 @@
-// A segment made beside the others of its slice: from the memory before the slice, and from its own
-// blocks. No reference goes into another lane's segment of the slice (RFC 9106, 3.4).
+// A segment made in its place, beside the others of its slice: from its own blocks, and from memory, out
+// of which the slice is taken. No reference goes into another lane's segment of the slice (RFC 9106, 3.4).
 
 ghost use Rattle.std.specs.Prelude.{◌≡◌, ◌⊎◌, ℕ, ◌+◌, ◌-◌, ◌*◌, ◌/◌, ◌<◌};
 ghost use Rattle.std.specs.Prelude.{◌≤◌, List, [], length, slice_index_or};
-ghost use Rattle.argon_kdf.specs.Shapes.{IsWithin, block_count, column_of, columns, place, shape};
-ghost use Rattle.argon_kdf.specs.Lanes.{seen_block};
+ghost use Rattle.argon_kdf.specs.Shapes.{IsWithin, column_of, columns, place, shape};
+ghost use Rattle.argon_kdf.specs.Slices.{IsWholeBut, seen_block, slices_of};
 ghost use Rattle.argon_kdf.specs.References.{address_block};
 ghost use Rattle.argon_kdf.specs.Tables.{Table, latest};
 ghost use Rattle.argon_kdf.specs.Filling.{joined_block, new_block, with_places};
-ghost use Rattle.argon_kdf.specs.Memory.{Stands};
 ghost use Rattle.argon_kdf.specs.Segments.{Begun};
 
 use crate::block::{Block, ZERO_BLOCK, join, xor_into};
 use crate::digest::first_block;
 use crate::layout::{Layout, Place};
 use crate::reference::{reference_column, reference_lane, reference_word, refresh};
+use crate::slices::{Segments, block_at};
 
 // The block of a lane and a column as the segment of a place sees it.
-#[tactic(auto, unfolding(crate::specs::Lanes::seen_block))]
+#[tactic(auto, unfolding(crate::specs::Slices::seen_block))]
 fn seen<'a>(
     layout: Layout,
-    memory: &'a [Block],
+    memory: &'a [Segments],
     segment: &'a [Block],
     at: Place,
     lane: usize,
     column: usize,
 ) -> &'a Block
-    requires within { IsWithin (shape layout) at }
-    requires whole { length memory.now ≡ block_count (shape layout) }
+    requires memory { IsWholeBut (shape layout) at.slice (slices_of memory.now) }
     requires segment { length segment.now ≡ layout.width }
     requires lane { lane < layout.lanes }
     requires column { column < columns (shape layout) }
-    ensures { result.now ≡ seen_block (shape layout) memory.now segment.now at lane column }
+    ensures { result.now ≡ seen_block (shape layout) (slices_of memory.now) segment.now at lane column }
 {
-    let begin = at.slice * layout.width;
-    if lane == at.lane && begin <= column && column < begin + at.index {
-        &segment[column - begin]
+    if column / layout.width == at.slice {
+        &segment[column % layout.width]
     } else {
-        &memory[layout.offset(lane, column)]
+        block_at(layout, memory, lane, column)
     }
 }
 
@@ -45,16 +43,16 @@ fn seen<'a>(
 fn write_joined(
     block: &mut Block,
     layout: Layout,
-    memory: &[Block],
+    memory: &[Segments],
     segment: &[Block],
     addresses: &Block,
     at: Place,
 )
     requires within { IsWithin (shape layout) at }
     requires begun { at.pass ≡ 0 → 2 ≤ column_of (shape layout) at }
-    requires whole { length memory.now ≡ block_count (shape layout) }
+    requires memory { IsWholeBut (shape layout) at.slice (slices_of memory.now) }
     requires segment { length segment.now ≡ layout.width }
-    ensures { (table : Table) → Begun (shape layout) memory.now segment.now table at
+    ensures { (table : Table) → Begun (shape layout) (slices_of memory.now) segment.now table at
         → (at.pass ≡ 0 → at.slice < 2 → addresses.now ≡ address_block (shape layout) at (at.index / 128 + 1))
         → block.new ≡ joined_block (shape layout) at (latest (shape layout) table at) }
 {
@@ -81,15 +79,15 @@ fn write_new(
     block: &mut Block,
     layout: Layout,
     h0: &[u8; 64],
-    memory: &[Block],
+    memory: &[Segments],
     segment: &[Block],
     addresses: &Block,
     at: Place,
 )
     requires within { IsWithin (shape layout) at }
-    requires whole { length memory.now ≡ block_count (shape layout) }
+    requires memory { IsWholeBut (shape layout) at.slice (slices_of memory.now) }
     requires segment { length segment.now ≡ layout.width }
-    ensures { (table : Table) → Begun (shape layout) memory.now segment.now table at
+    ensures { (table : Table) → Begun (shape layout) (slices_of memory.now) segment.now table at
         → (at.pass ≡ 0 → at.slice < 2 → addresses.now ≡ address_block (shape layout) at (at.index / 128 + 1))
         → block.new ≡ new_block (shape layout) h0.now at (latest (shape layout) table at) }
 {
@@ -104,11 +102,11 @@ fn write_new(
     }
 }
 
-// Makes the segment of a slice and a lane, in a buffer of its own, from the memory before the slice.
+// Makes the segment of a slice and a lane, over the one of the pass before.
 pub(crate) fn make_segment(
     layout: Layout,
     h0: &[u8; 64],
-    memory: &[Block],
+    memory: &[Segments],
     segment: &mut [Block],
     pass: usize,
     slice: usize,
@@ -116,10 +114,11 @@ pub(crate) fn make_segment(
 )
     requires slice { slice < 4 }
     requires lane { lane < layout.lanes }
-    requires whole { length memory.now ≡ block_count (shape layout) }
+    requires memory { IsWholeBut (shape layout) slice (slices_of memory.now) }
     requires segment { length segment.old ≡ layout.width }
     ensures whole { length segment.new ≡ layout.width }
-    ensures made { (table : Table) → Stands (shape layout) memory.now table (place pass slice 0 0)
+    ensures made { (table : Table) → Begun (shape layout) (slices_of memory.now) segment.old table
+        (place pass slice lane 0)
         → (k : ℕ) → k < layout.width → slice_index_or segment.new k []
         ≡ with_places (shape layout) h0.now table pass slice lane layout.width
         pass lane (slice * layout.width + k) }

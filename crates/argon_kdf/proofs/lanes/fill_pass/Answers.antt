@@ -1,23 +1,19 @@
 use Rattle.std.proofs.Common.{◌≡◌, arith}
 use Rattle.argon_kdf.specs.Shapes.{shape}
 use Rattle.argon_kdf.specs.Filling.{with_slices}
-use Rattle.argon_kdf.proofs.Standing.{Stands_pass}
+use Rattle.argon_kdf.proofs.Standing.{Shows_pass}
 use Rattle.argon_kdf.proofs.Steps.{with_slices_none, with_slices_next}
 use Rattle.argon_kdf.proofs.lanes.fill_pass.Goals as goal
 
 pub slices-init : goal.slices-init
 slices-init g c = record {
   whole = c.requires.whole;
-  lanes = c.requires.lanes;
-  parts = c.requires.parts;
   filled = λ table st. rw (with_slices_none (shape c.args.layout) c.args.h0.now table c.args.pass) st;
 }
 
 pub slices-preserved : goal.slices-preserved
 slices-preserved g c = record {
   whole = c.fill_slice.ensures.whole;
-  lanes = c.fill_slice.ensures.lanes;
-  parts = c.fill_slice.ensures.parts;
   filled = λ table st.
       let x = shape c.args.layout in
       rw (with_slices_next x c.args.h0.now table c.args.pass c.slices.slice)
@@ -28,4 +24,4 @@ slices-preserved g c = record {
 pub returns-clause-filled : goal.returns-clause-filled
 returns-clause-filled g c = λ table st.
     let done : c.slices.slice ≡ 4 = omega arith in
-    Stands_pass (shape c.args.layout) _ _ c.args.pass (rw done at (c.slices.invariant.filled table st))
+    Shows_pass (shape c.args.layout) _ _ c.args.pass (rw done at (c.slices.invariant.filled table st))
