@@ -9,3 +9,6 @@ mod order;
 pub use entry::Entry;
 pub use laws::callers_determine_history;
 pub use order::sort_by_place;
+
+/// The most places that a history may have, 2^40.
+pub const MOST_PLACES: u64 = 1_099_511_627_776;

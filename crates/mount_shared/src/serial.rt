@@ -1,6 +1,7 @@
 //! A machine that one thread alone calls, and a caller's way to it.
 
-ghost use Rattle.std.specs.Prelude.{◌≡◌, ◌+◌, ◌^◌, ◌≤◌};
+ghost use Rattle.std.specs.Prelude.{◌≡◌, ◌+◌, ◌≤◌};
+ghost use Rattle.call_history.specs.declared.TheConstants.{MOST_PLACES};
 ghost use Rattle.mount_shared.specs.SerialCalls.{SerialCame, serial_view};
 ghost use Rattle.mount_shared.specs.PortLaws.{SerialCame-none, SerialCame-on, SerialCame-caller};
 
@@ -26,7 +27,7 @@ impl<M: MountMachine> SerialMount<M> {
 
     /// The port of a caller, with so many calls.
     pub fn port(self, caller: u32, left: u64) -> SerialPort<M>
-        requires { self.places + left ≤ 2 ^ 40 }
+        requires { self.places + left ≤ MOST_PLACES }
         ensures { result ≡ serial_view self.machine self.places caller left }
     {
         SerialPort {
@@ -46,14 +47,15 @@ pub struct SerialPort<M: MountMachine> {
 }
 
 impl<M: MountMachine> Model for SerialPort<M> {
-    ghost use Rattle.std.specs.Prelude.{◌+◌, ◌^◌, ◌≤◌};
+    ghost use Rattle.std.specs.Prelude.{◌+◌, ◌≤◌};
+    ghost use Rattle.call_history.specs.declared.TheConstants.{MOST_PLACES};
     ghost use Rattle.mount_shared.specs.SerialCalls.{SerialView, serial_view};
 
     ghost Value = { SerialView M };
 
     ghost view = { λ port. serial_view port.mount.machine port.mount.places port.caller port.left };
 
-    ghost invariant = { λ port. port.mount.places + port.left ≤ 2 ^ 40 };
+    ghost invariant = { λ port. port.mount.places + port.left ≤ MOST_PLACES };
 }
 
 impl<M: MountMachine> SerialPort<M> {

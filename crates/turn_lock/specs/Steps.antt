@@ -1,7 +1,8 @@
 -- What each atomic step tells the seat that makes it, and what a split and a join make of views.
-use Rattle.std.specs.Prelude.{◌≡◌, ◌≢◌, ℕ, ◌+◌, ◌-◌, ◌^◌, ◌≤◌, true, false, [], ◌∷◌}
+use Rattle.std.specs.Prelude.{◌≡◌, ◌≢◌, ℕ, ◌+◌, ◌-◌, ◌≤◌, true, false, [], ◌∷◌}
 use Rattle.std.specs.Prelude.{◌++◌, length, if◌then◌else◌, nat_le, Option, Some}
 use Rattle.atomic_table.specs.Table.{Me}
+use Rattle.call_history.specs.declared.TheConstants.{MOST_PLACES}
 use Rattle.call_history.specs.Entries.{History, numbered, by, entries_by}
 use Rattle.call_history.specs.Prefix.{IsPrefix}
 use Rattle.turn_lock.specs.declared.view.View.{View}
@@ -58,4 +59,4 @@ module _ {C R : Type 0} where
 
   -- nothing changes; of two views that were joined, the shorter list begins the longer, and the calls fit
   abbrev pub looked : {V : Type 0} → Seated V C R → ℕ → Seated V C R → Type 0
-  looked m found m' = (m' ≡ m) × IsPrefix m.0.told m.0.seen × (m.0.left + length m.0.mine ≤ 2 ^ 40)
+  looked m found m' = (m' ≡ m) × IsPrefix m.0.told m.0.seen × (m.0.left + length m.0.mine ≤ MOST_PLACES)

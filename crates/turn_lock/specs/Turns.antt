@@ -1,9 +1,10 @@
 -- The rule of the turn: how the two words, the value's history and what each seat knows fit together.
-use Rattle.std.specs.Prelude.{◌≡◌, ◌≢◌, ℕ, ◌+◌, ◌^◌, ◌<◌, ◌≤◌, true, false, List}
+use Rattle.std.specs.Prelude.{◌≡◌, ◌≢◌, ℕ, ◌+◌, ◌<◌, ◌≤◌, true, false, List}
 use Rattle.std.specs.Prelude.{[], ◌∷◌, ◌++◌, length, sum_by, Option, Some}
 use mathlib.Core.Option.{some}
 use lib.ListN.{get_elem?}
 use Rattle.atomic_table.specs.Table.{State}
+use Rattle.call_history.specs.declared.TheConstants.{MOST_PLACES}
 use Rattle.call_history.specs.Entries.{History, by, entries_by}
 use Rattle.call_history.specs.Prefix.{IsPrefix}
 use Rattle.turn_lock.specs.declared.view.View.{View}
@@ -49,7 +50,7 @@ module _ {C R : Type 0} where
         → i ≢ j → AreApart v w
     pub callers : (caller : ℕ) → numbers ≤ caller → entries_by caller history ≡ []
     pub room : all_left s.views + length history ≤ allowance
-    pub small : allowance ≤ 2 ^ 40
+    pub small : allowance ≤ MOST_PLACES
 
   -- what the first seat knows, and what a seat knows that another took in
   abbrev pub first_view : ℕ → ℕ → View C R

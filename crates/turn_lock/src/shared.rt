@@ -1,5 +1,6 @@
 //! A machine shared by threads.
-ghost use Rattle.std.specs.Prelude.{◌≡◌, ℕ, ◌<◌, ◌≤◌, ◌^◌, [], ◌∷◌, ◌++◌, length, OnOk, OnErr, IfOk, IfErr};
+ghost use Rattle.std.specs.Prelude.{◌≡◌, ℕ, ◌<◌, ◌≤◌, [], ◌∷◌, ◌++◌, length, OnOk, OnErr, IfOk, IfErr};
+ghost use Rattle.call_history.specs.declared.TheConstants.{MOST_PLACES};
 ghost use Rattle.call_history.specs.Entries.{History, by, entry, entries_by, IsComplete};
 ghost use Rattle.call_history.specs.Prefix.{IsPrefix};
 ghost use Rattle.turn_lock.specs.Passes.{past_of, merged_entries, first_pass, IsMadeAt};
@@ -48,7 +49,7 @@ impl<M: Machine> Shared<M> {
         allowance: u64,
     ) -> Result<(Shared<M>, Pass<M>), AllocError>
         requires some_number { 0 < numbers }
-        requires allowance { allowance ≤ 2 ^ 40 }
+        requires allowance { allowance ≤ MOST_PLACES }
         requires leads { M.leads [] value }
         ensures shared { IfOk result (λ r. (r.0.numbers ≡ numbers) × (r.0.allowance ≡ allowance)) }
         ensures pass { IfOk result (λ r. r.1 ≡ first_pass r.0.table numbers allowance) }

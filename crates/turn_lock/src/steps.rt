@@ -1,6 +1,7 @@
 //! The steps of a call on the table, and those of a split and a join.
-ghost use Rattle.std.specs.Prelude.{◌≡◌, ℕ, ◌+◌, ◌-◌, ◌^◌, ◌<◌, ◌≤◌, true};
+ghost use Rattle.std.specs.Prelude.{◌≡◌, ℕ, ◌+◌, ◌-◌, ◌<◌, ◌≤◌, true};
 ghost use Rattle.std.specs.Prelude.{false, [], ◌∷◌, ◌++◌, length, Some, None};
+ghost use Rattle.call_history.specs.declared.TheConstants.{MOST_PLACES};
 ghost use Rattle.call_history.specs.Prefix.{IsPrefix};
 ghost use Rattle.call_history.specs.Entries.{by, entries_by, entry};
 ghost use Rattle.turn_lock.specs.Turns.{Owns};
@@ -104,7 +105,7 @@ pub(crate) fn merge<M: Machine>(top: &Top<M>, seat: &mut Place<M>, other: Place<
     ensures seat { (seat.new.table_id ≡ seat.old.table_id)
         × (seat.new.me ≡ (joined_view seat.old.me.0 other.me.0, [])) }
     ensures told { IsPrefix seat.new.me.0.told seat.new.me.0.seen }
-    ensures room { seat.new.me.0.left + length seat.new.me.0.mine ≤ 2 ^ 40 }
+    ensures room { seat.new.me.0.left + length seat.new.me.0.mine ≤ MOST_PLACES }
 {
     top.join_seat::<Glue>(seat, other);
     top.load::<Look>(seat, 0);
