@@ -13,8 +13,9 @@ use Rattle.std.specs.Str.{bytes_eq}
 use Rattle.std.specs.BTreeMap.{BTreeMap, UpdatesBy, is_at, insert_entry}
 use Rattle.std.specs.declared.vec.Vec.{Vec}
 use Rattle.std.specs.declared.alloc.Global.{Global}
+use Rattle.byte_words.specs.Bytes.{AreBytes}
 use Rattle.number_map.proofs.NumberTests.{tied, untied}
-use Rattle.disk_tree.specs.Entries.{number_under, without_entry}
+use Rattle.disk_tree.specs.Entries.{Entries, HaveByteNames, number_under, without_entry}
 use Rattle.disk_tree.specs.Indexed.{Ordered, Index, by_name, oldest, indexed, AreBelow, IsIndexed}
 
 -- ---- by name and in order
@@ -103,6 +104,9 @@ module _ (order now : Ordered) (name : List ℕ) (place number : ℕ) (rising : 
   removed_names : by_name now ≡ remove_entry (bytes_eq name) (by_name order)
   removed_names = ap by_name (gone ∙ place_finds order name place number rising found) ∙ names_without name order
 
+  pub removed_ranged : HaveByteNames (values_of order) → HaveByteNames (values_of now)
+  removed_ranged ranged = let P : Entries → Type 0 = λ es. HaveByteNames es in subst P (sym removed_values) (all_without (bytes_eq name) AreBytes (values_of order) ranged)
+
   pub removed_below : (next : ℕ) → AreBelow next order → AreBelow next now
   removed_below next below = let P : Ordered → Type 0 = λ o. AreBelow next o in subst P (sym gone) (all_without (is_at (nat_cmp place)) (λ p. nat_cmp p next ≡ Less) order below)
 
@@ -142,6 +146,15 @@ values_pushed (e ∷ es) place number name = ap (λ rest. e.1 ∷ rest) (values_
 
 pub put_values : (es now : Ordered) (place number : ℕ) (name : List ℕ) → now ≡ es ++ (place, (name, number)) ∷ [] → values_of now ≡ values_of es ++ (name, number) ∷ []
 put_values es now place number name is = ap values_of is ∙ values_pushed es place number name
+
+ranged_pushed : (es : Entries) (name : List ℕ) (number : ℕ) → HaveByteNames es → AreBytes name → HaveByteNames (es ++ (name, number) ∷ [])
+ranged_pushed [] name number ranged bytes = (bytes, tt)
+ranged_pushed (e ∷ es) name number ranged bytes = (ranged.0, ranged_pushed es name number ranged.1 bytes)
+
+pub put_ranged : (es now : Ordered) (place number : ℕ) (name : List ℕ) → now ≡ es ++ (place, (name, number)) ∷ [] → AreBytes name → HaveByteNames (values_of es) → HaveByteNames (values_of now)
+put_ranged es now place number name is bytes ranged =
+    let P : Entries → Type 0 = λ es. HaveByteNames es in
+    subst P (sym (put_values es now place number name is)) (ranged_pushed (values_of es) name number ranged bytes)
 
 names_pushed : (es : Ordered) (place number : ℕ) (name : List ℕ) → by_name (es ++ (place, (name, number)) ∷ []) ≡ by_name es ++ (name, (place, number)) ∷ []
 names_pushed [] place number name = refl
@@ -252,26 +265,28 @@ pub new_IsIndexed : (order : Ordered) (index : Index) → order ≡ [] → index
 unfolding IsStrictlySortedBy IsDistinct
 new_IsIndexed order index none nothing =
     let P : Ordered → Index → Type 0 = λ o i. IsIndexed o i 0 false in
-    let empty : IsIndexed [] [] 0 false = record { rising = tt; below = tt; apart = λ d. tt; named = λ d name. refl } in
+    let empty : IsIndexed [] [] 0 false = record { rising = tt; below = tt; ranged = tt; apart = λ d. tt; named = λ d name. refl } in
     subst (λ (i : Index). P order i) (sym nothing) (subst (λ (o : Ordered). P o []) (sym none) empty)
 
 module _ (order now : Ordered) (index after : Index) (next : ℕ) (doubled : Bool) (is : IsIndexed order index next doubled) (rising : IsStrictlySortedBy nat_cmp (keys_of now)) where
   -- a name that is put twice, or once the names are no longer told apart
-  pub doubled_IsIndexed : (later number : ℕ) (name : List ℕ) → later ≡ next + 1 → now ≡ order ++ (next, (name, number)) ∷ [] → IsIndexed now index later true
-  doubled_IsIndexed later number name more put = record {
+  pub doubled_IsIndexed : (later number : ℕ) (name : List ℕ) → AreBytes name → later ≡ next + 1 → now ≡ order ++ (next, (name, number)) ∷ [] → IsIndexed now index later true
+  doubled_IsIndexed later number name bytes more put = record {
     rising = rising;
+    ranged = put_ranged order now next number name put bytes is.ranged;
     below = let P : ℕ → Ordered → Type 0 = λ n o. AreBelow n o in subst (λ (o : Ordered). P later o) (sym put) (subst (λ (n : ℕ). P n (order ++ (next, (name, number)) ∷ [])) (sym more) (pushed_below order next (name, number) is.below));
     apart = λ d. absurd (cc);
     named = λ d name. absurd (cc);
   }
 
   -- a new name
-  pub named_IsIndexed : (later number : ℕ) (name : List ℕ) → doubled ≡ false → indexed index name ≡ None → later ≡ next + 1 → now ≡ order ++ (next, (name, number)) ∷ [] →
+  pub named_IsIndexed : (later number : ℕ) (name : List ℕ) → AreBytes name → doubled ≡ false → indexed index name ≡ None → later ≡ next + 1 → now ≡ order ++ (next, (name, number)) ∷ [] →
       ((other : List ℕ) → indexed after other ≡ cond (bytes_eq name other) (Some (next, number)) (indexed index other)) → IsIndexed now after later doubled
-  named_IsIndexed later number name single lacks more put told =
+  named_IsIndexed later number name bytes single lacks more put told =
       let absent : oldest order name ≡ None = sym (is.named single name) ∙ lacks in
       record {
         rising = rising;
+        ranged = put_ranged order now next number name put bytes is.ranged;
         below = let P : ℕ → Ordered → Type 0 = λ n o. AreBelow n o in subst (λ (o : Ordered). P later o) (sym put) (subst (λ (n : ℕ). P n (order ++ (next, (name, number)) ∷ [])) (sym more) (pushed_below order next (name, number) is.below));
         apart = λ d. put_apart order now next number name put absent (is.apart d);
         named = λ d other. told other ∙ ap (cond (bytes_eq name other) (Some (next, number))) (is.named d other) ∙ sym (put_oldest order now next number name put absent other);
@@ -282,6 +297,7 @@ module _ (order now : Ordered) (index after : Index) (next : ℕ) (doubled : Boo
       ((other : List ℕ) → indexed after other ≡ cond (bytes_eq name other) None (indexed index other)) → IsIndexed now after next doubled
   dropped_IsIndexed name place number found gone told = record {
     rising = rising;
+    ranged = removed_ranged order now name place number is.rising found gone is.ranged;
     below = removed_below order now name place number is.rising found gone next is.below;
     apart = λ d. removed_apart order now name place number is.rising found gone (is.apart d);
     named = λ d other. told other ∙ ap (cond (bytes_eq name other) None) (is.named d other) ∙ sym (removed_oldest order now name place number is.rising found gone (is.apart d) other);

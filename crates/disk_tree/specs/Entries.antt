@@ -2,10 +2,16 @@
 -- were made. Of two with one name, the older is found.
 use Rattle.std.specs.Prelude.{ℕ, List, ◌++◌, [], ◌∷◌, Option}
 use Rattle.std.specs.Str.{bytes_eq}
-use Rattle.std.specs.Map.{lookup, remove_entry}
+use Rattle.std.specs.List.{AllByRecursion}
+use Rattle.std.specs.Map.{lookup, remove_entry, keys_of}
+use Rattle.byte_words.specs.Bytes.{AreBytes}
 
 abbrev pub Entries : Type 0
 Entries = List (List ℕ × ℕ)
+
+-- the numbers of each stored name are bytes
+abbrev pub HaveByteNames : Entries → Type 0
+HaveByteNames es = AllByRecursion AreBytes (keys_of es)
 
 -- the number under the name
 abbrev pub number_under : List ℕ → Entries → Option ℕ

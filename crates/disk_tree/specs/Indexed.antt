@@ -6,9 +6,10 @@ use Rattle.std.specs.declared.cmp.Ordering.TheVariants.{Less}
 use Rattle.std.specs.Cmp.Lexicographic.{slice_cmp}
 use Rattle.std.specs.List.{AllByRecursion, IsDistinct}
 use Rattle.std.specs.List.Sorted.{IsStrictlySortedBy}
-use Rattle.std.specs.Map.{lookup, keys_of}
+use Rattle.std.specs.Map.{lookup, keys_of, values_of}
 use Rattle.std.specs.declared.vec.Vec.{Vec}
 use Rattle.std.specs.declared.alloc.Global.{Global}
+use Rattle.disk_tree.specs.Entries.{HaveByteNames}
 
 -- each entry under its place
 abbrev pub Ordered : Type 0
@@ -34,9 +35,10 @@ indexed index name = lookup (λ k. is_eq (slice_cmp nat_cmp name k.items)) index
 abbrev pub AreBelow : ℕ → Ordered → Type 0
 AreBelow next order = AllByRecursion (λ place. nat_cmp place next ≡ Less) (keys_of order)
 
--- places rise, and as long as no name was doubled, names are apart and the index has each
+-- places rise, names are bytes, and as long as no name was doubled, names are apart and the index has each
 pub record IsIndexed (order : Ordered) (index : Index) (next : ℕ) (doubled : Bool) : Type 0 where
   pub rising : IsStrictlySortedBy nat_cmp (keys_of order)
   pub below : AreBelow next order
+  pub ranged : HaveByteNames (values_of order)
   pub apart : doubled ≡ false → IsDistinct bytes_eq (keys_of (by_name order))
   pub named : doubled ≡ false → (name : List ℕ) → indexed index name ≡ oldest order name

@@ -1,6 +1,6 @@
 //! The entries of a directory, in the order in which they were made.
 ghost use Rattle.std.specs.Prelude.{◌≡◌, [], length, OnOk, OnErr};
-ghost use Rattle.disk_tree.specs.Entries.{number_under, with_entry, without_entry};
+ghost use Rattle.disk_tree.specs.Entries.{HaveByteNames, number_under, with_entry, without_entry};
 
 use crate::name_index::{
     Index, Order, add_last, add_name, drop_name, drop_place, next_place, oldest_of,
@@ -63,6 +63,13 @@ impl DirEntries {
         ensures rest { result ≡ self.now }
     {
         self.order.values()
+    }
+
+    /// Does nothing. Its contract is that the numbers of each stored name are bytes.
+    pub fn names_are_bytes(&self)
+        ensures { HaveByteNames self.now }
+    {
+        let _count = self.order.len();
     }
 
     /// The number under the name; of two entries with one name the older is found.

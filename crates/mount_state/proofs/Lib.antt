@@ -5,6 +5,7 @@ pub mod RuleLemmas
 pub mod StandLemmas
 pub mod FirstLemmas
 pub mod LedLemmas
+pub mod ShownLemmas
 pub mod KeyedLemmas
 pub mod ContextLemmas
 pub mod EntryLemmas

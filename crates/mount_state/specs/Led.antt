@@ -2,7 +2,7 @@
 use Rattle.std.specs.Prelude.{◌≡◌, ℕ, Bool, true, false, Some, None, List, length, Option, option_map, nat_le, ◌&&◌}
 use Rattle.std.specs.Str.{bytes_eq}
 use Rattle.policy_ctx.specs.declared.policy.Context.{Context}
-use Rattle.name_crypt.specs.NoKeyText.{nokey_text_of}
+use Rattle.name_crypt.specs.NoKeyText.{nokey_text_of, shown_bytes}
 use Rattle.name_crypt.specs.declared.limits.TheConstants.{LEAST_STORED_BYTES, MOST_NAME_BYTES}
 use Rattle.plain_tree.specs.Nodes.{Name, context_at, is_dir_at}
 use Rattle.mount_model.specs.PlainMount.{PlainMount}
@@ -22,6 +22,10 @@ is_stored bytes = nat_le LEAST_STORED_BYTES (length bytes) && nat_le (length byt
 -- the bytes are a stored name, and the text stands for it where its key is absent
 abbrev pub is_text_of : List ℕ → List ℕ → Bool
 is_text_of text stored = is_stored stored && bytes_eq text (nokey_text_of stored)
+
+-- the bytes are a stored name, and this is what its text shows
+abbrev pub is_shown_as : List ℕ → List ℕ → Bool
+is_shown_as shown stored = is_stored stored && bytes_eq shown (shown_bytes stored)
 
 -- ---- in whatever mount the state stands for
 

@@ -1,3 +1,4 @@
 pub mod NameLemmas
 pub mod Symbols
 pub mod TextLemmas
+pub mod ShownLemmas

@@ -19,16 +19,19 @@ same_symbols xs ys left right same =
     cc both
 
 -- what is spelled whole stands in its text, and what is not is 181 bytes
-shown_whole : (stored : List ℕ) → length stored ≤ 149 → shown_bytes stored ≡ stored
+pub shown_whole : (stored : List ℕ) → length stored ≤ 149 → shown_bytes stored ≡ stored
 shown_whole stored few = rw (le-leb (length stored) 149 few) refl
 
-length-shown_bytes : (stored : List ℕ) → 149 < length stored → length (shown_bytes stored) ≡ 181
+pub shown_cut : (stored : List ℕ) → 149 < length stored → shown_bytes stored ≡ take 149 stored ++ sha256 (drop 149 stored)
+shown_cut stored many = rw (lt-leb (length stored) 149 many) refl
+
+pub length-shown_bytes : (stored : List ℕ) → 149 < length stored → length (shown_bytes stored) ≡ 181
 length-shown_bytes stored many =
     rw (lt-leb (length stored) 149 many)
     (length-append (take 149 stored) (sha256 (drop 149 stored))
     ∙ omega (arith, length-take-le 149 stored (omega arith), length-sha256 (drop 149 stored)))
 
-length-nokey_text_of : (stored : List ℕ) → length (nokey_text_of stored) ≡ (4 * (8 + length (shown_bytes stored)) + 2) / 3
+pub length-nokey_text_of : (stored : List ℕ) → length (nokey_text_of stored) ≡ (4 * (8 + length (shown_bytes stored)) + 2) / 3
 length-nokey_text_of stored =
     length-symbols_of (replicate 8 0 ++ shown_bytes stored)
     ∙ ap (λ n. (4 * n + 2) / 3) (length-append (replicate 8 0) (shown_bytes stored))

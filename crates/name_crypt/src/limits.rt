@@ -10,5 +10,8 @@ pub const LEAST_STORED_BYTES: usize = 16;
 /// the others.
 pub const MOST_SPELLED_BYTES: usize = 149;
 
+/// The most bytes of a stored name that its no-key text shows: those that it spells, and a hash.
+pub const MOST_SHOWN_BYTES: usize = MOST_SPELLED_BYTES + 32;
+
 /// The most characters of a no-key text.
 pub const MOST_TEXT_CHARACTERS: usize = 252;
