@@ -1,12 +1,14 @@
 //! Callers of the libraries, one of each, as their pages CALLING.md show them.
 #![tactic(auto)]
 
+mod asking;
 mod copying;
 mod erasing;
 mod letting_go;
 mod showing;
 mod taking_turns;
 
+pub use asking::ask_new_mount;
 pub use copying::copy;
 pub use erasing::erase;
 pub use letting_go::let_go;

@@ -26,11 +26,12 @@ use Rattle.mount_model.proofs.OpenLemmas.{opened_well}
 use Rattle.mount_model.proofs.WalkLemmas.{walked_reached}
 use Rattle.mount_state.specs.Given.{IsGivenOrNoMemory}
 use Rattle.mount_state.specs.Handles.{Handles, is_full}
+use Rattle.mount_state.specs.Handles.{with_handle as with_new}
 use Rattle.mount_state.specs.SameButKeys.{SameButKeys}
 use Rattle.mount_state.specs.Stored.{stored_node, stored_body}
 use Rattle.mount_state.specs.StandsFor.{StandsFor, TreeStands, HandlesStand, CachesStand}
 use Rattle.mount_state.specs.declared.state.MountState.{MountState}
-use Rattle.mount_files.specs.Opened.{is_link_body, open_told, OpensOne}
+use Rattle.mount_files.specs.Opened.{is_link_body, open_told, OpensAsTold, OpensOne}
 
 -- ---- what lies on the disk
 
@@ -169,6 +170,22 @@ opened_given m caller n answer number new is count st = inl (
   ap Opened count ∙ sym (ap (λ (a : Answer). a.reply) is),
   subst (StandsFor new) (sym (ap (λ (a : Answer). a.mount) is)) st,
 )
+
+-- the handle that is opened behind a walk is the one more
+pub opened_after : (old walked new : MountState) (caller : ℕ) (reply : Reply) → SameButKeys old walked → OpensAsTold walked new caller reply → OpensAsTold old new caller reply
+opened_after old walked new caller reply same told = record {
+  node = told.node;
+  one = record {
+    same = record {
+      disk = told.one.same.disk ∙ same.disk;
+      next_node = told.one.same.next_node ∙ same.next_node;
+      ring = told.one.same.ring ∙ same.ring;
+      meta = told.one.same.meta ∙ same.meta;
+    };
+    handles = told.one.handles ∙ ap (λ (hs : Handles). with_new hs caller told.node) same.handles;
+  };
+  number = told.number ∙ ap (λ (hs : Handles). Opened (opens_of hs.opened caller)) same.handles;
+}
 
 -- ---- at the node to which the path leads
 

@@ -2,10 +2,12 @@
 use Rattle.std.specs.Prelude.{◌≡◌, ℕ, Bool, true, false, not, if◌then◌else◌}
 use Rattle.disk_tree.specs.declared.node.Body.{Body}
 use Rattle.disk_tree.specs.declared.node.Body.TheVariants.{Dir, File, Link}
-use Rattle.mount_model.specs.PlainMount.{PlainMount, has_handle}
+use Rattle.mount_model.specs.PlainMount.{PlainMount, has_handle, opens_of}
 use Rattle.mount_model.specs.States.{is_keyed}
 use Rattle.mount_model.specs.Answered.{Answer, refused}
 use Rattle.mount_model.specs.declared.reply.Refusal.TheVariants.{NoKey, Inval, NoSpace}
+use Rattle.mount_model.specs.declared.reply.Reply.{Reply}
+use Rattle.mount_model.specs.declared.reply.Reply.TheVariants.{Opened}
 use Rattle.mount_model.specs.FileAnswers.{is_link_at, is_out_of_handles, opened_on}
 use Rattle.mount_state.specs.Handles.{with_handle, without}
 use Rattle.mount_state.specs.declared.state.MountState.{MountState}
@@ -38,6 +40,12 @@ pub record SameButOpen (old new : MountState) : Type 0 where
 pub record OpensOne (old new : MountState) (caller node : ℕ) : Type 0 where
   pub same : SameButOpen old new
   pub handles : new.handles ≡ with_handle old.handles caller node
+
+-- the same on some node, and the reply is the handle's number: how many the caller opened before
+pub record OpensAsTold (old new : MountState) (caller : ℕ) (reply : Reply) : Type 0 where
+  pub node : ℕ
+  pub one : OpensOne old new caller node
+  pub number : reply ≡ Opened (opens_of old.handles.opened caller)
 
 -- ---- Close
 

@@ -10,7 +10,7 @@ ghost use Rattle.mount_state.specs.Handles.{is_full};
 ghost use Rattle.mount_state.specs.Held.{is_keyed};
 ghost use Rattle.mount_state.specs.SameButKeys.{SameButKeys};
 ghost use Rattle.mount_state.specs.StandsFor.{StandsFor, CachesStand};
-ghost use Rattle.mount_files.specs.Opened.{is_link_body, open_told, OpensOne, SameButOpen};
+ghost use Rattle.mount_files.specs.Opened.{is_link_body, open_told, OpensAsTold, OpensOne, SameButOpen};
 
 use crate::holds::{open_own, open_shared};
 use crate::need::Need;
@@ -41,6 +41,7 @@ pub fn open_node<L: Ledger>(
     ensures denied { (m : PlainMount) → StandsFor state.old m
         → is_refused (answer_to_open m caller path.now).reply ≡ true
         → result ≡ (answer_to_open m caller path.now).reply }
+    ensures opened { is_refused result ≡ false → OpensAsTold state.old state.new caller result }
     ensures refused { is_refused result ≡ true → SameButKeys state.old state.new }
     ensures same { SameButOpen state.old state.new }
     ensures ticks { steps.new ≤ steps.old + length path.now }
@@ -57,6 +58,7 @@ fn open_at(alloc: Global, state: &mut MountState, caller: u32, node: u32) -> Rep
         → IsGivenOrNoMemory m (open_told m caller node) result state.new }
     ensures denied { (m : PlainMount) → StandsFor state.old m → is_some (get m.nodes node) ≡ true
         → is_refused (open_told m caller node).reply ≡ true → result ≡ (open_told m caller node).reply }
+    ensures opened { is_refused result ≡ false → OpensAsTold state.old state.new caller result }
     ensures refused { is_refused result ≡ true → SameButKeys state.old state.new }
     ensures same { SameButOpen state.old state.new }
 {

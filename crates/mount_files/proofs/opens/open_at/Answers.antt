@@ -2,6 +2,7 @@ use Rattle.std.proofs.Common.{rules, ◌≡◌, ℕ, false, true, Some, sym, ap,
 use Rattle.number_map.specs.Numbered.{Numbered, get}
 use Rattle.mount_model.specs.FileAnswers.{is_link_at, is_out_of_handles}
 use Rattle.mount_model.specs.PlainMount.{opens_of}
+use Rattle.mount_model.specs.declared.reply.Reply.TheVariants.{Opened}
 use Rattle.mount_model.specs.States.{is_keyed}
 use Rattle.mount_files.specs.Opened.{open_told}
 use Rattle.mount_files.proofs.OpenStands.{link_lies, out_stands, told_opened, open_well, opened_stands, opened_given}
@@ -21,3 +22,10 @@ returns-in-Ok-clause-stands c = λ m st there.
     (c.in-Ok.ensures.number ∙ ap (λ (o : Numbered ℕ). opens_of o c.args.caller) st.handles.opened)
     (opened_stands s _ m c.args.caller c.args.node st c.in-Ok.ensures.opened (c.in-Ok.ensures.caches m st)
     (open_well m c.args.caller c.args.node st.well there link room))
+
+pub returns-in-Ok-clause-opened : goal.returns-in-Ok-clause-opened
+returns-in-Ok-clause-opened c = λ fine. record {
+  node = c.args.node;
+  one = c.in-Ok.ensures.opened;
+  number = ap Opened c.in-Ok.ensures.number;
+}

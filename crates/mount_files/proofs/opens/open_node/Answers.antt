@@ -1,5 +1,5 @@
 use Rattle.std.proofs.Common.{sym}
-use Rattle.mount_files.proofs.OpenStands.{walked_there, at_given, at_denied}
+use Rattle.mount_files.proofs.OpenStands.{walked_there, at_given, at_denied, opened_after}
 use Rattle.mount_files.proofs.opens.open_node.Goals as goal
 
 pub returns-in-Ok-clause-stands : goal.returns-in-Ok-clause-stands
@@ -13,3 +13,7 @@ returns-in-Ok-clause-denied g c = λ m st denied.
     let led = c.in-Ok.ensures.value m st in
     at_denied m c.args.caller c.args.path.now c.in-Ok.node led c.open_at.result
     (c.open_at.ensures.denied m (c.in-Ok.ensures.stands m st) (walked_there m c.args.path.now c.in-Ok.node st.well (sym led))) denied
+
+pub returns-in-Ok-clause-opened : goal.returns-in-Ok-clause-opened
+returns-in-Ok-clause-opened g c = λ fine.
+    opened_after c.args.state.now _ _ c.args.caller c.open_at.result c.in-Ok.ensures.same (c.open_at.ensures.opened fine)

@@ -1,0 +1,23 @@
+//! A caller of `mount_shared`.
+
+ghost use Rattle.std.specs.Prelude.{[], ◌∷◌, IfOk};
+ghost use Rattle.call_history.specs.Entries.{entry};
+ghost use Rattle.mount_model.specs.Fits.{Fits};
+ghost use Rattle.mount_model.specs.Lawful.{IsLawful};
+
+use mount_model::{Call, MountPort, Reply};
+use mount_shared::{Mount, SerialMount};
+use std::alloc::{AllocError, Global};
+
+/// Makes two calls on a new mount that nobody else calls, both as caller 0, and gives their replies.
+pub fn ask_new_mount(alloc: Global, first: Call, second: Call) -> Result<(Reply, Reply), AllocError>
+    requires first { Fits first }
+    requires second { Fits second }
+    ensures lawful { IfOk result (λ r. IsLawful (entry 0 first r.0 ∷ entry 0 second r.1 ∷ [])) }
+{
+    let mount = Mount::new(alloc)?;
+    let mut port = SerialMount::new(mount).port(0, 2);
+    let answer = port.call(first);
+    let next = port.call(second);
+    Ok((answer.reply, next.reply))
+}
