@@ -5,13 +5,13 @@ use Rattle.std.proofs.lemmas.List.Elements.{All-nil, All-cons}
 use Rattle.script_lang.specs.declared.commands.Command.{Command}
 use Rattle.script_lang.specs.declared.commands.Section.{Section}
 use Rattle.script_lang.specs.Writing.{line_behind}
-use Rattle.script_lang.specs.Readable.{IsCommand}
+use Rattle.script_lang.specs.Asked.{IsAskable}
 use Rattle.script_lang.specs.Spelled.{StandBehind, HaveRoom, IsSpelled}
 use Rattle.script_lang.proofs.RoundTrip.{IsSpelled-writable}
-use Rattle.fsc_session.specs.Commands.{AsksRightly}
+use Rattle.fsc_session.specs.Asking.{AsksRightly}
 
 abbrev IsAsked : Command → Type 0
-IsAsked command = IsCommand command.verb
+IsAsked command = IsAskable command.verb
 
 commands_asked : (n : ℕ) (commands : List Command) → StandBehind n commands → All IsAsked commands
 commands_asked n [] behind = All-nil IsAsked

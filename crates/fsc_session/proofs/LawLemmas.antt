@@ -12,8 +12,8 @@ use Rattle.mount_model.specs.PlainMount.{PlainMount}
 use Rattle.mount_model.specs.Answer.{answer_of}
 use Rattle.mount_model.specs.History.{History, MountEntry, IsLegalFrom, NeverWantsMemory, mount_left, is_want_of_memory}
 use Rattle.mount_model.proofs.StepLemmas.{answered-step}
-use Rattle.fsc_session.specs.Steps.{Steps, Reaches, next_of}
-use Rattle.fsc_session.specs.Steps.Steps.{Done, Ask}
+use Rattle.fsc_commands.specs.Steps.{Steps, Reaches, next_of}
+use Rattle.fsc_commands.specs.Steps.Steps.{Done, Ask}
 use Rattle.fsc_session.specs.Session.{AreNextCalls}
 use Rattle.fsc_session.specs.Serial.{played}
 

@@ -1,8 +1,4 @@
 pub mod Asked
-pub mod CallLemmas
 pub mod LawLemmas
-pub mod PartLemmas
+pub mod NoteLemmas
 pub mod RunLemmas
-pub mod StarLemmas
-pub mod StepsLemmas
-pub mod ToldLemmas

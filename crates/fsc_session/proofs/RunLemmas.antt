@@ -5,19 +5,22 @@ use Rattle.std.proofs.Math.Seq.{drop-cons}
 use Rattle.std.proofs.lemmas.Option.{slice_get_within, get_or_from_slice_get, slice_get_cases, slice_get_read}
 use Rattle.std.proofs.lemmas.Bool.{cases_Bool, leb-true, leb-false}
 use Rattle.std.proofs.lemmas.List.Elements.{All-get_or}
-use Rattle.script_lang.specs.Readable.{IsCommand}
+use Rattle.script_lang.specs.Asked.{IsAskable}
 use Rattle.script_lang.specs.declared.commands.Section.{Section}
 use Rattle.script_lang.specs.declared.commands.Command.{Command}
 use Rattle.mount_model.specs.Port.{PlacedCalls}
 use Rattle.call_history.specs.Placed.{entries_of}
-use Rattle.fsc_session.specs.Steps.{Reaches, names_from}
-use Rattle.fsc_session.specs.Steps.Steps.{Done}
-use Rattle.fsc_session.specs.Commands.{AsksRightly, command_steps}
+use Rattle.fsc_commands.specs.Steps.{Reaches, names_from, names_in}
+use Rattle.fsc_commands.specs.Steps.Steps.{Done}
+use Rattle.fsc_session.specs.Asking.{AsksRightly}
+use Rattle.fsc_commands.specs.Commands.{command_steps}
 use Rattle.reply_text.specs.declared.notes.Note.{Note}
 use Rattle.reply_text.specs.declared.outcome.Outcome.{Outcome}
-use Rattle.fsc_session.specs.Session.{steps_from, section_steps, noted, notes_of_section, IsRunOfSection, IsRunSoFar, names_in}
-use Rattle.fsc_session.specs.Running.{RunnerView, Made, Stepped, StepMakes}
-use Rattle.fsc_session.proofs.StepsLemmas.{entries_of-append, names_from-append, Reaches-on, Reaches-and_then, value_reached}
+use Rattle.fsc_session.specs.Session.{steps_from, section_steps, noted, notes_of_section, IsRunOfSection, IsRunSoFar}
+use Rattle.fsc_session.specs.Running.{RunnerView, Stepped, StepMakes}
+use Rattle.fsc_commands.specs.Made.{Made}
+use Rattle.fsc_commands.specs.declared.TheConstants.{MOST_CALLS}
+use Rattle.fsc_commands.proofs.StepsLemmas.{entries_of-append, names_in-append, Reaches-on, Reaches-and_then, value_reached}
 
 drop-at : {A : Type 0} (n : ℕ) (xs : List A) (x : A) → slice_get xs n ≡ Some x → drop n xs ≡ x ∷ drop (n + 1) xs
 drop-at {A} n xs x here =
@@ -25,10 +28,6 @@ drop-at {A} n xs x here =
     let next : suc n ≡ n + 1 = omega arith in
     drop-cons xs n x within
     ∙ ap₂ (λ (y : A) (m : ℕ). y ∷ drop m xs) (get_or_from_slice_get xs n x x here) next
-
--- the last names of a run that went on
-pub names_in-append : (placed made : PlacedCalls) → names_in (placed ++ made) ≡ names_from (names_in placed) (entries_of made)
-names_in-append placed made = ap (names_from []) (entries_of-append placed made) ∙ names_from-append [] (entries_of placed) (entries_of made)
 
 -- by one command more
 pub run_goes_on : (seed : List ℕ) (caller : ℕ) (section : Section) (n : ℕ) (command : Command) (placed made : PlacedCalls) (notes : List Note) (outcome : Option Outcome)
@@ -62,19 +61,19 @@ there read commands n command same within differ is =
     below a b differ low = ⊎_elim (λ (lt : leb (suc a) b ≡ true). let l = leb-true (suc a) b lt in omega (arith, l))
         (λ (ge : leb (suc a) b ≡ false). let g = leb-false (suc a) b ge in absurd (differ (omega (arith, g, low)))) (cases_Bool (leb (suc a) b))
 
--- it may stand in a script, as each of its section
+-- words can ask for it, as for each of its section
 pub asked_there : (section : Section) (n : ℕ) (command : Command) → AsksRightly section
-    → slice_get section.commands n ≡ Some command → IsCommand command.verb
+    → slice_get section.commands n ≡ Some command → IsAskable command.verb
 asked_there section n command asked here =
-    subst (λ (it : Command). IsCommand it.verb) (get_or_from_slice_get section.commands n command command here)
-    (All-get_or (λ (it : Command). IsCommand it.verb) section.commands n command
+    subst (λ (it : Command). IsAskable it.verb) (get_or_from_slice_get section.commands n command command here)
+    (All-get_or (λ (it : Command). IsAskable it.verb) section.commands n command
     (slice_get_within section.commands n command here) asked)
 
 -- a command that was made is a step of its runner
 pub stepped : {P : Type 0} (came : PlacedCalls → P → Type 0) (port : P) (left before_left : ℕ) (seed : List ℕ) (command : Command) (outcome : Option Outcome) (old new : RunnerView)
     → slice_get old.section.commands old.next ≡ Some command → new.caller ≡ old.caller → new.section ≡ old.section → new.next ≡ old.next + 1
     → new.notes ≡ old.notes ++ noted old.caller command outcome
-    → Made came port left before_left 4 (command_steps seed old.caller old.section.uid old.next (names_in old.entries) command.verb) outcome old.entries new.entries
+    → Made came port left before_left MOST_CALLS (command_steps seed old.caller old.section.uid old.next (names_in old.entries) command.verb) outcome old.entries new.entries
     → Stepped came port left before_left seed true old new
 stepped came port left before_left seed command outcome old new here caller section next notes made = record {
   made = made.made;
@@ -90,7 +89,7 @@ stepped came port left before_left seed command outcome old new here caller sect
 pub made_goes_on : {P : Type 0} (came : PlacedCalls → P → Type 0) (port : P) (left before_left : ℕ) (seed : List ℕ) (caller : ℕ) (section : Section) (n : ℕ) (command : Command)
     (outcome : Option Outcome) (placed after : PlacedCalls) (notes new_notes : List Note) → slice_get section.commands n ≡ Some command
     → new_notes ≡ notes ++ noted caller command outcome
-    → Made came port left before_left 4 (command_steps seed caller section.uid n (names_in placed) command.verb) outcome placed after
+    → Made came port left before_left MOST_CALLS (command_steps seed caller section.uid n (names_in placed) command.verb) outcome placed after
     → IsRunSoFar seed caller section n placed notes → IsRunSoFar seed caller section (n + 1) after new_notes
 made_goes_on came port left before_left seed caller section n command outcome placed after notes new_notes here noting made so =
     subst (λ (es : PlacedCalls). IsRunSoFar seed caller section (n + 1) es new_notes) (sym made.grown)

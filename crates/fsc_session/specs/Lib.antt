@@ -1,13 +1,5 @@
-pub mod Commands
-pub mod CommandSteps
-pub mod Draws
-pub mod Outcomes
-pub mod PlainCalls
-pub mod Records
+pub mod Asking
 pub mod Rotation
 pub mod Running
 pub mod Serial
 pub mod Session
-pub mod SessionSteps
-pub mod Stars
-pub mod Steps

@@ -3,9 +3,9 @@ use Rattle.std.specs.Prelude.{ℕ, zero, suc, ◌+◌, max, List, [], ◌∷◌,
 use Rattle.std.specs.List.{fold}
 use Rattle.script_lang.specs.declared.commands.Section.{Section}
 use Rattle.script_lang.specs.declared.commands.Command.{Command}
-use Rattle.fsc_session.specs.Steps.{Steps, and_then}
-use Rattle.fsc_session.specs.Steps.Steps.{Done}
-use Rattle.fsc_session.specs.Commands.{command_steps}
+use Rattle.fsc_commands.specs.Steps.{Steps, and_then}
+use Rattle.fsc_commands.specs.Steps.Steps.{Done}
+use Rattle.fsc_commands.specs.Commands.{command_steps}
 
 -- a caller between two of its commands: its section, and the names that it was last told
 pub record Waiting : Type 0 where

@@ -1,16 +1,16 @@
 -- What a runner is between two commands, and what a command makes of it and of its port.
-use Rattle.std.specs.Prelude.{◌≡◌, ℕ, ◌+◌, ◌≤◌, Bool, true, false, List, [], ◌++◌, length, slice_get, Option, Some, None, Result}
+use Rattle.std.specs.Prelude.{◌≡◌, ℕ, ◌+◌, ◌≤◌, Bool, true, false, List, [], ◌++◌, length, slice_get, Option, Some, None}
 use Rattle.call_history.specs.Placed.{entries_of}
 use Rattle.mount_model.specs.Port.{PlacedCalls}
 use Rattle.script_lang.specs.declared.commands.Section.{Section}
 use Rattle.script_lang.specs.declared.commands.Command.{Command}
 use Rattle.reply_text.specs.declared.notes.Note.{Note}
 use Rattle.reply_text.specs.declared.outcome.Outcome.{Outcome}
-use Rattle.fsc_session.specs.Steps.{Steps, Reaches}
-use Rattle.fsc_session.specs.Steps.Steps.{Done}
-use Rattle.fsc_session.specs.Commands.{command_steps}
-use Rattle.fsc_session.specs.CommandSteps.{CommandSteps, when_ok}
-use Rattle.fsc_session.specs.Session.{IsRunSoFar, names_in, noted}
+use Rattle.fsc_commands.specs.declared.TheConstants.{MOST_CALLS}
+use Rattle.fsc_commands.specs.Steps.{Reaches, names_in}
+use Rattle.fsc_commands.specs.Steps.Steps.{Done}
+use Rattle.fsc_commands.specs.Commands.{command_steps}
+use Rattle.fsc_session.specs.Session.{IsRunSoFar, noted}
 use Rattle.fsc_session.specs.Rotation.{Waiting, waiting}
 
 -- a caller with its section, the number of its next command, what it asked and was replied so far, and its
@@ -34,28 +34,6 @@ HasRun seed runner = IsRunSoFar seed runner.caller runner.section runner.next ru
 abbrev pub state_of : RunnerView → Waiting
 state_of runner = waiting runner.section (names_in runner.entries)
 
--- the port came by at most so many calls, which are these steps and leave this value, and the list has them
--- behind its others
-pub record Made {P A : Type 0} (came : PlacedCalls → P → Type 0) (port : P) (left before_left most : ℕ)
-    (steps : Steps A) (value : A) (old new : PlacedCalls) : Type 0 where
-  pub made : PlacedCalls
-  pub came_by : came made port
-  pub follows : Reaches steps (entries_of made) (Done value)
-  pub grown : new ≡ old ++ made
-  pub few : length made ≤ most
-  pub counted : left + length made ≡ before_left
-
--- the same of a part of a session's work: whatever comes after it, it goes on with what was got
-pub record MadePart {P A : Type 0} (came : PlacedCalls → P → Type 0) (port : P) (left before_left most : ℕ)
-    (steps : (A → CommandSteps) → CommandSteps) (got : Result A Outcome) (old new : PlacedCalls)
-    : Type 0 where
-  pub made : PlacedCalls
-  pub came_by : came made port
-  pub follows : (next : A → CommandSteps) → Reaches (steps next) (entries_of made) (when_ok got next)
-  pub grown : new ≡ old ++ made
-  pub few : length made ≤ most
-  pub counted : left + length made ≡ before_left
-
 -- the steps of a runner's command made these calls, and its note, if it has one, was put behind the others
 abbrev pub CommandMakes : List ℕ → Command → RunnerView → RunnerView → PlacedCalls → Type 0
 CommandMakes seed command old new made =
@@ -78,12 +56,8 @@ pub record Stepped {P : Type 0} (came : PlacedCalls → P → Type 0) (port : P)
   pub made : PlacedCalls
   pub came_by : came made port
   pub grown : new.entries ≡ old.entries ++ made
-  pub few : length made ≤ 4
+  pub few : length made ≤ MOST_CALLS
   pub counted : left + length made ≡ before_left
   pub caller : new.caller ≡ old.caller
   pub section : new.section ≡ old.section
   pub step : StepMakes seed more old new made
-
--- the port came by some calls, of which nothing else is told
-abbrev pub CameBySome : {P : Type 0} → (PlacedCalls → P → Type 0) → P → Type 0
-CameBySome came port = (made : PlacedCalls) × came made port

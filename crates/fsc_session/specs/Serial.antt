@@ -5,8 +5,8 @@ use Rattle.mount_model.specs.PlainMount.{PlainMount, empty_mount}
 use Rattle.mount_model.specs.Answer.{answer_of}
 use Rattle.mount_model.specs.History.{History}
 use Rattle.script_lang.specs.declared.commands.Section.{Section}
-use Rattle.fsc_session.specs.Steps.{Steps}
-use Rattle.fsc_session.specs.Steps.Steps.{Done, Ask}
+use Rattle.fsc_commands.specs.Steps.{Steps}
+use Rattle.fsc_commands.specs.Steps.Steps.{Done, Ask}
 use Rattle.fsc_session.specs.Rotation.{rotation_steps}
 
 -- each call answered by the mount that the calls before it leave

@@ -1,5 +1,6 @@
 -- What a caller's section asks of the mount, command after command.
 use Rattle.std.specs.Prelude.{◌≡◌, ℕ, ◌+◌, List, [], ◌∷◌, ◌++◌, drop, slice_get, Option, Some, None, unwrap_or}
+use Rattle.call_history.specs.Entries.{by, numbered}
 use Rattle.call_history.specs.Placed.{entries_of}
 use Rattle.mount_model.specs.declared.call.Call.{Call}
 use Rattle.mount_model.specs.Port.{PlacedCalls}
@@ -8,9 +9,9 @@ use Rattle.script_lang.specs.declared.commands.Section.{Section}
 use Rattle.script_lang.specs.declared.commands.Command.{Command}
 use Rattle.reply_text.specs.declared.notes.Note.{Note}
 use Rattle.reply_text.specs.declared.outcome.Outcome.{Outcome}
-use Rattle.fsc_session.specs.Steps.{Steps, Reaches, next_of, value_after, names_from, and_then}
-use Rattle.fsc_session.specs.Steps.Steps.{Done}
-use Rattle.fsc_session.specs.Commands.{command_steps}
+use Rattle.fsc_commands.specs.Steps.{Steps, Reaches, next_of, value_after, names_in, and_then}
+use Rattle.fsc_commands.specs.Steps.Steps.{Done}
+use Rattle.fsc_commands.specs.Commands.{command_steps}
 
 -- the note of a command that is a session's work; a single call has none
 abbrev pub noted : ℕ → Command → Option Outcome → List Note
@@ -44,10 +45,6 @@ abbrev pub notes_of_section : List ℕ → ℕ → Section → PlacedCalls → L
 notes_of_section seed caller section placed =
     unwrap_or (value_after (section_steps seed caller section) (entries_of placed)) []
 
--- the names that a caller was last told by its entries
-abbrev pub names_in : PlacedCalls → List (List ℕ)
-names_in placed = names_from [] (entries_of placed)
-
 -- the entries are a run of the first n commands, which has these notes
 abbrev pub IsRunSoFar : List ℕ → ℕ → Section → ℕ → PlacedCalls → List Note → Type 0
 IsRunSoFar seed caller section n placed notes =
@@ -64,15 +61,16 @@ abbrev pub IsRunOf : List ℕ → List Section → History → Type 0
 IsRunOf seed script history =
     (caller : ℕ) → IsRunOfCaller seed caller (slice_get script caller) (entries_by caller history)
 
--- the notes of each caller's run in a history, where the first of these callers has the number k
-abbrev pub notes_from : List ℕ → ℕ → List Section → History → List Note
-notes_from seed k [] history = []
-notes_from seed k (section ∷ more) history =
-    notes_of_section seed k section (entries_by k history) ++ notes_from seed (k + 1) more history
+-- the notes of runs of these sections among the entries of all callers, caller after caller, where the
+-- first of them has the number k
+abbrev pub notes_by : List ℕ → ℕ → List Section → PlacedCalls → List Note
+notes_by seed k [] placed = []
+notes_by seed k (section ∷ more) placed =
+    notes_of_section seed k section (by k placed) ++ notes_by seed (k + 1) more placed
 
--- the notes of a run of a script, caller after caller
+-- the notes of a run of a script: by caller, and each caller's in the order of its commands
 abbrev pub notes_of : List ℕ → List Section → History → List Note
-notes_of seed script history = notes_from seed 0 script history
+notes_of seed script history = notes_by seed 0 script (numbered 0 history)
 
 -- each entry makes the call that comes after those before it, and none comes after all of them
 pub record AreNextCalls {A : Type 0} (steps : Steps A) (es : History) : Type 0 where

@@ -1,14 +1,14 @@
 //! A caller that makes its section's calls, command by command.
 
 ghost use Rattle.std.specs.Prelude.{◌≡◌, ◌≤◌, [], ◌++◌, IfOk, OnOk, OnErr};
-ghost use Rattle.fsc_session.specs.Commands.{AsksRightly};
-ghost use Rattle.fsc_session.specs.Running.{RunnerView, runner_view, HasRun, Stepped, CameBySome};
+ghost use Rattle.fsc_session.specs.Asking.{AsksRightly};
+ghost use Rattle.fsc_session.specs.Running.{RunnerView, runner_view, HasRun, Stepped};
+ghost use Rattle.fsc_commands.specs.Made.{CameBySome};
 ghost use Rattle.fsc_session.specs.Session.{noted};
-ghost use Rattle.fsc_session.specs.declared.TheConstants.{MOST_CALLS};
+ghost use Rattle.fsc_commands.specs.declared.TheConstants.{MOST_CALLS};
 
-use crate::command::run_command;
-use crate::turn::Turn;
-use crate::{EntryList, MOST_CALLS, NoteList};
+use crate::NoteList;
+use fsc_commands::{EntryList, MOST_CALLS, Stretches, Turn, run_command};
 use mount_model::MountPort;
 use reply_text::{Note, Outcome};
 use script_lang::{Command, Section};
@@ -59,14 +59,17 @@ impl<'a> Runner<'a> {
         }
     }
 
-    /// Runs the next command on the caller's port, which makes at most four calls; false where none is
-    /// left. After want of memory the runner is spent.
-    pub fn step<P: MountPort>(
+    /// Runs the next command on the caller's port, which makes at most four calls, and stretches its
+    /// passphrases in the way that is handed in; false where none is left. After want of memory the runner
+    /// is spent.
+    pub fn step<P: MountPort, S: Stretches>(
         &mut self,
         alloc: Global,
         port: &mut P,
+        stretches: &S,
         seed: &[u8; 32],
     ) -> Result<bool, AllocError>
+        requires ready { S.ready stretches.now }
         requires caller { self.old.caller ≡ P.who port.old }
         requires left { MOST_CALLS ≤ P.calls_left port.old }
         requires asked { AsksRightly self.old.section }
@@ -86,7 +89,15 @@ impl<'a> Runner<'a> {
             number: self.next,
         };
         let command = &commands[self.next];
-        let outcome = run_command(alloc, port, seed, turn, &command.verb, &mut self.entries)?;
+        let outcome = run_command(
+            alloc,
+            port,
+            stretches,
+            seed,
+            turn,
+            &command.verb,
+            &mut self.entries,
+        )?;
         note(&mut self.notes, self.caller, command, outcome)?;
         self.next += 1;
         Ok(true)

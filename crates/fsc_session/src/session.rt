@@ -1,27 +1,30 @@
 //! A caller's whole section, run on its port.
 
 ghost use Rattle.std.specs.Prelude.{◌≡◌, ◌≤◌, ◌+◌, ◌*◌, length, IfOk, OnErr};
-ghost use Rattle.fsc_session.specs.Commands.{AsksRightly};
+ghost use Rattle.fsc_session.specs.Asking.{AsksRightly};
 ghost use Rattle.fsc_session.specs.Session.{IsRunOfSection, notes_of_section};
-ghost use Rattle.fsc_session.specs.Running.{CameBySome};
-ghost use Rattle.fsc_session.specs.declared.TheConstants.{MOST_CALLS};
+ghost use Rattle.fsc_commands.specs.Made.{CameBySome};
+ghost use Rattle.fsc_commands.specs.declared.TheConstants.{MOST_CALLS};
 
 use crate::runner::{Ran, Runner};
+use fsc_commands::Stretches;
 use fsc_outside::Gate;
 use mount_model::MountPort;
 use script_lang::Section;
 use std::alloc::{AllocError, Global};
 
-/// Runs the section's commands one after another on the caller's port. The gate is called before each, and
-/// behind each that was run: after want of memory in a command it is not. The port has four calls left for
-/// each command.
-pub fn run_caller<P: MountPort, G: Gate>(
+/// Runs the section's commands one after another on the caller's port, and stretches their passphrases in
+/// the way that is handed in. The gate is called before each, and behind each that was run: after want of
+/// memory in a command it is not. The port has four calls left for each command.
+pub fn run_caller<P: MountPort, G: Gate, S: Stretches>(
     alloc: Global,
     port: &mut P,
     gate: &G,
+    stretches: &S,
     section: &Section,
     seed: &[u8; 32],
 ) -> Result<Ran, AllocError>
+    requires ready { S.ready stretches.now }
     requires left { MOST_CALLS * length section.now.commands ≤ P.calls_left port.old }
     requires asked { AsksRightly section.now }
     ensures came { IfOk result (λ ran. P.came port.old ran.entries port.new) }
@@ -36,7 +39,7 @@ pub fn run_caller<P: MountPort, G: Gate>(
     let mut runner = Runner::new(alloc, caller, section);
     'commands: for number in 0..section.commands.len() {
         gate.before(caller, number as u64);
-        runner.step(alloc, port, seed)?;
+        runner.step(alloc, port, stretches, seed)?;
         gate.after(caller, number as u64);
     }
     Ok(runner.ran())

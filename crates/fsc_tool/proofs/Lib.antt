@@ -1,3 +1,4 @@
+pub mod GenLemmas
 pub mod StartLemmas
 pub mod ThreadLemmas
 pub mod TopLemmas

@@ -1,9 +1,8 @@
 -- Runners before their first commands, and what they are told in the end.
-use Rattle.std.proofs.Common.{◌≡◌, ◌≢◌, ℕ, zero, suc, ◌+◌, ◌<◌, ◌≤◌, min, max, List, [], ◌∷◌, ◌++◌, length, map, drop, get_or, Some, None, refl, ap, ap₂, sym, ◌∙◌, subst, ⊎_elim, arith, append-nil, append_assoc, drop_of_length-le}
+use Rattle.std.proofs.Common.{◌≡◌, ◌≢◌, ℕ, zero, suc, ◌+◌, ◌<◌, ◌≤◌, max, List, [], ◌∷◌, ◌++◌, length, map, drop, get_or, Some, refl, ap, ap₂, sym, ◌∙◌, subst, ⊎_elim, arith, append-nil, append_assoc, drop_of_length-le}
 use Rattle.std.specs.Prelude.{slice_get, All}
 use Rattle.std.specs.List.{fold}
 use Rattle.std.proofs.Math.Seq.{drop-cons}
-use Rattle.std.proofs.lemmas.Bool.{cases_eq}
 use Rattle.std.proofs.lemmas.Option.{slice_get_past, slice_get_within, slice_get_cases, get_or_from_slice_get}
 use Rattle.call_history.specs.Entries.{by, entries_by}
 use Rattle.call_history.specs.Placed.{entries_of}
@@ -12,17 +11,17 @@ use Rattle.mount_model.specs.PlainMount.{empty_mount}
 use Rattle.mount_model.specs.History.{History}
 use Rattle.mount_model.specs.Port.{PlacedCalls}
 use Rattle.script_lang.specs.declared.commands.Section.{Section}
-use Rattle.script_lang.specs.declared.commands.Command.{Command}
-use Rattle.fsc_session.specs.Steps.{Steps, Reaches}
-use Rattle.fsc_session.specs.Steps.Steps.{Done}
-use Rattle.fsc_session.specs.Commands.{AsksRightly}
-use Rattle.fsc_session.specs.Session.{IsRunOf, IsRunOfCaller, IsRunOfSection}
+use Rattle.fsc_commands.specs.Steps.{Steps, Reaches}
+use Rattle.fsc_commands.specs.Steps.Steps.{Done}
+use Rattle.fsc_session.specs.Asking.{AsksRightly}
+use Rattle.reply_text.specs.declared.notes.Note.{Note}
+use Rattle.fsc_session.specs.Session.{IsRunOf, IsRunOfCaller, IsRunOfSection, notes_of_section, notes_by, notes_of}
 use Rattle.fsc_session.specs.Running.{RunnerView, runner_view, state_of}
-use Rattle.fsc_session.specs.Rotation.{Waiting, fresh, longest, rounds_steps, rotation_steps}
-use Rattle.fsc_session.proofs.RunLemmas.{run_is_whole}
+use Rattle.fsc_session.specs.Rotation.{Waiting, fresh, longest, rotation_steps}
+use Rattle.fsc_session.proofs.RunLemmas.{run_is_whole, notes_are_whole}
 use Rattle.fsc_session.proofs.LawLemmas.{played_from}
 use Rattle.fsc_tool.specs.Runs.{IsSerialRun}
-use Rattle.fsc_tool.specs.Rotating.{InTurn, Rotating, fresh_runners, sections_of, told_by}
+use Rattle.fsc_tool.specs.Rotating.{InTurn, Rotating, fresh_runners, sections_of, told_by, noted_by}
 
 -- ---- before the first turn
 
@@ -140,6 +139,29 @@ told_own told k (suc i) (r ∷ rs) runner here each =
     ∙ told_own told (k + 1) i rs runner here (λ j s at. let on : k + suc j ≡ k + 1 + j = omega arith in each (suc j) s at ∙ ap (λ w. by w told) on)
     ∙ ap (λ w. by w told) (sym next))
 
+pub noted_by-more : (runners : List RunnerView) (runner : RunnerView) → noted_by (runners ++ runner ∷ []) ≡ noted_by runners ++ runner.notes
+noted_by-more [] runner = append-nil runner.notes
+noted_by-more (first ∷ more) runner =
+    ap (λ (l : List Note). first.notes ++ l) (noted_by-more more runner) ∙ sym (append_assoc first.notes (noted_by more) runner.notes)
+
+-- runners of which each has its caller's notes have those of all callers
+noted_from : (seed : List ℕ) (told : PlacedCalls) (k : ℕ) (script : List Section) (runners : List RunnerView) → length runners ≡ length script
+    → ((j : ℕ) (r : RunnerView) → slice_get runners j ≡ Some r
+    → (slice_get script j ≡ Some r.section) × (r.notes ≡ notes_of_section seed (k + j) r.section (by (k + j) told)))
+    → noted_by runners ≡ notes_by seed k script told
+noted_from seed told k [] [] count each = refl
+noted_from seed told k (section ∷ more) [] count each = absurd (omega (arith, count))
+noted_from seed told k [] (r ∷ rs) count each = absurd (omega (arith, count))
+noted_from seed told k (section ∷ more) (r ∷ rs) count each =
+    let first = each 0 r refl in
+    let here = first.0 in
+    let is : r.section ≡ section = cc here in
+    let own : k + 0 ≡ k = omega arith in
+    ap₂ (λ (a b : List Note). a ++ b)
+    (first.1 ∙ ap₂ (λ (w : ℕ) (s : Section). notes_of_section seed w s (by w told)) own is)
+    (noted_from seed told (k + 1) more rs (omega (arith, count)) (λ j s at. let rest = each (suc j) s at in let next : k + suc j ≡ k + 1 + j = omega arith in
+    (rest.0, rest.1 ∙ ap (λ (w : ℕ). notes_of_section seed w s.section (by w told)) next)))
+
 abbrev longest_from : ℕ → List Section → ℕ
 longest_from most script = fold (λ (most : ℕ) (section : Section). max most (length section.commands)) most script
 
@@ -170,15 +192,22 @@ module _ {M : Type 0} (leads : History → M → Type 0) (lawful : History → T
       ∙ sym (ended.others c past.1))
       (slice_get_cases runners c).1
 
+  -- each runner ran all commands of its section
+  done_all : (j : ℕ) (r : RunnerView) → slice_get runners j ≡ Some r → length r.section.commands ≤ r.next
+  done_all j r here =
+      let turn = ended.each j r here in
+      let most = longest-le 0 script j r.section turn.section in
+      let at = turn.next in
+      omega (arith, most, at, all)
+
   -- each caller ran its section
   run_of : IsRunOf seed script (entries_of ended.told)
   run_of c = subst (IsRunOfCaller seed c (slice_get script c)) (ap (by c) ended.placed)
       (⊎_elim
       (λ there. let r = there.0 in let turn = ended.each c r there.2 in
-      let done : length r.section.commands ≤ r.next = let most = longest-le 0 script c r.section turn.section in let at = turn.next in omega (arith, most, at, all) in
       subst (λ s. IsRunOfCaller seed c s (by c ended.told)) (sym turn.section)
       (subst (IsRunOfSection seed c r.section) turn.own
-      (subst (λ w. IsRunOfSection seed w r.section r.entries) turn.caller (run_is_whole seed r.caller r.section r.next r.entries r.notes done turn.run))))
+      (subst (λ w. IsRunOfSection seed w r.section r.entries) turn.caller (run_is_whole seed r.caller r.section r.next r.entries r.notes (done_all c r there.2) turn.run))))
       (λ past. let over = past.0 in let count = ended.count in
       subst (λ s. IsRunOfCaller seed c s (by c ended.told)) (sym (slice_get_past script c (omega (arith, over, count)))) (ended.others c past.1))
       (slice_get_cases runners c).1)
@@ -195,3 +224,15 @@ module _ {M : Type 0} (leads : History → M → Type 0) (lawful : History → T
 
   pub told_history : (c : ℕ) → by c (told_by runners) ≡ entries_by c (entries_of ended.told)
   told_history c = told_alike c ∙ ap (by c) ended.placed
+
+  -- and noted what its run's notes are
+  pub noted_history : noted_by runners ≡ notes_of seed script (entries_of ended.told)
+  noted_history =
+      noted_from seed ended.told 0 script runners ended.count
+      (λ j r at. let turn = ended.each j r at in let own : j ≡ 0 + j = omega arith in (
+        turn.section,
+        notes_are_whole seed r.caller r.section r.next r.entries r.notes (done_all j r at) turn.run
+            ∙ ap₂ (λ (w : ℕ) (es : PlacedCalls). notes_of_section seed w r.section es) turn.caller turn.own
+            ∙ ap (λ (w : ℕ). notes_of_section seed w r.section (by w ended.told)) own,
+      ))
+      ∙ ap (notes_by seed 0 script) ended.placed

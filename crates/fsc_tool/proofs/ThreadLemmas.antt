@@ -7,15 +7,17 @@ use Rattle.std.proofs.lemmas.List.Elements.{All-take, All-drop}
 use Rattle.std.proofs.lemmas.List.Sums.{sum_by-append}
 use Rattle.std.proofs.lemmas.Option.{slice_get_past}
 use Rattle.turn_lock.specs.Passes.{SharedView, under, over, lower_part, upper_part, with_other, first_pass}
-use Rattle.call_history.specs.Entries.{by, entries_by}
+use Rattle.call_history.specs.Entries.{by, entries_by, numbered}
 use Rattle.call_history.proofs.Placing.{by-append, by-by_other}
 use Rattle.mount_model.specs.History.{History}
 use Rattle.mount_model.specs.Port.{PlacedCalls}
 use Rattle.mount_shared.specs.SharedCalls.{MountPass, PassCame}
 use Rattle.script_lang.specs.declared.commands.Section.{Section}
-use Rattle.fsc_session.specs.Commands.{AsksRightly}
-use Rattle.fsc_session.specs.Session.{IsRunOfCaller, IsRunOfSection}
-use Rattle.fsc_tool.specs.Runs.{IsLawfulRun}
+use Rattle.fsc_session.specs.Asking.{AsksRightly}
+use Rattle.reply_text.specs.declared.notes.Note.{Note}
+use Rattle.fsc_session.specs.Session.{IsRunOfCaller, IsRunOfSection, notes_of_section, notes_by, notes_of}
+use Rattle.fsc_session.proofs.NoteLemmas.{notes_by-alike, notes_by-append}
+use Rattle.fsc_tool.specs.Runs.{IsLawfulRun, TellsRun}
 use Rattle.fsc_tool.specs.Threaded.{calls_needed, CanRun, RunFrom, HaveRun, AreHalves}
 
 -- ---- numbers below and above
@@ -100,10 +102,10 @@ one_from seed who section xs own ran = record {
     each (suc i) = others_none who (who + suc i) xs own (λ same. omega (arith, same))
 
 pub one_runs : (lawful : History → Type 0) (seed : List ℕ) (shared : SharedView) (old new : MountPass) (sections : List Section) (section : Section)
-    (entries : PlacedCalls) → CanRun shared old sections → length sections ≡ 1 → slice_get sections 0 ≡ Some section
-    → PassCame lawful old entries new → IsRunOfSection seed old.who section entries → by new.who new.mine ≡ new.mine
-    → HaveRun seed old sections new entries
-one_runs lawful seed shared old new sections section entries can one here came ran own =
+    (entries : PlacedCalls) (notes : List Note) → CanRun shared old sections → length sections ≡ 1 → slice_get sections 0 ≡ Some section
+    → PassCame lawful old entries new → IsRunOfSection seed old.who section entries → notes ≡ notes_of_section seed old.who section entries
+    → by new.who new.mine ≡ new.mine → HaveRun seed old sections new entries notes
+one_runs lawful seed shared old new sections section entries notes can one here came ran are own =
     let mine : new.mine ≡ entries = came.made ∙ ap (λ (l : PlacedCalls). l ++ entries) can.no_own in
     let past : new.past ≡ [] = came.same_past ∙ can.no_past in
     let all : new.past ++ new.mine ≡ entries = ap₂ (λ (a b : PlacedCalls). a ++ b) past mine in
@@ -115,6 +117,10 @@ one_runs lawful seed shared old new sections section entries can one here came r
       run = subst (λ (s : List Section). RunFrom seed old.who s (new.past ++ new.mine)) (sym (one_section sections section one here))
           (subst (RunFrom seed old.who (section ∷ [])) (sym all) (one_from seed old.who section entries own' ran));
       alike = λ c. ap (by c) (sym all);
+      noted = are
+          ∙ ap (notes_of_section seed old.who section) (sym own' ∙ ap (by old.who) (sym all))
+          ∙ sym (append-nil (notes_of_section seed old.who section (by old.who (new.past ++ new.mine))))
+          ∙ ap (λ (s : List Section). notes_by seed old.who s (new.past ++ new.mine)) (sym (one_section sections section one here));
     }
 
 -- ---- two passes that were joined
@@ -144,8 +150,8 @@ joined_high c past mine other none =
     ∙ append-nil (by c other)
 
 module _ (seed : List ℕ) (shared : SharedView) (old lower upper lower' upper' : MountPass) (sections first others : List Section) (told more : PlacedCalls)
-    (cut : AreHalves shared old sections lower upper first others)
-    (one : HaveRun seed lower first lower' told) (two : HaveRun seed upper others upper' more) where
+    (notes more_notes : List Note) (cut : AreHalves shared old sections lower upper first others)
+    (one : HaveRun seed lower first lower' told notes) (two : HaveRun seed upper others upper' more more_notes) where
   -- what both passes have together
   abbrev own_of : PlacedCalls
   own_of = (lower'.past ++ (upper'.past ++ upper'.mine)) ++ lower'.mine
@@ -206,13 +212,35 @@ module _ (seed : List ℕ) (shared : SharedView) (old lower upper lower' upper' 
       joined_low c lower'.past lower'.mine (upper'.past ++ upper'.mine) (low_none c (omega (arith, at, below)))
       ∙ one.run.none c (omega (arith, lowest, below))
 
-  pub both_run : (new : MountPass) → new ≡ with_other lower' upper' → HaveRun seed old sections new (told ++ more)
-  both_run new is = subst (λ p. HaveRun seed old sections p (told ++ more)) (sym is) (record {
+  noted_low : notes ≡ notes_by seed old.who first own_of
+  noted_low =
+      let at = border in
+      one.noted
+      ∙ ap (λ (w : ℕ). notes_by seed w first (lower'.past ++ lower'.mine)) cut.lowest
+      ∙ notes_by-alike seed old.who first (lower'.past ++ lower'.mine) own_of (λ i below.
+      sym (joined_low (old.who + i) lower'.past lower'.mine (upper'.past ++ upper'.mine) (low_none (old.who + i) (omega (arith, at, below)))))
+
+  noted_high : more_notes ≡ notes_by seed (old.who + length first) others own_of
+  noted_high =
+      two.noted
+      ∙ notes_by-alike seed upper.who others (upper'.past ++ upper'.mine) own_of (λ i below.
+      sym (joined_high (upper.who + i) lower'.past lower'.mine (upper'.past ++ upper'.mine) (high_none (upper.who + i) (omega arith))))
+      ∙ ap (λ (w : ℕ). notes_by seed w others own_of) border
+
+  noted_both : notes ++ more_notes ≡ notes_by seed old.who sections own_of
+  noted_both =
+      ap₂ (λ (a b : List Note). a ++ b) noted_low noted_high
+      ∙ sym (notes_by-append seed old.who first others own_of)
+      ∙ ap (λ (s : List Section). notes_by seed old.who s own_of) (sym cut.whole)
+
+  pub both_run : (new : MountPass) → new ≡ with_other lower' upper' → HaveRun seed old sections new (told ++ more) (notes ++ more_notes)
+  both_run new is = subst (λ p. HaveRun seed old sections p (told ++ more) (notes ++ more_notes)) (sym is) (record {
     same_table = one.same_table ∙ cut.one_table;
     same_caller = one.same_caller ∙ cut.lowest;
     same_high = two.same_high ∙ cut.highest;
     run = subst (λ (s : List Section). RunFrom seed old.who s own_of) (sym cut.whole) (record { each = each_both; none = none_both });
     alike = alike_both;
+    noted = noted_both;
   })
 
 -- ---- all callers of a script
@@ -229,10 +257,10 @@ first_runs shared script pass numbers calls is count needed some asked = subst (
   asked = asked;
 })
 
-module _ (lawful : History → Type 0) (seed : List ℕ) (script : List Section) (old new : MountPass) (told : PlacedCalls) (history : History)
-    (ran : HaveRun seed old script new told) (first : old.who ≡ 0)
+module _ (lawful : History → Type 0) (seed : List ℕ) (script : List Section) (old new : MountPass) (told : PlacedCalls) (notes : List Note) (history : History)
+    (ran : HaveRun seed old script new told notes) (first : old.who ≡ 0)
     (callers : (c : ℕ) → entries_by c history ≡ by c (new.past ++ new.mine)) where
-  pub is_lawful : lawful history → IsLawfulRun lawful seed script history
+  is_lawful : lawful history → IsLawfulRun lawful seed script history
   is_lawful right = record {
     lawfully = right;
     callers = λ c. let is : 0 + c ≡ c = omega arith in
@@ -243,7 +271,22 @@ module _ (lawful : History → Type 0) (seed : List ℕ) (script : List Section)
   pub told_history : (c : ℕ) → by c told ≡ entries_by c history
   told_history c = ran.alike c ∙ sym (callers c)
 
+  told_notes : notes ≡ notes_of seed script history
+  told_notes =
+      ran.noted
+      ∙ ap (λ (w : ℕ). notes_by seed w script (new.past ++ new.mine)) first
+      ∙ notes_by-alike seed 0 script (new.past ++ new.mine) (numbered 0 history) (λ i below. sym (callers (0 + i)))
+
+  pub tells_lawful : (placed : PlacedCalls) → placed ≡ numbered 0 history → lawful history → TellsRun (IsLawfulRun lawful) seed script placed notes
+  tells_lawful placed in_place right = record { history = history; run = is_lawful right; in_place = in_place; noted = told_notes }
+
 -- a script that nobody calls
-pub nobody_runs : (lawful : History → Type 0) (seed : List ℕ) (script : List Section) → length script ≡ 0 → lawful [] → IsLawfulRun lawful seed script []
-nobody_runs lawful seed [] none right = record { lawfully = right; callers = λ c. refl }
-nobody_runs lawful seed (section ∷ more) none right = absurd (omega (arith, none))
+pub nobody_runs : (lawful : History → Type 0) (seed : List ℕ) (script : List Section) (placed : PlacedCalls) (notes : List Note) → length script ≡ 0
+    → placed ≡ [] → notes ≡ [] → lawful [] → TellsRun (IsLawfulRun lawful) seed script placed notes
+nobody_runs lawful seed [] placed notes none empty silent right = record {
+  history = [];
+  run = record { lawfully = right; callers = λ c. refl };
+  in_place = empty;
+  noted = silent;
+}
+nobody_runs lawful seed (section ∷ more) placed notes none empty silent right = absurd (omega (arith, none))

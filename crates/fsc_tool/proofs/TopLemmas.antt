@@ -1,5 +1,5 @@
 -- What the meaning of a status says of it, where the source tells its bytes.
-use Rattle.std.proofs.Common.{◌≡◌, ℕ, ◌<◌, ◌≤◌, inl, inr, List, ◌++◌, length, Option, Some, None, Err, refl, sym, ap, ◌∙◌, arith, subst, append-nil, length-append}
+use Rattle.std.proofs.Common.{◌≡◌, ℕ, ◌<◌, ◌≤◌, inl, inr, List, ◌++◌, length, Option, Some, None, Err, refl, sym, ap, ap₂, ◌∙◌, arith, subst, append-nil, length-append}
 use Rattle.std.specs.Prelude.{IsSome, ◌↔◌}
 use Rattle.std.specs.Io.KnownBytes.{Consumes, IsAtEnd}
 use Rattle.text_words.specs.Lines.{line_count}
@@ -20,11 +20,13 @@ use Rattle.fsc_tool.specs.Replay.{Told, IsReplayable, IsOrNoMemory, IsReplay}
 use Rattle.fsc_tool.specs.Prepared.{IsPrepared, NoRun}
 use Rattle.fsc_tool.specs.LogOfRun.{HasLog}
 use Rattle.fsc_tool.specs.Written.{EndsLog}
-use Rattle.call_history.specs.Entries.{numbered}
 use Rattle.call_history.specs.Placed.{entries_of}
 use Rattle.call_history.proofs.Placing.{map-numbered}
 use Rattle.mount_model.specs.Port.{PlacedCalls}
 use Rattle.reply_text.specs.Log.{log_text}
+use Rattle.reply_text.specs.Notes.{notes_text}
+use Rattle.reply_text.specs.declared.notes.Note.{Note}
+use Rattle.fsc_tool.specs.Runs.{TellsRun}
 
 -- ---- words
 
@@ -200,22 +202,26 @@ want_ends IsRun form a b script seed prepared unwritten = replay_is IsRun form a
   unwritten = unwritten;
 })
 
--- a run whose entries were made
+-- a run that told these entries and notes
 pub run_ends : (IsRun : List ℕ → List Section → History → Type 0) (form : Option Form) (a b : Outside) (script : List Section) (seed : List ℕ)
-    (told : PlacedCalls) (status : Status) → IsPrepared form a.source b.source a.seeds b.seeds script seed
-    → (history : History) × IsRun seed script history × (told ≡ numbered 0 history)
-    → EndsLog (log_text (entries_of told)) a.sink b.sink status → IsReplay IsRun form a b status
-run_ends IsRun form a b script seed told status prepared ran h = ended status h
+    (told : PlacedCalls) (notes : List Note) (status : Status) → IsPrepared form a.source b.source a.seeds b.seeds script seed
+    → TellsRun IsRun seed script told notes
+    → EndsLog (log_text (entries_of told) ++ notes_text notes) a.sink b.sink status → IsReplay IsRun form a b status
+run_ends IsRun form a b script seed told notes status prepared ran h = ended status h
   where
-    log : HasLog IsRun form a b (log_text (entries_of told))
+    log : HasLog IsRun form a b (log_text (entries_of told) ++ notes_text notes)
     log = record {
       script = script;
       seed = seed;
       prepared = prepared;
-      run = record { history = ran.0; run = ran.1; log = ap log_text (ap entries_of ran.2 ∙ map-numbered 0 ran.0) };
+      run = record {
+        history = ran.history;
+        run = ran.run;
+        log = ap₂ (λ (es : History) (ns : List Note). log_text es ++ notes_text ns) (ap entries_of ran.in_place ∙ map-numbered 0 ran.history) ran.noted;
+      };
     }
 
-    ended : (status : Status) → EndsLog (log_text (entries_of told)) a.sink b.sink status → IsReplay IsRun form a b status
+    ended : (status : Status) → EndsLog (log_text (entries_of told) ++ notes_text notes) a.sink b.sink status → IsReplay IsRun form a b status
     ended Done h = replay_is IsRun form a b Done (record { text = _; log = log; written = h })
     ended WriteFault h = replay_is IsRun form a b WriteFault (record { text = _; log = log; written = h })
     ended NoMemory h = want_ends IsRun form a b script seed prepared h

@@ -7,19 +7,18 @@ use Rattle.std.proofs.lemmas.List.{map-append, length-map, length-set}
 use Rattle.std.proofs.lemmas.Option.{slice_get_past, slice_get_within, slice_get_cases, get_or_from_slice_get}
 use Rattle.call_history.specs.Entries.{by, numbered}
 use Rattle.call_history.specs.Placed.{entries_of}
-use Rattle.call_history.proofs.Placing.{numbered-append, by-append, by-by, by-by_other}
+use Rattle.call_history.proofs.Placing.{numbered-append, by-append, by-by_other}
 use Rattle.mount_model.specs.History.{History, MountEntry}
 use Rattle.mount_model.specs.Port.{PlacedCalls}
 use Rattle.script_lang.specs.declared.commands.Section.{Section}
 use Rattle.script_lang.specs.declared.commands.Command.{Command}
-use Rattle.fsc_session.specs.Steps.{Steps, Reaches, names_from}
-use Rattle.fsc_session.specs.Steps.Steps.{Done}
-use Rattle.fsc_session.specs.Commands.{command_steps, AsksRightly}
-use Rattle.fsc_session.specs.Session.{names_in}
-use Rattle.fsc_session.specs.Running.{RunnerView, HasRun, StepMakes, state_of}
+use Rattle.fsc_commands.specs.Steps.{Steps, Reaches, names_from, names_in}
+use Rattle.fsc_commands.specs.Steps.Steps.{Done}
+use Rattle.fsc_commands.specs.Commands.{command_steps}
+use Rattle.fsc_session.specs.Asking.{AsksRightly}
+use Rattle.fsc_session.specs.Running.{RunnerView, StepMakes, state_of}
 use Rattle.fsc_session.specs.Rotation.{Waiting, waiting, turn_of, turn_steps, round_steps, rounds_steps}
-use Rattle.fsc_session.proofs.StepsLemmas.{entries_of-append, Reaches-on, Reaches-and_then}
-use Rattle.fsc_session.proofs.RunLemmas.{names_in-append}
+use Rattle.fsc_commands.proofs.StepsLemmas.{entries_of-append, Reaches-on, Reaches-and_then, names_in-append}
 use Rattle.fsc_tool.specs.Rotating.{InTurn, Rotating, TurnMade}
 
 -- ---- lists with one element changed

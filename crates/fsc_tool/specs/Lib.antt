@@ -1,6 +1,8 @@
 pub mod Ends
 pub mod Faults
 pub mod Forms
+pub mod Gen
+pub mod GenForms
 pub mod Limits
 pub mod LogOfRun
 pub mod Outside
@@ -9,6 +11,7 @@ pub mod Replay
 pub mod Rotating
 pub mod Runs
 pub mod Seed
+pub mod Summary
 pub mod Threaded
 pub mod Tool
 pub mod Written

@@ -5,8 +5,9 @@ use Rattle.call_history.specs.Placed.{entries_of}
 use Rattle.mount_model.specs.History.{History}
 use Rattle.mount_model.specs.Port.{PlacedCalls}
 use Rattle.script_lang.specs.declared.commands.Section.{Section}
-use Rattle.fsc_session.specs.Steps.{Steps, Reaches}
-use Rattle.fsc_session.specs.Commands.{AsksRightly}
+use Rattle.reply_text.specs.declared.notes.Note.{Note}
+use Rattle.fsc_commands.specs.Steps.{Steps, Reaches}
+use Rattle.fsc_session.specs.Asking.{AsksRightly}
 use Rattle.fsc_session.specs.Running.{RunnerView, runner_view, HasRun, StepMakes}
 use Rattle.fsc_session.specs.Rotation.{Waiting}
 
@@ -65,3 +66,8 @@ sections_of runners = map (λ runner. runner.section) runners
 abbrev pub told_by : List RunnerView → PlacedCalls
 told_by [] = []
 told_by (runner ∷ more) = runner.entries ++ told_by more
+
+-- and their notes
+abbrev pub noted_by : List RunnerView → List Note
+noted_by [] = []
+noted_by (runner ∷ more) = runner.notes ++ noted_by more

@@ -1,10 +1,13 @@
 -- What a run of a script is: by callers that don't wait for one another, and in rotation.
 use Rattle.std.specs.Prelude.{◌≡◌, ℕ, List}
+use Rattle.call_history.specs.Entries.{numbered}
 use Rattle.mount_model.specs.History.{History, IsLegal, NeverWantsMemory}
+use Rattle.mount_model.specs.Port.{PlacedCalls}
 use Rattle.script_lang.specs.declared.commands.Section.{Section}
-use Rattle.fsc_session.specs.Steps.{Reaches}
-use Rattle.fsc_session.specs.Steps.Steps.{Done}
-use Rattle.fsc_session.specs.Session.{IsRunOf}
+use Rattle.reply_text.specs.declared.notes.Note.{Note}
+use Rattle.fsc_commands.specs.Steps.{Reaches}
+use Rattle.fsc_commands.specs.Steps.Steps.{Done}
+use Rattle.fsc_session.specs.Session.{IsRunOf, notes_of}
 use Rattle.fsc_session.specs.Rotation.{Waiting, rotation_steps}
 use Rattle.fsc_session.specs.Serial.{serial_history}
 
@@ -22,3 +25,11 @@ pub record IsSerialRun (lawful : History → Type 0)
   pub run : IsLawfulRun lawful seed script history
   pub order : (after : List Waiting) × Reaches (rotation_steps seed script) history (Done after)
   pub serial : IsLegal history → NeverWantsMemory history → history ≡ serial_history seed script
+
+-- the entries are those of one history, which is such a run, in order of place; and these are its notes
+pub record TellsRun (IsRun : List ℕ → List Section → History → Type 0)
+    (seed : List ℕ) (script : List Section) (placed : PlacedCalls) (notes : List Note) : Type 0 where
+  pub history : History
+  pub run : IsRun seed script history
+  pub in_place : placed ≡ numbered 0 history
+  pub noted : notes ≡ notes_of seed script history

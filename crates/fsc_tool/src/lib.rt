@@ -2,11 +2,15 @@
 #![tactic(auto)]
 
 mod form;
+mod gen_form;
+mod gen_runs;
 mod limits;
 mod replay;
 mod rotation;
 mod seed;
+mod summary;
 mod threads;
+mod told;
 mod top;
 
 use call_history::Entry;

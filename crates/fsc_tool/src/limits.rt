@@ -8,9 +8,6 @@ pub const MOST_INPUT_BYTES: usize = 1_048_576;
 /// The most lines that an input may have. A last piece without a line feed counts as one.
 pub const MOST_INPUT_LINES: usize = 20_000;
 
-// The most places that a history has, 2^40.
-pub(crate) const MOST_PLACES: u64 = 1_099_511_627_776;
-
 pub(crate) const INPUT_LIMITS: InputLimits = InputLimits {
     bytes: MOST_INPUT_BYTES,
     lines: MOST_INPUT_LINES,

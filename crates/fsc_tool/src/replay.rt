@@ -1,10 +1,11 @@
 //! What comes before a run's calls and after them: a script with a seed from the bytes that come in, and
 //! the log that goes out. What a run as a whole means stands in `specs/Replay.antt`.
 
-ghost use Rattle.std.specs.Prelude.{◌≡◌, IfOk, IfErr};
+ghost use Rattle.std.specs.Prelude.{◌≡◌, ◌++◌, IfOk, IfErr};
 ghost use Rattle.call_history.specs.Placed.{entries_of};
 ghost use Rattle.fsc_outside.specs.States.{SinkState};
 ghost use Rattle.reply_text.specs.Log.{log_text};
+ghost use Rattle.reply_text.specs.Notes.{notes_text};
 ghost use Rattle.script_lang.specs.Spelled.{IsSpelled};
 ghost use Rattle.fsc_tool.specs.Ends.{Ends};
 ghost use Rattle.fsc_tool.specs.Faults.{input_status, script_status};
@@ -16,11 +17,12 @@ use crate::PlacedVec;
 use crate::form::Form;
 use crate::limits::INPUT_LIMITS;
 use crate::seed::take_seed;
+use crate::told::Told;
 use call_history::Entry;
 use fsc_outside::{InputFault, SeedSource, Sink, Source, read_all, write_all};
 use item_list::Bytes;
 use mount_model::{Call, Reply};
-use reply_text::{Status, write_log};
+use reply_text::{Note, Status, write_log, write_notes};
 use script_lang::{Script, ScriptFault, read_script};
 use std::alloc::{AllocError, Global};
 
@@ -86,11 +88,12 @@ fn script_status(fault: ScriptFault) -> Status
     }
 }
 
-// Writes the log of a run's entries into the sink, once the whole log stands, and tells how the run ends.
-pub(crate) fn finish<K: Sink>(alloc: Global, entries: PlacedVec, sink: &mut K) -> Status
-    ensures { EndsLog (log_text (entries_of entries.items)) (K.state sink.old) (K.state sink.new) result }
+// Writes the log of a run into the sink, once it stands whole, and tells how the run ends.
+pub(crate) fn finish<K: Sink>(alloc: Global, told: Told, sink: &mut K) -> Status
+    ensures { EndsLog (log_text (entries_of told.entries.items) ++ notes_text told.notes.items)
+        (K.state sink.old) (K.state sink.new) result }
 {
-    let log = match log_of(alloc, entries) {
+    let log = match log_of(alloc, told) {
         Ok(log) => log,
         Err(_) => return Status::NoMemory,
     };
@@ -100,17 +103,35 @@ pub(crate) fn finish<K: Sink>(alloc: Global, entries: PlacedVec, sink: &mut K) -
     }
 }
 
-// The log of the entries, whose places are their numbers.
-fn log_of(alloc: Global, entries: PlacedVec) -> Result<Bytes, AllocError>
-    ensures { IfOk result (λ log. log ≡ log_text (entries_of entries.items)) }
+// The log of the entries, whose places are their numbers, and behind it the notes.
+fn log_of(alloc: Global, told: Told) -> Result<Bytes, AllocError>
+    ensures { IfOk result (λ log.
+        log ≡ log_text (entries_of told.entries.items) ++ notes_text told.notes.items) }
 {
-    let history = history_of(alloc, entries)?;
-    let log = write_log(alloc, history.as_slice())?;
+    let history = history_of(alloc, told.entries)?;
+    let log = whole_log(alloc, history.as_slice(), told.notes.as_slice())?;
     Ok(log)
 }
 
+// The log of a history, and behind it the notes.
+pub(crate) fn whole_log(
+    alloc: Global,
+    history: &[Entry<Call, Reply>],
+    notes: &[Note],
+) -> Result<Bytes, AllocError>
+    ensures { IfOk result (λ log. log ≡ log_text history.now ++ notes_text notes.now) }
+{
+    let mut log = write_log(alloc, history)?.into_vec();
+    let mut notes = write_notes(alloc, notes)?.into_vec();
+    log.append(&mut notes)?;
+    Ok(Bytes::from_vec(log))
+}
+
 // The entries without their places.
-fn history_of(alloc: Global, entries: PlacedVec) -> Result<Vec<Entry<Call, Reply>>, AllocError>
+pub(crate) fn history_of(
+    alloc: Global,
+    entries: PlacedVec,
+) -> Result<Vec<Entry<Call, Reply>>, AllocError>
     ensures { IfOk result (λ history. history.items ≡ entries_of entries.items) }
 {
     let mut history = Vec::new(alloc);

@@ -1,37 +1,37 @@
 //! Runs a script on a machine that nobody else calls: the callers take turns, command by command.
 
 ghost use Rattle.std.specs.Prelude.{◌≡◌, ◌≤◌, ℕ, ◌+◌, ◌^◌, [], length, map, IfOk, OnOk};
-ghost use Rattle.call_history.specs.Entries.{numbered};
-ghost use Rattle.mount_model.specs.History.{History};
 ghost use Rattle.script_lang.specs.Spelled.{IsSpelled};
-ghost use Rattle.fsc_session.specs.Steps.{Steps};
-ghost use Rattle.fsc_session.specs.Steps.Steps.{Done};
-ghost use Rattle.fsc_session.specs.Commands.{AsksRightly};
+ghost use Rattle.fsc_commands.specs.Steps.{Steps};
+ghost use Rattle.fsc_commands.specs.Steps.Steps.{Done};
+ghost use Rattle.fsc_session.specs.Asking.{AsksRightly};
 ghost use Rattle.fsc_session.specs.Running.{state_of};
 ghost use Rattle.fsc_session.specs.Rotation.{Waiting, longest, rounds_steps};
-ghost use Rattle.fsc_tool.specs.Rotating.{Rotating, TurnMade, fresh_runners, sections_of, told_by};
-ghost use Rattle.fsc_tool.specs.Runs.{IsSerialRun};
+ghost use Rattle.fsc_tool.specs.Rotating.{Rotating, TurnMade, fresh_runners, noted_by, sections_of, told_by};
+ghost use Rattle.fsc_tool.specs.Runs.{IsSerialRun, TellsRun};
 
-use crate::PlacedVec;
-use crate::limits::MOST_PLACES;
-use call_history::sort_by_place;
-use fsc_session::{MOST_CALLS, Runner};
+use crate::told::Told;
+use call_history::{MOST_PLACES, sort_by_place};
+use fsc_commands::{MOST_CALLS, Stretches};
+use fsc_session::Runner;
 use mount_shared::{MountMachine, SerialMount};
 use script_lang::{Script, Section};
 use std::alloc::{AllocError, Global};
 
-// The entries of a run of the script in rotation, in order of place: command 0 of each caller that has
-// one, then command 1, and so on.
-pub(crate) fn run_in_rotation<M: MountMachine>(
+// What a run of the script in rotation tells, its entries in order of place: command 0 of each caller that
+// has one, then command 1, and so on.
+pub(crate) fn run_in_rotation<S: Stretches, M: MountMachine>(
     alloc: Global,
     script: &Script,
     seed: &[u8; 32],
+    stretches: &S,
     machine: M,
-) -> Result<PlacedVec, AllocError>
+) -> Result<Told, AllocError>
     requires spelled { IsSpelled script.now }
+    requires ready { S.ready stretches.now }
     requires leads { M.leads [] machine }
-    ensures { IfOk result (λ entries. (history : History)
-        × IsSerialRun M.lawful seed.now script.now history × (entries.items ≡ numbered 0 history)) }
+    ensures { IfOk result (λ told. TellsRun (IsSerialRun M.lawful) seed.now script.now
+        told.entries.items told.notes.items) }
 {
     let sections = script.as_slice();
     let runners = fresh_runners(alloc, sections)?;
@@ -41,10 +41,11 @@ pub(crate) fn run_in_rotation<M: MountMachine>(
         runners,
         longest(sections),
         seed,
+        stretches,
     )?;
-    let mut entries = told_by(alloc, runners)?;
-    sort_by_place(&mut entries)?;
-    Ok(entries)
+    let mut told = told_by(alloc, runners)?;
+    sort_by_place(&mut told.entries)?;
+    Ok(told)
 }
 
 // The number of commands of the longest section.
@@ -69,14 +70,16 @@ fn fresh_runners(alloc: Global, sections: &[Section]) -> Result<Vec<Runner<'_>>,
 }
 
 // The callers take so many rounds of turns.
-fn run_all<'a, M: MountMachine>(
+fn run_all<'a, S: Stretches, M: MountMachine>(
     alloc: Global,
     mount: SerialMount<M>,
     mut runners: Vec<Runner<'a>>,
     rounds: usize,
     seed: &[u8; 32],
+    stretches: &S,
 ) -> Result<(SerialMount<M>, Vec<Runner<'a>>), AllocError>
-    requires { Rotating M.leads seed.now (sections_of runners.items)
+    requires ready { S.ready stretches.now }
+    requires begins { Rotating M.leads seed.now (sections_of runners.items)
         (rounds_steps seed.now rounds 0 (map state_of runners.items))
         (rounds_steps seed.now rounds 0 (map state_of runners.items))
         (λ j. 0) runners.items mount.machine mount.places }
@@ -85,19 +88,28 @@ fn run_all<'a, M: MountMachine>(
         (Done (map state_of r.1.items))
         (λ j. rounds) r.1.items r.0.machine r.0.places) }
 {
-    let mount = run_rounds(alloc, mount, runners.as_mut_slice(), rounds, seed)?;
+    let mount = run_rounds(
+        alloc,
+        mount,
+        runners.as_mut_slice(),
+        rounds,
+        seed,
+        stretches,
+    )?;
     Ok((mount, runners))
 }
 
 // The same, on a slice.
-fn run_rounds<M: MountMachine>(
+fn run_rounds<S: Stretches, M: MountMachine>(
     alloc: Global,
     mount: SerialMount<M>,
     runners: &mut [Runner],
     rounds: usize,
     seed: &[u8; 32],
+    stretches: &S,
 ) -> Result<SerialMount<M>, AllocError>
-    requires { Rotating M.leads seed.now (sections_of runners.old)
+    requires ready { S.ready stretches.now }
+    requires begins { Rotating M.leads seed.now (sections_of runners.old)
         (rounds_steps seed.now rounds 0 (map state_of runners.old))
         (rounds_steps seed.now rounds 0 (map state_of runners.old))
         (λ j. 0) runners.old mount.machine mount.places }
@@ -110,20 +122,22 @@ fn run_rounds<M: MountMachine>(
     let mut mount = mount;
     'rounds: for number in 0..rounds {
         'turns: for i in 0..runners.len() {
-            mount = take_turn(alloc, mount, &mut runners[i], seed)?;
+            mount = take_turn(alloc, mount, &mut runners[i], seed, stretches)?;
         }
     }
     Ok(mount)
 }
 
 // The caller's next command, on a port of its own.
-fn take_turn<M: MountMachine>(
+fn take_turn<S: Stretches, M: MountMachine>(
     alloc: Global,
     mount: SerialMount<M>,
     runner: &mut Runner,
     seed: &[u8; 32],
+    stretches: &S,
 ) -> Result<SerialMount<M>, AllocError>
-    requires { AsksRightly runner.old.section }
+    requires ready { S.ready stretches.now }
+    requires asked { AsksRightly runner.old.section }
     ensures { IfOk result (λ after. TurnMade M.leads seed.now mount.machine mount.places
         runner.old after.machine after.places runner.new) }
 {
@@ -131,18 +145,18 @@ fn take_turn<M: MountMachine>(
         return Err(AllocError);
     }
     let mut port = mount.port(runner.caller(), MOST_CALLS);
-    runner.step(alloc, &mut port, seed)?;
+    runner.step(alloc, &mut port, stretches, seed)?;
     Ok(port.back())
 }
 
-// All that the runners were told.
-fn told_by(alloc: Global, runners: Vec<Runner>) -> Result<PlacedVec, AllocError>
-    ensures { IfOk result (λ entries. entries.items ≡ told_by runners.entry.items) }
+// All that the runners were told, runner after runner.
+fn told_by(alloc: Global, runners: Vec<Runner>) -> Result<Told, AllocError>
+    ensures entries { IfOk result (λ told. told.entries.items ≡ told_by runners.entry.items) }
+    ensures notes { IfOk result (λ told. told.notes.items ≡ noted_by runners.entry.items) }
 {
-    let mut entries = Vec::new(alloc);
+    let mut told = Told::nothing(alloc);
     'runners: for runner in runners {
-        let mut more = runner.ran().entries.into_vec();
-        entries.append(&mut more)?;
+        told.append(Told::of_caller(runner.ran()))?;
     }
-    Ok(entries)
+    Ok(told)
 }

@@ -2,19 +2,18 @@
 
 ghost use Rattle.std.specs.Prelude.{◌≡◌, ℕ, ◌<◌, ◌≤◌, ◌^◌, [], ◌++◌, length, IfOk, IfSome, IfNone};
 ghost use Rattle.std.specs.Thread.{IsSync};
-ghost use Rattle.call_history.specs.Entries.{by, entries_by, numbered};
-ghost use Rattle.mount_model.specs.History.{History};
+ghost use Rattle.call_history.specs.declared.TheConstants.{MOST_PLACES};
+ghost use Rattle.call_history.specs.Entries.{by, entries_by};
 ghost use Rattle.script_lang.specs.Spelled.{IsSpelled};
 ghost use Rattle.turn_lock.specs.Passes.{merged_entries};
-ghost use Rattle.fsc_tool.specs.Runs.{IsLawfulRun};
+ghost use Rattle.fsc_tool.specs.Runs.{IsLawfulRun, TellsRun};
 ghost use Rattle.fsc_tool.specs.Threaded.{AreHalves, CanRun, HaveRun, calls_needed};
-ghost use Rattle.fsc_tool.specs.declared.limits.TheConstants.{MOST_PLACES};
 
-use crate::PlacedVec;
-use crate::limits::MOST_PLACES;
-use call_history::sort_by_place;
+use crate::told::Told;
+use call_history::{MOST_PLACES, sort_by_place};
+use fsc_commands::{MOST_CALLS, Stretches};
 use fsc_outside::Gate;
-use fsc_session::{MOST_CALLS, run_caller};
+use fsc_session::run_caller;
 use mount_shared::{MountMachine, SharedPort};
 use script_lang::{Script, Section};
 use std::alloc::{AllocError, Global};
@@ -22,19 +21,26 @@ use std::sync::Wait;
 use std::thread::{Threads, join};
 use turn_lock::{Pass, Shared};
 
-// The entries of a run of the script in threads, in order of place. Its threads have ended by then.
-pub(crate) fn run_in_threads<R: Threads + Wait + Sync, G: Gate + Sync, M: MountMachine + Send>(
+// What a run of the script in threads tells, its entries in order of place. Its threads have ended by then.
+pub(crate) fn run_in_threads<
+    R: Threads + Wait + Sync,
+    G: Gate + Sync,
+    S: Stretches + Sync,
+    M: MountMachine + Send,
+>(
     rt: &R,
     alloc: Global,
     script: &Script,
     seed: &[u8; 32],
     gate: &G,
+    stretches: &S,
     machine: M,
-) -> Result<PlacedVec, AllocError>
+) -> Result<Told, AllocError>
     requires spelled { IsSpelled script.now }
+    requires ready { S.ready stretches.now }
     requires leads { M.leads [] machine }
-    ensures { IfOk result (λ entries. (history : History)
-        × IsLawfulRun M.lawful seed.now script.now history × (entries.items ≡ numbered 0 history)) }
+    ensures { IfOk result (λ told. TellsRun (IsLawfulRun M.lawful) seed.now script.now
+        told.entries.items told.notes.items) }
 {
     let sections = script.as_slice();
     if sections.is_empty() {
@@ -44,19 +50,19 @@ pub(crate) fn run_in_threads<R: Threads + Wait + Sync, G: Gate + Sync, M: MountM
         return Err(AllocError);
     };
     let (shared, pass) = Shared::start(alloc, machine, sections.len() as u32, calls)?;
-    let (pass, mut entries) = run_all(rt, alloc, &shared, gate, pass, sections, seed)?;
+    let (pass, mut told) = run_all(rt, alloc, &shared, gate, stretches, pass, sections, seed)?;
     end(shared, pass);
-    sort_by_place(&mut entries)?;
-    Ok(entries)
+    sort_by_place(&mut told.entries)?;
+    Ok(told)
 }
 
 // A run without callers: nothing is shared, and no thread starts.
-fn run_nobody<M: MountMachine>(alloc: Global, machine: M) -> PlacedVec
+fn run_nobody<M: MountMachine>(alloc: Global, machine: M) -> Told
     requires { M.leads [] machine }
-    ensures none { result.items ≡ [] }
+    ensures none { (result.entries.items ≡ []) × (result.notes.items ≡ []) }
     ensures lawful { M.lawful [] }
 {
-    Vec::new(alloc)
+    Told::nothing(alloc)
 }
 
 // The most calls that the commands of the sections make; none where a history has fewer places.
@@ -76,60 +82,70 @@ fn calls_needed(sections: &[Section]) -> Option<u64>
 }
 
 // Runs the section of each of the pass's callers in a thread of its own. It answers when all have ended.
-fn run_all<R: Threads + Wait + Sync, G: Gate + Sync, M: MountMachine + Send>(
+fn run_all<R: Threads + Wait + Sync, G: Gate + Sync, S: Stretches + Sync, M: MountMachine + Send>(
     rt: &R,
     alloc: Global,
     shared: &Shared<M>,
     gate: &G,
+    stretches: &S,
     mut pass: Pass<M>,
     sections: &[Section],
     seed: &[u8; 32],
-) -> Result<(Pass<M>, PlacedVec), AllocError>
-    requires { CanRun shared.now pass sections.now }
-    ensures { IfOk result (λ ran. HaveRun seed.now pass sections.now ran.0 ran.1.items) }
+) -> Result<(Pass<M>, Told), AllocError>
+    requires ready { S.ready stretches.now }
+    requires can_run { CanRun shared.now pass sections.now }
+    ensures { IfOk result (λ ran. HaveRun seed.now pass sections.now ran.0
+        ran.1.entries.items ran.1.notes.items) }
 {
     if sections.len() == 1 {
-        return run_one(rt, alloc, shared, gate, pass, sections, seed);
+        return run_one(rt, alloc, shared, gate, stretches, pass, sections, seed);
     }
     let (first, others, upper) = halve(shared, &mut pass, sections)?;
     let (one, two) = join(
         rt,
-        || -> Result<(Pass<M>, PlacedVec), AllocError>
-            requires { IsSync R.row × IsSync G.row × CanRun shared.now pass first.now }
-            ensures { IfOk result (λ ran. HaveRun seed.entry.now pass first.entry.now ran.0 ran.1.items) }
-        { run_all(rt, alloc, shared, gate, pass, first, seed) },
-        || -> Result<(Pass<M>, PlacedVec), AllocError>
-            requires { IsSync R.row × IsSync G.row × CanRun shared.now upper others.now }
-            ensures { IfOk result (λ ran. HaveRun seed.entry.now upper others.entry.now ran.0 ran.1.items) }
-        { run_all(rt, alloc, shared, gate, upper, others, seed) },
+        || -> Result<(Pass<M>, Told), AllocError>
+            requires { IsSync R.row × IsSync G.row × IsSync S.row × S.ready stretches.now
+                × CanRun shared.now pass first.now }
+            ensures { IfOk result (λ ran. HaveRun seed.entry.now pass first.entry.now ran.0
+                ran.1.entries.items ran.1.notes.items) }
+        { run_all(rt, alloc, shared, gate, stretches, pass, first, seed) },
+        || -> Result<(Pass<M>, Told), AllocError>
+            requires { IsSync R.row × IsSync G.row × IsSync S.row × S.ready stretches.now
+                × CanRun shared.now upper others.now }
+            ensures { IfOk result (λ ran. HaveRun seed.entry.now upper others.entry.now ran.0
+                ran.1.entries.items ran.1.notes.items) }
+        { run_all(rt, alloc, shared, gate, stretches, upper, others, seed) },
     );
-    let (mut pass, mut entries) = one?;
-    let (upper, mut more) = two?;
+    let (mut pass, mut told) = one?;
+    let (upper, more) = two?;
     shared.join(&mut pass, upper);
-    entries.append(&mut more)?;
-    Ok((pass, entries))
+    told.append(more)?;
+    Ok((pass, told))
 }
 
 // Runs the section of the pass's one caller.
-fn run_one<R: Wait, G: Gate, M: MountMachine>(
+fn run_one<R: Wait, G: Gate, S: Stretches, M: MountMachine>(
     rt: &R,
     alloc: Global,
     shared: &Shared<M>,
     gate: &G,
+    stretches: &S,
     pass: Pass<M>,
     sections: &[Section],
     seed: &[u8; 32],
-) -> Result<(Pass<M>, PlacedVec), AllocError>
+) -> Result<(Pass<M>, Told), AllocError>
+    requires ready { S.ready stretches.now }
     requires can_run { CanRun shared.now pass sections.now }
     requires one { length sections.now ≡ 1 }
-    ensures { IfOk result (λ ran. HaveRun seed.now pass sections.now ran.0 ran.1.items) }
+    ensures { IfOk result (λ ran. HaveRun seed.now pass sections.now ran.0
+        ran.1.entries.items ran.1.notes.items) }
 {
     let mut port = SharedPort::new(rt, shared, pass);
-    let ran = run_caller(alloc, &mut port, gate, &sections[0], seed)?;
+    let ran = run_caller(alloc, &mut port, gate, stretches, &sections[0], seed)?;
     let pass = port.back();
     // That its own entries are its caller's.
     let _caller = pass.who();
-    Ok((pass, ran.entries.into_vec()))
+    Ok((pass, Told::of_caller(ran)))
 }
 
 // Cuts the pass in two, with the sections: the pass keeps the numbers and the calls of the first half, and

@@ -1,16 +1,19 @@
 //! The tool's calls: one that starts threads, and one that waits for nobody.
 
 ghost use Rattle.std.specs.Prelude.{[], map, string_bytes};
-ghost use Rattle.fsc_tool.specs.Forms.{serial_form_of};
 ghost use Rattle.fsc_tool.specs.Outside.{outside};
 ghost use Rattle.fsc_tool.specs.Replay.{IsReplay};
 ghost use Rattle.fsc_tool.specs.Runs.{IsLawfulRun, IsSerialRun};
-ghost use Rattle.fsc_tool.specs.Tool.{IsToolRun};
+ghost use Rattle.fsc_tool.specs.Tool.{IsSerialToolRun, IsToolRun};
 
 use crate::form::{Form, read_serial_form, read_threads_form};
+use crate::gen_form::read_gen_form;
+use crate::gen_runs::run_generated;
 use crate::replay::{finish, prepare};
 use crate::rotation::run_in_rotation;
 use crate::threads::run_in_threads;
+use argon_kdf::LaneStretch;
+use fsc_commands::{InThreads, OnOneThread};
 use fsc_outside::{Gate, SeedSource, Sink, Source};
 use mount_shared::MountMachine;
 use reply_text::Status;
@@ -20,8 +23,9 @@ use std::thread::Threads;
 
 /// Replays the script that the source gives on the machine, which no call was made on, and writes its
 /// log into the sink. The words are those of the command line without the program's own name, and are
-/// Usage unless they are `replay` or `replay --serial`, alone or with `--seed HEX64` behind. With
-/// `--serial` the callers take turns, as in `tool_serial`; else each runs in a thread of its own, command
+/// Usage unless they are `replay` or `replay --serial`, alone or with `--seed HEX64` behind, or a form that
+/// generates, `gen NUMBER` or `gen NUMBER --summary`. With `--serial` the callers take turns, as in
+/// `tool_serial`, and what generates is run as there; else each caller runs in a thread of its own, command
 /// by command between the gate's two calls, and waits for its turn on the machine at each call. Nothing is
 /// written before all callers have ended and the whole log stands. The seed source is asked once for each
 /// script in the grammar, where the words give no seed.
@@ -47,6 +51,9 @@ pub fn tool<
         let after = outside (S.state source.new) (K.state sink.new) (E.state seeds.new) in
         IsToolRun M.lawful (map string_bytes words.now.items) before after result }
 {
+    if let Some(form) = read_gen_form(words) {
+        return run_generated(alloc, form, sink, machine);
+    }
     let serial = read_serial_form(words);
     if serial.is_some() {
         return replay_in_rotation(alloc, serial, source, sink, seeds, machine);
@@ -57,9 +64,13 @@ pub fn tool<
 
 /// Replays the script that the source gives on the machine, which no call was made on, and writes its
 /// log into the sink; the callers take turns. The words are those of the command line without the
-/// program's own name, and are Usage unless they are `replay --serial` or `replay --serial --seed HEX64`.
-/// Nothing is written before the whole log stands. The seed source is asked once for each script in the
-/// grammar, where the words give no seed.
+/// program's own name, and are Usage unless they are `replay --serial` or `replay --serial --seed HEX64`, or
+/// a form that generates. Nothing is written before the whole log stands. The seed source is asked once for
+/// each script in the grammar, where the words give no seed.
+///
+/// Two forms generate, and ask neither the source nor the seed source: `gen NUMBER` writes the script that
+/// the number gives, and `gen NUMBER --summary` the summary of a replay of it on the machine, with a seed of
+/// zeros.
 pub fn tool_serial<S: Source, K: Sink, E: SeedSource, M: MountMachine>(
     alloc: Global,
     words: &Vec<String>,
@@ -71,9 +82,11 @@ pub fn tool_serial<S: Source, K: Sink, E: SeedSource, M: MountMachine>(
     requires { M.leads [] machine }
     ensures { let before = outside (S.state source.old) (K.state sink.old) (E.state seeds.old) in
         let after = outside (S.state source.new) (K.state sink.new) (E.state seeds.new) in
-        IsReplay (IsSerialRun M.lawful) (serial_form_of (map string_bytes words.now.items))
-        before after result }
+        IsSerialToolRun M.lawful (map string_bytes words.now.items) before after result }
 {
+    if let Some(form) = read_gen_form(words) {
+        return run_generated(alloc, form, sink, machine);
+    }
     let form = read_serial_form(words);
     replay_in_rotation(alloc, form, source, sink, seeds, machine)
 }
@@ -96,11 +109,11 @@ fn replay_in_rotation<S: Source, K: Sink, E: SeedSource, M: MountMachine>(
         Ok(run) => run,
         Err(status) => return status,
     };
-    let entries = match run_in_rotation(alloc, &run.script, &run.seed, machine) {
-        Ok(entries) => entries,
+    let told = match run_in_rotation(alloc, &run.script, &run.seed, &OnOneThread, machine) {
+        Ok(told) => told,
         Err(_) => return Status::NoMemory,
     };
-    finish(alloc, entries, sink)
+    finish(alloc, told, sink)
 }
 
 // A replay in this form whose callers run in threads.
@@ -130,9 +143,13 @@ fn replay_in_threads<
         Ok(run) => run,
         Err(status) => return status,
     };
-    let entries = match run_in_threads(rt, alloc, &run.script, &run.seed, gate, machine) {
-        Ok(entries) => entries,
+    let stretches = InThreads {
+        threads: rt,
+        way: &LaneStretch,
+    };
+    let told = match run_in_threads(rt, alloc, &run.script, &run.seed, gate, &stretches, machine) {
+        Ok(told) => told,
         Err(_) => return Status::NoMemory,
     };
-    finish(alloc, entries, sink)
+    finish(alloc, told, sink)
 }

@@ -2,7 +2,7 @@
 
 use crate::commands::GROUPS;
 use reply_text::Status;
-use script_lang::{is_usable, line_fault};
+use script_faults::{is_usable, line_fault};
 use std::alloc::{AllocError, Global};
 use text_words::next_line;
 
@@ -17,11 +17,15 @@ fsc replays a script over an encrypted directory tree in memory, and prints a
 log of it.
 
     fsc replay [--serial] [--seed HEX64]
+    fsc gen NUMBER [--summary]
     fsc --help | --version
 
 The script comes from standard input. Its callers run in threads, and the log
 has the order in which their calls were answered. With --serial they take turns
 instead. Without --seed the seed comes from the machine.
+
+gen writes the script that a number gives, from 0 to 4294967295. With --summary
+it runs that script in turns and writes entries, refused, busy and sha256.
 
 A script has a section for each of up to eight callers, which begins with
 `caller UID`, and in it a command a line. Words are parted by one space.
@@ -30,6 +34,11 @@ A script has a section for each of up to eight callers, which begins with
 const BEHIND_COMMANDS: &str = "
 HEX is two hexadecimal digits a byte. KEYREF is `id:` and 32 digits, or `raw:`
 and 64 to 128 of them, an even number.
+SECRET is `raw:` and 64 digits, or `pass:` and a passphrase; a NEWSECRET has the
+costs of stretching before its passphrase: `pass:PASSES:KIB:LANES:`.
+
+A command of a session makes one call to four, and ends with a note behind the
+log's entries, which tells how it ended.
 
 Callers that take turns run the first command of each section in order, then the
 second of each section that has one, and so on. Callers count from 0.
@@ -51,7 +60,7 @@ const MOST_SHOWN: usize = 60;
 // More bytes than any input that is read, and so few that each line has a number.
 const MOST_INPUT_BYTES: usize = 4_294_967_295;
 
-/// What `--help` prints: the forms, each command that a script may use, and where to read on.
+/// What `--help` prints: the forms, each command, and where to read on.
 pub(crate) fn help_text(alloc: Global) -> Result<String, AllocError> {
     let mut text = String::from_str(alloc, BEFORE_COMMANDS)?;
     for group in GROUPS.iter() {
@@ -61,7 +70,7 @@ pub(crate) fn help_text(alloc: Global) -> Result<String, AllocError> {
     Ok(text)
 }
 
-// The group's title and its lines, where a script may use a command of it.
+// The group's title and its lines, of which each begins with the name of a command.
 fn push_group(text: &mut String, title: &str, lines: &[&str]) -> Result<(), AllocError> {
     let mut listed = false;
     for line in lines.iter() {
@@ -87,10 +96,9 @@ pub(crate) fn advise(rt: &HostRuntime, status: Status, input: &[u8]) {
         Status::Done => return,
         Status::BadLine { .. } => return show_line(rt, input),
         Status::Usage =>
-            "the forms are: fsc replay [--serial] [--seed HEX64]; fsc --help tells more",
+            "the forms are: fsc replay [--serial] [--seed HEX64]; fsc gen NUMBER [--summary]; fsc --help tells more",
         Status::ReadFault => "standard input failed: give the script by < FILE",
-        Status::WriteFault =>
-            "what was written is a beginning of the log; make room and run it again",
+        Status::WriteFault => "what was written is a beginning; make room and run it again",
         Status::SeedFault => "the machine gave no seed: give one by --seed HEX64",
         Status::TooLong => "a script has at most 1048576 bytes and 20000 lines",
         Status::NoMemory => "run it again where more memory is free",

@@ -14,8 +14,8 @@ use Rattle.hex.proofs.HexLemmas.{decode_of-ok, decode_of-encode_lower, decode_of
 use Rattle.percent_encoding.specs.AsciiSet.{should_percent_encode}
 use Rattle.percent_encoding.specs.Percent.{percent_encode, percent_decode}
 use Rattle.percent_encoding.proofs.PercentLemmas.{IsByte, IsEscapeByte, All-percent_encode, round_trip}
-use Rattle.script_lang.specs.Word.{is_plain_character, word_text}
-use Rattle.script_lang.proofs.EscapeLemmas.{kept_is_plain}
+use Rattle.script_words.specs.Word.{is_plain_character, word_text}
+use Rattle.script_words.proofs.EscapeLemmas.{kept_is_plain}
 use Rattle.text_words.specs.Numbers.{decimal_of}
 use Rattle.text_words.proofs.NumberLemmas.{IsDecimal-decimal_of, test-from_IsDecimal}
 use Rattle.reply_text.specs.Words.{bit, flag_text}

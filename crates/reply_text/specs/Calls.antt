@@ -3,7 +3,7 @@
 use Rattle.std.specs.Prelude.{ℕ, List, ◌++◌, length, codes}
 use Rattle.hex.specs.Hex.{encode_lower}
 use Rattle.text_words.specs.Numbers.{decimal_of}
-use Rattle.script_lang.specs.Word.{word_text}
+use Rattle.script_words.specs.Word.{word_text}
 use Rattle.mount_model.specs.declared.call.Op.{Op}
 use Rattle.mount_model.specs.declared.call.Op.TheVariants as op
 use Rattle.reply_text.specs.Names.{path_text, record_text}

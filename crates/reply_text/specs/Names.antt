@@ -4,7 +4,7 @@
 use Rattle.std.specs.Prelude.{ℕ, ◌==◌, List, [], ◌∷◌, ◌++◌, codes, if◌then◌else◌}
 use Rattle.std.specs.List.{flat_map}
 use Rattle.hex.specs.Hex.{encode_lower}
-use Rattle.script_lang.specs.Word.{byte_text, word_text}
+use Rattle.script_words.specs.Word.{byte_text, word_text}
 
 -- two lower-case digits for each byte, and `-` where there is none
 abbrev pub bytes_text : List ℕ → List ℕ

@@ -2,7 +2,7 @@
 use Rattle.std.specs.Prelude.{ℕ, Bool, List, ◌++◌, length, codes}
 use Rattle.hex.specs.Hex.{encode_lower}
 use Rattle.text_words.specs.Numbers.{decimal_of}
-use Rattle.script_lang.specs.Word.{word_text}
+use Rattle.script_words.specs.Word.{word_text}
 use Rattle.mount_model.specs.declared.reply.KeyState.{KeyState}
 use Rattle.mount_model.specs.declared.reply.NodeKind.{NodeKind}
 use Rattle.mount_model.specs.declared.reply.Reply.{Reply}

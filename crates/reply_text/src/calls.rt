@@ -3,7 +3,7 @@
 ghost use Rattle.std.specs.Prelude.{◌≡◌, ◌++◌, List, OnOk, codes};
 ghost use Rattle.hex.specs.Hex.{encode_lower};
 ghost use Rattle.text_words.specs.Numbers.{decimal_of};
-ghost use Rattle.script_lang.specs.Word.{word_text};
+ghost use Rattle.script_words.specs.Word.{word_text};
 ghost use Rattle.reply_text.specs.Names.{path_text};
 ghost use Rattle.reply_text.specs.Calls.{call_text, store_text};
 

@@ -2,7 +2,7 @@
 
 ghost use Rattle.std.specs.Prelude.{◌≡◌, ◌++◌, OnOk};
 ghost use Rattle.percent_encoding.specs.Percent.{percent_encode};
-ghost use Rattle.script_lang.specs.Word.{word_text};
+ghost use Rattle.script_words.specs.Word.{word_text};
 ghost use Rattle.reply_text.specs.Names.{path_text, record_text, names_text};
 
 use item_list::Bytes;

@@ -1,5 +1,3 @@
-pub mod PlainWords
-pub mod WordReadings
 pub mod NameLaws
 pub mod VerbLaws
 pub mod AskedLemmas
@@ -10,7 +8,3 @@ pub mod WritingLemmas
 pub mod SpelledLemmas
 pub mod TextLemmas
 pub mod RoundTrip
-pub mod EscapeLemmas
-pub mod PathLemmas
-pub mod PartSteps
-pub mod FaultLemmas

@@ -6,7 +6,7 @@ use Rattle.std.proofs.lemmas.Bool.{lt-ltb, ltb-true, cases_Bool}
 use Rattle.std.proofs.lemmas.List.Sums.{sum_by_push}
 use Rattle.std.proofs.lemmas.List.Splits.{length-slice_split}
 use Rattle.text_words.specs.Lines.{pieces_of, is_line_feed}
-use Rattle.script_lang.specs.Readable.{readable_statement_of}
+use Rattle.script_lang.specs.Statements.{statement_of}
 use Rattle.script_lang.specs.Sections.{is_caller, may_stand, first_misplaced_line, commands_of, sections_of}
 use Rattle.script_lang.specs.Script.{statements_in, statements_of, parsed_script, Reads}
 use Rattle.script_lang.specs.Reading.{with_commands, with_command, after_line, AddsStatement, TakesLine}
@@ -122,11 +122,11 @@ read_from-line n sections (Some (Order verb)) more =
 -- ---- lines of a text
 
 -- a line that was ended, and what follows it
-pub statements_in-line : (line text : List ℕ) → statements_in (line ∷ pieces_of text) ≡ readable_statement_of line ∷ statements_of text
+pub statements_in-line : (line text : List ℕ) → statements_in (line ∷ pieces_of text) ≡ statement_of line ∷ statements_of text
 unfolding statements_in
 statements_in-line line text = by_pieces (pieces_of text) (let e = length-slice_split is_line_feed text in omega arith)
   where
-    by_pieces : (pieces : List (List ℕ)) → 0 < length pieces → statements_in (line ∷ pieces) ≡ readable_statement_of line ∷ statements_in pieces
+    by_pieces : (pieces : List (List ℕ)) → 0 < length pieces → statements_in (line ∷ pieces) ≡ statement_of line ∷ statements_in pieces
     by_pieces [] some = absurd (omega arith)
     by_pieces (next ∷ more) some = refl
 
@@ -145,18 +145,18 @@ statements_of-nil (b ∷ bytes) none = absurd (omega arith)
 -- a line in the grammar goes over to what follows
 pub line_taken : (n : ℕ) (sections after : List Section) (text line rest : List ℕ) (parsed : Result (List Section) ℕ)
     → parsed ≡ read_from n sections (statements_of text) → pieces_of text ≡ line ∷ pieces_of rest
-    → after_line n sections (readable_statement_of line) ≡ Some after → parsed ≡ read_from (n + 1) after (statements_of rest)
+    → after_line n sections (statement_of line) ≡ Some after → parsed ≡ read_from (n + 1) after (statements_of rest)
 line_taken n sections after text line rest parsed told cut took =
-    told ∙ rw (cut, statements_in-line line rest, read_from-line n sections (readable_statement_of line) (statements_of rest), took) refl
+    told ∙ rw (cut, statements_in-line line rest, read_from-line n sections (statement_of line) (statements_of rest), took) refl
 
 -- a line that is refused is where reading ends
 pub line_refused : (n : ℕ) (sections after : List Section) (text line rest : List ℕ) (parsed : Result (List Section) ℕ) (fault : ScriptFault)
     → parsed ≡ read_from n sections (statements_of text) → pieces_of text ≡ line ∷ pieces_of rest
-    → TakesLine n (after_line n sections (readable_statement_of line)) (Err fault) after → Reads (Err fault) parsed
+    → TakesLine n (after_line n sections (statement_of line)) (Err fault) after → Reads (Err fault) parsed
 line_refused n sections after text line rest parsed NoMemory told cut refused = tt
 line_refused n sections after text line rest parsed (BadLine m) told cut refused =
     rw refused.1
-    (told ∙ rw (cut, statements_in-line line rest, read_from-line n sections (readable_statement_of line) (statements_of rest), refused.0) refl)
+    (told ∙ rw (cut, statements_in-line line rest, read_from-line n sections (statement_of line) (statements_of rest), refused.0) refl)
 
 -- a last piece that no line feed ended
 pub line_unended : (n : ℕ) (sections : List Section) (text line : List ℕ) (parsed : Result (List Section) ℕ)

@@ -5,7 +5,7 @@ use Rattle.std.specs.List.{All}
 use Rattle.std.proofs.lemmas.Bool.{lt-ltb}
 use Rattle.std.proofs.lemmas.List.Splits.{slice_split_at}
 use Rattle.text_words.specs.Lines.{is_line_feed}
-use Rattle.script_lang.specs.Readable.{readable_statement_of}
+use Rattle.script_lang.specs.Statements.{statement_of}
 use Rattle.script_lang.specs.Sections.{commands_of, sections_of}
 use Rattle.script_lang.specs.Script.{statements_of, parsed_script}
 use Rattle.script_lang.specs.VerbText.{verb_text}
@@ -40,7 +40,7 @@ section_lines n (section ∷ more) =
 
 -- a line in front of a text
 statements_of-line : (line text : List ℕ) → All (λ b. is_line_feed b ≡ false) line
-    → statements_of (line ++ 10 ∷ text) ≡ readable_statement_of line ∷ statements_of text
+    → statements_of (line ++ 10 ∷ text) ≡ statement_of line ∷ statements_of text
 statements_of-line line text clean = rw (slice_split_at is_line_feed line 10 text clean refl) (statements_in-line line text)
 
 statements_of-empty : (n : ℕ) (text : List ℕ) → statements_of (empty_lines n ++ text) ≡ nothings n (statements_of text)

@@ -13,7 +13,7 @@ use Rattle.script_lang.specs.declared.commands.Command.{Command}
 use Rattle.script_lang.specs.declared.commands.Section.{Section}
 use Rattle.script_lang.specs.declared.statements.Statement.{Statement}
 use Rattle.script_lang.specs.declared.statements.Statement.TheVariants.{Nothing, Caller, Order}
-use Rattle.script_lang.proofs.StatementLemmas.{IsSaid, readable_statement_of-said}
+use Rattle.script_lang.proofs.StatementLemmas.{IsSaid, statement_of-said}
 use Rattle.script_lang.proofs.ReadingLemmas.{first_bad_from, first_bad_from-line}
 
 -- what all lines say can be said
@@ -29,7 +29,7 @@ AreSaid-statements_in (last ∷ []) = ended (length last == 0)
     ended : (b : Bool) → (let lines : List (Option Statement) = if b then [] else None ∷ [] in AreSaid lines)
     ended true = tt
     ended false = (tt, tt)
-AreSaid-statements_in (line ∷ next ∷ more) = (readable_statement_of-said line, AreSaid-statements_in (next ∷ more))
+AreSaid-statements_in (line ∷ next ∷ more) = (statement_of-said line, AreSaid-statements_in (next ∷ more))
 
 -- ---- the commands of a section
 

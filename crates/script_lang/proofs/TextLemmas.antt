@@ -13,11 +13,10 @@ use Rattle.text_words.specs.Numbers.{decimal_of}
 use Rattle.text_words.specs.Words.{words_of, is_space}
 use Rattle.script_lang.specs.Forms.{word, whole}
 use Rattle.script_lang.specs.Names.{name_text, name_of, name_in}
-use Rattle.script_lang.specs.Numbers.{number_of}
+use Rattle.script_words.specs.Numbers.{number_of}
 use Rattle.script_lang.specs.Commands.{command_named, verb_of}
 use Rattle.script_lang.specs.VerbText.{verb_words, verb_text, spaced}
 use Rattle.script_lang.specs.Statements.{statement_named, statement_of_words, statement_of}
-use Rattle.script_lang.specs.Readable.{readable, readable_statement_of, IsCommand}
 use Rattle.script_lang.specs.Writing.{caller_text}
 use Rattle.script_lang.specs.Asked.{IsAskable}
 use Rattle.script_lang.specs.declared.names.CommandName.{CommandName}
@@ -25,9 +24,9 @@ use Rattle.script_lang.specs.declared.verb.Verb.{Verb}
 use Rattle.script_lang.specs.declared.statements.Statement.{Statement}
 use Rattle.script_lang.specs.declared.statements.Statement.TheVariants.{Nothing, Caller, Order}
 use Rattle.script_lang.proofs.NameLaws.{is_name_word, name_text-good, name_of-text}
-use Rattle.script_lang.proofs.PlainWords.{IsPlain, ArePlain, IsPlain-from_test, IsPlain-append, IsPlain-decimal_of, without}
+use Rattle.script_words.proofs.PlainWords.{IsPlain, ArePlain, IsPlain-from_test, IsPlain-append, IsPlain-decimal_of, without}
 use Rattle.script_lang.proofs.VerbLaws.{command_named-words, verb_words-plain}
-use Rattle.script_lang.proofs.WordReadings.{number_of-text}
+use Rattle.script_words.proofs.WordReadings.{number_of-text}
 
 -- ---- a line of words
 
@@ -79,14 +78,13 @@ caller_line uid = ap (λ word. codes "caller " ++ word) (sym (append-nil (decima
 caller_words : (uid : ℕ) → uid < 2 ^ 32 → ArePlain (decimal_of uid ∷ [])
 caller_words uid small = (IsPlain-decimal_of uid (omega arith), tt)
 
-pub statement_of-caller : (uid : ℕ) → uid < 2 ^ 32 → readable_statement_of (caller_text uid) ≡ Some (Caller uid)
+pub statement_of-caller : (uid : ℕ) → uid < 2 ^ 32 → statement_of (caller_text uid) ≡ Some (Caller uid)
 statement_of-caller uid small =
     let words = decimal_of uid ∷ [] in
     let line : statement_of (codes "caller" ++ spaced words) ≡ statement_named (codes "caller") words =
     statement_of-spaced (codes "caller") words (omega arith) refl (IsPlain-from_test (codes "caller") refl) (caller_words uid small) in
     let named : statement_named (codes "caller") words ≡ Some (Caller uid) = rw (number_of-text uid small) refl in
-    let said : statement_of (caller_text uid) ≡ Some (Caller uid) = ap statement_of (caller_line uid) ∙ line ∙ named in
-    ap readable said
+    ap statement_of (caller_line uid) ∙ line ∙ named
 
 pub caller_text-feedless : (uid : ℕ) → uid < 2 ^ 32 → All (λ b. is_line_feed b ≡ false) (caller_text uid)
 caller_text-feedless uid small =
@@ -127,22 +125,17 @@ named first words other = chosen (bytes_eq first (codes "caller")) (option_map C
     chosen : (b : Bool) (x y : Option Statement) → b ≡ false → (let o : Option Statement = if b then x else y in o ≡ y)
     chosen b x y h = rw h refl
 
-statement_of-order : (verb : Verb) → IsAskable verb → statement_of (verb_text verb) ≡ Some (Order verb)
+-- the line of a command says that command
+pub statement_of-verb : (verb : Verb) → IsAskable verb → statement_of (verb_text verb) ≡ Some (Order verb)
 unfolding verb_text
-statement_of-order verb asked =
+statement_of-verb verb asked =
     let is = name_word (name_text (name_in verb)) (name_text-good (name_in verb)) in
     statement_of-spaced (name_text (name_in verb)) (verb_words verb) is.some is.no_comment is.plain (verb_words-plain verb asked)
     ∙ named (name_text (name_in verb)) (verb_words verb) is.no_caller
     ∙ ap (option_map Order) (verb_of-text (name_in verb) (verb_words verb) ∙ command_named-words verb asked)
 
--- the line of a command says that command
-pub statement_of-verb : (verb : Verb) → IsCommand verb → readable_statement_of (verb_text verb) ≡ Some (Order verb)
-statement_of-verb verb h =
-    let allowed : readable (Some (Order verb)) ≡ Some (Order verb) = rw h.1 refl in
-    ap readable (statement_of-order verb h.0) ∙ allowed
-
-pub verb_text-feedless : (verb : Verb) → IsCommand verb → All (λ b. is_line_feed b ≡ false) (verb_text verb)
+pub verb_text-feedless : (verb : Verb) → IsAskable verb → All (λ b. is_line_feed b ≡ false) (verb_text verb)
 unfolding verb_text
-verb_text-feedless verb h =
+verb_text-feedless verb asked =
     let is = name_word (name_text (name_in verb)) (name_text-good (name_in verb)) in
-    feedless (name_text (name_in verb)) (verb_words verb) is.plain (verb_words-plain verb h.0)
+    feedless (name_text (name_in verb)) (verb_words verb) is.plain (verb_words-plain verb asked)

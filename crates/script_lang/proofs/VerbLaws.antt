@@ -7,20 +7,21 @@ use Rattle.policy_ctx.specs.declared.policy.Unit.{Unit as DataUnit}
 use Rattle.script_lang.specs.Names.{name_in}
 use Rattle.script_lang.specs.Commands.{command_named}
 use Rattle.script_lang.specs.VerbText.{verb_words, words_of_settings, words_of_unit, words_of_said_settings, words_of_options, words_of_number}
-use Rattle.script_lang.specs.Asked.{IsAskable, IsNumber}
+use Rattle.script_words.specs.Numbers.{IsNumber}
+use Rattle.script_lang.specs.Asked.{IsAskable}
 use Rattle.script_lang.specs.declared.limits.TheConstants.{MOST_ADDED_BYTES, MOST_WRITTEN_BYTES, MOST_FILLED_BYTES, MOST_PUT_BYTES, POLICY_BYTES}
 use Rattle.script_lang.specs.declared.verb.Verb.{Verb}
 use Rattle.script_lang.specs.declared.verb.Verb.TheVariants as verb
 use Rattle.script_lang.specs.declared.names.CommandName.TheVariants as name
-use Rattle.script_lang.specs.declared.path.ScriptPart.{ScriptPart}
-use Rattle.script_lang.specs.declared.secrets.Secret.{Secret}
-use Rattle.script_lang.specs.declared.verb.KeyRef.{KeyRef}
+use Rattle.script_words.specs.declared.path.ScriptPart.{ScriptPart}
+use Rattle.script_words.specs.declared.secrets.Secret.{Secret}
+use Rattle.script_words.specs.declared.key_words.KeyRef.{KeyRef}
 use Rattle.script_lang.specs.declared.verb.Settings.{Settings}
 use Rattle.script_lang.specs.declared.verb.Options.{Options}
-use Rattle.script_lang.proofs.EscapeLemmas.{target_bytes-word_text}
-use Rattle.script_lang.proofs.PathLemmas.{path_of-path_text}
-use Rattle.script_lang.proofs.PlainWords.{IsPlain, ArePlain, IsPlain-encode_lower, IsPlain-number, IsPlain-decimal_of, IsPlain-pad_text, IsPlain-unit_text, IsPlain-hex_or_none, IsPlain-word_text, IsPlain-path_text, IsPlain-label, IsPlain-record_name, IsPlain-key_ref_text, IsPlain-secret_text, IsPlain-new_secret_text}
-use Rattle.script_lang.proofs.WordReadings.{hex_of_size-encode_lower, hex_bytes_of_length-encode_lower, hex_or_none-text, key_ref_of-text, number_of-text, number_up_to-text, pad_of-text, unit_of-text, label_of-label, record_of-name, secret_of-text, new_secret_of-text}
+use Rattle.script_words.proofs.EscapeLemmas.{target_bytes-word_text}
+use Rattle.script_words.proofs.PathLemmas.{path_of-path_text}
+use Rattle.script_words.proofs.PlainWords.{IsPlain, ArePlain, IsPlain-encode_lower, IsPlain-number, IsPlain-decimal_of, IsPlain-pad_text, IsPlain-unit_text, IsPlain-hex_or_none, IsPlain-word_text, IsPlain-path_text, IsPlain-label, IsPlain-record_name, IsPlain-key_ref_text, IsPlain-secret_text, IsPlain-new_secret_text}
+use Rattle.script_words.proofs.WordReadings.{hex_of_size-encode_lower, hex_bytes_of_length-encode_lower, hex_or_none-text, key_ref_of-text, number_of-text, number_up_to-text, pad_of-text, unit_of-text, label_of-label, record_of-name, secret_of-text, new_secret_of-text}
 
 -- ---- what the words say
 

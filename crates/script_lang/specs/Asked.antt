@@ -1,31 +1,17 @@
 -- What the words of a command can ask for.
-use Rattle.std.specs.Prelude.{ℕ, ◌≡◌, ◌≤◌, ◌<◌, ◌^◌, ⊤, IsTrue, IfSome, List, length, Option}
+use Rattle.std.specs.Prelude.{ℕ, ◌≡◌, ◌≤◌, ⊤, IsTrue, IfSome, List, length, Option}
 use Rattle.hex.specs.Hex.{IsBytes}
 use Rattle.short_bytes.specs.Label.{IsLabel}
-use Rattle.fsc_keys.specs.declared.raw_key.TheConstants.{LEAST_RAW_KEY_BYTES, MOST_RAW_KEY_BYTES}
-use Rattle.script_lang.specs.Word.{IsWord, may_be_target}
-use Rattle.script_lang.specs.Path.{IsPath}
-use Rattle.script_lang.specs.Records.{IsRecord}
-use Rattle.script_lang.specs.Secrets.{IsSecret, IsNewSecret}
+use Rattle.script_words.specs.Word.{IsWord, may_be_target}
+use Rattle.script_words.specs.Path.{IsPath}
+use Rattle.script_words.specs.Keys.{IsKey, AreFewBytes}
+use Rattle.script_words.specs.Numbers.{IsNumber}
+use Rattle.script_words.specs.Records.{IsRecord}
+use Rattle.script_words.specs.Secrets.{IsSecret, IsNewSecret}
 use Rattle.script_lang.specs.declared.limits.TheConstants.{MOST_ADDED_BYTES, MOST_WRITTEN_BYTES}
 use Rattle.script_lang.specs.declared.limits.TheConstants.{MOST_FILLED_BYTES, MOST_PUT_BYTES, POLICY_BYTES}
-use Rattle.script_lang.specs.declared.verb.KeyRef.{KeyRef}
-use Rattle.script_lang.specs.declared.verb.KeyRef.TheVariants.{Id, Raw}
 use Rattle.script_lang.specs.declared.verb.Verb.{Verb}
 use Rattle.script_lang.specs.declared.verb.Verb.TheVariants as verb
-
--- an identifier has 16 bytes, and a raw key 32 to 64
-abbrev pub IsKey : KeyRef → Type 0
-IsKey (Id id) = (length id.0 ≡ 16) × IsBytes id.0
-IsKey (Raw raw) = (LEAST_RAW_KEY_BYTES ≤ length raw) × ((length raw ≤ MOST_RAW_KEY_BYTES) × IsBytes raw)
-
--- a number below 2^32
-abbrev pub IsNumber : ℕ → Type 0
-IsNumber number = number < 2 ^ 32
-
--- at most so many bytes
-abbrev pub AreFewBytes : List ℕ → ℕ → Type 0
-AreFewBytes bytes most = (length bytes ≤ most) × IsBytes bytes
 
 -- what words can ask for, whatever the command: a key to be added has 1 to 128 bytes, a write at most
 -- 4,096, what is filled at most 65,536, a record at most 9,000; a number is below 2^32

@@ -2,10 +2,10 @@
 use Rattle.std.specs.Prelude.{ℕ, List, Option}
 use Rattle.std.specs.Option.{option_and_then}
 use Rattle.short_bytes.specs.Label.{label_of}
-use Rattle.script_lang.specs.Keys.{hex_of_size, key_ref_of}
-use Rattle.script_lang.specs.Numbers.{number_of}
-use Rattle.script_lang.specs.Records.{record_of}
-use Rattle.script_lang.specs.Path.{path_of}
+use Rattle.script_words.specs.Keys.{hex_of_size, key_ref_of}
+use Rattle.script_words.specs.Numbers.{number_of}
+use Rattle.script_words.specs.Records.{record_of}
+use Rattle.script_words.specs.Path.{path_of}
 use Rattle.script_lang.specs.Forms.{Form, says, only, whole}
 use Rattle.script_lang.specs.Names.{name_of}
 use Rattle.script_lang.specs.Verbs.{set_policy, set_policy_bytes, symlink}

@@ -1,9 +1,3 @@
-pub mod Word
-pub mod Path
-pub mod Keys
-pub mod Numbers
-pub mod Records
-pub mod Secrets
 pub mod Names
 pub mod Forms
 pub mod Verbs
@@ -12,12 +6,8 @@ pub mod Commands
 pub mod VerbText
 pub mod Asked
 pub mod Statements
-pub mod Readable
 pub mod Sections
 pub mod Script
 pub mod Reading
 pub mod Writing
 pub mod Spelled
-pub mod WordKinds
-pub mod LineFaults
-pub mod WordLaws

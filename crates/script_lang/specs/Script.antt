@@ -3,7 +3,7 @@ use Rattle.std.specs.Prelude.{ℕ, ◌==◌, ◌≡◌, List, [], ◌∷◌, len
 use Rattle.std.specs.Prelude.{None, Result, Ok, Err, if◌then◌else◌}
 use Rattle.std.specs.Option.{option_map_or}
 use Rattle.text_words.specs.Lines.{pieces_of}
-use Rattle.script_lang.specs.Readable.{readable_statement_of}
+use Rattle.script_lang.specs.Statements.{statement_of}
 use Rattle.script_lang.specs.Sections.{first_misplaced_line, sections_of}
 use Rattle.script_lang.specs.declared.commands.Section.{Section}
 use Rattle.script_lang.specs.declared.statements.Statement.{Statement}
@@ -15,7 +15,7 @@ use Rattle.script_lang.specs.declared.reader.ScriptFault.TheVariants.{BadLine, N
 unfoldable pub statements_in : List (List ℕ) → List (Option Statement)
 statements_in [] = []
 statements_in (last ∷ []) = if length last == 0 then [] else None ∷ []
-statements_in (line ∷ next ∷ more) = readable_statement_of line ∷ statements_in (next ∷ more)
+statements_in (line ∷ next ∷ more) = statement_of line ∷ statements_in (next ∷ more)
 
 -- what the lines of a text say
 abbrev pub statements_of : List ℕ → List (Option Statement)

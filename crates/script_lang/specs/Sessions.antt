@@ -1,8 +1,8 @@
 -- The session commands: behind each name, the words that it takes.
 use Rattle.std.specs.Prelude.{ℕ, List, Option}
 use Rattle.short_bytes.specs.Label.{label_of}
-use Rattle.script_lang.specs.Secrets.{secret_of, new_secret_of}
-use Rattle.script_lang.specs.Path.{path_of}
+use Rattle.script_words.specs.Secrets.{secret_of, new_secret_of}
+use Rattle.script_words.specs.Path.{path_of}
 use Rattle.script_lang.specs.Forms.{Form, ◌>>=◌, says, word, optional}
 use Rattle.script_lang.specs.Verbs.{settings, options}
 use Rattle.script_lang.specs.declared.verb.Verb.{Verb}

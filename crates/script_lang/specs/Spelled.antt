@@ -2,7 +2,7 @@
 use Rattle.std.specs.Prelude.{ℕ, ◌≡◌, ◌≤◌, ◌<◌, ◌^◌, ◌+◌, List, [], ◌∷◌, length, Ok}
 use Rattle.script_lang.specs.Script.{parsed_script}
 use Rattle.script_lang.specs.Writing.{line_behind}
-use Rattle.script_lang.specs.Readable.{IsCommand}
+use Rattle.script_lang.specs.Asked.{IsAskable}
 use Rattle.script_lang.specs.declared.limits.TheConstants.{MOST_CALLERS}
 use Rattle.script_lang.specs.declared.commands.Command.{Command}
 use Rattle.script_lang.specs.declared.commands.Section.{Section}
@@ -15,7 +15,7 @@ IsSpelled script = (text : List ℕ) × (parsed_script text ≡ Ok script)
 abbrev pub StandBehind : ℕ → List Command → Type 0
 StandBehind n [] = Unit {0}
 StandBehind n (command ∷ more) =
-    (n ≤ command.line) × (IsCommand command.verb × StandBehind (command.line + 1) more)
+    (n ≤ command.line) × (IsAskable command.verb × StandBehind (command.line + 1) more)
 
 -- each section has a user below 2^32 and a line for its caller, in line n or behind it, between the
 -- commands before it and its own

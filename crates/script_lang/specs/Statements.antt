@@ -6,7 +6,7 @@ use Rattle.std.specs.Str.{bytes_eq}
 use Rattle.text_words.specs.Words.{words_of}
 use Rattle.script_lang.specs.Forms.{word, whole}
 use Rattle.script_lang.specs.Commands.{verb_of}
-use Rattle.script_lang.specs.Numbers.{number_of}
+use Rattle.script_words.specs.Numbers.{number_of}
 use Rattle.script_lang.specs.declared.statements.Statement.{Statement}
 use Rattle.script_lang.specs.declared.statements.Statement.TheVariants.{Nothing, Caller, Order}
 

@@ -4,12 +4,12 @@ use Rattle.std.specs.List.{flat_map}
 use Rattle.hex.specs.Hex.{encode_lower}
 use Rattle.text_words.specs.Numbers.{decimal_of}
 use Rattle.policy_ctx.specs.declared.policy.Unit.{Unit as DataUnit}
-use Rattle.script_lang.specs.Keys.{key_ref_text, hex_or_none_text}
-use Rattle.script_lang.specs.Numbers.{pad_text, unit_text}
-use Rattle.script_lang.specs.Records.{record_name}
-use Rattle.script_lang.specs.Secrets.{secret_text, new_secret_text}
-use Rattle.script_lang.specs.Word.{word_text}
-use Rattle.script_lang.specs.Path.{path_text}
+use Rattle.script_words.specs.Keys.{key_ref_text, hex_or_none_text}
+use Rattle.script_words.specs.Numbers.{pad_text, unit_text}
+use Rattle.script_words.specs.Records.{record_name}
+use Rattle.script_words.specs.Secrets.{secret_text, new_secret_text}
+use Rattle.script_words.specs.Word.{word_text}
+use Rattle.script_words.specs.Path.{path_text}
 use Rattle.script_lang.specs.Names.{name_text, name_in}
 use Rattle.script_lang.specs.declared.verb.Verb.{Verb}
 use Rattle.script_lang.specs.declared.verb.Verb.TheVariants as verb

@@ -3,12 +3,12 @@ use Rattle.std.specs.Prelude.{ℕ, List, Option}
 use Rattle.std.specs.Option.{option_and_then}
 use Rattle.text_words.specs.Digits.{hex_bytes_of_length}
 use Rattle.short_bytes.specs.Label.{label_of}
-use Rattle.script_lang.specs.Keys.{hex_of_size, hex_or_none, key_ref_of}
-use Rattle.script_lang.specs.Numbers.{number_of, number_up_to, pad_of, unit_of}
-use Rattle.script_lang.specs.Records.{record_of}
-use Rattle.script_lang.specs.Secrets.{secret_of, new_secret_of}
-use Rattle.script_lang.specs.Word.{target_bytes}
-use Rattle.script_lang.specs.Path.{path_of}
+use Rattle.script_words.specs.Keys.{hex_of_size, hex_or_none, key_ref_of}
+use Rattle.script_words.specs.Numbers.{number_of, number_up_to, pad_of, unit_of}
+use Rattle.script_words.specs.Records.{record_of}
+use Rattle.script_words.specs.Secrets.{secret_of, new_secret_of}
+use Rattle.script_words.specs.Word.{target_bytes}
+use Rattle.script_words.specs.Path.{path_of}
 use Rattle.script_lang.specs.Forms.{Form, ◌>>=◌, says, word, only, optional, whole}
 use Rattle.script_lang.specs.Names.{name_of}
 use Rattle.script_lang.specs.declared.limits.TheConstants.{MOST_ADDED_BYTES, MOST_WRITTEN_BYTES}

@@ -4,30 +4,29 @@ ghost use Rattle.std.specs.Prelude.{◌≡◌};
 ghost use Rattle.text_words.specs.Digits.{hex_bytes_of_length};
 ghost use Rattle.short_bytes.specs.Label.{label_of};
 ghost use Rattle.script_lang.specs.Forms.{Takes, word, optional};
-ghost use Rattle.script_lang.specs.Keys as keys;
-ghost use Rattle.script_lang.specs.Numbers as numbers;
-ghost use Rattle.script_lang.specs.Records.{record_of};
-ghost use Rattle.script_lang.specs.Secrets as secrets;
-ghost use Rattle.script_lang.specs.Word.{target_bytes};
-ghost use Rattle.script_lang.specs.Path.{path_of};
+ghost use Rattle.script_words.specs.Keys as keys;
+ghost use Rattle.script_words.specs.Numbers as numbers;
+ghost use Rattle.script_words.specs.Records.{record_of};
+ghost use Rattle.script_words.specs.Secrets as secrets;
+ghost use Rattle.script_words.specs.Word.{target_bytes};
+ghost use Rattle.script_words.specs.Path.{path_of};
 ghost use Rattle.script_lang.specs.Verbs as forms;
 ghost use Rattle.script_lang.specs.declared.limits.TheConstants.{MOST_ADDED_BYTES, MOST_WRITTEN_BYTES};
 ghost use Rattle.script_lang.specs.declared.limits.TheConstants.{MOST_FILLED_BYTES, MOST_PUT_BYTES};
 ghost use Rattle.script_lang.specs.declared.limits.TheConstants.{POLICY_BYTES};
 
-use crate::key_words::{read_hex, read_hex_or_none, read_key_ref};
 use crate::limits::{
     MOST_ADDED_BYTES, MOST_FILLED_BYTES, MOST_PUT_BYTES, MOST_WRITTEN_BYTES, POLICY_BYTES,
 };
-use crate::number_words::{read_byte, read_number_up_to, read_pad, read_record, read_unit};
-use crate::path::{ScriptPath, read_path};
-use crate::secret_words::{read_new_secret, read_secret};
-use crate::secrets::{NewSecret, Secret};
-use crate::verb::{KeyRef, Options, Record, Settings};
-use crate::word::read_target;
+use crate::verb::{Options, Settings};
 use crate::words::{Unread, Words};
 use item_list::Bytes;
 use policy_ctx::{Pad, Unit};
+use script_words::{
+    KeyRef, NewSecret, Record, ScriptPath, Secret, read_byte, read_hex, read_hex_or_none,
+    read_key_ref, read_new_secret, read_number_up_to, read_pad, read_path, read_record,
+    read_secret, read_target, read_unit,
+};
 use short_bytes::Label;
 use std::alloc::Global;
 use text_words::{decimal_value, hex_bytes};

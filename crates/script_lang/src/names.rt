@@ -6,9 +6,9 @@ ghost use Rattle.script_lang.specs.Names as spec;
 
 use crate::verb::Verb;
 
-// Which command it is. Each name belongs to one variant of `Verb`.
+/// Which command it is. Each name belongs to one variant of `Verb`.
 #[derive(Clone, Copy, Debug, PartialEq, Eq)]
-pub(crate) enum CommandName {
+pub enum CommandName {
     AddKey,
     RemoveKey,
     RemoveKeyAll,
@@ -84,8 +84,8 @@ const ALL_NAMES: [CommandName; 34] = [
 ];
 
 impl CommandName {
-    // The name that the word is, if it is one.
-    pub(crate) fn read(word: &[u8]) -> Option<CommandName>
+    /// The name that the word is, if it is one.
+    pub fn read(word: &[u8]) -> Option<CommandName>
         ensures { result ≡ spec.name_of word.now }
     {
         name_among(&ALL_NAMES, word).copied()
@@ -149,8 +149,8 @@ fn name_among<'a>(names: &'a [CommandName], word: &[u8]) -> Option<&'a CommandNa
 }
 
 impl Verb {
-    // The name of the command.
-    pub(crate) fn name(&self) -> CommandName
+    /// The name of the command.
+    pub fn name(&self) -> CommandName
         ensures { result ≡ spec.name_in self.now }
     {
         match self {

@@ -1,14 +1,14 @@
 //! The reader of scripts: the script that a text spells, or its first line outside the grammar.
 
 ghost use Rattle.std.specs.Prelude.{◌<◌, ◌≤◌, ◌^◌, length, IfOk};
-ghost use Rattle.script_lang.specs.Readable.{readable_statement_of};
 ghost use Rattle.script_lang.specs.declared.limits.TheConstants.{MOST_CALLERS};
 ghost use Rattle.script_lang.specs.Script.{parsed_script, Reads};
+ghost use Rattle.script_lang.specs.Statements.{statement_of};
 ghost use Rattle.script_lang.specs.Reading.{after_line, with_command, AddsStatement, TakesLine};
 
 use crate::commands::{Command, CommandList, Script, Section};
 use crate::limits::MOST_CALLERS;
-use crate::statements::{Statement, read_readable};
+use crate::statements::{Statement, read_statement};
 use std::alloc::{AllocError, Global};
 use text_words::next_line;
 use thiserror::Error;
@@ -66,9 +66,9 @@ fn take_line(
     line: &[u8],
 ) -> Result<(), ScriptFault>
     ensures { TakesLine number
-        (after_line number sections.old.items (readable_statement_of line.now)) result sections.new.items }
+        (after_line number sections.old.items (statement_of line.now)) result sections.new.items }
 {
-    let said = read_readable(alloc, line)?;
+    let said = read_statement(alloc, line)?;
     if add_statement(alloc, sections, number, said)? {
         Ok(())
     } else {

@@ -1,13 +1,22 @@
-//! The writer of what a command says of a policy.
+//! The writer of words that may be left out, and of what a command says of a policy.
 
 ghost use Rattle.std.specs.Prelude.{◌≡◌, OnOk};
 ghost use Rattle.script_lang.specs.VerbText.{behind, words_of_settings, words_of_said_settings};
-ghost use Rattle.script_lang.specs.VerbText.{words_of_options, words_of_unit};
+ghost use Rattle.script_lang.specs.VerbText.{words_of_number, words_of_options, words_of_unit};
 
 use crate::verb::{Options, Settings};
-use crate::word_writer::push_number;
 use policy_ctx::Unit;
+use script_words::push_number;
 use std::alloc::AllocError;
+
+pub(crate) fn push_said_number(text: &mut Vec<u8>, number: Option<u32>) -> Result<(), AllocError>
+    ensures { OnOk result (text.new.items ≡ behind text.old.items (words_of_number number)) }
+{
+    match number {
+        Some(number) => push_number(text, number),
+        None => Ok(()),
+    }
+}
 
 pub(crate) fn push_settings(text: &mut Vec<u8>, settings: &Settings) -> Result<(), AllocError>
     ensures { OnOk result (text.new.items ≡ behind text.old.items (words_of_settings settings.now)) }

@@ -3,8 +3,7 @@
 ghost use Rattle.std.specs.Prelude.{◌≡◌, IfOk};
 ghost use Rattle.text_words.specs.Words.{words_of};
 ghost use Rattle.script_lang.specs.Forms.{word, whole};
-ghost use Rattle.script_lang.specs.Numbers.{number_of};
-ghost use Rattle.script_lang.specs.Readable.{readable, readable_statement_of};
+ghost use Rattle.script_words.specs.Numbers.{number_of};
 ghost use Rattle.script_lang.specs.Statements.{statement_named, statement_of, statement_of_words};
 
 use crate::verb::Verb;
@@ -13,42 +12,19 @@ use crate::words::Words;
 use std::alloc::{AllocError, Global};
 use text_words::decimal_value;
 
-// What a line says.
+/// What a line says.
 #[derive(Drop)]
-pub(crate) enum Statement {
-    // It is empty, or a comment.
+pub enum Statement {
+    /// It is empty, or a comment.
     Nothing,
-    // From here on this user calls.
+    /// From here on this user calls.
     Caller(u32),
-    // The caller asks for this.
+    /// The caller asks for this.
     Order(Verb),
 }
 
-// What a line of a script says, or none where it is outside the grammar by itself, or names a command
-// that a script may not use yet.
-pub(crate) fn read_readable(alloc: Global, line: &[u8]) -> Result<Option<Statement>, AllocError>
-    ensures { IfOk result (λ said. said ≡ readable_statement_of line.now) }
-{
-    Ok(if_readable(read_statement(alloc, line)?))
-}
-
-// What a line says, where a script may say it already.
-fn if_readable(said: Option<Statement>) -> Option<Statement>
-    ensures { result ≡ readable said }
-{
-    match said {
-        Some(Statement::Order(verb)) => {
-            if !verb.name().is_readable() {
-                return None;
-            }
-            Some(Statement::Order(verb))
-        }
-        said => said,
-    }
-}
-
-// What a line says, or none where it is outside the grammar by itself.
-pub(crate) fn read_statement(alloc: Global, line: &[u8]) -> Result<Option<Statement>, AllocError>
+/// What a line says, or none where it is outside the grammar by itself.
+pub fn read_statement(alloc: Global, line: &[u8]) -> Result<Option<Statement>, AllocError>
     ensures { IfOk result (λ said. said ≡ statement_of line.now) }
 {
     if line.is_empty() || line[0] == b'#' {

@@ -4,7 +4,6 @@ use std::alloc::{AllocError, Global};
 
 mod commands;
 mod scripts;
-mod words;
 
 // A text, so many times.
 fn repeated(alloc: Global, text: &str, times: usize) -> Result<String, AllocError> {

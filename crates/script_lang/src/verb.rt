@@ -1,10 +1,8 @@
 //! What a command asks for. The fields of a verb are the values of its words.
 
-use crate::path::ScriptPath;
-use crate::secrets::{NewSecret, Secret};
-use fsc_keys::{KeyId, RawKey};
 use item_list::Bytes;
 use policy_ctx::{Pad, Unit};
+use script_words::{KeyRef, NewSecret, Record, ScriptPath, Secret};
 use short_bytes::Label;
 
 /// What a command asks for: a call of the mount, or a session's work with protectors and policies.
@@ -143,13 +141,6 @@ pub enum Verb {
     Migrate(Label),
 }
 
-/// A key: by its identifier, or by its bytes, which stand for their identifier.
-#[derive(Drop)]
-pub enum KeyRef {
-    Id(KeyId),
-    Raw(RawKey),
-}
-
 /// What a command says of a directory's policy: the padding of names, and the unit of contents where
 /// it says one.
 #[derive(Clone, Copy, Debug, PartialEq, Eq)]
@@ -163,11 +154,4 @@ pub struct Settings {
 pub struct Options {
     pub pad: Pad,
     pub unit: Unit,
-}
-
-/// A record of the mount. Its name is `protector/` or `policy/` and the label.
-#[derive(Clone, Copy, Debug, PartialEq, Eq)]
-pub enum Record {
-    Protector(Label),
-    Policy(Label),
 }

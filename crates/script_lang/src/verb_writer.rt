@@ -3,11 +3,13 @@
 ghost use Rattle.std.specs.Prelude.{◌≡◌, ◌++◌, OnOk};
 ghost use Rattle.script_lang.specs.VerbText.{verb_text, verb_words, behind};
 
-use crate::settings_writer::{push_said_options, push_said_settings, push_settings};
+use crate::settings_writer::{
+    push_said_number, push_said_options, push_said_settings, push_settings,
+};
 use crate::verb::Verb;
-use crate::word_writer::{
+use script_words::{
     push_hex, push_hex_or_none, push_key, push_label, push_new_secret, push_number, push_path,
-    push_record, push_said_number, push_secret, push_word,
+    push_record, push_secret, push_word,
 };
 use std::alloc::{AllocError, Global};
 

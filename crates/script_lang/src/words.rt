@@ -1,10 +1,10 @@
 //! The words of a line, taken one by one.
 
-ghost use Rattle.std.specs.Prelude.{◌≡◌, ◌==◌, drop, slice_get, IsTrue, ◌↔◌, []};
-ghost use Rattle.std.specs.List.{position_or_len};
+ghost use Rattle.std.specs.Prelude.{◌≡◌, drop, slice_get, IsTrue, ◌↔◌, []};
 ghost use Rattle.std.specs.Option.{option_map};
 ghost use Rattle.text_words.specs.Words.{words_of};
 
+use script_words::place_of;
 use std::alloc::AllocError;
 use std::marker::Model;
 
@@ -28,9 +28,9 @@ impl From<AllocError> for Unread {
     }
 }
 
-// The words of a line that are left. In clauses they are their list.
+/// The words of a line that are left. In clauses they are their list.
 #[derive(Drop)]
-pub(crate) struct Words<'a> {
+pub struct Words<'a> {
     rest: Option<&'a [u8]>,
 }
 
@@ -45,15 +45,15 @@ impl<'a> Model for Words<'a> {
 }
 
 impl<'a> Words<'a> {
-    // All words of the line.
-    pub(crate) fn new(line: &'a [u8]) -> Words<'a>
+    /// All words of the line.
+    pub fn new(line: &'a [u8]) -> Words<'a>
         ensures { result ≡ words_of line.now }
     {
         Words { rest: Some(line) }
     }
 
-    // Takes the first of the words that are left.
-    pub(crate) fn next(&mut self) -> Option<&'a [u8]>
+    /// Takes the first of the words that are left.
+    pub fn next(&mut self) -> Option<&'a [u8]>
         ensures word { option_map (λ word. word.now) result ≡ slice_get self.old 0 }
         ensures left { self.new ≡ drop 1 self.old }
     {
@@ -68,8 +68,8 @@ impl<'a> Words<'a> {
         }
     }
 
-    // Whether no word is left.
-    pub(crate) fn is_empty(&self) -> bool
+    /// Whether no word is left.
+    pub fn is_empty(&self) -> bool
         ensures { IsTrue result ↔ (self.now ≡ []) }
     {
         match self.rest {
@@ -77,11 +77,4 @@ impl<'a> Words<'a> {
             Some(_) => false,
         }
     }
-}
-
-// The place of the first byte like this one, or the length of the text where there is none.
-pub(crate) fn place_of(text: &[u8], mark: u8) -> usize
-    ensures { result ≡ position_or_len (λ b. b == mark) text.now }
-{
-    text.iter().position(|b| *b == mark).unwrap_or(text.len())
 }

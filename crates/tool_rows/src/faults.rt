@@ -30,7 +30,7 @@ fn what_is_no_script_is_told_by_its_line(rt: HostRuntime) -> Result<(), Fail> {
         ("caller 1\nadd-key 07\r\n", 2),
         ("caller 1\nADD-KEY 07\n", 2),
         ("caller 1\nkey-status id:07\n", 2),
-        ("caller 1\nlock docs\n", 2),
+        ("caller 1\nlock docs\nforget docs\n", 3),
     ];
     for (script, line) in cases {
         let (status, sink) = replay(alloc, Vec::from_slice(alloc, script.as_bytes())?)?;

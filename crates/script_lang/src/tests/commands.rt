@@ -238,10 +238,10 @@ fn words_of_commands_are_taken_or_refused(rt: HostRuntime) -> Result<(), Fail> {
     Ok(())
 }
 
-// A command of the grammar whose call is not built yet is refused in its line.
+// What is no command of the grammar is refused in its line.
 #[test]
-fn a_command_of_a_session_is_refused_in_its_line(rt: HostRuntime) -> Result<(), Fail> {
-    let fault = read_script(rt.alloc(), b"caller 1\n\nlock docs\n").err();
+fn a_word_that_is_no_command_is_refused_in_its_line(rt: HostRuntime) -> Result<(), Fail> {
+    let fault = read_script(rt.alloc(), b"caller 1\nlock docs\nforget docs\n").err();
     assert_eq!(rt; fault, Some(ScriptFault::BadLine { line: 3 }));
     Ok(())
 }

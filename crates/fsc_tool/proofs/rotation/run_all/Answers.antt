@@ -1,6 +1,6 @@
-use Rattle.std.proofs.Common.{◌≡◌, ◌++◌, map, length, take, drop, sym, subst, ap, ◌∙◌}
+use Rattle.std.proofs.Common.{map, length, sym, subst, ap, ◌∙◌}
 use Rattle.fsc_session.specs.Running.{state_of}
-use Rattle.fsc_session.specs.Steps.Steps.{Done}
+use Rattle.fsc_commands.specs.Steps.Steps.{Done}
 use Rattle.fsc_session.specs.Rotation.{rounds_steps}
 use Rattle.fsc_tool.specs.Rotating.{Rotating, sections_of}
 use Rattle.fsc_tool.proofs.TurnLemmas.{written_back}

@@ -1,9 +1,9 @@
-use Rattle.std.proofs.Common.{◌≡◌, ◌<◌, ◌≤◌, ◌+◌, ◌-◌, length, map, take, drop, get_or, refl, sym, ap, ◌∙◌, subst, arith}
+use Rattle.std.proofs.Common.{◌+◌, ◌-◌, map, get_or, refl, ◌∙◌, arith}
 use Rattle.std.proofs.lemmas.Option.{slice_get-get_or}
 use Rattle.std.proofs.lemmas.List.{length-set, length-map}
 use Rattle.fsc_session.specs.Running.{state_of}
-use Rattle.fsc_session.specs.Rotation.{round_steps, rounds_steps}
-use Rattle.fsc_tool.specs.Rotating.{Rotating, sections_of}
+use Rattle.fsc_session.specs.Rotation.{rounds_steps}
+use Rattle.fsc_tool.specs.Rotating.{sections_of}
 use Rattle.fsc_tool.proofs.TurnLemmas.{goes_on, round_begins, round_over, rounds_over}
 use Rattle.fsc_tool.proofs.rotation.run_rounds.Goals as goal
 
@@ -14,8 +14,8 @@ turns-init g c = record {
       c.args.rounds c.rounds.number c.rounds.runners c.rounds.mount.machine c.rounds.mount.places c.rounds-test.true c.rounds.invariant;
 }
 
-pub take_turn-requires : goal.take_turn-requires
-take_turn-requires g c =
+pub take_turn-requires-clause-asked : goal.take_turn-requires-clause-asked
+take_turn-requires-clause-asked g c =
     let below = c.turns-test.true in
     let count = c.turns.invariant.count in
     (c.turns.invariant.turn.each c.turns.i (get_or c.turns.runners c.turns.i c.index-runners-i.result)

@@ -1,4 +1,4 @@
-use Rattle.std.proofs.Common.{sym, subst}
+use Rattle.std.proofs.Common.{◌++◌, sym, subst}
 use Rattle.std.specs.Prelude.{IfOk}
 use Rattle.fsc_tool.specs.Threaded.{HaveRun}
 use Rattle.fsc_tool.proofs.ThreadLemmas.{both_run}
@@ -11,12 +11,13 @@ returns g t c =
     let upper = c.in_ok-first.upper in
     let first = c.in_ok-first.first.now in
     let others = c.in_ok-first.others.now in
-    let told = c.in_ok-pass.entries.items in
-    let more = c.in_ok-upper.more.items in
-    let one : HaveRun seed lower first c.in_ok-pass.pass told =
-    subst (λ r. IfOk r (λ ran. HaveRun seed lower first ran.0 ran.1.items)) c.in_ok-pass.was c.join-one.ensures.first in
-    let two : HaveRun seed upper others c.in_ok-upper.upper more =
-    subst (λ r. IfOk r (λ ran. HaveRun seed upper others ran.0 ran.1.items)) c.in_ok-upper.was c.join-one.ensures.second in
-    subst (HaveRun seed c.args.pass c.args.sections.now c.join.new.pass) (sym c.in_ok-append.ensures.items)
-    (both_run seed c.args.shared.now c.args.pass lower upper c.in_ok-pass.pass c.in_ok-upper.upper c.args.sections.now first others told more
-    c.in_ok-first.ensures one two c.join.new.pass c.join.ensures.after)
+    let told = c.in_ok-pass.told in
+    let more = c.in_ok-upper.more in
+    let one : HaveRun seed lower first c.in_ok-pass.pass told.entries.items told.notes.items =
+    subst (λ r. IfOk r (λ ran. HaveRun seed lower first ran.0 ran.1.entries.items ran.1.notes.items)) c.in_ok-pass.was c.join-one.ensures.first in
+    let two : HaveRun seed upper others c.in_ok-upper.upper more.entries.items more.notes.items =
+    subst (λ r. IfOk r (λ ran. HaveRun seed upper others ran.0 ran.1.entries.items ran.1.notes.items)) c.in_ok-upper.was c.join-one.ensures.second in
+    subst (λ es. HaveRun seed c.args.pass c.args.sections.now c.join.new.pass es c.append.new.self.notes.items) (sym c.in_ok-append.ensures.entries)
+    (subst (λ ns. HaveRun seed c.args.pass c.args.sections.now c.join.new.pass (told.entries.items ++ more.entries.items) ns) (sym c.in_ok-append.ensures.notes)
+    (both_run seed c.args.shared.now c.args.pass lower upper c.in_ok-pass.pass c.in_ok-upper.upper c.args.sections.now first others told.entries.items more.entries.items
+    told.notes.items more.notes.items c.in_ok-first.ensures one two c.join.new.pass c.join.ensures.after))

@@ -1,8 +1,11 @@
-use Rattle.std.proofs.Common.{◌≡◌, ℕ, zero, suc, ◌≤◌, ◌<◌, false, length, refl, sym, subst, arith}
+use Rattle.std.proofs.Common.{◌≡◌, ℕ, zero, suc, ◌≤◌, ◌<◌, false, length, refl, sym, ap, subst, arith}
 use Rattle.std.specs.Prelude.{All, ◌==◌}
-use Rattle.fsc_session.specs.Commands.{AsksRightly}
+use Rattle.fsc_session.specs.Asking.{AsksRightly}
 use Rattle.fsc_session.proofs.Asked.{spelled-few, spelled-asked}
-use Rattle.fsc_tool.proofs.ThreadLemmas.{first_runs}
+use Rattle.turn_lock.specs.Passes.{merged_entries}
+use Rattle.mount_shared.specs.SharedCalls.{MountPass}
+use Rattle.fsc_tool.specs.Threaded.{HaveRun}
+use Rattle.fsc_tool.proofs.ThreadLemmas.{first_runs, tells_lawful, told_history}
 use Rattle.fsc_tool.proofs.threads.run_in_threads.Goals as goal
 
 positive : (n : ℕ) → false ≡ (n == 0) → 0 < n
@@ -14,8 +17,23 @@ overflow_cast-sections g c =
     let few = subst (λ sections. length sections ≤ 8) (sym c.as_slice-sections.ensures) (spelled-few c.args.script.now c.requires.spelled) in
     omega (arith, few)
 
-pub run_all-requires-after_bounds : goal.run_all-requires-after_bounds
-run_all-requires-after_bounds g c κs within =
+pub run_all-requires-clause-can_run : goal.run_all-requires-clause-can_run
+run_all-requires-clause-can_run g c κs within =
     first_runs c.in_ok-shared.shared c.as_slice-sections.result.now c.in_ok-shared.pass _ c.in-Some.calls c.in_ok-shared.ensures.pass refl
     c.in-Some.ensures.some.0 (positive _ c.if-is_empty.ensures)
     (subst (All AsksRightly) (sym c.as_slice-sections.ensures) (spelled-asked c.args.script.now c.requires.spelled))
+
+pub returns : goal.returns
+returns g c =
+    let old = c.in_ok-shared.pass in
+    let new = c.in_ok-pass.pass in
+    let told = c.in_ok-pass.told in
+    let history = merged_entries new in
+    let ran : HaveRun c.args.seed.now old c.args.script.now new told.entries.items told.notes.items =
+    subst (λ sections. HaveRun c.args.seed.now old sections new told.entries.items told.notes.items) c.as_slice-sections.ensures c.in_ok-pass.ensures in
+    let first : old.who ≡ 0 = ap (λ (pass : MountPass). pass.who) c.in_ok-shared.ensures.pass in
+    tells_lawful g.M.Machine.lawful c.args.seed.now c.args.script.now old new told.entries.items told.notes.items history ran first c.end.ensures.callers
+    c.sort_by_place.new.entries.items
+    (c.in_ok-sort_by_place.ensures history
+    (told_history g.M.Machine.lawful c.args.seed.now c.args.script.now old new told.entries.items told.notes.items history ran first c.end.ensures.callers))
+    c.end.ensures.lawful

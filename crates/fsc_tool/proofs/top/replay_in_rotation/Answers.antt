@@ -6,5 +6,5 @@ returns-in-Err g c = unrun_ends _ _ _ _ c.in-Err.status (c.in-Err.ensures.ended 
 
 pub returns : goal.returns
 returns g c =
-    run_ends _ _ _ _ c.in-Ok.run'.script c.in-Ok.run'.seed c.in-Ok-run_in_rotation.entries.items _
+    run_ends _ _ _ _ c.in-Ok.run'.script c.in-Ok.run'.seed c.in-Ok-run_in_rotation.told.entries.items c.in-Ok-run_in_rotation.told.notes.items _
     c.in-Ok.ensures.prepared c.in-Ok-run_in_rotation.ensures c.finish.ensures

@@ -1,7 +1,7 @@
 use Rattle.std.proofs.Common.{◌≡◌, ◌+◌, true, [], length, refl, ap, subst, sym, ◌∙◌, arith, append-nil, None}
 use Rattle.std.specs.Prelude.{slice_get}
 use Rattle.std.proofs.lemmas.Option.{slice_get_past}
-use Rattle.fsc_session.specs.Commands.{AsksRightly}
+use Rattle.fsc_session.specs.Asking.{AsksRightly}
 use Rattle.fsc_session.specs.Session.{IsRunSoFar}
 use Rattle.fsc_session.specs.Running.{HasRun, Stepped, runner_view}
 use Rattle.fsc_session.proofs.RunLemmas.{stepped, made_goes_on, there, asked_there}

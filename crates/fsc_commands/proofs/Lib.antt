@@ -1,0 +1,8 @@
+pub mod CallLemmas
+pub mod OpeningLemmas
+pub mod PartLemmas
+pub mod StarLemmas
+pub mod StepsLemmas
+pub mod TextLemmas
+pub mod ToldLemmas
+pub mod WorkLemmas

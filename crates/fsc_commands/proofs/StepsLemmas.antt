@@ -1,0 +1,39 @@
+-- Steps after steps, and what entries make of them.
+use Rattle.std.proofs.Common.{◌≡◌, ℕ, List, [], ◌∷◌, ◌++◌, Some, refl, ap, sym, subst, ◌∙◌}
+use Rattle.std.proofs.lemmas.List.{map-append}
+use Rattle.mount_model.specs.History.{History, MountEntry}
+use Rattle.mount_model.specs.Port.{PlacedCalls}
+use Rattle.call_history.specs.Placed.{entries_of}
+use Rattle.fsc_commands.specs.Steps.{Steps, Reaches, value_after, names_after, names_from, names_in, and_then}
+use Rattle.fsc_commands.specs.Steps.Steps.{Done, Ask}
+
+pub entries_of-append : (es fs : PlacedCalls) → entries_of (es ++ fs) ≡ entries_of es ++ entries_of fs
+entries_of-append es fs = map-append (λ (x : ℕ × MountEntry). x.1) es fs
+
+pub names_from-append : (names : List (List ℕ)) (es fs : History) → names_from names (es ++ fs) ≡ names_from (names_from names es) fs
+names_from-append names [] fs = refl
+names_from-append names (e ∷ es) fs = names_from-append (names_after names e.reply) es fs
+
+-- the last names of a run that went on
+pub names_in-append : (placed made : PlacedCalls) → names_in (placed ++ made) ≡ names_from (names_in placed) (entries_of made)
+names_in-append placed made = ap (names_from []) (entries_of-append placed made) ∙ names_from-append [] (entries_of placed) (entries_of made)
+
+-- two runs, one after the other
+pub Reaches-on : {A : Type 0} (steps rest last : Steps A) (es fs : History) → Reaches steps es rest → Reaches rest fs last → Reaches steps (es ++ fs) last
+Reaches-on steps rest last [] fs so more = subst (λ s. Reaches s fs last) (sym so) more
+Reaches-on (Done value) rest last (e ∷ es) fs so more = absurd so
+Reaches-on (Ask who call next) rest last (e ∷ es) fs so more = (so.0, so.1, Reaches-on (next e.reply) rest last es fs so.2 more)
+
+-- steps that end with a value go on with what comes after it
+pub Reaches-and_then : {A B : Type 0} (names : List (List ℕ)) (steps : Steps A) (next : List (List ℕ) → A → Steps B) (es : History) (value : A)
+    → Reaches steps es (Done value) → Reaches (and_then names steps next) es (next (names_from names es) value)
+Reaches-and_then names steps next [] value so = ap (λ s. and_then names s next) so
+Reaches-and_then names (Done other) next (e ∷ es) value so = absurd so
+Reaches-and_then names (Ask who call more) next (e ∷ es) value so =
+    (so.0, so.1, Reaches-and_then (names_after names e.reply) (more e.reply) next es value so.2)
+
+-- steps that end with a value have it
+pub value_reached : {A : Type 0} (steps : Steps A) (es : History) (value : A) → Reaches steps es (Done value) → value_after steps es ≡ Some value
+value_reached steps [] value so = ap (λ s. value_after s []) so
+value_reached (Done other) (e ∷ es) value so = absurd so
+value_reached (Ask who call next) (e ∷ es) value so = value_reached (next e.reply) es value so.2

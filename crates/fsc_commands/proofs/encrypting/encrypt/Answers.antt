@@ -1,0 +1,48 @@
+use Rattle.std.proofs.Common.{ℕ, List, Some, arith}
+use Rattle.std.specs.Prelude.{Option}
+use Rattle.std.proofs.lemmas.Result.{err_from_is_err_and}
+use Rattle.policy_ctx.specs.Policy.{policy_bytes}
+use Rattle.mount_model.specs.declared.call.Op.TheVariants.{SetPolicy}
+use Rattle.script_lang.specs.declared.verb.Settings.{Settings}
+use Rattle.fsc_commands.specs.declared.loaded.LoadedPolicy.{LoadedPolicy}
+use Rattle.fsc_commands.specs.declared.outcomes.Wanted.TheVariants as wanted
+use Rattle.fsc_commands.specs.CommandSteps.{CommandSteps, last_call}
+use Rattle.fsc_commands.specs.Opening.{loading_policy}
+use Rattle.fsc_commands.specs.PolicySteps.{node_policy}
+use Rattle.fsc_commands.specs.Steps.{names_in}
+use Rattle.fsc_commands.specs.Stars.{path_meant}
+use Rattle.fsc_commands.specs.PlainCalls.{nonce_drawn}
+use Rattle.fsc_commands.proofs.PartLemmas.{part_ends, part_goes_on, part_fails}
+use Rattle.fsc_commands.proofs.encrypting.encrypt.Goals as goal
+
+-- what comes after the policy was loaded
+abbrev set : ℕ → ℕ → List (List ℕ) → Option Settings → List ℕ → LoadedPolicy → CommandSteps
+set caller uid path settings nonce loaded =
+    last_call caller uid (SetPolicy path (policy_bytes (node_policy loaded.policy settings)) nonce) wanted.Done
+
+pub returns-in-Err-clause-made : goal.returns-in-Err-clause-made
+returns-in-Err-clause-made g c =
+    part_ends (g.P.MountPort.came c.args.port.now) c.load_policy.new.port (g.P.MountPort.calls_left c.load_policy.new.port) (g.P.MountPort.calls_left c.args.port.now) 1
+    (loading_policy c.args.turn.caller c.args.turn.uid c.args.policy.now)
+    (set c.args.turn.caller c.args.turn.uid (path_meant (names_in c.args.entries.now) c.args.path.now) c.args.settings
+    (nonce_drawn c.args.seed.now c.args.turn.caller c.args.turn.number))
+    c.in_ok-loaded.field-0 c.in-Err.outcome c.args.entries.now c.load_policy.new.entries (omega arith) c.in-Err.is c.in_ok-loaded.ensures.made
+
+pub returns-in_ok-outcome-in-Ok-clause-made : goal.returns-in_ok-outcome-in-Ok-clause-made
+returns-in_ok-outcome-in-Ok-clause-made g c =
+    part_goes_on g.P.MountPort.came g.met.P.MountPort.by_more c.args.port.now c.load_policy.new.port c.finish.new.port
+    (g.P.MountPort.calls_left c.finish.new.port) (g.P.MountPort.calls_left c.load_policy.new.port) (g.P.MountPort.calls_left c.args.port.now) 1 1
+    (loading_policy c.args.turn.caller c.args.turn.uid c.args.policy.now)
+    (set c.args.turn.caller c.args.turn.uid (path_meant (names_in c.args.entries.now) c.args.path.now) c.args.settings
+    (nonce_drawn c.args.seed.now c.args.turn.caller c.args.turn.number))
+    c.in_ok-loaded.field-0 c.in-Ok.loaded (Some c.in_ok-outcome-in-Ok.outcome) c.args.entries.now c.load_policy.new.entries c.finish.new.entries (omega arith)
+    c.in-Ok.is c.in_ok-loaded.ensures.made
+    (rw (c.in_ok-meant.ensures.value, c.encode_policy.ensures, c.node_policy.ensures, c.nonce_drawn.ensures) at c.in_ok-outcome-in-Ok.ensures.made)
+
+pub returns-in_err-outcome-in-Ok-clause-failed : goal.returns-in_err-outcome-in-Ok-clause-failed
+returns-in_err-outcome-in-Ok-clause-failed g c =
+    let p = err_from_is_err_and c.from_residual-in_err-outcome-in-Ok.result c.from_residual-in_err-outcome-in-Ok.ensures.1 in
+    rw p.1 (part_fails g.P.MountPort.came g.met.P.MountPort.by_more c.args.port.now c.load_policy.new.port c.finish.new.port
+    (g.P.MountPort.calls_left c.load_policy.new.port) (g.P.MountPort.calls_left c.args.port.now) 1
+    (loading_policy c.args.turn.caller c.args.turn.uid c.args.policy.now) c.in_ok-loaded.field-0 c.args.entries.now c.load_policy.new.entries
+    c.in_ok-loaded.ensures.made c.in_err-outcome-in-Ok.ensures.failed)

@@ -1,0 +1,17 @@
+use Rattle.std.proofs.Common.{List, ℕ, Some, subst, ap, ◌∙◌, arith}
+use Rattle.protector_meta.specs.ProtectorText.{protector_text}
+use Rattle.script_words.specs.declared.record_words.Record.TheVariants.{Protector}
+use Rattle.fsc_commands.specs.Made.{Made}
+use Rattle.fsc_commands.specs.Opening.{storing}
+use Rattle.fsc_commands.specs.ProtectorSteps.{protector_steps}
+use Rattle.fsc_commands.proofs.PartLemmas.{made_by_four}
+use Rattle.fsc_commands.proofs.protectors.protector.Goals as goal
+
+pub returns-clause-made : goal.returns-clause-made
+returns-clause-made g c =
+    made_by_four (g.P.MountPort.came c.args.port.now) c.store_record.new.port (g.P.MountPort.calls_left c.store_record.new.port) (g.P.MountPort.calls_left c.args.port.now) 1
+    (protector_steps c.args.seed.now c.args.turn.caller c.args.turn.uid c.args.turn.number c.args.label.now c.args.new.now)
+    (Some c.in_ok-outcome.outcome) c.args.entries.now c.store_record.new.entries (omega arith)
+    (subst (λ (text : List ℕ). Made (g.P.MountPort.came c.args.port.now) c.store_record.new.port (g.P.MountPort.calls_left c.store_record.new.port) (g.P.MountPort.calls_left c.args.port.now) 1
+    (storing c.args.turn.caller c.args.turn.uid (Protector c.args.label.now) 0 text) (Some c.in_ok-outcome.outcome) c.args.entries.now c.store_record.new.entries)
+    (c.in_ok-text.ensures.text ∙ ap protector_text c.in_ok-made.ensures) c.in_ok-outcome.ensures.made)

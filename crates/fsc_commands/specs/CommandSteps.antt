@@ -1,0 +1,34 @@
+-- The pieces of which the steps of commands are made.
+use Rattle.std.specs.Prelude.{ℕ, Option, Some, Result, Ok, Err}
+use Rattle.mount_model.specs.declared.call.Call.{Call}
+use Rattle.mount_model.specs.declared.call.Op.{Op}
+use Rattle.mount_model.specs.declared.reply.Reply.{Reply}
+use Rattle.reply_text.specs.declared.outcome.Outcome.{Outcome}
+use Rattle.fsc_commands.specs.declared.outcomes.Wanted.{Wanted}
+use Rattle.fsc_commands.specs.Outcomes.{outcome_of}
+use Rattle.fsc_commands.specs.Steps.{Steps}
+use Rattle.fsc_commands.specs.Steps.Steps.{Done, Ask}
+
+-- the steps of a command: a session's work ends with an outcome, a single call without one
+abbrev pub CommandSteps : Type 0
+CommandSteps = Steps (Option Outcome)
+
+abbrev pub called : ℕ → Op → Call
+called uid asked = record { uid = uid; op = asked }
+
+-- a call for a user, and what comes after its reply
+abbrev pub asking : ℕ → ℕ → Op → (Reply → CommandSteps) → CommandSteps
+asking caller uid asked next = Ask caller (called uid asked) next
+
+-- a session's work ends so
+abbrev pub ended : Outcome → CommandSteps
+ended outcome = Done (Some outcome)
+
+-- it goes on with a value, or ends with an outcome
+abbrev pub when_ok : {A : Type 0} → Result A Outcome → (A → CommandSteps) → CommandSteps
+when_ok (Err outcome) next = ended outcome
+when_ok (Ok value) next = next value
+
+-- the last call, where this reply is wanted
+abbrev pub last_call : ℕ → ℕ → Op → Wanted → CommandSteps
+last_call caller uid asked wanted = asking caller uid asked (λ reply. ended (outcome_of wanted reply))

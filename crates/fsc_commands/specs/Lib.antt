@@ -1,0 +1,15 @@
+pub mod Commands
+pub mod CommandSteps
+pub mod Draws
+pub mod Made
+pub mod MadeRecords
+pub mod NewRecords
+pub mod Opening
+pub mod Outcomes
+pub mod PlainCalls
+pub mod PolicySteps
+pub mod ProtectorSteps
+pub mod Records
+pub mod SessionSteps
+pub mod Stars
+pub mod Steps

@@ -1,0 +1,113 @@
+-- What a command asks for that is a single call.
+use Rattle.std.specs.Prelude.{ℕ, false, List, take, replicate, Option, Some, None, IfSome, IsTrue}
+use Rattle.policy_ctx.specs.declared.policy.KeyId.{KeyId}
+use Rattle.policy_ctx.specs.declared.policy.Policy.{Policy}
+use Rattle.policy_ctx.specs.declared.policy.Unit.{Unit as DataUnit}
+use Rattle.policy_ctx.specs.declared.policy.Unit.TheVariants.{Block}
+use Rattle.policy_ctx.specs.Policy.{policy_bytes}
+use Rattle.fsc_keys.specs.Keys.{key_id_of}
+use Rattle.mount_model.specs.declared.call.Op.{Op}
+use Rattle.mount_model.specs.declared.call.Op.TheVariants as op
+use Rattle.mount_model.specs.Fits.{OpFits, carries_bytes}
+use Rattle.script_words.specs.Records.{record_name}
+use Rattle.script_lang.specs.declared.verb.Verb.{Verb}
+use Rattle.script_lang.specs.declared.verb.Verb.TheVariants as verb
+use Rattle.script_words.specs.declared.key_words.KeyRef.{KeyRef}
+use Rattle.script_words.specs.declared.key_words.KeyRef.TheVariants.{Id, Raw}
+use Rattle.script_lang.specs.declared.verb.Settings.{Settings}
+use Rattle.fsc_commands.specs.declared.draws.Purpose.TheVariants.{NonceOrKey}
+use Rattle.fsc_commands.specs.declared.draws.TheConstants.{NONCE_BYTES}
+use Rattle.fsc_commands.specs.Draws.{drawn_bytes, caller_byte}
+use Rattle.fsc_commands.specs.Stars.{path_meant}
+
+-- the identifier that a key's reference means: raw bytes mean theirs
+abbrev pub id_meant : KeyRef → KeyId
+id_meant (Id id) = id
+id_meant (Raw raw) = key_id_of raw
+
+-- the nonce that a caller's command of this number draws for what it makes
+unfoldable pub nonce_drawn : List ℕ → ℕ → ℕ → List ℕ
+nonce_drawn seed caller number = take NONCE_BYTES (drawn_bytes seed (caller_byte caller) number NonceOrKey)
+
+-- the unit that is said; where none is, a block
+abbrev pub unit_said : Option DataUnit → DataUnit
+unit_said None = Block
+unit_said (Some unit) = unit
+
+-- the policy with these settings: each node has keys of its own
+abbrev pub policy_said : KeyId → Settings → Policy
+policy_said id settings =
+    record { pad = settings.pad; unit = unit_said settings.unit; by_mode = false; id = id }
+
+-- the number that is said; where none is, 0
+abbrev pub number_said : Option ℕ → ℕ
+number_said None = 0
+number_said (Some number) = number
+
+-- of keys
+abbrev pub key_op : Verb → Option Op
+key_op (verb.AddKey raw) = Some (op.AddKey raw)
+key_op (verb.RemoveKey key) = Some (op.RemoveKey (id_meant key))
+key_op (verb.RemoveKeyAll key) = Some (op.RemoveKeyAll (id_meant key))
+key_op (verb.KeyStatus key) = Some (op.KeyStatus (id_meant key))
+key_op other = None
+
+-- of what is open, and of what is kept for speed
+abbrev pub handle_op : Verb → Option Op
+handle_op (verb.Close handle) = Some (op.Close handle)
+handle_op (verb.Read handle offset len) = Some (op.Read handle offset len)
+handle_op (verb.Write handle offset bytes) = Some (op.Write handle offset bytes)
+handle_op (verb.Fill handle offset len byte) = Some (op.Write handle offset (replicate len byte))
+handle_op verb.DropCaches = Some op.DropCaches
+handle_op other = None
+
+-- of records
+abbrev pub record_op : Verb → Option Op
+record_op (verb.MetaGet name) = Some (op.MetaLoad (record_name name))
+record_op (verb.MetaPut name expected bytes) = Some (op.MetaStore (record_name name) expected bytes)
+record_op other = None
+
+-- of what a path leads to, where the caller was last told these names
+abbrev pub path_op : List (List ℕ) → Verb → Option Op
+path_op names (verb.GetPolicy path) = Some (op.GetPolicy (path_meant names path))
+path_op names (verb.ReadLink path) = Some (op.ReadLink (path_meant names path))
+path_op names (verb.Unlink path) = Some (op.Unlink (path_meant names path))
+path_op names (verb.Rmdir path) = Some (op.Rmdir (path_meant names path))
+path_op names (verb.Rename old_path new_path) =
+    Some (op.Rename (path_meant names old_path) (path_meant names new_path))
+path_op names (verb.List path start) = Some (op.List (path_meant names path) (number_said start))
+path_op names (verb.Stat path) = Some (op.Stat (path_meant names path))
+path_op names (verb.Open path) = Some (op.OpenNode (path_meant names path))
+path_op names other = None
+
+-- of what is made, or encrypted from now on, under this nonce
+abbrev pub making_op : List ℕ → List (List ℕ) → Verb → Option Op
+making_op nonce names (verb.SetPolicy path key settings) =
+    Some (op.SetPolicy (path_meant names path) (policy_bytes (policy_said (id_meant key) settings)) nonce)
+making_op nonce names (verb.SetPolicyBytes path policy) =
+    Some (op.SetPolicy (path_meant names path) policy nonce)
+making_op nonce names (verb.Mkdir path) = Some (op.Mkdir (path_meant names path) nonce)
+making_op nonce names (verb.Create path) = Some (op.Create (path_meant names path) nonce)
+making_op nonce names (verb.Symlink path target) = Some (op.Symlink (path_meant names path) target nonce)
+making_op nonce names other = None
+
+-- the first, where there is one
+abbrev pub or_else : Option Op → Option Op → Option Op
+or_else (Some op) other = Some op
+or_else None other = other
+
+-- what a command asks for that is a single call, where it has this number in its caller's section and the
+-- caller was last told these names; nothing where the command is a session's work
+abbrev pub plain_op : List ℕ → ℕ → ℕ → List (List ℕ) → Verb → Option Op
+plain_op seed caller number names asked =
+    or_else (key_op asked) (or_else (handle_op asked) (or_else (record_op asked)
+    (or_else (path_op names asked) (making_op (nonce_drawn seed caller number) names asked))))
+
+-- where there is a call, a mount may be asked it
+abbrev pub AnyFits : Option Op → Type 0
+AnyFits asked = IfSome asked OpFits
+
+-- there is a call, and it carries a path or bytes, so that making it may want memory
+abbrev pub MayWantMemory : Option Op → Type 0
+MayWantMemory None = ⊥
+MayWantMemory (Some asked) = IsTrue (carries_bytes asked)

@@ -1,0 +1,217 @@
+//! What the commands of a script ask for that are a single call.
+
+ghost use Rattle.std.specs.Prelude.{◌≡◌, IfOk, OnErr};
+ghost use Rattle.script_lang.specs.Asked.{IsAskable};
+ghost use Rattle.fsc_commands.specs.PlainCalls as spec;
+ghost use Rattle.fsc_commands.specs.PlainCalls.{nonce_drawn, AnyFits, MayWantMemory};
+ghost use Rattle.fsc_commands.specs.Steps.{names_in};
+
+use crate::EntryList;
+use crate::draws::nonce_drawn;
+use crate::meant::{filled, id_meant, number_said, policy_said, record_name};
+use crate::stars::path_meant;
+use crate::turn::Turn;
+use mount_model::Op;
+use policy_ctx::encode_policy;
+use script_lang::Verb;
+use std::alloc::{AllocError, Global};
+
+// What a command asks for that is a single call; `None` where it is a session's work. The mount may be
+// asked it. What carries neither a path nor bytes takes no memory.
+pub(crate) fn plain_op(
+    alloc: Global,
+    seed: &[u8; 32],
+    turn: Turn,
+    told: &EntryList,
+    verb: &Verb,
+) -> Result<Option<Op>, AllocError>
+    requires { IsAskable verb.now }
+    ensures value { IfOk result (λ op. op
+        ≡ spec.plain_op seed.now turn.caller turn.number (names_in told.now) verb.now) }
+    ensures fits { IfOk result AnyFits }
+    ensures memory { OnErr result (MayWantMemory
+        (spec.plain_op seed.now turn.caller turn.number (names_in told.now) verb.now)) }
+{
+    if let Some(op) = key_op(alloc, verb)? {
+        return Ok(Some(op));
+    }
+    if let Some(op) = handle_op(alloc, verb)? {
+        return Ok(Some(op));
+    }
+    if let Some(op) = record_op(alloc, verb)? {
+        return Ok(Some(op));
+    }
+    if let Some(op) = path_op(alloc, told, verb)? {
+        return Ok(Some(op));
+    }
+    making_op(alloc, seed, turn, told, verb)
+}
+
+// Of keys.
+fn key_op(alloc: Global, verb: &Verb) -> Result<Option<Op>, AllocError>
+    requires { IsAskable verb.now }
+    ensures value { IfOk result (λ op. op ≡ spec.key_op verb.now) }
+    ensures fits { IfOk result AnyFits }
+    ensures memory { OnErr result (MayWantMemory (spec.key_op verb.now)) }
+{
+    match verb {
+        Verb::AddKey(raw) => Ok(Some(Op::AddKey {
+            raw: raw.copy(alloc)?,
+        })),
+        Verb::RemoveKey(key) => Ok(Some(Op::RemoveKey { id: id_meant(key) })),
+        Verb::RemoveKeyAll(key) => Ok(Some(Op::RemoveKeyAll { id: id_meant(key) })),
+        Verb::KeyStatus(key) => Ok(Some(Op::KeyStatus { id: id_meant(key) })),
+        _ => Ok(None),
+    }
+}
+
+// Of what is open, and of what is kept for speed.
+fn handle_op(alloc: Global, verb: &Verb) -> Result<Option<Op>, AllocError>
+    requires { IsAskable verb.now }
+    ensures value { IfOk result (λ op. op ≡ spec.handle_op verb.now) }
+    ensures fits { IfOk result AnyFits }
+    ensures memory { OnErr result (MayWantMemory (spec.handle_op verb.now)) }
+{
+    match verb {
+        Verb::Close(handle) => Ok(Some(Op::Close { handle: *handle })),
+        Verb::Read {
+            handle,
+            offset,
+            len,
+        } => Ok(Some(Op::Read {
+            handle: *handle,
+            offset: *offset,
+            len: *len,
+        })),
+        Verb::Write {
+            handle,
+            offset,
+            bytes,
+        } => Ok(Some(Op::Write {
+            handle: *handle,
+            offset: *offset,
+            bytes: bytes.copy(alloc)?,
+        })),
+        Verb::Fill {
+            handle,
+            offset,
+            len,
+            byte,
+        } => Ok(Some(Op::Write {
+            handle: *handle,
+            offset: *offset,
+            bytes: filled(alloc, *len, *byte)?,
+        })),
+        Verb::DropCaches => Ok(Some(Op::DropCaches)),
+        _ => Ok(None),
+    }
+}
+
+// Of records.
+fn record_op(alloc: Global, verb: &Verb) -> Result<Option<Op>, AllocError>
+    requires { IsAskable verb.now }
+    ensures value { IfOk result (λ op. op ≡ spec.record_op verb.now) }
+    ensures fits { IfOk result AnyFits }
+    ensures memory { OnErr result (MayWantMemory (spec.record_op verb.now)) }
+{
+    match verb {
+        Verb::MetaGet(record) => Ok(Some(Op::MetaLoad {
+            name: record_name(alloc, record)?,
+        })),
+        Verb::MetaPut {
+            record,
+            expected,
+            bytes,
+        } => Ok(Some(Op::MetaStore {
+            name: record_name(alloc, record)?,
+            expected: *expected,
+            bytes: bytes.copy(alloc)?,
+        })),
+        _ => Ok(None),
+    }
+}
+
+// Of what a path leads to.
+fn path_op(alloc: Global, told: &EntryList, verb: &Verb) -> Result<Option<Op>, AllocError>
+    requires { IsAskable verb.now }
+    ensures value { IfOk result (λ op. op ≡ spec.path_op (names_in told.now) verb.now) }
+    ensures fits { IfOk result AnyFits }
+    ensures memory { OnErr result (MayWantMemory (spec.path_op (names_in told.now) verb.now)) }
+{
+    match verb {
+        Verb::GetPolicy(path) => Ok(Some(Op::GetPolicy {
+            path: path_meant(alloc, told, path)?,
+        })),
+        Verb::ReadLink(path) => Ok(Some(Op::ReadLink {
+            path: path_meant(alloc, told, path)?,
+        })),
+        Verb::Unlink(path) => Ok(Some(Op::Unlink {
+            path: path_meant(alloc, told, path)?,
+        })),
+        Verb::Rmdir(path) => Ok(Some(Op::Rmdir {
+            path: path_meant(alloc, told, path)?,
+        })),
+        Verb::Rename { old_path, new_path } => Ok(Some(Op::Rename {
+            old_path: path_meant(alloc, told, old_path)?,
+            new_path: path_meant(alloc, told, new_path)?,
+        })),
+        Verb::List { path, start } => Ok(Some(Op::List {
+            path: path_meant(alloc, told, path)?,
+            start: number_said(*start),
+        })),
+        Verb::Stat(path) => Ok(Some(Op::Stat {
+            path: path_meant(alloc, told, path)?,
+        })),
+        Verb::Open(path) => Ok(Some(Op::OpenNode {
+            path: path_meant(alloc, told, path)?,
+        })),
+        _ => Ok(None),
+    }
+}
+
+// Of what is made, or encrypted from now on, under a drawn nonce.
+fn making_op(
+    alloc: Global,
+    seed: &[u8; 32],
+    turn: Turn,
+    told: &EntryList,
+    verb: &Verb,
+) -> Result<Option<Op>, AllocError>
+    requires { IsAskable verb.now }
+    ensures value { IfOk result (λ op. op
+        ≡ spec.making_op (nonce_drawn seed.now turn.caller turn.number) (names_in told.now) verb.now) }
+    ensures fits { IfOk result AnyFits }
+    ensures memory { OnErr result (MayWantMemory
+        (spec.making_op (nonce_drawn seed.now turn.caller turn.number) (names_in told.now) verb.now)) }
+{
+    match verb {
+        Verb::SetPolicy {
+            path,
+            key,
+            settings,
+        } => Ok(Some(Op::SetPolicy {
+            path: path_meant(alloc, told, path)?,
+            policy: encode_policy(&policy_said(id_meant(key), *settings)),
+            nonce: nonce_drawn(seed, turn),
+        })),
+        Verb::SetPolicyBytes { path, policy } => Ok(Some(Op::SetPolicy {
+            path: path_meant(alloc, told, path)?,
+            policy: *policy,
+            nonce: nonce_drawn(seed, turn),
+        })),
+        Verb::Mkdir(path) => Ok(Some(Op::Mkdir {
+            path: path_meant(alloc, told, path)?,
+            nonce: nonce_drawn(seed, turn),
+        })),
+        Verb::Create(path) => Ok(Some(Op::Create {
+            path: path_meant(alloc, told, path)?,
+            nonce: nonce_drawn(seed, turn),
+        })),
+        Verb::Symlink { path, target } => Ok(Some(Op::Symlink {
+            path: path_meant(alloc, told, path)?,
+            target: target.copy(alloc)?,
+            nonce: nonce_drawn(seed, turn),
+        })),
+        _ => Ok(None),
+    }
+}

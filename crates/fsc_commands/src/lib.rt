@@ -1,0 +1,53 @@
+//! What each command of a script asks of a mount, how it runs on any port, and the bytes that commands draw
+//! from a seed.
+#![tactic(auto)]
+
+mod calls;
+mod changing;
+mod command;
+mod drawn;
+mod draws;
+mod encrypting;
+mod loaded;
+mod meant;
+mod new_records;
+mod opened;
+mod opening;
+mod outcomes;
+mod parts;
+mod policies;
+mod policy_add;
+mod policy_changes;
+mod policy_new;
+mod protectors;
+#[cfg(test)]
+mod scripted;
+#[cfg(test)]
+mod scripted_tests;
+mod session;
+mod stars;
+mod stores;
+mod stretches;
+#[cfg(test)]
+mod tests;
+mod told;
+mod turn;
+mod unlocking;
+mod wrapping;
+
+use call_history::Entry;
+pub use command::run_command;
+pub use draws::{NONCE_BYTES, Purpose, distinct_draws, draw};
+use item_list::Items;
+pub use meant::id_meant;
+use mount_model::{Call, Reply};
+pub use new_records::made_records_open;
+pub use stars::path_meant;
+pub use stretches::{InThreads, OnOneThread, Stretches};
+pub use turn::Turn;
+
+/// What a caller asked and was replied, each with its place in the history, which counts from 0.
+pub type EntryList = Items<(u64, Entry<Call, Reply>)>;
+
+/// The most calls that a command makes.
+pub const MOST_CALLS: u64 = 4;

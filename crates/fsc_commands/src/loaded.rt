@@ -1,0 +1,76 @@
+//! Records as they were loaded.
+
+ghost use Rattle.std.specs.Prelude.{◌≡◌, IfOk};
+ghost use Rattle.protector_meta.specs.PolicyReading.{policy_read};
+ghost use Rattle.protector_meta.specs.ProtectorReading.{protector_read};
+ghost use Rattle.fsc_commands.specs.Records as spec;
+
+use crate::outcomes::outcome_of_other;
+use mount_model::Reply;
+use protector_meta::{MetaFault, PolicyFile, Protector, decode_policy_file, decode_protector};
+use reply_text::Outcome;
+use short_bytes::Label;
+use std::alloc::{AllocError, Global};
+
+// A policy's record, and its version.
+#[derive(Drop)]
+pub(crate) struct LoadedPolicy {
+    pub(crate) version: u32,
+    pub(crate) policy: PolicyFile,
+}
+
+// A protector's record, and its version.
+#[derive(Drop)]
+pub(crate) struct LoadedProtector {
+    pub(crate) version: u32,
+    pub(crate) protector: Protector,
+}
+
+// The policy of this label, by the reply to loading its record.
+pub(crate) fn policy_loaded(
+    alloc: Global,
+    label: &Label,
+    reply: &Reply,
+) -> Result<Result<LoadedPolicy, Outcome>, AllocError>
+    ensures { IfOk result (λ loaded. loaded ≡ spec.policy_loaded label.now reply.now) }
+{
+    match reply {
+        Reply::Held { version, bytes } => { policy_read(alloc, label, *version, bytes.as_slice()) }
+        _ => Ok(Err(outcome_of_other(reply))),
+    }
+}
+
+// The policy of this label in a record's bytes.
+fn policy_read(
+    alloc: Global,
+    label: &Label,
+    version: u32,
+    bytes: &[u8],
+) -> Result<Result<LoadedPolicy, Outcome>, AllocError>
+    ensures { IfOk result (λ loaded. loaded ≡ spec.policy_named label.now version (policy_read bytes.now)) }
+{
+    match decode_policy_file(alloc, bytes) {
+        Ok(policy) if policy.name == *label => Ok(Ok(LoadedPolicy { version, policy })),
+        Err(MetaFault::NoMemory) => Err(AllocError),
+        _ => Ok(Err(Outcome::BadRecord)),
+    }
+}
+
+// The protector of this label, by the reply to loading its record.
+pub(crate) fn protector_loaded(label: &Label, reply: &Reply) -> Result<LoadedProtector, Outcome>
+    ensures { result ≡ spec.protector_loaded label.now reply.now }
+{
+    match reply {
+        Reply::Held { version, bytes } => protector_read(label, *version, bytes.as_slice()),
+        _ => Err(outcome_of_other(reply)),
+    }
+}
+
+fn protector_read(label: &Label, version: u32, bytes: &[u8]) -> Result<LoadedProtector, Outcome>
+    ensures { result ≡ spec.protector_named label.now version (protector_read bytes.now) }
+{
+    match decode_protector(bytes) {
+        Ok(protector) if protector.name == *label => Ok(LoadedProtector { version, protector }),
+        _ => Err(Outcome::BadRecord),
+    }
+}

@@ -1,0 +1,215 @@
+//! How a protector opens with a secret, and a policy with a protector's key.
+
+ghost use Rattle.std.specs.Prelude.{◌≡◌, ◌≤◌, [], length, Some, Ok, IfOk, OnErr};
+ghost use Rattle.argon_kdf.specs.Argon2id.{argon2id_tag};
+ghost use Rattle.fsc_keys.specs.Keys.{key_id_of};
+ghost use Rattle.fsc_keys.specs.declared.raw_key.TheConstants.{MOST_RAW_KEY_BYTES};
+ghost use Rattle.script_words.specs.Secrets.{IsSecret};
+ghost use Rattle.fsc_commands.specs.Records as spec;
+
+use crate::loaded::{LoadedPolicy, LoadedProtector, policy_loaded, protector_loaded};
+use crate::stretches::Stretches;
+use fsc_keys::{KeyId, RawKey, key_id};
+use key_wrap::unwrap;
+use mount_model::Reply;
+use protector_meta::{Descriptor, PolicyFile, Protector, ProtectorKind, Stretching, Wrap};
+use reply_text::Outcome;
+use script_lang::Secret;
+use short_bytes::Label;
+use std::alloc::{AllocError, Global};
+
+// A protector whose record was loaded, and its key.
+#[derive(Drop)]
+pub(crate) struct OpenedProtector {
+    pub(crate) loaded: LoadedProtector,
+    pub(crate) key: [u8; 32],
+}
+
+// A policy whose record was loaded, and its key.
+#[derive(Drop)]
+pub(crate) struct OpenedPolicy {
+    pub(crate) loaded: LoadedPolicy,
+    pub(crate) key: RawKey,
+}
+
+// The protector of this label opened with a secret, by the reply to loading its record.
+pub(crate) fn protector_opened<S: Stretches>(
+    alloc: Global,
+    stretches: &S,
+    label: &Label,
+    secret: &Secret,
+    reply: &Reply,
+) -> Result<Result<OpenedProtector, Outcome>, AllocError>
+    requires ready { S.ready stretches.now }
+    requires secret { IsSecret secret.now }
+    ensures { IfOk result (λ opened. opened ≡ spec.protector_opened label.now secret.now reply.now) }
+{
+    match protector_loaded(label, reply) {
+        Ok(loaded) => protector_by(alloc, stretches, secret, loaded),
+        Err(outcome) => Ok(Err(outcome)),
+    }
+}
+
+// A protector opened with a secret. The wrapping key is overwritten.
+fn protector_by<S: Stretches>(
+    alloc: Global,
+    stretches: &S,
+    secret: &Secret,
+    loaded: LoadedProtector,
+) -> Result<Result<OpenedProtector, Outcome>, AllocError>
+    requires ready { S.ready stretches.now }
+    requires secret { IsSecret secret.now }
+    ensures { IfOk result (λ opened. opened ≡ spec.protector_by secret.now (Ok loaded)) }
+{
+    match wrapping_key(alloc, stretches, secret, &loaded.protector.kind)? {
+        Ok(mut wrapping) => {
+            let key = protector_key(&loaded.protector, &wrapping);
+            wrapping = [0; 32];
+            match key {
+                Ok(key) => Ok(Ok(OpenedProtector { loaded, key })),
+                Err(outcome) => Ok(Err(outcome)),
+            }
+        }
+        Err(outcome) => Ok(Err(outcome)),
+    }
+}
+
+// The policy of this label opened through a protector with this key, by the reply to loading its record. Its
+// key has 64 bytes, and the identifier that the record tells.
+pub(crate) fn policy_opened(
+    alloc: Global,
+    label: &Label,
+    protector: &Label,
+    key: &[u8; 32],
+    reply: &Reply,
+) -> Result<Result<OpenedPolicy, Outcome>, AllocError>
+    ensures value { IfOk result (λ opened.
+        opened ≡ spec.policy_opened label.now protector.now key.now reply.now) }
+    ensures identified { IfOk result (λ got. IfOk got (λ opened.
+        key_id_of opened.key ≡ opened.loaded.policy.id)) }
+    ensures whole { IfOk result (λ got. IfOk got (λ opened. length opened.key ≡ MOST_RAW_KEY_BYTES)) }
+{
+    match policy_loaded(alloc, label, reply)? {
+        Ok(loaded) => match policy_key(&loaded.policy, protector, key) {
+            Ok(key) => Ok(Ok(OpenedPolicy { loaded, key })),
+            Err(outcome) => Ok(Err(outcome)),
+        },
+        Err(outcome) => Ok(Err(outcome)),
+    }
+}
+
+// The wrapping key that a secret gives, where the protector's is of that kind: the secret itself, or what
+// the passphrase is stretched to. Another kind is told before anything is stretched, and so is never want of
+// memory.
+pub(crate) fn wrapping_key<S: Stretches>(
+    alloc: Global,
+    stretches: &S,
+    secret: &Secret,
+    kind: &ProtectorKind,
+) -> Result<Result<[u8; 32], Outcome>, AllocError>
+    requires ready { S.ready stretches.now }
+    requires secret { IsSecret secret.now }
+    ensures value { IfOk result (λ key. key ≡ spec.wrapping_key secret.now kind.now) }
+    ensures memory { OnErr result (spec.IsStretched secret.now kind.now) }
+{
+    match secret {
+        Secret::Raw(raw) => match kind {
+            ProtectorKind::Raw => Ok(Ok(*raw)),
+            ProtectorKind::Pass(_) => Ok(Err(Outcome::WrongKind)),
+        },
+        Secret::Pass(passphrase) => match kind {
+            ProtectorKind::Raw => Ok(Err(Outcome::WrongKind)),
+            ProtectorKind::Pass(stretching) => {
+                let key = stretched(alloc, stretches, passphrase.as_slice(), stretching)?;
+                Ok(Ok(key))
+            }
+        },
+    }
+}
+
+// What a passphrase is stretched to.
+fn stretched<S: Stretches>(
+    alloc: Global,
+    stretches: &S,
+    passphrase: &[u8],
+    stretching: &Stretching,
+) -> Result<[u8; 32], AllocError>
+    requires ready { S.ready stretches.now }
+    requires few { length passphrase.now ≤ 1000 }
+    ensures { IfOk result (λ key. key ≡ argon2id_tag stretching.now.0 passphrase.now stretching.now.1 [] []) }
+{
+    let mut key = [0; 32];
+    stretches.stretch(
+        alloc,
+        &stretching.costs(),
+        passphrase,
+        stretching.salt(),
+        &mut key,
+    )?;
+    Ok(key)
+}
+
+// The key of a protector under a wrapping key: `WrongKey` exactly where the tag differs, `BadRecord` where
+// the key isn't the one that the record's descriptor tells.
+pub(crate) fn protector_key(protector: &Protector, wrapping: &[u8; 32]) -> Result<[u8; 32], Outcome>
+    ensures { result ≡ spec.protector_key protector.now wrapping.now }
+{
+    let mut key = [0; 32];
+    if unwrap(
+        wrapping,
+        &protector.iv,
+        &protector.key,
+        &protector.tag,
+        &mut key,
+    )
+    .is_err()
+    {
+        return Err(Outcome::WrongKey);
+    }
+    if Descriptor::of_key(&key).bytes() != protector.descriptor.bytes() {
+        key = [0; 32];
+        return Err(Outcome::BadRecord);
+    }
+    Ok(key)
+}
+
+// The key of a policy, through the protector of this label with this key. It has 64 bytes, and its identifier
+// is the one in the policy's record.
+pub(crate) fn policy_key(
+    policy: &PolicyFile,
+    label: &Label,
+    key: &[u8; 32],
+) -> Result<RawKey, Outcome>
+    ensures value { result ≡ spec.policy_key policy.now label.now key.now }
+    ensures identified { IfOk result (λ raw. key_id_of raw ≡ policy.now.id) }
+    ensures whole { IfOk result (λ raw. length raw ≡ MOST_RAW_KEY_BYTES) }
+{
+    match policy.wraps.find(label) {
+        Some(wrap) => key_in_wrap(&policy.id, wrap, key),
+        None => Err(Outcome::NotListed),
+    }
+}
+
+fn key_in_wrap(id: &KeyId, wrap: &Wrap, key: &[u8; 32]) -> Result<RawKey, Outcome>
+    ensures value { result ≡ spec.key_in_wrap id.now key.now (Some wrap.now) }
+    ensures identified { IfOk result (λ raw. key_id_of raw ≡ id.now) }
+    ensures whole { IfOk result (λ raw. length raw ≡ MOST_RAW_KEY_BYTES) }
+{
+    let mut opened = [0; 64];
+    if unwrap(key, &wrap.iv, &wrap.key, &wrap.tag, &mut opened).is_err() {
+        return Err(Outcome::WrongKey);
+    }
+    let raw = RawKey::read(&opened);
+    opened = [0; 64];
+    match raw {
+        Ok(mut raw) => {
+            if key_id(&raw) != *id {
+                raw.wipe();
+                return Err(Outcome::BadRecord);
+            }
+            Ok(raw)
+        }
+        // (it has 64 bytes)
+        Err(_) => Err(Outcome::BadRecord),
+    }
+}

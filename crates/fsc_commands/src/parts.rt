@@ -1,0 +1,95 @@
+//! The pieces of which a session's work is made: each is a call, and what its reply makes of it.
+
+ghost use Rattle.std.specs.Prelude.{◌≡◌, ◌≤◌, ◌<◌, ◌+◌, [], ◌∷◌, ◌++◌, Some, IfOk, OnErr};
+ghost use Rattle.mount_model.specs.declared.call.Call.{Call};
+ghost use Rattle.mount_model.specs.Fits.{OpFits};
+ghost use Rattle.fsc_commands.specs.CommandSteps.{last_call, called};
+ghost use Rattle.fsc_commands.specs.Opening.{loading_policy};
+ghost use Rattle.fsc_commands.specs.Made.{Made, MadePart, CameBySome};
+
+use crate::EntryList;
+use crate::loaded::{LoadedPolicy, policy_loaded};
+use crate::meant::record_name;
+use crate::outcomes::{Wanted, outcome_of};
+use crate::turn::Turn;
+use call_history::Entry;
+use mount_model::{Call, MountPort, Op, Reply};
+use reply_text::Outcome;
+use script_lang::Record;
+use short_bytes::Label;
+use std::alloc::{AllocError, Global};
+
+// Makes a call of the caller, and gives its entry with its place. Want of memory comes before the call.
+pub(crate) fn ask<P: MountPort>(
+    alloc: Global,
+    port: &mut P,
+    turn: Turn,
+    op: Op,
+) -> Result<(u64, Entry<Call, Reply>), AllocError>
+    requires caller { turn.caller ≡ P.who port.old }
+    requires left { 0 < P.calls_left port.old }
+    requires fits { OpFits op }
+    ensures came { IfOk result (λ placed. P.came port.old (placed ∷ []) port.new) }
+    ensures who { IfOk result (λ placed. placed.1.who ≡ turn.caller) }
+    ensures call { IfOk result (λ placed. placed.1.call ≡ called turn.uid op) }
+    ensures one_fewer { IfOk result (λ placed. P.calls_left port.new + 1 ≡ P.calls_left port.old) }
+    ensures caller { P.who port.new ≡ P.who port.old }
+    ensures failed { OnErr result (CameBySome (P.came port.old) port.new) }
+{
+    let call = Call { uid: turn.uid, op };
+    let kept = call.copy(alloc)?;
+    let placed = port.call(call);
+    let entry = Entry {
+        who: turn.caller,
+        call: kept,
+        reply: placed.reply,
+    };
+    Ok((placed.place, entry))
+}
+
+// Makes the last call of a session's work, which ends as the reply to it tells.
+pub(crate) fn finish<P: MountPort>(
+    alloc: Global,
+    port: &mut P,
+    turn: Turn,
+    op: Op,
+    wanted: Wanted,
+    entries: &mut EntryList,
+) -> Result<Outcome, AllocError>
+    requires caller { turn.caller ≡ P.who port.old }
+    requires left { 0 < P.calls_left port.old }
+    requires fits { OpFits op }
+    ensures made { IfOk result (λ outcome. Made (P.came port.old) port.new (P.calls_left port.new)
+        (P.calls_left port.old) 1 (last_call turn.caller turn.uid op wanted) (Some outcome)
+        entries.old entries.new) }
+    ensures caller { P.who port.new ≡ P.who port.old }
+    ensures failed { OnErr result (CameBySome (P.came port.old) port.new) }
+{
+    let placed = ask(alloc, port, turn, op)?;
+    let outcome = outcome_of(wanted, &placed.1.reply);
+    entries.push(placed)?;
+    Ok(outcome)
+}
+
+// Loads the policy of this label.
+pub(crate) fn load_policy<P: MountPort>(
+    alloc: Global,
+    port: &mut P,
+    turn: Turn,
+    label: &Label,
+    entries: &mut EntryList,
+) -> Result<Result<LoadedPolicy, Outcome>, AllocError>
+    requires caller { turn.caller ≡ P.who port.old }
+    requires left { 0 < P.calls_left port.old }
+    ensures made { IfOk result (λ got. MadePart (P.came port.old) port.new (P.calls_left port.new)
+        (P.calls_left port.old) 1 (loading_policy turn.caller turn.uid label.now) got
+        entries.old entries.new) }
+    ensures caller { P.who port.new ≡ P.who port.old }
+    ensures failed { OnErr result (CameBySome (P.came port.old) port.new) }
+{
+    let name = record_name(alloc, &Record::Policy(*label))?;
+    let placed = ask(alloc, port, turn, Op::MetaLoad { name })?;
+    let loaded = policy_loaded(alloc, label, &placed.1.reply)?;
+    entries.push(placed)?;
+    Ok(loaded)
+}

@@ -1,0 +1,34 @@
+//! What a caller was told last.
+
+ghost use Rattle.std.specs.Prelude.{◌≡◌};
+ghost use Rattle.std.specs.Option.{option_map};
+ghost use Rattle.fsc_commands.specs.Steps.{names_told, names_in};
+
+use call_history::Entry;
+use item_list::Bytes;
+use mount_model::{Call, Reply};
+
+// The names of the last listing among the entries; none before the first one. It goes back to that
+// listing entry by entry, so it is called for a star alone.
+pub(crate) fn last_names(told: &[(u64, Entry<Call, Reply>)]) -> &[Bytes]
+    ensures { result.now ≡ names_in told.now }
+{
+    'entries: for k in 0..told.len() {
+        let index = told.len() - 1 - k;
+        let entry = &told[index];
+        if let Some(names) = names_told(&entry.1.reply) {
+            return names;
+        }
+    }
+    &[]
+}
+
+// The names that a reply tells.
+fn names_told(reply: &Reply) -> Option<&[Bytes]>
+    ensures { option_map (λ names. names.now) result ≡ names_told reply.now }
+{
+    match reply {
+        Reply::Names { names, .. } => Some(names.as_slice()),
+        _ => None,
+    }
+}

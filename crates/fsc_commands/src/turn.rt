@@ -1,0 +1,10 @@
+//! Whose turn it is.
+
+/// Whose command it is: the caller, the user for whom it calls, and the command's number in its section,
+/// from 0.
+#[derive(Clone, Copy)]
+pub struct Turn {
+    pub caller: u32,
+    pub uid: u32,
+    pub number: usize,
+}

@@ -1,0 +1,87 @@
+//! The summary of a run: how many entries its history has, what became of them, and the digest of its log.
+
+ghost use Rattle.std.specs.Prelude.{◌≡◌, ◌++◌, count_by, codes, IfOk, OnOk};
+ghost use Rattle.std.specs.List.{list_any};
+ghost use Rattle.mount_model.specs.History.{is_want_of_memory};
+ghost use Rattle.fsc_tool.specs.Summary as spec;
+
+use call_history::Entry;
+use item_list::Bytes;
+use mount_model::{Call, Refusal, Reply};
+use sha2::{Digest, Sha256};
+use std::alloc::{AllocError, Global};
+use text_words::{push_decimal, push_lower_hex};
+
+// The summary of a history whose log this is.
+#[tactic(auto, unfolding(crate::specs::Summary::summary_text))]
+pub(crate) fn summary_text(
+    alloc: Global,
+    history: &[Entry<Call, Reply>],
+    log: &[u8],
+) -> Result<Bytes, AllocError>
+    ensures { IfOk result (λ text. text ≡ spec.summary_text history.now log.now) }
+{
+    let mut text = Vec::new(alloc);
+    put_count(&mut text, b"entries", history.len())?;
+    put_count(&mut text, b"refused", refused(history))?;
+    put_count(&mut text, b"busy", busy(history))?;
+    text.extend_from_slice(b"sha256 ")?;
+    push_lower_hex(&mut text, &Sha256::digest(log))?;
+    text.push(b'\n')?;
+    Ok(Bytes::from_vec(text))
+}
+
+// Puts a line with a count behind the text.
+fn put_count(text: &mut Vec<u8>, word: &[u8], count: usize) -> Result<(), AllocError>
+    ensures { OnOk result (text.new.items ≡ text.old.items ++ spec.count_line word.now count) }
+{
+    text.extend_from_slice(word)?;
+    text.push(b' ')?;
+    push_decimal(text, count as u64)?;
+    text.push(b'\n')?;
+    Ok(())
+}
+
+// How many calls were refused.
+fn refused(history: &[Entry<Call, Reply>]) -> usize
+    ensures { result ≡ count_by (λ e. spec.is_refusal e.reply) history.now }
+{
+    history
+        .iter()
+        .filter(|entry| is_refusal(&entry.reply))
+        .count()
+}
+
+// How many removals found a key in use.
+fn busy(history: &[Entry<Call, Reply>]) -> usize
+    ensures { result ≡ count_by (λ e. spec.is_busy_removal e.reply) history.now }
+{
+    history
+        .iter()
+        .filter(|entry| is_busy_removal(&entry.reply))
+        .count()
+}
+
+#[tactic(auto, unfolding(crate::specs::Summary::is_refusal))]
+fn is_refusal(reply: &Reply) -> bool
+    ensures { result ≡ spec.is_refusal reply.now }
+{
+    matches!(reply, Reply::Refused(_))
+}
+
+#[tactic(auto, unfolding(crate::specs::Summary::is_busy_removal))]
+fn is_busy_removal(reply: &Reply) -> bool
+    ensures { result ≡ spec.is_busy_removal reply.now }
+{
+    match reply {
+        Reply::Removed { busy, .. } => *busy,
+        _ => false,
+    }
+}
+
+// Whether a call found no memory.
+pub(crate) fn wants_memory(history: &[Entry<Call, Reply>]) -> bool
+    ensures { result ≡ list_any (λ e. is_want_of_memory e.reply) history.now }
+{
+    history.iter().any(|entry| matches!(entry.reply, Reply::Refused(Refusal::NoMemory)))
+}

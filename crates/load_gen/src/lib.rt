@@ -1,0 +1,14 @@
+//! Generated scripts: a workload of eight callers for each number, the same at every time.
+#![tactic(auto)]
+
+mod callers;
+mod laws;
+mod numbers;
+mod operations;
+mod script;
+#[cfg(test)]
+mod tests;
+mod words;
+
+pub use laws::generated_scripts_are_spelled;
+pub use script::{generate, generate_script};

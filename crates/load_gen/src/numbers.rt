@@ -1,0 +1,35 @@
+//! The numbers that a script's commands are drawn from.
+
+ghost use Rattle.std.specs.Prelude.{◌≡◌};
+ghost use Rattle.load_gen.specs.Numbers.{drawn, next};
+
+// Of the linear congruential generator modulo 2^64.
+const MULTIPLIER: u64 = 6364136223846793005;
+
+const INCREMENT: u64 = 1442695040888963407;
+
+// A number, and those behind it.
+#[derive(Drop)]
+pub(crate) struct Numbers {
+    last: u64,
+}
+
+impl Numbers {
+    // The numbers behind this one.
+    pub(crate) fn behind(number: u32) -> Numbers
+        ensures { result.last ≡ number }
+    {
+        Numbers {
+            last: u64::from(number),
+        }
+    }
+
+    // Goes on to the next number, and draws its upper 31 bits.
+    pub(crate) fn draw(&mut self) -> u64
+        ensures gone_on { self.new.last ≡ next self.old.last }
+        ensures value { result ≡ drawn self.new.last }
+    {
+        self.last = self.last.wrapping_mul(MULTIPLIER).wrapping_add(INCREMENT);
+        self.last >> 33
+    }
+}

@@ -1,0 +1,45 @@
+//! What can be amiss with a line of a script.
+
+use crate::word_kinds::WordKind;
+use thiserror::Error;
+
+// What some editors put in front of a text.
+pub(crate) const BYTE_ORDER_MARK: [u8; 3] = [0xef, 0xbb, 0xbf];
+
+/// Why a line is at fault. Its text goes on behind the line: `"mkdri" is no command`.
+#[derive(Clone, Copy, Debug, PartialEq, Eq, Error)]
+pub enum LineFault {
+    /// No line feed ended it.
+    #[error("is not ended by a line feed")]
+    NotEnded,
+    #[error("begins with a byte order mark")]
+    ByteOrderMark,
+    #[error("has a carriage return")]
+    CarriageReturn,
+    #[error("has a tab, where one space parts two words")]
+    Tab,
+    /// A space stands in front, at the end, or behind another.
+    #[error("has a space too many")]
+    SpareSpace,
+    #[error("is no command")]
+    NoCommand,
+    #[error("has too few words")]
+    TooFewWords,
+    #[error("has too many words")]
+    TooManyWords,
+    /// The first word that isn't what it has to be.
+    #[error("has a word that is no {0}")]
+    NoSuchWord(WordKind),
+    /// It is a command, and stands before the first caller.
+    #[error("stands before the first caller")]
+    NoCallerYet,
+    #[error("names a ninth caller")]
+    NinthCaller,
+}
+
+/// A line at fault, by its number from 1.
+#[derive(Clone, Copy, Debug, PartialEq, Eq)]
+pub struct FaultyLine {
+    pub line: u32,
+    pub fault: LineFault,
+}

@@ -1,0 +1,184 @@
+//! Finds the first line at fault of a text, and tells why it is.
+
+ghost use Rattle.std.specs.Prelude.{◌≡◌, ◌<◌, ◌^◌, ◌+◌, IfOk, length, if◌then◌else◌};
+ghost use Rattle.std.specs.Result.{result_err};
+ghost use Rattle.script_faults.specs.LineFaults as spec;
+ghost use Rattle.script_faults.specs.LineFaults.{first_fault};
+ghost use Rattle.script_lang.specs.Sections as sections;
+
+use crate::faults::{BYTE_ORDER_MARK, FaultyLine, LineFault};
+use crate::word_kinds::{WordKind, kinds_of};
+use script_lang::{CommandName, MOST_CALLERS, Statement, Words, read_statement};
+use std::alloc::{AllocError, Global};
+use text_words::next_line;
+
+/// The first line at fault of a text of fewer than 2^32 bytes, and why; none exactly where the text is a
+/// script. The line is the one that `read_script` tells. The one error is want of memory, which may come
+/// on any text.
+pub fn line_fault(alloc: Global, text: &[u8]) -> Result<Option<FaultyLine>, AllocError>
+    requires { length text.now < 2 ^ 32 }
+    ensures value { IfOk result (λ found. found ≡ first_fault text.now) }
+{
+    let mut rest = text;
+    let mut number: u32 = 0;
+    let mut callers: usize = 0;
+    'lines: while !rest.is_empty() {
+        let line = next_line(rest);
+        number += 1;
+        if !line.ended {
+            return Ok(Some(FaultyLine {
+                line: number,
+                fault: LineFault::NotEnded,
+            }));
+        }
+        match pass_line(alloc, callers, line.bytes)? {
+            Ok(after) => callers = after,
+            Err(fault) => {
+                return Ok(Some(FaultyLine {
+                    line: number,
+                    fault,
+                }));
+            }
+        }
+        rest = line.rest;
+    }
+    Ok(None)
+}
+
+// How many callers stand before the line behind this one, or why this one is at fault.
+fn pass_line(
+    alloc: Global,
+    callers: usize,
+    line: &[u8],
+) -> Result<Result<usize, LineFault>, AllocError>
+    requires { callers < 2 ^ 32 }
+    ensures fault { IfOk result (λ passed. result_err passed ≡ spec.fault_behind callers line.now) }
+    ensures callers { IfOk result (λ passed. IfOk passed (λ after. after ≡ spec.callers_with callers line.now)) }
+{
+    let said = read_statement(alloc, line)?;
+    match fault_of_said(alloc, callers, line, &said)? {
+        Some(fault) => Ok(Err(fault)),
+        None => Ok(Ok(callers_with(callers, &said))),
+    }
+}
+
+// How many callers stand before the next line.
+fn callers_with(callers: usize, said: &Option<Statement>) -> usize
+    requires { callers < 2 ^ 32 }
+    ensures { result ≡ (if sections.is_caller said.now then callers + 1 else callers) }
+{
+    match said {
+        Some(Statement::Caller(_)) => callers + 1,
+        _ => callers,
+    }
+}
+
+// Why a line that says this is at fault behind so many callers.
+fn fault_of_said(
+    alloc: Global,
+    callers: usize,
+    line: &[u8],
+    said: &Option<Statement>,
+) -> Result<Option<LineFault>, AllocError>
+    ensures { IfOk result (λ fault. fault ≡ spec.fault_of_said callers line.now said.now) }
+{
+    match said {
+        None => Ok(Some(grammar_fault(alloc, line)?)),
+        Some(Statement::Nothing) => Ok(None),
+        Some(Statement::Caller(_)) => {
+            if callers < MOST_CALLERS {
+                return Ok(None);
+            }
+            Ok(Some(LineFault::NinthCaller))
+        }
+        Some(Statement::Order(_)) => {
+            if callers == 0 {
+                return Ok(Some(LineFault::NoCallerYet));
+            }
+            Ok(None)
+        }
+    }
+}
+
+// Why a line is outside the grammar that is so.
+fn grammar_fault(alloc: Global, line: &[u8]) -> Result<LineFault, AllocError>
+    ensures { IfOk result (λ fault. fault ≡ spec.grammar_fault line.now) }
+{
+    match spelling_fault(line) {
+        Some(fault) => Ok(fault),
+        None => fault_of_words(alloc, &mut Words::new(line)),
+    }
+}
+
+// Bytes that no line of a command may have.
+fn spelling_fault(line: &[u8]) -> Option<LineFault>
+    ensures { result ≡ spec.spelling_fault line.now }
+{
+    if line.starts_with(&BYTE_ORDER_MARK) {
+        return Some(LineFault::ByteOrderMark);
+    }
+    if line.contains(&b'\r') {
+        return Some(LineFault::CarriageReturn);
+    }
+    if line.contains(&b'\t') {
+        return Some(LineFault::Tab);
+    }
+    None
+}
+
+// What is amiss with the words of a line.
+fn fault_of_words(alloc: Global, words: &mut Words<'_>) -> Result<LineFault, AllocError>
+    ensures { IfOk result (λ fault. fault ≡ spec.fault_of_words words.old) }
+{
+    match words.next() {
+        Some(name) => named_fault(alloc, name, words),
+        None => Ok(LineFault::NoCommand),
+    }
+}
+
+// What is amiss with a name and the words behind it.
+fn named_fault(alloc: Global, name: &[u8], words: &mut Words<'_>) -> Result<LineFault, AllocError>
+    ensures { IfOk result (λ fault. fault ≡ spec.named_fault name.now words.old) }
+{
+    if name == b"caller".as_slice() {
+        return words_fault(alloc, &[WordKind::Number], words);
+    }
+    match CommandName::read(name) {
+        Some(known) => words_fault(alloc, kinds_of(known), words),
+        None => Ok(word_fault(LineFault::NoCommand, name)),
+    }
+}
+
+// What is amiss with words that have to be of these kinds.
+fn words_fault(
+    alloc: Global,
+    kinds: &[WordKind],
+    words: &mut Words<'_>,
+) -> Result<LineFault, AllocError>
+    ensures { IfOk result (λ fault. fault ≡ spec.words_fault kinds.now words.old) }
+{
+    let mut left = kinds;
+    'kinds: while let [wanted, more @ ..] = left {
+        let Some(word) = words.next() else {
+            return Ok(LineFault::TooFewWords);
+        };
+        if !wanted.is_met(alloc, word)? {
+            return Ok(word_fault(LineFault::NoSuchWord(*wanted), word));
+        }
+        left = more;
+    }
+    match words.next() {
+        Some(word) => Ok(word_fault(LineFault::TooManyWords, word)),
+        None => Ok(LineFault::TooManyWords),
+    }
+}
+
+// What is amiss with a word that is empty, or else what is told.
+fn word_fault(otherwise: LineFault, word: &[u8]) -> LineFault
+    ensures { result ≡ spec.word_fault otherwise word.now }
+{
+    if word.is_empty() {
+        return LineFault::SpareSpace;
+    }
+    otherwise
+}

@@ -1,0 +1,13 @@
+//! Which words are names of commands.
+
+ghost use Rattle.std.specs.Prelude.{◌≡◌};
+ghost use Rattle.script_faults.specs.LineFaults as spec;
+
+use script_lang::CommandName;
+
+/// Whether the word is the name of a command.
+pub fn is_usable(word: &[u8]) -> bool
+    ensures { result ≡ spec.is_usable word.now }
+{
+    CommandName::read(word).is_some()
+}

@@ -1,5 +1,0 @@
-use Rattle.script_lang.proofs.EscapeLemmas.{word_text-injective}
-use Rattle.script_lang.proofs.word_laws.distinct_words_have_distinct_texts.Goals as goal
-
-pub returns : goal.returns
-returns c = word_text-injective

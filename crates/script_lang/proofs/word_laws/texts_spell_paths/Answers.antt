@@ -1,5 +1,0 @@
-use Rattle.script_lang.proofs.PathLemmas.{IsPath-path_of}
-use Rattle.script_lang.proofs.word_laws.texts_spell_paths.Goals as goal
-
-pub returns : goal.returns
-returns c = IsPath-path_of

@@ -1,0 +1,86 @@
+-- Paths of a script: `/`, or a `/` before each of 1 to 32 parts.
+use Rattle.std.specs.Prelude.{ℕ, ◌^◌, ◌<◌, ◌≤◌, ◌==◌, Bool, not, ◌&&◌, ◌||◌, nat_le, IsTrue, List}
+use Rattle.std.specs.Prelude.{[], ◌∷◌, ◌++◌, length, codes, Option, Some, None, if◌then◌else◌}
+use Rattle.std.specs.List.{All, list_any, slice_split}
+use Rattle.std.specs.Option.{option_map, option_or}
+use Rattle.std.specs.Str.{bytes_eq}
+use Rattle.text_words.specs.Numbers.{number_below, decimal_of}
+use Rattle.script_words.specs.Word.{IsWord, word_bytes, passing, word_text}
+use Rattle.script_words.specs.declared.limits.TheConstants.{MOST_PARTS}
+use Rattle.script_words.specs.declared.path.ScriptPart.{ScriptPart}
+use Rattle.script_words.specs.declared.path.ScriptPart.TheVariants.{Given, Star}
+
+-- whether the byte is `/`
+abbrev pub is_slash : ℕ → Bool
+is_slash b = b == 47
+
+-- whether the byte is `/` or NUL
+abbrev pub is_slash_or_nul : ℕ → Bool
+is_slash_or_nul b = is_slash b || b == 0
+
+-- whether the bytes are `.` or `..`
+abbrev pub is_dots : List ℕ → Bool
+is_dots bytes = bytes_eq bytes (codes ".") || bytes_eq bytes (codes "..")
+
+-- whether the bytes may be a part: none is `/` or NUL, and they are neither `.` nor `..`
+abbrev pub may_be_part : List ℕ → Bool
+may_be_part bytes = not (list_any is_slash_or_nul bytes) && not (is_dots bytes)
+
+-- the number of a star: `*` and a decimal number, as they stand
+abbrev pub star_number : List ℕ → Option ℕ
+star_number [] = None
+star_number (c ∷ number) = if c == 42 then number_below (2 ^ 32) number else None
+
+-- the part that a text spells: a star, or a word that may be a part
+unfoldable pub part_of : List ℕ → Option ScriptPart
+part_of text =
+    option_or (option_map Star (star_number text)) (option_map Given (passing may_be_part (word_bytes text)))
+
+-- a part before others, if all are there
+abbrev pub before_parts : Option ScriptPart → Option (List ScriptPart) → Option (List ScriptPart)
+before_parts None parts = None
+before_parts (Some part) None = None
+before_parts (Some part) (Some parts) = Some (part ∷ parts)
+
+-- the parts that texts spell, if each spells one
+abbrev pub parts_of : List (List ℕ) → Option (List ScriptPart)
+parts_of [] = Some []
+parts_of (text ∷ texts) = before_parts (part_of text) (parts_of texts)
+
+-- the same, where the texts are at most 32
+abbrev pub few_parts : List (List ℕ) → Option (List ScriptPart)
+few_parts texts = if nat_le (length texts) MOST_PARTS then parts_of texts else None
+
+-- the path that a text spells: `/` is the root, and else what stands between the slashes, behind the
+-- first, is the parts
+unfoldable pub path_of : List ℕ → Option (List ScriptPart)
+path_of [] = None
+path_of (first ∷ rest) =
+    if not (is_slash first) then None else if length rest == 0 then Some []
+    else few_parts (slice_split is_slash rest)
+
+-- the text of a part: a star as it was read, a given part as a word
+abbrev pub part_text : ScriptPart → List ℕ
+part_text (Given bytes) = word_text bytes
+part_text (Star number) = 42 ∷ decimal_of number
+
+-- a `/` before the text of each part
+abbrev pub parts_text : List ScriptPart → List ℕ
+parts_text [] = []
+parts_text (part ∷ parts) = 47 ∷ (part_text part ++ parts_text parts)
+
+-- the text in which a path is written
+unfoldable pub path_text : List ScriptPart → List ℕ
+path_text [] = codes "/"
+path_text (part ∷ parts) = parts_text (part ∷ parts)
+
+-- what a part may be: a word without `/` and NUL that is neither `.` nor `..`, or a star with a number
+-- below 2^32
+abbrev pub IsPart : ScriptPart → Type 0
+IsPart (Given bytes) = IsWord bytes × IsTrue (may_be_part bytes)
+IsPart (Star number) = number < 2 ^ 32
+
+-- what a path may be: at most 32 parts
+pub record IsPath (parts : List ScriptPart) : Type 0 where
+  pub bounded : length parts ≤ MOST_PARTS
+  pub each : All IsPart parts

@@ -1,0 +1,90 @@
+//! The words for keys and for other bytes: hexadecimal digits of either case.
+
+ghost use Rattle.std.specs.Prelude.{◌≡◌, ◌*◌, ◌<◌, ◌^◌, IfOk};
+ghost use Rattle.script_words.specs.Keys as spec;
+
+use fsc_keys::{KeyId, LEAST_RAW_KEY_BYTES, MOST_RAW_KEY_BYTES, RawKey};
+use hex::FromHexError;
+use item_list::Bytes;
+use std::alloc::{AllocError, Global};
+use text_words::hex_bytes_into;
+
+/// A key: by its identifier, or by its bytes, which stand for their identifier.
+#[derive(Drop)]
+pub enum KeyRef {
+    Id(KeyId),
+    Raw(RawKey),
+}
+
+/// The bytes that the digits spell, if there are from `least` to `most` of them.
+pub fn read_hex(
+    alloc: Global,
+    word: &[u8],
+    least: usize,
+    most: usize,
+) -> Result<Option<Bytes>, AllocError>
+    requires least_fits { 2 * least < 2 ^ 64 }
+    requires most_fits { 2 * most < 2 ^ 64 }
+    ensures { IfOk result (λ bytes. bytes ≡ spec.hex_of_size least most word.now) }
+{
+    if word.len() < 2 * least || word.len() > 2 * most {
+        return Ok(None);
+    }
+    match hex::decode(alloc, word) {
+        Ok(bytes) => Ok(Some(Bytes::from_vec(bytes))),
+        Err(FromHexError::OutOfMemory) => Err(AllocError),
+        Err(_) => Ok(None),
+    }
+}
+
+/// The 1 to `most` bytes that the digits spell, or none for `-`.
+pub fn read_hex_or_none(
+    alloc: Global,
+    word: &[u8],
+    most: usize,
+) -> Result<Option<Bytes>, AllocError>
+    requires { 2 * most < 2 ^ 64 }
+    ensures { IfOk result (λ bytes. bytes ≡ spec.hex_or_none most word.now) }
+{
+    if word == b"-".as_slice() {
+        return Ok(Some(Bytes::new(alloc)));
+    }
+    read_hex(alloc, word, 1, most)
+}
+
+/// The key that the word names.
+pub fn read_key_ref(word: &[u8]) -> Option<KeyRef>
+    ensures { result ≡ spec.key_ref_of word.now }
+{
+    if word.starts_with(b"id:") {
+        return read_id(&word[3..]).map(KeyRef::Id);
+    }
+    if word.starts_with(b"raw:") {
+        return read_raw_key(&word[4..]).map(KeyRef::Raw);
+    }
+    None
+}
+
+fn read_id(digits: &[u8]) -> Option<KeyId>
+    ensures { result ≡ spec.id_of digits.now }
+{
+    let mut id = [0; 16];
+    match hex::decode_to_slice(digits, &mut id) {
+        Ok(()) => Some(KeyId(id)),
+        Err(_) => None,
+    }
+}
+
+fn read_raw_key(digits: &[u8]) -> Option<RawKey>
+    ensures { result ≡ spec.raw_key_of digits.now }
+{
+    if digits.len() < 2 * LEAST_RAW_KEY_BYTES || digits.len() > 2 * MOST_RAW_KEY_BYTES {
+        return None;
+    }
+    let mut bytes = [0; MOST_RAW_KEY_BYTES];
+    let bytes = &mut bytes[..digits.len() / 2];
+    if !hex_bytes_into(digits, bytes) {
+        return None;
+    }
+    RawKey::read(bytes).ok()
+}

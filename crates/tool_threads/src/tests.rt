@@ -1,0 +1,76 @@
+use crate::counting::Counting;
+use crate::meeting::MeetingGate;
+use fsc_outside::{CallList, FixedSeed, MemSink, MemSource, OpenGate};
+use fsc_tool::tool;
+use reply_text::Status;
+use std::alloc::{AllocError, Global};
+use std::test::Fail;
+
+const SEED: &str = "0000000000000000000000000000000000000000000000000000000000000000";
+
+// The words of a run in threads with this seed.
+fn words_of(alloc: Global) -> Result<Vec<String>, AllocError> {
+    let mut words = Vec::new(alloc);
+    for word in ["replay", "--seed", SEED] {
+        words.push(String::from_str(alloc, word)?)?;
+    }
+    Ok(words)
+}
+
+// On one thread the looks would run out: the first caller's second command would wait for a second
+// caller that has not begun.
+#[test]
+fn two_callers_meet_in_the_middle_of_their_sections(rt: HostRuntime) -> Result<(), Fail> {
+    let alloc = rt.alloc();
+    let words = words_of(alloc)?;
+    let script = b"caller 1\ndrop-caches\ndrop-caches\ncaller 2\ndrop-caches\ndrop-caches\n";
+    let mut source = MemSource::new(Vec::from_slice(alloc, script)?, 1000, CallList::new(alloc));
+    let mut sink = MemSink::new(alloc, 8192, 1000, CallList::new(alloc))?;
+    let gate = MeetingGate::new();
+    let machine = Counting {
+        calls: 0,
+        wanting: 1000,
+    };
+    let status = tool(
+        &rt,
+        alloc,
+        &words,
+        &mut source,
+        &mut sink,
+        &mut FixedSeed::failing(),
+        &gate,
+        machine,
+    );
+    assert_eq!(rt; status, Status::Done);
+    assert_eq!(rt; gate.missed(), 0);
+    Ok(())
+}
+
+// A reply that wants memory is a line of the log as each other is, and the caller goes on.
+#[test]
+fn a_reply_that_wants_memory_ends_no_section(rt: HostRuntime) -> Result<(), Fail> {
+    let alloc = rt.alloc();
+    let words = words_of(alloc)?;
+    let script = b"caller 1\ndrop-caches\ndrop-caches\ndrop-caches\n";
+    let mut source = MemSource::new(Vec::from_slice(alloc, script)?, 1000, CallList::new(alloc));
+    let mut sink = MemSink::new(alloc, 8192, 1000, CallList::new(alloc))?;
+    let machine = Counting {
+        calls: 0,
+        wanting: 1,
+    };
+    let status = tool(
+        &rt,
+        alloc,
+        &words,
+        &mut source,
+        &mut sink,
+        &mut FixedSeed::failing(),
+        &OpenGate,
+        machine,
+    );
+    assert_eq!(rt; status, Status::Done);
+    let log =
+        b"0 0 1 drop-caches = ok\n1 0 1 drop-caches = refused no-memory\n2 0 1 drop-caches = ok\n";
+    assert_eq!(rt; sink.got(), log.as_slice());
+    Ok(())
+}
