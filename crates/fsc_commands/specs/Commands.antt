@@ -15,4 +15,5 @@ plain_or_session caller uid (Some asked) session = asking caller uid asked (λ r
 -- the steps of a command
 abbrev pub command_steps : List ℕ → ℕ → ℕ → ℕ → List (List ℕ) → Verb → CommandSteps
 command_steps seed caller uid number names asked =
-    plain_or_session caller uid (plain_op seed caller number names asked) (session_steps seed caller uid number names asked)
+    plain_or_session caller uid (plain_op seed caller number names asked)
+    (session_steps seed caller uid number names asked)

@@ -1,5 +1,6 @@
 -- What a script's path means after a listing: a star is a name of it, by number.
-use Rattle.std.specs.Prelude.{ℕ, Bool, ◌&&◌, nat_le, List, ◌∷◌, length, map, slice_get, Option, Some, None, if◌then◌else◌}
+use Rattle.std.specs.Prelude.{ℕ, Bool, ◌&&◌, nat_le, List, ◌∷◌, length, map, slice_get, Option}
+use Rattle.std.specs.Prelude.{Some, None, if◌then◌else◌}
 use Rattle.text_words.specs.Numbers.{decimal_of}
 use Rattle.mount_limits.specs.declared.TheConstants.{MOST_PART_BYTES}
 use Rattle.script_words.specs.Path.{may_be_part}

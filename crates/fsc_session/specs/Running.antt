@@ -1,5 +1,6 @@
 -- What a runner is between two commands, and what a command makes of it and of its port.
-use Rattle.std.specs.Prelude.{◌≡◌, ℕ, ◌+◌, ◌≤◌, Bool, true, false, List, [], ◌++◌, length, slice_get, Option, Some, None}
+use Rattle.std.specs.Prelude.{◌≡◌, ℕ, ◌+◌, ◌≤◌, Bool, true, false, List, [], ◌++◌, length}
+use Rattle.std.specs.Prelude.{slice_get, Option, Some, None}
 use Rattle.call_history.specs.Placed.{entries_of}
 use Rattle.mount_model.specs.Port.{PlacedCalls}
 use Rattle.script_lang.specs.declared.commands.Section.{Section}

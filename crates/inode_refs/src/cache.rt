@@ -191,8 +191,8 @@ impl InodeCache {
     }
 
     /// Pins the node once more, and caches the key that is handed in where it has none. With the pin taken
-    /// away again the pins are as before. Where there is no memory all is as before. A key that isn't cached is overwritten. A node with pins takes no memory
-    /// where no key comes to it.
+    /// away again the pins are as before. Where there is no memory all is as before. A key that isn't cached
+    /// is overwritten. A node with pins takes no memory where no key comes to it.
     pub fn pin(&mut self, alloc: Global, node: u32, key: Option<NodeKey>) -> Result<(), AllocError>
         requires { pins_of self.old node + 1 < 2 ^ 32 }
         ensures pinned { OnOk result (self.new ≡ record {

@@ -1,5 +1,6 @@
 -- The entry of a directory that is found by a part, as the state has it: with the name as it is stored.
-use Rattle.std.specs.Prelude.{◌≡◌, ℕ, Bool, List, Option, Some, None, IfSome, option_map, Result, Ok, Err, if◌then◌else◌}
+use Rattle.std.specs.Prelude.{◌≡◌, ℕ, Bool, List, Option, Some, None, IfSome, option_map, Result}
+use Rattle.std.specs.Prelude.{Ok, Err, if◌then◌else◌}
 use Rattle.plain_tree.specs.Nodes.{Name, context_at}
 use Rattle.disk_tree.specs.DiskTree.{Disk, children}
 use Rattle.disk_tree.specs.Entries.{number_under}

@@ -9,7 +9,8 @@ use Rattle.mount_model.specs.declared.reply.Refusal.{Refusal}
 use Rattle.mount_model.specs.PlainMount.{PlainMount}
 use Rattle.mount_model.specs.Answered.{refused}
 use Rattle.mount_model.specs.Sealed.{node_key}
-use Rattle.mount_model.specs.NameAnswers.{lacks_key, clashes, is_full, is_long_target, inherited, answer_to_make_in, answer_to_make}
+use Rattle.mount_model.specs.NameAnswers.{lacks_key, clashes, is_full, is_long_target, inherited}
+use Rattle.mount_model.specs.NameAnswers.{answer_to_make_in, answer_to_make}
 use Rattle.mount_model.specs.Walk.{PathParts, is_root, last_part, parent}
 use Rattle.mount_model.specs.WellFormed.{IsName, IsWellFormed}
 use Rattle.mount_model.specs.Carried.{IsPath, IsTarget}
@@ -54,7 +55,8 @@ pub record IsPlaceAt (m : PlainMount) (path : PathParts) (place : Place) : Type 
 
 -- the body is made there, as the call that creates it answers
 abbrev pub MakesAt : MountState → MountState → Place → List ℕ → StoredBody → Reply → Type 0
-MakesAt old new place nonce stored reply = (m : PlainMount) (path : PathParts) (body : Body) → StandsFor old m → IsPlaceAt m path place
+MakesAt old new place nonce stored reply = (m : PlainMount) (path : PathParts) (body : Body)
+    → StandsFor old m → IsPlaceAt m path place
     → is_long_target body ≡ false → stored ≡ stored_body m.raws m.next (inherited nonce place.context) body
     → IsWellFormed (answer_to_make m path nonce body).mount
     → IsGivenOrNoMemory m (answer_to_make m path nonce body) reply new

@@ -26,7 +26,8 @@ Drops old new e = (m : PlainMount) (name : Name) → StandsFor old m → IsEntry
 -- the entry at the end of the path is dropped, as the call answers
 abbrev pub Unlinks : MountState → MountState → Entry → Reply → Type 0
 Unlinks old new e reply = (m : PlainMount) (path : PathParts) → StandsFor old m → is_root path ≡ false
-    → Ok e ≡ entry_end m path → IsWellFormed (answer_to_unlink m path).mount → IsGiven (answer_to_unlink m path) reply new
+    → Ok e ≡ entry_end m path → IsWellFormed (answer_to_unlink m path).mount
+    → IsGiven (answer_to_unlink m path) reply new
 
 abbrev pub RemovesDir : MountState → MountState → Entry → Reply → Type 0
 RemovesDir old new e reply = (m : PlainMount) (path : PathParts) → StandsFor old m → is_root path ≡ false

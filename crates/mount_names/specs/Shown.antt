@@ -48,7 +48,8 @@ ReadsAs s n reading = (m : PlainMount) (name : Name) → StandsFor s m → HasNa
 
 -- in whatever mount the state stands for, it is the cipher of the keyed node's names
 abbrev pub IsCipherOf : MountState → ℕ → Context → Option NameCipher → Type 0
-IsCipherOf s n c cipher = (m : PlainMount) → StandsFor s m → HasNames m n → context_at m.nodes n ≡ Some c → is_keyed m n ≡ true
+IsCipherOf s n c cipher = (m : PlainMount) → StandsFor s m → HasNames m n
+    → context_at m.nodes n ≡ Some c → is_keyed m n ≡ true
     → cipher ≡ Some (names_cipher m.raws n c)
 
 -- the directory has a policy and is keyed: then a name is enciphered to be found

@@ -154,7 +154,8 @@ fn add_named(
     requires dir { IsDirAt disk.old place.now.dir }
     requires absent { map.get disk.old number ≡ None }
     requires no_blocks { blocks_of node.body ≡ [] }
-    ensures added { OnOk result (disk.new ≡ entered (map.insert disk.old number node) place.now.dir place.now.stored number) }
+    ensures added { OnOk result (disk.new
+        ≡ entered (map.insert disk.old number node) place.now.dir place.now.stored number) }
     ensures kept { OnErr result (disk.new ≡ disk.old) }
 {
     if let Err(fault) = disk.add_node(number, node) {

@@ -41,7 +41,8 @@ pub(crate) fn place_at<L: Ledger>(
     steps: &mut Steps<L>,
 ) -> Result<Place, Refusal>
     ensures refused { IfErr result (λ refusal. IsRefusedAt state.old path.now long refusal) }
-    ensures placed { IfOk result (λ place. (m : PlainMount) → StandsFor state.old m → IsPath path.now → IsPlaceAt m path.now place) }
+    ensures placed { IfOk result (λ place. (m : PlainMount) → StandsFor state.old m → IsPath path.now
+        → IsPlaceAt m path.now place) }
     ensures dir { IfOk result (λ place. IsDirAt state.new.disk place.dir) }
     ensures short { IfOk result (λ _. long ≡ false) }
     ensures room { IfOk result (λ _. state.new.next_node + 1 < 2 ^ 32) }

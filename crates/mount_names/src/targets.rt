@@ -86,7 +86,8 @@ fn new_name<L: Ledger>(
 
 // Why the entry can't be moved to that place.
 fn why_not(state: &MountState, entry: &Entry, place: &Place, past: bool) -> Option<Refusal>
-    ensures { (m : PlainMount) (name : Name) → StandsFor state.now m → IsName name → IsNewName m place.now.dir name place.now
+    ensures { (m : PlainMount) (name : Name) → StandsFor state.now m → IsName name
+        → IsNewName m place.now.dir name place.now
         → result ≡ place_refusal m entry.now place.now.dir past name }
 {
     if past {

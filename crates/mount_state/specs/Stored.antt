@@ -26,7 +26,8 @@ seal_of raws n (Some c) =
 
 abbrev pub stored_body : Raws → ℕ → Option Context → Body → StoredBody
 stored_body raws n context (Dir children) = stored.Dir (stored_children (stored_form raws n context) children)
-stored_body raws n context (File contents) = stored.File (stored_blocks (seal_of raws n context) contents) (length contents)
+stored_body raws n context (File contents) =
+    stored.File (stored_blocks (seal_of raws n context) contents) (length contents)
 stored_body raws n context (Link target) = stored.Link (stored_form raws n context target)
 
 -- node n: the bytes of its context, whether it has a name, and its body in its stored form

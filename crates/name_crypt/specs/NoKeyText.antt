@@ -1,6 +1,7 @@
 -- The text by which a stored name is shown and found where its key is absent (Linux, `struct
 -- fscrypt_nokey_name`).
-use Rattle.std.specs.Prelude.{◌≡◌, ◌↔◌, ℕ, Option, Some, List, ◌++◌, length, take, drop, replicate, nat_le, if◌then◌else◌}
+use Rattle.std.specs.Prelude.{◌≡◌, ◌↔◌, ℕ, Option, Some, List, ◌++◌, length, take, drop, replicate}
+use Rattle.std.specs.Prelude.{nat_le, if◌then◌else◌}
 use Rattle.sha2.specs.Sha256.{sha256}
 use Rattle.base64.specs.GeneralPurpose.{encode_of}
 use Rattle.base64.specs.Engines.{url_safe_no_pad}

@@ -1,5 +1,6 @@
 -- Why a line is at fault, and which line of a text is the first.
-use Rattle.std.specs.Prelude.{ℕ, Bool, is_some, ◌==◌, ◌+◌, nat_eq, nat_lt, List, [], ◌∷◌, length, drop, slice_get, codes}
+use Rattle.std.specs.Prelude.{ℕ, Bool, is_some, ◌==◌, ◌+◌, nat_eq, nat_lt, List, [], ◌∷◌, length}
+use Rattle.std.specs.Prelude.{drop, slice_get, codes}
 use Rattle.std.specs.Prelude.{Option, Some, None, if◌then◌else◌}
 use Rattle.std.specs.List.{starts_with, list_any}
 use Rattle.std.specs.Option.{option_map_or, unwrap_or}
