@@ -1,6 +1,6 @@
 -- What a runner is between two commands, and what a command makes of it and of its port.
 use Rattle.std.specs.Prelude.{◌≡◌, ℕ, ◌+◌, ◌≤◌, Bool, true, false, List, [], ◌++◌, length}
-use Rattle.std.specs.Prelude.{slice_get, Option, Some, None}
+use Rattle.std.specs.Prelude.{slice_get, Option, Some, None, nat_lt, if◌then◌else◌}
 use Rattle.call_history.specs.Placed.{entries_of}
 use Rattle.mount_model.specs.Port.{PlacedCalls}
 use Rattle.script_lang.specs.declared.commands.Section.{Section}
@@ -26,6 +26,10 @@ pub record RunnerView : Type 0 where
 abbrev pub runner_view : ℕ → Section → ℕ → PlacedCalls → List Note → RunnerView
 runner_view caller section next entries notes =
     record { caller = caller; section = section; next = next; entries = entries; notes = notes }
+
+-- the number of its next command, while one is left
+abbrev pub next_command : RunnerView → Option ℕ
+next_command runner = if nat_lt runner.next (length runner.section.commands) then Some runner.next else None
 
 -- its entries are a run of the commands before its next, with this seed, and the notes are that run's
 abbrev pub HasRun : List ℕ → RunnerView → Type 0

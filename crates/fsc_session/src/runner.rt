@@ -2,7 +2,7 @@
 
 ghost use Rattle.std.specs.Prelude.{◌≡◌, ◌≤◌, [], ◌++◌, IfOk, OnOk, OnErr};
 ghost use Rattle.fsc_session.specs.Asking.{AsksRightly};
-ghost use Rattle.fsc_session.specs.Running.{RunnerView, runner_view, HasRun, Stepped};
+ghost use Rattle.fsc_session.specs.Running.{RunnerView, runner_view, next_command, HasRun, Stepped};
 ghost use Rattle.fsc_commands.specs.Made.{CameBySome};
 ghost use Rattle.fsc_session.specs.Session.{noted};
 ghost use Rattle.fsc_commands.specs.declared.TheConstants.{MOST_CALLS};
@@ -108,6 +108,17 @@ impl<'a> Runner<'a> {
         ensures { result ≡ self.now.caller }
     {
         self.caller
+    }
+
+    /// The number of the command that the next step runs; none where none is left.
+    pub fn next_command(&self) -> Option<usize>
+        ensures { result ≡ next_command self.now }
+    {
+        if self.next < self.section.commands.len() {
+            Some(self.next)
+        } else {
+            None
+        }
     }
 
     /// What was asked and replied, and the notes.

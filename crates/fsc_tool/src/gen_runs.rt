@@ -8,7 +8,7 @@ use crate::replay::{history_of, whole_log};
 use crate::rotation::run_in_rotation;
 use crate::summary::{summary_text, wants_memory};
 use fsc_commands::OnOneThread;
-use fsc_outside::{Sink, write_all};
+use fsc_outside::{Gate, Sink, write_all};
 use item_list::Bytes;
 use load_gen::{generate, generate_script};
 use mount_shared::MountMachine;
@@ -16,16 +16,17 @@ use reply_text::Status;
 use std::alloc::{AllocError, Global};
 
 // Writes what the form asks for into the sink, once it stands whole, and tells how the run ends.
-pub(crate) fn run_generated<K: Sink, M: MountMachine>(
+pub(crate) fn run_generated<K: Sink, G: Gate, M: MountMachine>(
     alloc: Global,
     form: GenForm,
     sink: &mut K,
+    gate: &G,
     machine: M,
 ) -> Status
     requires { M.leads [] machine }
     ensures { EndsGen M.lawful form (K.state sink.old) (K.state sink.new) result }
 {
-    let text = match asked_text(alloc, form, machine) {
+    let text = match asked_text(alloc, form, gate, machine) {
         Ok(text) => text,
         Err(_) => return Status::NoMemory,
     };
@@ -36,9 +37,10 @@ pub(crate) fn run_generated<K: Sink, M: MountMachine>(
 }
 
 // What the form asks for.
-fn asked_text<M: MountMachine>(
+fn asked_text<G: Gate, M: MountMachine>(
     alloc: Global,
     form: GenForm,
+    gate: &G,
     machine: M,
 ) -> Result<Bytes, AllocError>
     requires { M.leads [] machine }
@@ -50,7 +52,7 @@ fn asked_text<M: MountMachine>(
             Ok(text)
         }
         GenForm::Summary(number) => {
-            let text = summary_of(alloc, number, machine)?;
+            let text = summary_of(alloc, number, gate, machine)?;
             Ok(text)
         }
     }
@@ -58,12 +60,17 @@ fn asked_text<M: MountMachine>(
 
 // The summary of a run of the generated script in rotation. A run in which a call wanted memory has none:
 // what it would tell depends on where memory was wanting.
-fn summary_of<M: MountMachine>(alloc: Global, number: u32, machine: M) -> Result<Bytes, AllocError>
+fn summary_of<G: Gate, M: MountMachine>(
+    alloc: Global,
+    number: u32,
+    gate: &G,
+    machine: M,
+) -> Result<Bytes, AllocError>
     requires { M.leads [] machine }
     ensures { IfOk result (λ text. SummaryOfRun M.lawful number text) }
 {
     let script = generate_script(alloc, number)?;
-    let told = run_in_rotation(alloc, &script, &zero_seed(), &OnOneThread, machine)?;
+    let told = run_in_rotation(alloc, &script, &zero_seed(), gate, &OnOneThread, machine)?;
     let history = history_of(alloc, told.entries)?;
     if wants_memory(history.as_slice()) {
         return Err(AllocError);

@@ -13,17 +13,19 @@ ghost use Rattle.fsc_tool.specs.Runs.{IsSerialRun, TellsRun};
 use crate::told::Told;
 use call_history::{MOST_PLACES, sort_by_place};
 use fsc_commands::{MOST_CALLS, Stretches};
+use fsc_outside::Gate;
 use fsc_session::Runner;
 use mount_shared::{MountMachine, SerialMount};
 use script_lang::{Script, Section};
 use std::alloc::{AllocError, Global};
 
 // What a run of the script in rotation tells, its entries in order of place: command 0 of each caller that
-// has one, then command 1, and so on.
-pub(crate) fn run_in_rotation<S: Stretches, M: MountMachine>(
+// has one, then command 1, and so on, each between the gate's two calls.
+pub(crate) fn run_in_rotation<G: Gate, S: Stretches, M: MountMachine>(
     alloc: Global,
     script: &Script,
     seed: &[u8; 32],
+    gate: &G,
     stretches: &S,
     machine: M,
 ) -> Result<Told, AllocError>
@@ -41,6 +43,7 @@ pub(crate) fn run_in_rotation<S: Stretches, M: MountMachine>(
         runners,
         longest(sections),
         seed,
+        gate,
         stretches,
     )?;
     let mut told = told_by(alloc, runners)?;
@@ -70,12 +73,13 @@ fn fresh_runners(alloc: Global, sections: &[Section]) -> Result<Vec<Runner<'_>>,
 }
 
 // The callers take so many rounds of turns.
-fn run_all<'a, S: Stretches, M: MountMachine>(
+fn run_all<'a, G: Gate, S: Stretches, M: MountMachine>(
     alloc: Global,
     mount: SerialMount<M>,
     mut runners: Vec<Runner<'a>>,
     rounds: usize,
     seed: &[u8; 32],
+    gate: &G,
     stretches: &S,
 ) -> Result<(SerialMount<M>, Vec<Runner<'a>>), AllocError>
     requires ready { S.ready stretches.now }
@@ -94,18 +98,20 @@ fn run_all<'a, S: Stretches, M: MountMachine>(
         runners.as_mut_slice(),
         rounds,
         seed,
+        gate,
         stretches,
     )?;
     Ok((mount, runners))
 }
 
 // The same, on a slice.
-fn run_rounds<S: Stretches, M: MountMachine>(
+fn run_rounds<G: Gate, S: Stretches, M: MountMachine>(
     alloc: Global,
     mount: SerialMount<M>,
     runners: &mut [Runner],
     rounds: usize,
     seed: &[u8; 32],
+    gate: &G,
     stretches: &S,
 ) -> Result<SerialMount<M>, AllocError>
     requires ready { S.ready stretches.now }
@@ -122,18 +128,19 @@ fn run_rounds<S: Stretches, M: MountMachine>(
     let mut mount = mount;
     'rounds: for number in 0..rounds {
         'turns: for i in 0..runners.len() {
-            mount = take_turn(alloc, mount, &mut runners[i], seed, stretches)?;
+            mount = take_turn(alloc, mount, &mut runners[i], seed, gate, stretches)?;
         }
     }
     Ok(mount)
 }
 
-// The caller's next command, on a port of its own.
-fn take_turn<S: Stretches, M: MountMachine>(
+// The caller's next command, if it has one, on a port of its own and between the gate's two calls.
+fn take_turn<G: Gate, S: Stretches, M: MountMachine>(
     alloc: Global,
     mount: SerialMount<M>,
     runner: &mut Runner,
     seed: &[u8; 32],
+    gate: &G,
     stretches: &S,
 ) -> Result<SerialMount<M>, AllocError>
     requires ready { S.ready stretches.now }
@@ -144,8 +151,16 @@ fn take_turn<S: Stretches, M: MountMachine>(
     if mount.places > MOST_PLACES - MOST_CALLS {
         return Err(AllocError);
     }
+    let caller = runner.caller();
+    let command = runner.next_command();
+    if let Some(number) = command {
+        gate.before(caller, number as u64);
+    }
     let mut port = mount.port(runner.caller(), MOST_CALLS);
     runner.step(alloc, &mut port, stretches, seed)?;
+    if let Some(number) = command {
+        gate.after(caller, number as u64);
+    }
     Ok(port.back())
 }
 

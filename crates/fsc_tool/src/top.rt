@@ -14,7 +14,7 @@ use crate::rotation::run_in_rotation;
 use crate::threads::run_in_threads;
 use argon_kdf::LaneStretch;
 use fsc_commands::{InThreads, OnOneThread};
-use fsc_outside::{Gate, SeedSource, Sink, Source};
+use fsc_outside::{Gate, OpenGate, SeedSource, Sink, Source};
 use mount_shared::MountMachine;
 use reply_text::Status;
 use std::alloc::Global;
@@ -25,8 +25,8 @@ use std::thread::Threads;
 /// log into the sink. The words are those of the command line without the program's own name, and are
 /// Usage unless they are `replay` or `replay --serial`, alone or with `--seed HEX64` behind, or a form that
 /// generates, `gen NUMBER` or `gen NUMBER --summary`. With `--serial` the callers take turns, as in
-/// `tool_serial`, and what generates is run as there; else each caller runs in a thread of its own, command
-/// by command between the gate's two calls, and waits for its turn on the machine at each call. Nothing is
+/// `tool_serial`, and what generates is run as there; else each caller runs in a thread of its own, and waits
+/// for its turn on the machine at each call. Each command runs between the gate's two calls. Nothing is
 /// written before all callers have ended and the whole log stands. The seed source is asked once for each
 /// script in the grammar, where the words give no seed.
 pub fn tool<
@@ -52,11 +52,11 @@ pub fn tool<
         IsToolRun M.lawful (map string_bytes words.now.items) before after result }
 {
     if let Some(form) = read_gen_form(words) {
-        return run_generated(alloc, form, sink, machine);
+        return run_generated(alloc, form, sink, gate, machine);
     }
     let serial = read_serial_form(words);
     if serial.is_some() {
-        return replay_in_rotation(alloc, serial, source, sink, seeds, machine);
+        return replay_in_rotation(alloc, serial, source, sink, seeds, gate, machine);
     }
     let form = read_threads_form(words);
     replay_in_threads(rt, alloc, form, source, sink, seeds, gate, machine)
@@ -85,19 +85,20 @@ pub fn tool_serial<S: Source, K: Sink, E: SeedSource, M: MountMachine>(
         IsSerialToolRun M.lawful (map string_bytes words.now.items) before after result }
 {
     if let Some(form) = read_gen_form(words) {
-        return run_generated(alloc, form, sink, machine);
+        return run_generated(alloc, form, sink, &OpenGate, machine);
     }
     let form = read_serial_form(words);
-    replay_in_rotation(alloc, form, source, sink, seeds, machine)
+    replay_in_rotation(alloc, form, source, sink, seeds, &OpenGate, machine)
 }
 
 // A replay in this form whose callers take turns.
-fn replay_in_rotation<S: Source, K: Sink, E: SeedSource, M: MountMachine>(
+fn replay_in_rotation<S: Source, K: Sink, E: SeedSource, G: Gate, M: MountMachine>(
     alloc: Global,
     form: Option<Form>,
     source: &mut S,
     sink: &mut K,
     seeds: &mut E,
+    gate: &G,
     machine: M,
 ) -> Status
     requires { M.leads [] machine }
@@ -109,7 +110,7 @@ fn replay_in_rotation<S: Source, K: Sink, E: SeedSource, M: MountMachine>(
         Ok(run) => run,
         Err(status) => return status,
     };
-    let told = match run_in_rotation(alloc, &run.script, &run.seed, &OnOneThread, machine) {
+    let told = match run_in_rotation(alloc, &run.script, &run.seed, gate, &OnOneThread, machine) {
         Ok(told) => told,
         Err(_) => return Status::NoMemory,
     };

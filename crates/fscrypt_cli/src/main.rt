@@ -4,8 +4,9 @@
 mod commands;
 mod help;
 mod kept;
+mod telling;
 
-use fsc_outside::{OpenGate, RuntimeSeed, StdSink, StdSource, write_all};
+use fsc_outside::{RuntimeSeed, StdSink, StdSource, write_all};
 use fsc_tool::tool;
 use help::{VERSION, advise, help_text};
 use kept::KeptSource;
@@ -14,6 +15,7 @@ use reply_text::Status;
 use std::env;
 use std::io::ErrorKind;
 use std::process::ExitCode;
+use telling::TellingGate;
 
 fn main(rt: HostRuntime) -> ExitCode {
     let words = match words_of(&rt) {
@@ -40,7 +42,7 @@ fn main(rt: HostRuntime) -> ExitCode {
         &mut source,
         &mut sink,
         &mut seeds,
-        &OpenGate,
+        &TellingGate::new(&rt),
         mount,
     );
     end(rt, status, source.given())
