@@ -1,4 +1,5 @@
 pub mod ByteTables
+pub mod GroupLemmas
 pub mod InverseLemmas
 pub mod LinearLemmas
 pub mod RoundLemmas

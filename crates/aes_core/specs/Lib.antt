@@ -1,5 +1,6 @@
 pub mod Aes
 pub mod Field
+pub mod Groups
 pub mod Lanes
 pub mod Laws
 pub mod Planes

@@ -1,57 +1,80 @@
-//! The key schedule of AES-256 (FIPS 197, 5.2): 60 words of four bytes.
+//! The key schedule of AES-256 (FIPS 197, 5.2) by groups of four words, which are round keys. A group
+//! stands in one vector, a word a column. Each word is the one eight before it xored with the one
+//! before it, and that one is changed only where a group begins: so a group is the group two before it,
+//! summed up from column to column, with one changed word added to each column.
 
-ghost use Rattle.std.specs.Prelude.{◌≡◌, ◌*◌, ◌+◌, ◌-◌, ◌<◌, ◌≤◌, ◌++◌, drop, slice_index};
-ghost use borrow.Rule.Slice.PartMut.{put_mid};
-ghost use Rattle.aes_core.specs.RoundKeys.{changed_word, next_word, power_of_x, round_keys, word_of};
-ghost use Rattle.aes_core.specs.Substitution.{substitute_byte};
+ghost use Rattle.std.specs.Prelude.{◌≡◌, ◌*◌, ◌+◌, ◌-◌, ◌<◌, ◌≤◌, ◌++◌, List, drop, ℕ};
+ghost use Rattle.aes_core.specs.Groups.{HoldsGroups, column_sums, in_each_column, last_column};
+ghost use Rattle.aes_core.specs.RoundKeys.{changed_word, power_of_x, round_constant, round_keys};
+ghost use Rattle.aes_core.specs.Steps.{state_of};
 
-use crate::rounds::RoundKeys;
+use crate::rounds::{RoundKeys, next_row, round_key};
 use crate::shuffles::substitute;
+use crate::vectors::xor;
 use std::simd::prelude::*;
 
-const KEY_WORDS: usize = 8;
+// As many as rounds and one more.
+const GROUPS: usize = 15;
 
-const WORDS: usize = 60;
-
-// The round keys of a key.
+// The round keys of a key. The loop makes an odd group and an even one at a time, so that which of
+// them is which is known when this is compiled.
 pub(crate) fn round_keys(key: &[u8; 32]) -> RoundKeys
     ensures { result ≡ round_keys key.now }
 {
     let mut keys = [0; 240];
     begin_with(&mut keys, key);
-    'words: for added in 0..WORDS - KEY_WORDS {
-        append_word(&mut keys, added + KEY_WORDS);
+    append_group(&mut keys, 2);
+    'pairs: for pair in 1..GROUPS / 2 {
+        append_group(&mut keys, 2 * pair + 1);
+        append_group(&mut keys, 2 * pair + 2);
     }
     keys
 }
 
-// The key itself is the first eight words.
+// The key itself is the first two groups.
 fn begin_with(keys: &mut RoundKeys, key: &[u8; 32])
     ensures { keys.new ≡ key.now ++ drop 32 keys.old }
 {
     keys[..32].copy_from_slice(key);
 }
 
-// Writes word `i`, from those before it.
-fn append_word(keys: &mut RoundKeys, i: usize)
-    requires { (8 ≤ i) × (i < 60) }
-    ensures { keys.new ≡ put_mid (4 * i) 4 keys.old (next_word keys.old i) }
+// Writes group `n`, from the two before it.
+#[inline(always)]
+fn append_group(keys: &mut RoundKeys, n: usize)
+    requires { (2 ≤ n) × (n ≤ 14) }
+    ensures { (key : List ℕ) → HoldsGroups keys.old key n → HoldsGroups keys.new key (n + 1) }
 {
-    let word = next_word(keys, i);
-    keys[4 * i..4 * i + 4].copy_from_slice(&word);
+    let sums = column_sums(round_key(keys, n - 2));
+    let group = xor(sums, changed_word(keys, n));
+    group.copy_to_slice(&mut keys[16 * n..16 * n + 16]);
 }
 
-fn next_word(keys: &RoundKeys, i: usize) -> [u8; 4]
-    requires { (8 ≤ i) × (i < 60) }
-    ensures { result ≡ next_word keys.now i }
+// In each column the sum of it and of those before it.
+#[inline(always)]
+fn column_sums(words: u8x16) -> u8x16
+    ensures { result ≡ column_sums words }
 {
-    let changed = changed_word(keys, i);
-    [
-        keys[4 * i - 32] ^ changed[0],
-        keys[4 * i - 31] ^ changed[1],
-        keys[4 * i - 30] ^ changed[2],
-        keys[4 * i - 29] ^ changed[3],
-    ]
+    let none = u8x16::splat(0);
+    let one_before = none.shuffle(
+        words,
+        [0, 1, 2, 3, 16, 17, 18, 19, 20, 21, 22, 23, 24, 25, 26, 27],
+    );
+    let pairs = xor(words, one_before);
+    let two_before = none.shuffle(
+        pairs,
+        [0, 1, 2, 3, 4, 5, 6, 7, 16, 17, 18, 19, 20, 21, 22, 23],
+    );
+    xor(pairs, two_before)
+}
+
+// In each column the last one.
+#[inline(always)]
+fn last_column(words: u8x16) -> u8x16
+    ensures { result ≡ last_column words }
+{
+    words.swizzle([
+        12, 13, 14, 15, 12, 13, 14, 15, 12, 13, 14, 15, 12, 13, 14, 15,
+    ])
 }
 
 // The power of x that each eighth word takes, which is below x⁸ in all seven of them.
@@ -62,44 +85,29 @@ fn round_constant(j: usize) -> u8
     1 << (j - 1)
 }
 
-// The S-box on each byte of a word.
-fn substitute_word(word: [u8; 4]) -> [u8; 4]
-    ensures { result ≡ word_of (λ k. substitute_byte (slice_index word k)) }
+// The round constant, in each column.
+#[inline(always)]
+fn round_constants(j: usize) -> u8x16
+    requires { (1 ≤ j) × (j < 8) }
+    ensures { result ≡ state_of (λ r c. round_constant j r) }
 {
-    let [a, b, c, d] = word;
-    let bytes = u8x16::from_array([a, b, c, d, 0, 0, 0, 0, 0, 0, 0, 0, 0, 0, 0, 0]);
-    let substituted = substitute(bytes).to_array();
-    [
-        substituted[0],
-        substituted[1],
-        substituted[2],
-        substituted[3],
-    ]
+    let power = round_constant(j);
+    u8x16::from_array([
+        power, 0, 0, 0, power, 0, 0, 0, power, 0, 0, 0, power, 0, 0, 0,
+    ])
 }
 
-// What word `i - 8` is xored with.
-fn changed_word(keys: &RoundKeys, i: usize) -> [u8; 4]
-    requires { (8 ≤ i) × (i < 60) }
-    ensures { result ≡ changed_word keys.now i }
+// What the first word of group `n` is xored with, in each column.
+#[inline(always)]
+fn changed_word(keys: &RoundKeys, n: usize) -> u8x16
+    requires { (2 ≤ n) × (n ≤ 14) }
+    ensures { result ≡ in_each_column (changed_word keys.now (4 * n)) }
 {
-    let [a, b, c, d] = [
-        keys[4 * i - 4],
-        keys[4 * i - 3],
-        keys[4 * i - 2],
-        keys[4 * i - 1],
-    ];
-    let place = i % KEY_WORDS;
+    let word = last_column(round_key(keys, n - 1));
+    let place = n % 2;
     if place == 0 {
-        let turned = substitute_word([b, c, d, a]);
-        [
-            turned[0] ^ round_constant(i / 8),
-            turned[1],
-            turned[2],
-            turned[3],
-        ]
-    } else if place == 4 {
-        substitute_word([a, b, c, d])
+        xor(substitute(next_row(word)), round_constants(n / 2))
     } else {
-        [a, b, c, d]
+        substitute(word)
     }
 }

@@ -1,22 +1,21 @@
--- One case for each kind of word.
-use Rattle.std.proofs.Common.{ℕ, ◌-◌, ◌*◌, get_or, arith, refl, ap, ◌∙◌}
-use Rattle.std.proofs.lemmas.Bool.{ne_eqb}
-use Rattle.std.specs.Prelude.{slice_index}
+-- One case for even groups, and one for odd ones.
+use Rattle.std.proofs.Common.{◌≡◌, ◌-◌, map, ap, ◌∙◌, arith}
+use Rattle.std.specs.Prelude.{bit_xor}
+use Rattle.std.specs.Simd.Lanes.{zip2}
+use Rattle.aes_core.specs.Groups.{last_column}
+use Rattle.aes_core.specs.Lanes.{round_key, row_on}
 use Rattle.aes_core.specs.Substitution.{substitute_byte}
-use Rattle.aes_core.proofs.ScheduleLemmas.{changed_eighth, changed_fourth, changed_other}
+use Rattle.aes_core.proofs.GroupLemmas.{changed_even, changed_odd}
 use Rattle.aes_core.proofs.key_schedule.changed_word.Goals as goal
+use Rattle.aes_core.proofs.key_schedule.changed_word.Goals.{then-place-eq0, else-place-eq0}
 
-pub returns-then-place-eq0 : goal.returns-then-place-eq0
-returns-then-place-eq0 c =
-    let turned = c.substitute_word-turned.ensures in
-    changed_eighth c.args.keys.now c.args.i _ _ _ _ _ (omega arith) (omega arith) (ap (λ v. slice_index v 3) turned) (ap (λ v. slice_index v 0) turned)
-    (ap (λ v. slice_index v 1) turned) (ap (λ v. slice_index v 2) turned) c.round_constant.ensures
-
-pub returns-then-place-eq4 : goal.returns-then-place-eq4
-returns-then-place-eq4 c =
-    let byte = λ (k : ℕ). substitute_byte (get_or c.args.keys.now k 0) in
-    c.substitute_word.ensures
-    ∙ changed_fourth c.args.keys.now c.args.i (byte (4 * c.args.i - 4)) (byte (4 * c.args.i - 3)) (byte (4 * c.args.i - 2)) (byte (4 * c.args.i - 1)) (omega arith) (omega arith) refl refl refl refl
-
-pub returns-else-place-eq4 : goal.returns-else-place-eq4
-returns-else-place-eq4 c = changed_other c.args.keys.now c.args.i (omega arith) (ne_eqb _ _ c.if-place-eq0.false) (ne_eqb _ _ c.if-place-eq4.false)
+pub returns : goal.returns
+returns c =
+    let word : c.last_column-word.result ≡ last_column (round_key c.args.keys.now (c.args.n - 1)) = c.last_column-word.ensures ∙ ap last_column c.round_key.ensures in
+    elim c.if-place-eq0.branch [
+      | then-place-eq0 w ↦
+          let substituted = w.substitute.ensures ∙ ap (map substitute_byte) (w.next_row.ensures ∙ ap (λ v. row_on 1 v) word) in
+          w.result-is ∙ w.xor.ensures ∙ (λ i. zip2 bit_xor (substituted i) (w.round_constants.ensures i)) ∙ changed_even c.args.keys.now c.args.n (omega arith) w.if-place-eq0.true
+      | else-place-eq0 w ↦
+          w.result-is ∙ w.substitute-else-place-eq0.ensures ∙ ap (map substitute_byte) word ∙ changed_odd c.args.keys.now c.args.n (omega arith) w.if-place-eq0.false
+    ]

@@ -1,7 +1,7 @@
--- The words so far are the key's and as many more as were added.
-use Rattle.std.proofs.Common.{◌≡◌, ◌+◌, ◌*◌, length, take}
-use Rattle.aes_core.specs.RoundKeys.{key_schedule}
+-- The groups so far are those of the key's schedule.
+use Rattle.std.proofs.Common.{◌≡◌, ◌+◌, ◌*◌, length}
+use Rattle.aes_core.specs.Groups.{HoldsGroups}
 use Rattle.aes_core.proofs.key_schedule.round_keys.Given as goal
 
-abbrev pub invariant-words : goal.invariant-words
-invariant-words l = (length l.keys ≡ 240) × (take (4 * l.added + 32) l.keys ≡ key_schedule l.fn.key l.added)
+abbrev pub invariant-pairs : goal.invariant-pairs
+invariant-pairs l = (length l.keys ≡ 240) × HoldsGroups l.keys l.fn.key (2 * l.pair + 1)
