@@ -10,3 +10,4 @@ pub mod Recursion
 pub mod SegmentLemmas
 pub mod AloneLemmas
 pub mod SliceLemmas
+pub mod ReadingLemmas

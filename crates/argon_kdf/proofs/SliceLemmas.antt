@@ -1,19 +1,19 @@
 -- Memory by slices: which slice a column is in, and a slice that is taken out and put back.
 use Rattle.std.proofs.Common.{◌≡◌, ℕ, zero, suc, ◌+◌, ◌*◌, ◌/◌, ◌%◌, ◌<◌, ◌≤◌, ◌≢◌, ◌==◌, true, false, List}
 use Rattle.std.proofs.Common.{[], length, slice_index_or, slice_set, inl, inr, refl, sym, ap, ◌∙◌, arith, length-set}
-use Rattle.std.proofs.Common.{get_or-set_same, get_or-set_other, replicate, ◌∷◌}
+use Rattle.std.proofs.Common.{get_or-set_same, get_or-set_other, ◌∷◌, ◌++◌}
 use Rattle.std.specs.Prelude.{All}
 use Rattle.std.specs.declared.vec.Vec.{Vec}
 use Rattle.std.specs.declared.alloc.Global.{Global}
 use Rattle.std.proofs.lemmas.Bool.{cases_eq}
 use Rattle.std.proofs.lemmas.Bool.Decides.{nat_tests}
-use Rattle.std.proofs.lemmas.List.{get_or-map, get_or-replicate, length-map, length-replicate, map-set}
-use Rattle.std.proofs.lemmas.Nat.{div-mul-add, mod-mul-add, div_below, le-div, mod_below}
+use Rattle.std.proofs.lemmas.List.{get_or-map, length-append, length-map, map-append, map-set}
+use Rattle.std.proofs.lemmas.Nat.{div-mul-add, mod-mul-add, div_below, le-div}
 use Rattle.argon_kdf.specs.Blocks.{zero_block}
 use Rattle.argon_kdf.specs.declared.layout.Place.{Place}
 use Rattle.argon_kdf.specs.Shapes.{Shape, columns}
-use Rattle.argon_kdf.specs.Slices.{IsSlice, IsWhole, IsWholeBut, IsOutside, block_at, seen_block}
-use Rattle.argon_kdf.specs.Slices.{segments_of, slices_of}
+use Rattle.argon_kdf.specs.Slices.{HasSlice, HasSlices, IsSlice, IsWhole, IsWholeBut, IsOutside, block_at}
+use Rattle.argon_kdf.specs.Slices.{seen_block, segments_of, slices_of}
 
 -- ---- columns
 
@@ -23,7 +23,7 @@ slice_of g s k low = div-mul-add s g k low
 pub index_of : (g s k : ℕ) → k < g → (s * g + k) % g ≡ k
 index_of g s k low = mod-mul-add s g k low
 
-next_row : (s g : ℕ) → (s + 1) * g ≡ s * g + g
+pub next_row : (s g : ℕ) → (s + 1) * g ≡ s * g + g
 next_row s g = grind arith
 
 -- a column outside a slice is another slice's
@@ -41,12 +41,12 @@ slice_low x z some inside = div_below z x.width 4 some inside
 
 pub block_in : (x : Shape) (m : List (List (List (List ℕ)))) (s l k : ℕ) → k < x.width
     → block_at x m l (s * x.width + k)
-    ≡ slice_index_or (slice_index_or (slice_index_or m s []) l []) k []
+    ≡ slice_index_or (slice_index_or (slice_index_or m s []) l []) k zero_block
 unfolding block_at
 block_in x m s l k low = rw (slice_of x.width s k low, index_of x.width s k low) refl
 
 pub block_is : (x : Shape) (m : List (List (List (List ℕ)))) (s l z : ℕ) → z / x.width ≡ s
-    → block_at x m l z ≡ slice_index_or (slice_index_or (slice_index_or m s []) l []) (z % x.width) []
+    → block_at x m l z ≡ slice_index_or (slice_index_or (slice_index_or m s []) l []) (z % x.width) zero_block
 unfolding block_at
 block_is x m s l z is = rw is refl
 
@@ -55,13 +55,13 @@ pub block_same : (x : Shape) (m n : List (List (List (List ℕ)))) (l z : ℕ)
     → block_at x m l z ≡ block_at x n l z
 unfolding block_at
 block_same x m n l z same =
-    ap (λ (slice : List (List (List ℕ))). slice_index_or (slice_index_or slice l []) (z % x.width) []) same
+    ap (λ (slice : List (List (List ℕ))). slice_index_or (slice_index_or slice l []) (z % x.width) zero_block) same
 
 -- ---- what is seen
 
 pub seen_own : (x : Shape) (m : List (List (List (List ℕ)))) (seg : List (List ℕ)) (at : Place) (l z : ℕ)
     → z / x.width ≡ at.slice
-    → seen_block x m seg at l z ≡ slice_index_or seg (z % x.width) []
+    → seen_block x m seg at l z ≡ slice_index_or seg (z % x.width) zero_block
 unfolding seen_block
 seen_own x m seg at l z own =
     let test : (z / x.width == at.slice) ≡ true = grind (arith, nat_tests) in
@@ -166,33 +166,56 @@ pub slices_set : (m : List (Vec (Vec (List ℕ) Global) Global)) (s : ℕ) (e : 
     → slices_of (slice_set m s e) ≡ slice_set (slices_of m) s (segments_of e.items)
 slices_set m s e = map-set parts_of m s e
 
--- ---- memory full of zeros
+pub slices_append : (m : List (Vec (Vec (List ℕ) Global) Global)) (e : Vec (Vec (List ℕ) Global) Global)
+    → slices_of (m ++ e ∷ []) ≡ slices_of m ++ segments_of e.items ∷ []
+slices_append m e = map-append parts_of m (e ∷ [])
 
-pub zero_whole : (x : Shape) (m : List (Vec (Vec (List ℕ) Global) Global)) → length m ≡ 4
-    → All (λ slice. length slice.items ≡ x.lanes) m
-    → All (λ slice. All (λ v. v.items ≡ replicate x.width zero_block) slice.items) m
-    → IsWhole x (slices_of m)
-zero_whole x m count lanes zeros = record {
-  count = length-map m parts_of ∙ count;
+-- ---- memory that grows
+
+-- past the end of a list a read gives the default
+pub read_past : {A : Type 0} (xs : List A) (n : ℕ) (d : A) → length xs ≤ n → slice_index_or xs n d ≡ d
+read_past [] n d low = refl
+read_past (x ∷ xs) zero d low = absurd (omega arith)
+read_past (x ∷ xs) (suc n) d low = let rest : length xs ≤ n = omega arith in read_past xs n d rest
+
+pub appended_here : {A : Type 0} (xs : List A) (v d : A) (n : ℕ) → length xs ≡ n
+    → slice_index_or (xs ++ v ∷ []) n d ≡ v
+appended_here [] v d zero long = refl
+appended_here [] v d (suc n) long = absurd (omega arith)
+appended_here (x ∷ xs) v d zero long = absurd (omega arith)
+appended_here (x ∷ xs) v d (suc n) long = let rest : length xs ≡ n = omega arith in appended_here xs v d n rest
+
+pub appended_other : {A : Type 0} (xs : List A) (v d : A) (n : ℕ) → n ≢ length xs
+    → slice_index_or (xs ++ v ∷ []) n d ≡ slice_index_or xs n d
+appended_other [] v d zero other = absurd (other refl)
+appended_other [] v d (suc n) other = refl
+appended_other (x ∷ xs) v d zero other = refl
+appended_other (x ∷ xs) v d (suc n) other =
+    let rest : n ≢ length xs = λ e. other (omega (arith, e)) in appended_other xs v d n rest
+
+-- no slice
+pub block_none : (x : Shape) (l z : ℕ) → block_at x [] l z ≡ zero_block
+unfolding block_at
+block_none x l z = refl
+
+-- a slice more
+pub slices_more : (x : Shape) (m : List (List (List (List ℕ)))) (s : ℕ) (v : List (List (List ℕ)))
+    → HasSlices x s m → IsSlice x v → HasSlices x (s + 1) (m ++ v ∷ [])
+slices_more x m s v has slice = record {
+  count = length-append m (v ∷ []) ∙ omega (arith, has.count);
   slices = λ n low.
-      let inside : n < length m = omega arith in
-      each_slice m n (IsSlice x) inside (λ e.
-      slice_from x (slice_index_or m n e).items (lanes n e inside) (λ k d below.
-      ap length (zeros n e inside k d below) ∙ length-replicate x.width zero_block));
+      elim (cases_eq n s) [
+        | inl here ↦ rw (here, appended_here m v [] s has.count) slice
+        | inr other ↦ rw (appended_other m v [] n (λ e. other (e ∙ has.count))) (has.slices n (omega arith))
+      ];
 }
 
-pub zero_at : (x : Shape) (m : List (Vec (Vec (List ℕ) Global) Global)) (l z : ℕ) → 0 < x.width → l < x.lanes
-    → z < columns x → length m ≡ 4
-    → All (λ slice. length slice.items ≡ x.lanes) m
-    → All (λ slice. All (λ v. v.items ≡ replicate x.width zero_block) slice.items) m
-    → block_at x (slices_of m) l z ≡ zero_block
-zero_at x m l z some low inside count lanes zeros =
-    let n : ℕ = z / x.width in
-    let within : n < length m = omega (arith, slice_low x z some inside) in
-    block_is x (slices_of m) n l z refl
-    ∙ each_slice m n (λ slice. slice_index_or (slice_index_or slice l []) (z % x.width) [] ≡ zero_block) within
-    (λ e.
-    let lane : l < length (slice_index_or m n e).items = omega (arith, lanes n e within) in
-    each_segment (slice_index_or m n e).items l (λ t. slice_index_or t (z % x.width) [] ≡ zero_block) lane
-    (λ d. ap (λ (t : List (List ℕ)). slice_index_or t (z % x.width) []) (zeros n e within l d lane)
-    ∙ get_or-replicate x.width (z % x.width) zero_block [] (mod_below z x.width some)))
+-- ---- what there is to read
+
+pub has_slice : (x : Shape) (m : List (List (List (List ℕ)))) (s n : ℕ) → HasSlices x s m → n < s
+    → HasSlice x m n
+has_slice x m s n has low = record { within = omega (arith, has.count); slice = has.slices n low }
+
+pub has_but : (x : Shape) (m : List (List (List (List ℕ)))) (s n : ℕ) → IsWholeBut x s m → n < 4 → n ≢ s
+    → HasSlice x m n
+has_but x m s n but low other = record { within = omega (arith, but.count); slice = but.slices n low other }

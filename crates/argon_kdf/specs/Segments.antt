@@ -1,10 +1,25 @@
--- How the memory without a slice and a segment in the making stand for a table. These words describe the
--- code and not the standard.
-use Rattle.std.specs.Prelude.{◌≡◌, ℕ, ◌<◌, ◌⊎◌, List}
+-- How memory and a segment in the making stand for a table. These words describe the code and not the
+-- standard.
+use Rattle.std.specs.Prelude.{◌≡◌, ◌≢◌, ℕ, ◌<◌, ◌⊎◌, List, [], length, All, vec_capacity}
+use Rattle.std.specs.declared.vec.Vec.{Vec}
+use Rattle.std.specs.declared.alloc.Global.{Global}
 use Rattle.argon_kdf.specs.declared.layout.Place.{Place}
 use Rattle.argon_kdf.specs.Shapes.{Shape, columns}
-use Rattle.argon_kdf.specs.Slices.{IsOutside, seen_block}
+use Rattle.argon_kdf.specs.Slices.{HasSlice, IsOutside, seen_block}
 use Rattle.argon_kdf.specs.Tables.{Table, latest}
+
+-- room for a slice: a vector for each lane that has no block yet and holds as many as a segment
+pub record IsRoom (x : Shape) (segments : List (Vec (List ℕ) Global)) : Type 0 where
+  pub lanes : length segments ≡ x.lanes
+  pub empty : All (λ v. v.items ≡ []) segments
+  pub room : All (λ v. vec_capacity v ≡ x.width) segments
+
+-- what the segment of a place may read is there: each other slice and all that the segment had, but in the
+-- first pass only the slices before and the blocks made so far
+pub record IsReadable (x : Shape) (memory : List (List (List (List ℕ)))) (segment : List (List ℕ))
+    (at : Place) : Type 0 where
+  pub others : (n : ℕ) → n < 4 → n ≢ at.slice → (at.pass ≡ 0 → n < at.slice) → HasSlice x memory n
+  pub own : (k : ℕ) → k < x.width → (at.pass ≡ 0 → k < at.index) → k < length segment
 
 -- in its own lane, and in each column that is not one of the slice's, the segment sees the latest block
 pub record Begun (x : Shape) (memory : List (List (List (List ℕ)))) (segment : List (List ℕ))

@@ -5,6 +5,7 @@ use Rattle.std.specs.Prelude.{List, [], length, map, slice_index_or, if◌then�
 use Rattle.std.specs.declared.vec.Vec.{Vec}
 use Rattle.std.specs.declared.alloc.Global.{Global}
 use Rattle.argon_kdf.specs.declared.layout.Place.{Place}
+use Rattle.argon_kdf.specs.Blocks.{zero_block}
 use Rattle.argon_kdf.specs.Shapes.{Shape}
 
 -- the segments of a slice
@@ -20,27 +21,36 @@ pub record IsSlice (x : Shape) (slice : List (List (List ℕ))) : Type 0 where
   pub lanes : length slice ≡ x.lanes
   pub widths : (lane : ℕ) → lane < x.lanes → length (slice_index_or slice lane []) ≡ x.width
 
--- memory has four of them
-pub record IsWhole (x : Shape) (memory : List (List (List (List ℕ)))) : Type 0 where
-  pub count : length memory ≡ 4
-  pub slices : (n : ℕ) → n < 4 → IsSlice x (slice_index_or memory n [])
+-- memory has the slice
+pub record HasSlice (x : Shape) (memory : List (List (List (List ℕ)))) (n : ℕ) : Type 0 where
+  pub within : n < length memory
+  pub slice : IsSlice x (slice_index_or memory n [])
+
+-- memory has this many slices
+pub record HasSlices (x : Shape) (many : ℕ) (memory : List (List (List (List ℕ)))) : Type 0 where
+  pub count : length memory ≡ many
+  pub slices : (n : ℕ) → n < many → IsSlice x (slice_index_or memory n [])
+
+-- it has four of them
+abbrev pub IsWhole : Shape → List (List (List (List ℕ))) → Type 0
+IsWhole x memory = HasSlices x 4 memory
 
 -- it has, but for the one that is taken out
 pub record IsWholeBut (x : Shape) (slice : ℕ) (memory : List (List (List (List ℕ)))) : Type 0 where
   pub count : length memory ≡ 4
   pub slices : (n : ℕ) → n < 4 → n ≢ slice → IsSlice x (slice_index_or memory n [])
 
--- the block of a lane and a column
+-- the block of a lane and a column; zeros where none is made yet
 unfoldable pub block_at : Shape → List (List (List (List ℕ))) → ℕ → ℕ → List ℕ
 block_at x memory lane column =
     slice_index_or (slice_index_or (slice_index_or memory (column / x.width) []) lane [])
-    (column % x.width) []
+    (column % x.width) zero_block
 
 -- the block of a lane and a column, as the segment of a place sees it in the making: of the place's slice
 -- its own block, and elsewhere what memory has
 unfoldable pub seen_block : Shape → List (List (List (List ℕ))) → List (List ℕ) → Place → ℕ → ℕ → List ℕ
 seen_block x memory segment at lane column =
-    if column / x.width == at.slice then slice_index_or segment (column % x.width) []
+    if column / x.width == at.slice then slice_index_or segment (column % x.width) zero_block
     else block_at x memory lane column
 
 -- a column that is not one of the slice's

@@ -6,10 +6,11 @@ ghost use Rattle.argon_kdf.specs.Argon2id.{argon2id_tag};
 
 use crate::Costs;
 use crate::digest::{first_digest, write_tag};
-use crate::lanes::fill_by_lanes;
+use crate::first_pass::first_pass;
+use crate::lanes::later_passes;
 use crate::layout::Layout;
 use crate::limits::{LEAST_SALT_BYTES, MOST_TEXT_BYTES};
-use crate::slices::{last_column, zero_slices};
+use crate::slices::{last_column, reserved_slices};
 use std::alloc::{AllocError, Global};
 use std::thread::Threads;
 
@@ -38,9 +39,10 @@ pub fn argon2id_lanes<R: Threads + Sync>(
     ensures kept { OnErr result (tag.new ≡ tag.old) }
 {
     let layout = Layout::new(costs);
-    let mut memory = zero_slices(threads, alloc, layout)?;
+    let mut rooms = reserved_slices(alloc, layout)?;
     let h0 = first_digest(costs, password, salt, secret, extra);
-    fill_by_lanes(threads, alloc, layout, &h0, &mut memory);
+    let mut memory = first_pass(threads, alloc, layout, &h0, &mut rooms)?;
+    later_passes(threads, alloc, layout, &mut memory);
     write_tag(&last_column(layout, &memory), tag);
     Ok(())
 }

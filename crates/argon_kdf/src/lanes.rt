@@ -1,7 +1,7 @@
-// The blocks with the segments of each slice made at the same time, one thread a lane.
+// The later passes, with the segments of each slice made at the same time, one thread a lane.
 
 ghost use Rattle.std.specs.Prelude.{◌≡◌, ℕ, ◌+◌, ◌*◌, ◌<◌};
-ghost use Rattle.std.specs.Prelude.{All, [], length, slice_index_or};
+ghost use Rattle.std.specs.Prelude.{All, List, length, slice_index_or};
 ghost use Rattle.argon_kdf.specs.Blocks.{zero_block};
 ghost use Rattle.argon_kdf.specs.Shapes.{columns, place, shape};
 ghost use Rattle.argon_kdf.specs.Slices.{IsWhole, IsWholeBut, block_at, slices_of};
@@ -21,55 +21,55 @@ use std::{mem, thread};
 // A segment in its vector.
 fn make_in(
     layout: Layout,
-    h0: &[u8; 64],
     memory: &[Segments],
     segment: &mut Vec<Block>,
     pass: usize,
     slice: usize,
     lane: usize,
 )
+    requires later { 0 < pass }
     requires slice { slice < 4 }
     requires lane { lane < layout.lanes }
     requires memory { IsWholeBut (shape layout) slice (slices_of memory.now) }
     requires segment { length segment.old.items ≡ layout.width }
     ensures whole { length segment.new.items ≡ layout.width }
-    ensures made { (table : Table) → Begun (shape layout) (slices_of memory.now) segment.old.items table
-        (place pass slice lane 0)
-        → (k : ℕ) → k < layout.width → slice_index_or segment.new.items k []
-        ≡ with_places (shape layout) h0.now table pass slice lane layout.width
+    ensures made { (h0 : List ℕ) (table : Table) (k : ℕ) → k < layout.width
+        → Begun (shape layout) (slices_of memory.now) segment.old.items table (place pass slice lane 0)
+        → slice_index_or segment.new.items k zero_block
+        ≡ with_places (shape layout) h0 table pass slice lane layout.width
         pass lane (slice * layout.width + k) }
 {
-    make_segment(layout, h0, memory, segment, pass, slice, lane);
+    make_segment(layout, memory, segment, pass, slice, lane);
 }
 
 // The segments of a slice that is taken out of memory.
 fn make_segments<R: Threads + Sync>(
     threads: &R,
     layout: Layout,
-    h0: &[u8; 64],
     memory: &[Segments],
     segments: &mut [Vec<Block>],
     pass: usize,
     slice: usize,
 )
+    requires later { 0 < pass }
     requires slice { slice < 4 }
     requires memory { IsWholeBut (shape layout) slice (slices_of memory.now) }
     requires lanes { length segments.old ≡ layout.lanes }
     requires parts { All (λ v. length v.items ≡ layout.width) segments.old }
     ensures lanes { length segments.new ≡ layout.lanes }
     ensures parts { All (λ v. length v.items ≡ layout.width) segments.new }
-    ensures made { (table : Table) (i : ℕ) (d : _) (k : ℕ) → i < layout.lanes → k < layout.width
+    ensures made { (h0 : List ℕ) (table : Table) (i : ℕ) (d : _) (k : ℕ) → i < layout.lanes → k < layout.width
         → Begun (shape layout) (slices_of memory.now) (slice_index_or segments.old i d).items table
         (place pass slice i 0)
-        → slice_index_or (slice_index_or segments.new i d).items k []
-        ≡ with_places (shape layout) h0.now table pass slice i layout.width
+        → slice_index_or (slice_index_or segments.new i d).items k zero_block
+        ≡ with_places (shape layout) h0 table pass slice i layout.width
         pass i (slice * layout.width + k) }
 {
     thread::for_each_mut(
         threads,
         segments,
         layout.lanes,
-        &|lane, segment| { make_in(layout, h0, memory, segment, pass, slice, lane) },
+        &|lane, segment| { make_in(layout, memory, segment, pass, slice, lane) },
     );
 }
 
@@ -78,22 +78,21 @@ fn fill_slice<R: Threads + Sync>(
     threads: &R,
     alloc: Global,
     layout: Layout,
-    h0: &[u8; 64],
     memory: &mut [Segments],
     pass: usize,
     slice: usize,
 )
+    requires later { 0 < pass }
     requires slice { slice < 4 }
     requires whole { IsWhole (shape layout) (slices_of memory.old) }
     ensures whole { IsWhole (shape layout) (slices_of memory.new) }
-    ensures filled { (table : Table)
+    ensures filled { (h0 : List ℕ) (table : Table)
         → Shows (shape layout) (block_at (shape layout) (slices_of memory.old)) table (place pass slice 0 0)
         → Shows (shape layout) (block_at (shape layout) (slices_of memory.new))
-        (with_lanes (shape layout) h0.now table pass slice layout.lanes)
-        (place pass (slice + 1) 0 0) }
+        (with_lanes (shape layout) h0 table pass slice layout.lanes) (place pass (slice + 1) 0 0) }
 {
     let mut segments = mem::replace(&mut memory[slice], Vec::new(alloc));
-    make_segments(threads, layout, h0, memory, &mut segments, pass, slice);
+    make_segments(threads, layout, memory, &mut segments, pass, slice);
     memory[slice] = segments;
 }
 
@@ -101,39 +100,38 @@ fn fill_pass<R: Threads + Sync>(
     threads: &R,
     alloc: Global,
     layout: Layout,
-    h0: &[u8; 64],
     memory: &mut [Segments],
     pass: usize,
 )
+    requires later { 0 < pass }
     requires whole { IsWhole (shape layout) (slices_of memory.old) }
     ensures whole { IsWhole (shape layout) (slices_of memory.new) }
-    ensures filled { (table : Table)
+    ensures filled { (h0 : List ℕ) (table : Table)
         → Shows (shape layout) (block_at (shape layout) (slices_of memory.old)) table (place pass 0 0 0)
         → Shows (shape layout) (block_at (shape layout) (slices_of memory.new))
-        (with_slices (shape layout) h0.now table pass 4) (place (pass + 1) 0 0 0) }
+        (with_slices (shape layout) h0 table pass 4) (place (pass + 1) 0 0 0) }
 {
     'slices: for slice in 0..4 {
-        fill_slice(threads, alloc, layout, h0, memory, pass, slice);
+        fill_slice(threads, alloc, layout, memory, pass, slice);
     }
 }
 
-// Makes every block of every pass, in memory that is full of zeros. The segments of a slice are made at
-// the same time. No memory is taken.
-pub(crate) fn fill_by_lanes<R: Threads + Sync>(
+// Makes every block of the passes after the first. No memory is taken.
+pub(crate) fn later_passes<R: Threads + Sync>(
     threads: &R,
     alloc: Global,
     layout: Layout,
-    h0: &[u8; 64],
     memory: &mut [Segments],
 )
     requires whole { IsWhole (shape layout) (slices_of memory.old) }
-    requires zero { (lane column : ℕ) → lane < layout.lanes → column < columns (shape layout)
-        → block_at (shape layout) (slices_of memory.old) lane column ≡ zero_block }
     ensures whole { IsWhole (shape layout) (slices_of memory.new) }
-    ensures filled { Shows (shape layout) (block_at (shape layout) (slices_of memory.new))
-        (with_passes (shape layout) h0.now layout.passes) (place layout.passes 0 0 0) }
+    ensures filled { (h0 : List ℕ)
+        → Shows (shape layout) (block_at (shape layout) (slices_of memory.old))
+        (with_passes (shape layout) h0 1) (place 1 0 0 0)
+        → Shows (shape layout) (block_at (shape layout) (slices_of memory.new))
+        (with_passes (shape layout) h0 layout.passes) (place layout.passes 0 0 0) }
 {
-    'passes: for pass in 0..layout.passes {
-        fill_pass(threads, alloc, layout, h0, memory, pass);
+    'passes: for pass in 1..layout.passes {
+        fill_pass(threads, alloc, layout, memory, pass);
     }
 }

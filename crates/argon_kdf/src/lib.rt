@@ -26,6 +26,7 @@ mod by_lanes;
 mod costs;
 mod digest;
 mod fill;
+mod first_pass;
 mod lanes;
 mod law;
 mod layout;

@@ -1,19 +1,19 @@
 // A segment made in its place, beside the others of its slice: from its own blocks, and from memory, out
 // of which the slice is taken. No reference goes into another lane's segment of the slice (RFC 9106, 3.4).
 
-ghost use Rattle.std.specs.Prelude.{◌≡◌, ◌⊎◌, ℕ, ◌+◌, ◌-◌, ◌*◌, ◌/◌, ◌<◌};
-ghost use Rattle.std.specs.Prelude.{◌≤◌, List, [], length, slice_index_or};
+ghost use Rattle.std.specs.Prelude.{◌≡◌, ◌≢◌, ◌⊎◌, ℕ, ◌+◌, ◌-◌, ◌*◌, ◌/◌, ◌%◌, ◌<◌};
+ghost use Rattle.std.specs.Prelude.{◌≤◌, List, length, slice_index_or};
+ghost use Rattle.argon_kdf.specs.Blocks.{zero_block};
 ghost use Rattle.argon_kdf.specs.Shapes.{IsWithin, column_of, columns, place, shape};
-ghost use Rattle.argon_kdf.specs.Slices.{IsWholeBut, seen_block, slices_of};
+ghost use Rattle.argon_kdf.specs.Slices.{HasSlice, IsWholeBut, seen_block, slices_of};
 ghost use Rattle.argon_kdf.specs.References.{address_block};
 ghost use Rattle.argon_kdf.specs.Tables.{Table, latest};
-ghost use Rattle.argon_kdf.specs.Filling.{joined_block, new_block, with_places};
-ghost use Rattle.argon_kdf.specs.Segments.{Begun};
+ghost use Rattle.argon_kdf.specs.Filling.{joined_block, with_places};
+ghost use Rattle.argon_kdf.specs.Segments.{Begun, IsReadable};
 
 use crate::block::{Block, ZERO_BLOCK, join, xor_into};
-use crate::digest::first_block;
 use crate::layout::{Layout, Place};
-use crate::reference::{reference_column, reference_lane, reference_word, refresh};
+use crate::reference::{reference_column, reference_lane, reference_word};
 use crate::slices::{Segments, block_at};
 
 // The block of a lane and a column as the segment of a place sees it.
@@ -26,10 +26,11 @@ fn seen<'a>(
     lane: usize,
     column: usize,
 ) -> &'a Block
-    requires memory { IsWholeBut (shape layout) at.slice (slices_of memory.now) }
-    requires segment { length segment.now ≡ layout.width }
     requires lane { lane < layout.lanes }
     requires column { column < columns (shape layout) }
+    requires own { column / layout.width ≡ at.slice → column % layout.width < length segment.now }
+    requires other { column / layout.width ≢ at.slice
+        → HasSlice (shape layout) (slices_of memory.now) (column / layout.width) }
     ensures { result.now ≡ seen_block (shape layout) (slices_of memory.now) segment.now at lane column }
 {
     if column / layout.width == at.slice {
@@ -40,7 +41,7 @@ fn seen<'a>(
 }
 
 // Writes G of the block before a place and the block that it refers to.
-fn write_joined(
+pub(crate) fn write_joined(
     block: &mut Block,
     layout: Layout,
     memory: &[Segments],
@@ -50,8 +51,7 @@ fn write_joined(
 )
     requires within { IsWithin (shape layout) at }
     requires begun { at.pass ≡ 0 → 2 ≤ column_of (shape layout) at }
-    requires memory { IsWholeBut (shape layout) at.slice (slices_of memory.now) }
-    requires segment { length segment.now ≡ layout.width }
+    requires readable { IsReadable (shape layout) (slices_of memory.now) segment.now at }
     ensures { (table : Table) → Begun (shape layout) (slices_of memory.now) segment.now table at
         → (at.pass ≡ 0 → at.slice < 2 → addresses.now ≡ address_block (shape layout) at (at.index / 128 + 1))
         → block.new ≡ joined_block (shape layout) at (latest (shape layout) table at) }
@@ -74,57 +74,28 @@ fn write_joined(
     );
 }
 
-// Writes the block of a place.
-fn write_new(
-    block: &mut Block,
-    layout: Layout,
-    h0: &[u8; 64],
-    memory: &[Segments],
-    segment: &[Block],
-    addresses: &Block,
-    at: Place,
-)
-    requires within { IsWithin (shape layout) at }
-    requires memory { IsWholeBut (shape layout) at.slice (slices_of memory.now) }
-    requires segment { length segment.now ≡ layout.width }
-    ensures { (table : Table) → Begun (shape layout) (slices_of memory.now) segment.now table at
-        → (at.pass ≡ 0 → at.slice < 2 → addresses.now ≡ address_block (shape layout) at (at.index / 128 + 1))
-        → block.new ≡ new_block (shape layout) h0.now at (latest (shape layout) table at) }
-{
-    let column = layout.column_of(at);
-    if at.pass > 0 {
-        write_joined(block, layout, memory, segment, addresses, at);
-        xor_into(block, seen(layout, memory, segment, at, at.lane, column));
-    } else if column < 2 {
-        *block = first_block(h0, at.lane, column);
-    } else {
-        write_joined(block, layout, memory, segment, addresses, at);
-    }
-}
-
-// Makes the segment of a slice and a lane, over the one of the pass before.
+// Makes the segment of a slice and a lane in a later pass, each block over the one of the pass before.
 pub(crate) fn make_segment(
     layout: Layout,
-    h0: &[u8; 64],
     memory: &[Segments],
     segment: &mut [Block],
     pass: usize,
     slice: usize,
     lane: usize,
 )
+    requires later { 0 < pass }
     requires slice { slice < 4 }
     requires lane { lane < layout.lanes }
     requires memory { IsWholeBut (shape layout) slice (slices_of memory.now) }
     requires segment { length segment.old ≡ layout.width }
     ensures whole { length segment.new ≡ layout.width }
-    ensures made { (table : Table) → Begun (shape layout) (slices_of memory.now) segment.old table
-        (place pass slice lane 0)
-        → (k : ℕ) → k < layout.width → slice_index_or segment.new k []
-        ≡ with_places (shape layout) h0.now table pass slice lane layout.width
+    ensures made { (h0 : List ℕ) (table : Table) (k : ℕ) → k < layout.width
+        → Begun (shape layout) (slices_of memory.now) segment.old table (place pass slice lane 0)
+        → slice_index_or segment.new k zero_block
+        ≡ with_places (shape layout) h0 table pass slice lane layout.width
         pass lane (slice * layout.width + k) }
 {
     let mut block = ZERO_BLOCK;
-    let mut addresses = ZERO_BLOCK;
     'places: for index in 0..layout.width {
         let at = Place {
             pass,
@@ -132,8 +103,7 @@ pub(crate) fn make_segment(
             lane,
             index,
         };
-        refresh(&mut addresses, layout, at);
-        write_new(&mut block, layout, h0, memory, segment, &addresses, at);
-        segment[index] = block;
+        write_joined(&mut block, layout, memory, segment, &ZERO_BLOCK, at);
+        xor_into(&mut segment[index], &block);
     }
 }

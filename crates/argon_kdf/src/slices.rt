@@ -1,11 +1,10 @@
 // Memory with a vector for each segment: slice by slice, and in a slice lane by lane. So a slice can be
 // taken out, and its segments made by threads of their own.
 
-ghost use Rattle.std.specs.Prelude.{◌≡◌, ℕ, ◌-◌, ◌*◌, ◌/◌, ◌<◌, ◌≤◌, [], All, IfOk};
-ghost use Rattle.std.specs.Prelude.{length, replicate, slice_index_or, vec_capacity};
-ghost use Rattle.argon_kdf.specs.Blocks.{zero_block};
+ghost use Rattle.std.specs.Prelude.{◌≡◌, ℕ, ◌-◌, ◌*◌, ◌/◌, ◌<◌, [], All, IfOk, length, vec_capacity};
 ghost use Rattle.argon_kdf.specs.Shapes.{columns, place, shape};
-ghost use Rattle.argon_kdf.specs.Slices.{IsSlice, IsWhole, block_at, slices_of};
+ghost use Rattle.argon_kdf.specs.Slices.{HasSlice, IsWhole, block_at, slices_of};
+ghost use Rattle.argon_kdf.specs.Segments.{IsRoom};
 ghost use Rattle.argon_kdf.specs.Tables.{Table};
 ghost use Rattle.argon_kdf.specs.Memory.{Shows};
 ghost use Rattle.argon_kdf.specs.Argon2id.{lanes_xored};
@@ -13,11 +12,9 @@ ghost use Rattle.argon_kdf.specs.Argon2id.{lanes_xored};
 use crate::block::{Block, ZERO_BLOCK, xor_into};
 use crate::layout::Layout;
 use std::alloc::{AllocError, Global};
-use std::thread;
-use std::thread::Threads;
 
 // A pass goes through memory in this many slices.
-const SLICES: usize = 4;
+pub(crate) const SLICES: usize = 4;
 
 // The segments of a slice, one for each lane.
 pub(crate) type Segments = Vec<Vec<Block>>;
@@ -35,59 +32,23 @@ fn reserved_segments(alloc: Global, layout: Layout) -> Result<Segments, AllocErr
     Ok(segments)
 }
 
-fn fill_with_zeros(segment: &mut Vec<Block>, width: usize)
-    requires empty { segment.old.items ≡ [] }
-    requires room { vec_capacity segment.old ≡ width }
-    ensures { segment.new.items ≡ replicate width zero_block }
+// Room for all slices.
+pub(crate) fn reserved_slices(alloc: Global, layout: Layout) -> Result<Vec<Segments>, AllocError>
+    ensures count { IfOk result (λ rooms. length rooms.items ≡ 4) }
+    ensures rooms { IfOk result (λ rooms. All (λ s. IsRoom (shape layout) s.items) rooms.items) }
 {
-    let _filled = segment.resize(width, ZERO_BLOCK);
-}
-
-// The segments of a slice, full of zeros. Each is written first by the thread of its lane, so that no
-// one thread has to touch all memory.
-fn zero_segments<R: Threads + Sync>(
-    threads: &R,
-    alloc: Global,
-    layout: Layout,
-) -> Result<Segments, AllocError>
-    ensures lanes { IfOk result (λ segments. length segments.items ≡ layout.lanes) }
-    ensures zero { IfOk result (λ segments. All (λ v. v.items ≡ replicate layout.width zero_block) segments.items) }
-{
-    let mut segments = reserved_segments(alloc, layout)?;
-    thread::for_each_mut(
-        threads,
-        &mut segments,
-        layout.lanes,
-        &|_, segment| { fill_with_zeros(segment, layout.width) },
-    );
-    Ok(segments)
-}
-
-// Memory full of zeros.
-pub(crate) fn zero_slices<R: Threads + Sync>(
-    threads: &R,
-    alloc: Global,
-    layout: Layout,
-) -> Result<Vec<Segments>, AllocError>
-    ensures whole { IfOk result (λ memory. IsWhole (shape layout) (slices_of memory.items)) }
-    ensures zero { IfOk result (λ memory. (lane column : ℕ) → lane < layout.lanes
-        → column < columns (shape layout)
-        → block_at (shape layout) (slices_of memory.items) lane column ≡ zero_block) }
-{
-    let mut memory = Vec::new(alloc);
+    let mut rooms = Vec::new(alloc);
     'slices: for _ in 0..SLICES {
-        memory.push(zero_segments(threads, alloc, layout)?)?;
+        rooms.push(reserved_segments(alloc, layout)?)?;
     }
-    Ok(memory)
+    Ok(rooms)
 }
 
 // The block of a lane and a column.
 pub(crate) fn block_at(layout: Layout, memory: &[Segments], lane: usize, column: usize) -> &Block
     requires lane { lane < layout.lanes }
     requires column { column < columns (shape layout) }
-    requires slices { length memory.now ≡ 4 }
-    requires slice { IsSlice (shape layout)
-        (slice_index_or (slices_of memory.now) (column / layout.width) []) }
+    requires slice { HasSlice (shape layout) (slices_of memory.now) (column / layout.width) }
     ensures { result.now ≡ block_at (shape layout) (slices_of memory.now) lane column }
 {
     &memory[column / layout.width][lane][column % layout.width]

@@ -11,19 +11,20 @@ pub returns-clause-tag : goal.returns-clause-tag
 unfolding argon2id_tag
 returns-clause-tag g c =
     let x = shape c.new-layout.result in
-    let table = with_passes x c.first_digest-h0.result c.new-layout.result.passes in
-    let zeros = c.in_ok-memory.memory in
-    let made = c.fill_by_lanes.new.memory in
-    let long : length made ≡ zeros.len =
+    let h0 = c.first_digest-h0.result in
+    let table = with_passes x h0 c.new-layout.result.passes in
+    let first = c.in_ok-memory.memory in
+    let made = c.later_passes.new.memory in
+    let long : length made ≡ first.len =
     omega (
       arith,
-      zeros.ok.0,
-      memory_long x zeros.items 4 c.in_ok-memory.ensures.whole.count,
-      memory_long x made 4 c.fill_by_lanes.ensures.whole.count,
+      first.ok.0,
+      memory_long x first.items 4 c.in_ok-memory.ensures.whole.count,
+      memory_long x made 4 c.later_passes.ensures.whole.count,
     ) in
     let same : c.deref.result.now ≡ made =
-    c.deref.ensures.value ∙ take_at made (drop (length made) zeros.items) zeros.len long in
-    let sum = c.last_column.ensures table (rw same c.fill_by_lanes.ensures.filled) in
-    let tag : c.write_tag.new.tag ≡ tag_of x c.first_digest-h0.result =
-    tag_from x c.first_digest-h0.result _ _ c.write_tag.ensures sum in
+    c.deref.ensures.value ∙ take_at made (drop (length made) first.items) first.len long in
+    let filled = c.later_passes.ensures.filled h0 (rw c.deref_mut-2.ensures.value c.in_ok-memory.ensures.filled) in
+    let sum = c.last_column.ensures table (rw same filled) in
+    let tag : c.write_tag.new.tag ≡ tag_of x h0 = tag_from x h0 _ _ c.write_tag.ensures sum in
     tag ∙ (λ i. tag_of (c.new-layout.ensures i) (c.first_digest-h0.ensures i))

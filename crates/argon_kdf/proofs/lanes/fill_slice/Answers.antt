@@ -3,6 +3,7 @@ use Rattle.std.proofs.Common.{slice_set, get_or-set_same, sym, ap, ◌∙◌, ar
 use Rattle.std.proofs.lemmas.List.{take_at}
 use Rattle.std.specs.declared.vec.Vec.{Vec}
 use Rattle.std.specs.declared.alloc.Global.{Global}
+use Rattle.argon_kdf.specs.Blocks.{zero_block}
 use Rattle.argon_kdf.specs.Shapes.{Shape, shape}
 use Rattle.argon_kdf.specs.Slices.{IsSlice, IsWhole, IsWholeBut, block_at, segments_of, slices_of}
 use Rattle.argon_kdf.specs.Filling.{with_places}
@@ -103,7 +104,7 @@ returns-clause-whole g c =
     (slice_from x new c.make_segments.ensures.lanes c.make_segments.ensures.parts)).whole
 
 pub returns-clause-filled : goal.returns-clause-filled
-returns-clause-filled g c = λ table st.
+returns-clause-filled g c = λ h0 table st.
     let x = shape c.args.layout in
     let m = c.args.memory.now in
     let s = c.args.slice in
@@ -123,15 +124,15 @@ returns-clause-filled g c = λ table st.
     (take_at new (drop (length new) seg.items) seg.len long)
     (slice_from x new c.make_segments.ensures.lanes c.make_segments.ensures.parts) in
     let some : 0 < x.width = omega (arith, c.args.layout.wide) in
-    Shows_placed x c.args.h0.now (block_at x (slices_of m)) _ table w s c.args.layout.wide c.requires.slice st
+    Shows_placed x h0 (block_at x (slices_of m)) _ table w s c.args.layout.wide c.requires.slice st
     (λ l k low inside.
     let old : l < length seg.items = omega (arith, slice_lanes x seg.items slice) in
     block_in x _ s l k inside
-    ∙ ap (λ (t : List (List (List ℕ))). slice_index_or (slice_index_or t l []) k []) done.here
-    ∙ each_segment new l (λ (t : List (List ℕ)). slice_index_or t k []
-    ≡ with_places x c.args.h0.now table w s l x.width w l (s * x.width + k))
+    ∙ ap (λ (t : List (List (List ℕ))). slice_index_or (slice_index_or t l []) k zero_block) done.here
+    ∙ each_segment new l (λ (t : List (List ℕ)). slice_index_or t k zero_block
+    ≡ with_places x h0 table w s l x.width w l (s * x.width + k))
     (omega (arith, c.make_segments.ensures.lanes))
-    (λ v. c.make_segments.ensures.made table l v k low inside
+    (λ v. c.make_segments.ensures.made h0 table l v k low inside
     (rw c.deref_mut.ensures.value
     (Begun_start x (slices_of m) (slices_of (slice_set m s d)) (slice_index_or seg.items l v).items table w s l
     c.args.layout.wide (kept_without m s d)

@@ -2,9 +2,16 @@ use Rattle.std.proofs.Common.{◌≡◌, ◌∙◌, ℕ, ◌-◌, sym, ap, arith
 use Rattle.argon_kdf.specs.Blocks.{zero_block}
 use Rattle.argon_kdf.specs.Shapes.{columns, shape}
 use Rattle.argon_kdf.specs.Slices.{block_at, slices_of}
+use Rattle.argon_kdf.proofs.SliceLemmas.{has_slice, slice_low}
 use Rattle.argon_kdf.proofs.Standing.{Shows_read}
 use Rattle.argon_kdf.proofs.Steps.{lanes_xored_none, lanes_xored_next}
 use Rattle.argon_kdf.proofs.slices.last_column.Goals as goal
+
+pub block_at-requires-clause-slice : goal.block_at-requires-clause-slice
+block_at-requires-clause-slice c =
+    let x = shape c.args.layout in
+    has_slice x (slices_of c.args.memory.now) 4 _ c.requires
+    (slice_low x _ (omega (arith, c.args.layout.wide)) (omega (arith, c.columns.ensures, c.args.layout.wide)))
 
 pub lanes-init : goal.lanes-init
 unfolding zero_block
