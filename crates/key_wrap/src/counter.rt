@@ -18,6 +18,7 @@ pub(crate) fn xor_keystream(cipher: &Aes256, iv: &[u8; 16], text: &mut [u8])
     let first = u128::from_be_bytes(*iv);
     fill_keystream(cipher, first, &mut stream, text.len().div_ceil(16));
     xor_into(text, &stream[..text.len()]);
+    stream = [0; 64];
 }
 
 // Writes the enciphered counters, from the first one on, over the first blocks of the stream.

@@ -32,10 +32,12 @@ pub fn wrap(key: &[u8; 32], iv: &[u8; 16], secret: &[u8], out: &mut [u8]) -> [u8
     ensures ciphertext { out.new ≡ (wrapped_secret key.now iv.now secret.now).0 }
     ensures tag { result ≡ (wrapped_secret key.now iv.now secret.now).1 }
 {
-    let keys = StretchedKey::new(key);
+    let mut keys = StretchedKey::new(key);
     out.copy_from_slice(secret);
     xor_keystream(&keys.cipher, iv, out);
-    hmac256(&keys.tag_key, iv, out)
+    let tag = hmac256(&keys.tag_key, iv, out);
+    keys.wipe();
+    tag
 }
 
 /// Writes the secret that was wrapped into `out`, which has the same length, at most 64 bytes. Where
@@ -54,12 +56,14 @@ pub fn unwrap(
     ensures refused { IfErr result (λ _. opened_secret key.now iv.now wrapped.now tag.now ≡ None) }
     ensures unchanged { IfErr result (λ _. out.new ≡ out.old) }
 {
-    let keys = StretchedKey::new(key);
+    let mut keys = StretchedKey::new(key);
     if !is_same_tag(tag, &hmac256(&keys.tag_key, iv, wrapped)) {
+        keys.wipe();
         return Err(TagDiffers);
     }
     out.copy_from_slice(wrapped);
     xor_keystream(&keys.cipher, iv, out);
+    keys.wipe();
     Ok(())
 }
 

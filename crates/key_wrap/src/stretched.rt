@@ -1,6 +1,6 @@
 //! The two keys that a wrapping key is stretched to: one enciphers, the other authenticates.
 
-ghost use Rattle.std.specs.Prelude.{◌≡◌, ◌≤◌, take, drop};
+ghost use Rattle.std.specs.Prelude.{◌≡◌, ◌≤◌, take, drop, replicate};
 ghost use Rattle.key_wrap.specs.Wrapping.{cipher_key, stretched_key, tag_key};
 
 use aes_core::Aes256;
@@ -17,11 +17,24 @@ impl StretchedKey {
         ensures cipher { result.cipher ≡ cipher_key key.now }
         ensures tag_key { result.tag_key ≡ tag_key key.now }
     {
-        let stretched = stretched(key);
-        StretchedKey {
-            cipher: Aes256::new(&half_of(&stretched, 0)),
+        let mut stretched = stretched(key);
+        let mut first = half_of(&stretched, 0);
+        let keys = StretchedKey {
+            cipher: Aes256::new(&first),
             tag_key: half_of(&stretched, 32),
-        }
+        };
+        first = [0; 32];
+        stretched = [0; 64];
+        keys
+    }
+
+    // Writes zeros over both keys, and the round keys of zeros over those of the first.
+    pub(crate) fn wipe(&mut self)
+        ensures cipher { self.new.cipher ≡ replicate 32 0 }
+        ensures tag_key { self.new.tag_key ≡ replicate 32 0 }
+    {
+        self.cipher = Aes256::new(&[0; 32]);
+        self.tag_key = [0; 32];
     }
 }
 

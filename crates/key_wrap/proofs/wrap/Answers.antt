@@ -16,4 +16,4 @@ unfolding ciphered tag_of wrapped_secret
 returns-clause-tag c =
     let text : c.xor_keystream.new.text ≡ ciphered c.args.key.now c.args.iv.now c.args.secret.now =
     c.xor_keystream.ensures ∙ (λ i. counter_mode (encrypted_block (c.new-keys.ensures.cipher i)) c.args.iv.now (c.copy_from_slice.ensures.after i)) in
-    c.hmac256.ensures ∙ (λ i. hmac_sha256 (c.new-keys.ensures.tag_key i) (c.args.iv.now ++ text i))
+    c.hmac256-tag.ensures ∙ (λ i. hmac_sha256 (c.new-keys.ensures.tag_key i) (c.args.iv.now ++ text i))
