@@ -60,5 +60,5 @@ pub record ClosesOne (old new : MountState) (caller number node : ℕ) : Type 0 
   pub handles : new.handles ≡ without old.handles caller number
   pub disk : new.disk ≡ disk_left old.disk (has_handle new.handles.live node) node
   pub keys : new.inodes.keys
-    ≡ keys_left old.disk old.ring.claims old.inodes.keys (has_handle new.handles.live node) node
+      ≡ keys_left old.disk old.ring.claims old.inodes.keys (has_handle new.handles.live node) node
   pub modes : new.modes ≡ modes_left old.disk old.modes node

@@ -56,7 +56,7 @@ kind_in (Some v) = kind_of v.body
 pub record CachesStand (cache : Cache) (modes : Modes) (m : PlainMount) : Type 0 where
   -- a cached file key is the key of its node
   pub file_keys : (node : ℕ) (key : NodeKey) (c : Context)
-    → key_at cache node ≡ Some key → context_at m.nodes node ≡ Some c
+      → key_at cache node ≡ Some key → context_at m.nodes node ≡ Some c
       → key.key ≡ node_key m.raws c (kind_in (get m.nodes node))
   -- a mode key is drawn from the raw key of its identifier
   pub mode_keys : (id : KeyId) (kind : KeyKind) (mode : ModeKey) → mode_at modes id kind ≡ Some mode
