@@ -1,18 +1,19 @@
 -- The reader goes from line to line, and has the sections so far. Here: what that makes of a text.
 use Rattle.std.proofs.Common.{◌≡◌, ℕ, suc, ◌<◌, ◌≤◌, ◌+◌, ◌-◌, ◌==◌, Bool, true, false, cond, inl, inr, List, [], ◌∷◌, ◌++◌, length, Option, Some, None, Result, Ok, Err, refl, sym, ap, ◌∙◌, arith, append-nil, append_assoc, subst, length-append}
-use Rattle.std.specs.Prelude.{slice_set, slice_index_or, nat_lt, count_by, if◌then◌else◌}
-use Rattle.std.specs.Option.{option_map_or}
-use Rattle.std.proofs.lemmas.Bool.{lt-ltb, ltb-true, cases_Bool}
+use Rattle.std.specs.Prelude.{slice_set, slice_index_or, nat_lt, count_by, IfOk, if◌then◌else◌}
+use Rattle.std.specs.Option.{option_map, option_map_or}
+use Rattle.std.proofs.lemmas.Bool.{lt-ltb, ltb-true, cases_Bool, true≢false}
 use Rattle.std.proofs.lemmas.List.Sums.{sum_by_push}
 use Rattle.std.proofs.lemmas.List.Splits.{length-slice_split}
 use Rattle.text_words.specs.Lines.{pieces_of, is_line_feed}
 use Rattle.script_lang.specs.Statements.{statement_of}
 use Rattle.script_lang.specs.Sections.{is_caller, may_stand, first_misplaced_line, commands_of, sections_of}
 use Rattle.script_lang.specs.Script.{statements_in, statements_of, parsed_script, Reads}
-use Rattle.script_lang.specs.Reading.{with_commands, with_command, after_line, AddsStatement, TakesLine}
+use Rattle.script_lang.specs.Reading.{with_commands, with_command, after_line, AddsCommand, AddsStatement, TakesLine}
 use Rattle.script_lang.specs.declared.limits.TheConstants.{MOST_CALLERS}
 use Rattle.script_lang.specs.declared.commands.Command.{Command}
 use Rattle.script_lang.specs.declared.commands.Section.{Section}
+use Rattle.script_lang.specs.declared.verb.Verb.{Verb}
 use Rattle.script_lang.specs.declared.statements.Statement.{Statement}
 use Rattle.script_lang.specs.declared.statements.Statement.TheVariants.{Nothing, Caller, Order}
 use Rattle.script_lang.specs.declared.reader.ScriptFault.{ScriptFault}
@@ -37,6 +38,31 @@ pub add_command-some : (sections : List Section) (n : ℕ) (last : Section) (com
 add_command-some sections n last command commands len some is more =
     let there : nat_lt 0 (length sections) ≡ true = lt-ltb 0 (length sections) (omega arith) in
     rw (there, len) (refl, with_command-set sections last command commands (omega arith) (rw len at is) more)
+
+-- what reading a command into the last section answers
+pub command_read : {E : Type 0} (n : ℕ) (sections : List Section) (count : ℕ) (last : Section) (said : Option Verb) (commands : List Command) (answer : Result Bool E)
+    → count ≡ length sections → 0 < count → last ≡ slice_index_or sections (count - 1) last → IfOk answer (AddsCommand n said last.commands commands)
+    → IfOk answer (AddsStatement (after_line n sections (option_map Order said)) (slice_set sections (count - 1) (record { uid = last.uid; commands = commands })))
+command_read n sections count last said commands (Err fault) len some is read = tt
+command_read n sections count last None commands (Ok added) len some is read = read
+command_read n sections count last (Some verb) commands (Ok added) len some is read =
+    rw read.0 (add_command-some sections count last (record { line = n; verb = verb }) commands len some is read.1)
+
+-- a command before the first section
+pub no_section : (n : ℕ) (sections : List Section) (count : ℕ) (said : Option Verb) (there : Bool)
+    → count ≡ length sections → there ≡ false → (0 < count → there ≡ true) → AddsStatement (after_line n sections (option_map Order said)) sections false
+no_section n [] count None there len none some = refl
+no_section n [] count (Some verb) there len none some = refl
+no_section n (x ∷ xs) count said there len none some = absurd (true≢false (sym (some (omega (arith, len))) ∙ none))
+
+-- what the answer tells
+pub line_added : (after : Option (List Section)) (new : List Section) (answer : Bool) → AddsStatement after new answer → answer ≡ true → after ≡ Some new
+line_added None new answer h is = absurd (true≢false (sym is ∙ h))
+line_added (Some sections) new answer h is = ap Some (sym h.1)
+
+pub line_not_added : (after : Option (List Section)) (new : List Section) (answer : Bool) → AddsStatement after new answer → answer ≡ false → after ≡ None
+line_not_added None new answer h is = refl
+line_not_added (Some sections) new answer h is = absurd (true≢false (sym h.0 ∙ is))
 
 length-with_commands : (sections : List Section) (commands : List Command) → length (with_commands sections commands) ≡ length sections
 length-with_commands [] commands = refl

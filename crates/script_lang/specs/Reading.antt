@@ -6,6 +6,7 @@ use Rattle.script_lang.specs.declared.commands.Command.{Command}
 use Rattle.script_lang.specs.declared.commands.Section.{Section}
 use Rattle.script_lang.specs.declared.statements.Statement.{Statement}
 use Rattle.script_lang.specs.declared.statements.Statement.TheVariants.{Nothing, Caller, Order}
+use Rattle.script_lang.specs.declared.verb.Verb.{Verb}
 use Rattle.script_lang.specs.declared.reader.ScriptFault.{ScriptFault}
 use Rattle.script_lang.specs.declared.reader.ScriptFault.TheVariants.{BadLine, NoMemory}
 
@@ -20,14 +21,24 @@ abbrev pub with_command : List Section → Command → Option (List Section)
 with_command sections command =
     if nat_lt 0 (length sections) then Some (with_commands sections (command ∷ [])) else None
 
+-- the sections with one more, of this user, if there are fewer than eight
+abbrev pub with_section : List Section → ℕ → Option (List Section)
+with_section sections uid =
+    if nat_lt (length sections) MOST_CALLERS
+    then Some (sections ++ record { uid = uid; commands = [] } ∷ []) else None
+
 -- the sections after line n, if the line may stand behind them
 abbrev pub after_line : ℕ → List Section → Option Statement → Option (List Section)
 after_line n sections None = None
 after_line n sections (Some Nothing) = Some sections
-after_line n sections (Some (Caller uid)) =
-    if nat_lt (length sections) MOST_CALLERS
-    then Some (sections ++ record { uid = uid; commands = [] } ∷ []) else None
+after_line n sections (Some (Caller uid)) = with_section sections uid
 after_line n sections (Some (Order verb)) = with_command sections (record { line = n; verb = verb })
+
+-- the answer is whether the words of line n say a command, and it stands behind the others
+abbrev pub AddsCommand : ℕ → Option Verb → List Command → List Command → Bool → Type 0
+AddsCommand n said old new answer =
+    MatchOption said (answer ≡ false)
+    (λ verb. (answer ≡ true) × (new ≡ old ++ record { line = n; verb = verb } ∷ []))
 
 -- the answer is whether there are such sections, and the new ones are they
 abbrev pub AddsStatement : Option (List Section) → List Section → Bool → Type 0

@@ -1,14 +1,19 @@
 //! The reader of scripts: the script that a text spells, or its first line outside the grammar.
 
 ghost use Rattle.std.specs.Prelude.{◌<◌, ◌≤◌, ◌^◌, length, IfOk};
+ghost use Rattle.std.specs.Option.{option_map};
 ghost use Rattle.script_lang.specs.declared.limits.TheConstants.{MOST_CALLERS};
 ghost use Rattle.script_lang.specs.Script.{parsed_script, Reads};
-ghost use Rattle.script_lang.specs.Statements.{statement_of};
-ghost use Rattle.script_lang.specs.Reading.{after_line, with_command, AddsStatement, TakesLine};
+ghost use Rattle.script_lang.specs.Commands.{verb_of};
+ghost use Rattle.script_lang.specs.Statements.{statement_named, statement_of, statement_of_words};
+ghost use Rattle.script_lang.specs.Reading.{after_line, with_section, AddsCommand, AddsStatement, TakesLine};
+ghost use Rattle.script_lang.specs.declared.statements.Statement.TheVariants.{Order};
 
 use crate::commands::{Command, CommandList, Script, Section};
 use crate::limits::MOST_CALLERS;
-use crate::statements::{Statement, read_statement};
+use crate::statements::{read_uid, says_nothing};
+use crate::verbs::read_verb;
+use crate::words::Words;
 use std::alloc::{AllocError, Global};
 use text_words::next_line;
 use thiserror::Error;
@@ -68,44 +73,111 @@ fn take_line(
     ensures { TakesLine number
         (after_line number sections.old.items (statement_of line.now)) result sections.new.items }
 {
-    let said = read_statement(alloc, line)?;
-    if add_statement(alloc, sections, number, said)? {
+    if add_line(alloc, sections, number, line)? {
         Ok(())
     } else {
         Err(ScriptFault::BadLine { line: number })
     }
 }
 
-// Adds what a line says to the sections so far. False where the line may not stand there.
-fn add_statement(
+// Adds what a line says to the sections so far. False where the line may not stand there. A command goes
+// from its form right into its section: it is large, and each hand that it goes through copies it.
+fn add_line(
     alloc: Global,
     sections: &mut Vec<Section>,
     number: u32,
-    said: Option<Statement>,
+    line: &[u8],
 ) -> Result<bool, AllocError>
-    ensures { IfOk result (AddsStatement (after_line number sections.old.items said) sections.new.items) }
+    ensures { IfOk result (AddsStatement
+        (after_line number sections.old.items (statement_of line.now)) sections.new.items) }
 {
-    match said {
-        Some(Statement::Nothing) => Ok(true),
-        Some(Statement::Caller(uid)) if sections.len() < MOST_CALLERS => {
-            let commands = CommandList::new(alloc);
-            sections.push(Section { uid, commands })?;
-            Ok(true)
-        }
-        Some(Statement::Order(verb)) => add_command(sections, Command { line: number, verb }),
-        _ => Ok(false),
+    if says_nothing(line) {
+        return Ok(true);
+    }
+    add_words(alloc, sections, number, &mut Words::new(line))
+}
+
+// Adds what the words of a line say.
+fn add_words(
+    alloc: Global,
+    sections: &mut Vec<Section>,
+    number: u32,
+    words: &mut Words<'_>,
+) -> Result<bool, AllocError>
+    ensures { IfOk result (AddsStatement
+        (after_line number sections.old.items (statement_of_words words.old)) sections.new.items) }
+{
+    match words.next() {
+        Some(name) => add_named(alloc, sections, number, name, words),
+        None => Ok(false),
     }
 }
 
-// Adds a command to the last section. False where there is none.
-fn add_command(sections: &mut Vec<Section>, command: Command) -> Result<bool, AllocError>
-    ensures { IfOk result (AddsStatement (with_command sections.old.items command) sections.new.items) }
+// Adds what a name and the words behind it say.
+fn add_named(
+    alloc: Global,
+    sections: &mut Vec<Section>,
+    number: u32,
+    name: &[u8],
+    words: &mut Words<'_>,
+) -> Result<bool, AllocError>
+    ensures { IfOk result (AddsStatement
+        (after_line number sections.old.items (statement_named name.now words.old)) sections.new.items) }
+{
+    if name == b"caller".as_slice() {
+        return match read_uid(words) {
+            Some(uid) => add_section(alloc, sections, uid),
+            None => Ok(false),
+        };
+    }
+    add_command(alloc, sections, number, name, words)
+}
+
+// Adds a section. False where there are as many as may be.
+fn add_section(alloc: Global, sections: &mut Vec<Section>, uid: u32) -> Result<bool, AllocError>
+    ensures { IfOk result (AddsStatement (with_section sections.old.items uid) sections.new.items) }
+{
+    if sections.len() < MOST_CALLERS {
+        let commands = CommandList::new(alloc);
+        sections.push(Section { uid, commands })?;
+        return Ok(true);
+    }
+    Ok(false)
+}
+
+// Adds a command to the last section. False where there is none, or the words say no command.
+fn add_command(
+    alloc: Global,
+    sections: &mut Vec<Section>,
+    number: u32,
+    name: &[u8],
+    words: &mut Words<'_>,
+) -> Result<bool, AllocError>
+    ensures { IfOk result (AddsStatement (after_line number sections.old.items
+        (option_map Order (verb_of name.now words.old))) sections.new.items) }
 {
     match sections.last_mut() {
-        Some(section) => {
-            section.commands.push(command)?;
+        Some(section) => push_command(alloc, &mut section.commands, number, name, words),
+        None => Ok(false),
+    }
+}
+
+// Reads a command behind the others. False where the words say none.
+fn push_command(
+    alloc: Global,
+    commands: &mut CommandList,
+    number: u32,
+    name: &[u8],
+    words: &mut Words<'_>,
+) -> Result<bool, AllocError>
+    ensures { IfOk result (AddsCommand number (verb_of name.now words.old) commands.old commands.new) }
+{
+    match read_verb(alloc, name, words) {
+        Ok(Some(verb)) => {
+            commands.push(Command { line: number, verb })?;
             Ok(true)
         }
-        None => Ok(false),
+        Ok(None) => Ok(false),
+        Err(fault) => Err(fault),
     }
 }

@@ -1,6 +1,6 @@
 //! What one line of a script says by itself, wherever it stands.
 
-ghost use Rattle.std.specs.Prelude.{◌≡◌, IfOk};
+ghost use Rattle.std.specs.Prelude.{◌≡◌, ◌==◌, ◌||◌, IfOk, length, slice_index};
 ghost use Rattle.text_words.specs.Words.{words_of};
 ghost use Rattle.script_lang.specs.Forms.{word, whole};
 ghost use Rattle.script_words.specs.Numbers.{number_of};
@@ -27,10 +27,17 @@ pub enum Statement {
 pub fn read_statement(alloc: Global, line: &[u8]) -> Result<Option<Statement>, AllocError>
     ensures { IfOk result (λ said. said ≡ statement_of line.now) }
 {
-    if line.is_empty() || line[0] == b'#' {
+    if says_nothing(line) {
         return Ok(Some(Statement::Nothing));
     }
     read_words(alloc, &mut Words::new(line))
+}
+
+// Whether a line is empty, or a comment.
+pub(crate) fn says_nothing(line: &[u8]) -> bool
+    ensures { result ≡ (length line.now == 0 || slice_index line.now 0 == 35) }
+{
+    line.is_empty() || line[0] == b'#'
 }
 
 // What the words of a line say.
@@ -59,7 +66,7 @@ fn read_named(
 }
 
 // The number that is the only word.
-fn read_uid(words: &mut Words<'_>) -> Option<u32>
+pub(crate) fn read_uid(words: &mut Words<'_>) -> Option<u32>
     ensures { result ≡ whole (word number_of) words.old }
 {
     let word = words.next()?;
