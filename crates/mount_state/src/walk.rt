@@ -36,10 +36,9 @@ pub fn entry_of<L: Ledger>(
     ensures same { SameButKeys state.old state.new }
     ensures ticks { steps.new ≤ steps.old + 1 }
 {
-    if let Err(refusal) = directory_for(state, dir, part) {
+    if let Err(refusal) = directory_kept(alloc, state, dir, part) {
         return Err(refusal);
     }
-    keep_key(alloc, state, dir);
     match number_of(state, dir, part, steps) {
         Some(number) => Ok(number),
         None => Err(Refusal::NotFound),
@@ -79,8 +78,8 @@ pub fn walked_parent<L: Ledger>(
     let before = path.len().saturating_sub(1);
     match walked_parts(alloc, state, path, before, steps) {
         Ok(dir) => match path.part(before) {
-            Some(part) => directory_for(state, dir, part.bytes()),
-            None => directory_for(state, dir, b""),
+            Some(part) => directory_kept(alloc, state, dir, part.bytes()),
+            None => directory_kept(alloc, state, dir, b""),
         },
         Err(refusal) => Err(refusal),
     }
@@ -103,7 +102,7 @@ pub fn walked_parent_past<L: Ledger>(
 {
     let before = path.len().saturating_sub(1);
     match walked_past(alloc, state, path, before, node, steps) {
-        Ok((dir, past)) => match directory_for(state, dir, last_bytes(path)) {
+        Ok((dir, past)) => match directory_kept(alloc, state, dir, last_bytes(path)) {
             Ok(dir) => Ok((dir, past)),
             Err(refusal) => Err(refusal),
         },
@@ -180,6 +179,23 @@ fn walked_parts<L: Ledger>(
         }
     }
     Ok(node)
+}
+
+// The directory, where the part may be looked up in it. The key of its names is cached.
+fn directory_kept(
+    alloc: Global,
+    state: &mut MountState,
+    dir: u32,
+    part: &[u8],
+) -> Result<u32, Refusal>
+    ensures value { (m : PlainMount) → StandsFor state.old m → result ≡ looked_in m dir part.now }
+    ensures dir { OnOk result (IsDirAt state.old.disk dir) }
+    ensures stands { StaysFor state.old state.new }
+    ensures same { SameButKeys state.old state.new }
+{
+    let found = directory_for(state, dir, part)?;
+    keep_key(alloc, state, dir);
+    Ok(found)
 }
 
 // The directory, where the part may be looked up in it.
