@@ -3,10 +3,10 @@ use crate::machine::Machine;
 use crate::recorder::Recorder;
 use std::marker::Model;
 
-/// A value with the history that it stands after.
+/// A value with the history that it stands after. The value lies in a box, so that a turn moves none of it.
 #[derive(Drop)]
 pub(crate) struct Held<M: Machine> {
-    pub(crate) value: M,
+    pub(crate) value: Box<M>,
     pub(crate) recorder: Recorder<M::Call, M::Reply>,
 }
 
@@ -15,7 +15,7 @@ impl<M: Machine> Model for Held<M> {
 
     ghost Value = { Standing M M.Call M.Reply };
 
-    ghost view = { λ h. standing h.value h.recorder };
+    ghost view = { λ h. standing h.value.value h.recorder };
 
-    ghost invariant = { λ h. M.leads h.recorder h.value };
+    ghost invariant = { λ h. M.leads h.recorder h.value.value };
 }

@@ -55,6 +55,7 @@ impl<M: Machine> Shared<M> {
         ensures pass { IfOk result (λ r. r.1 ≡ first_pass r.0.table numbers allowance) }
     {
         let recorder = Recorder::new(alloc)?;
+        let value = Box::new(alloc, value)?;
         let mut slots = Vec::new(alloc);
         slots.push(Some(Held { value, recorder }))?;
         let limits = Limits { numbers, allowance };
@@ -173,6 +174,6 @@ impl<M: Machine> Shared<M> {
         let held = closed.take(0).unwrap();
         closed.free();
         let Held { value, recorder: _ } = held;
-        value
+        Box::into_inner(value)
     }
 }
