@@ -1,4 +1,5 @@
 pub mod DiskLemmas
 pub mod BodyLemmas
+pub mod CoverLemmas
 pub mod WholeLemmas
 pub mod ReadLemmas

@@ -1,5 +1,5 @@
 -- The body of a file that holds contents, and what a write makes of a body.
-use Rattle.std.specs.Prelude.{ℕ, ◌+◌, ◌-◌, ◌/◌, ◌<◌, List, [], ◌∷◌, length, min, max, Option}
+use Rattle.std.specs.Prelude.{ℕ, ◌+◌, ◌-◌, ◌*◌, ◌/◌, ◌<◌, ◌&&◌, Bool, List, [], ◌∷◌, length, min, max, nat_le, Option}
 use Rattle.std.specs.Int.{div_ceil}
 use Rattle.number_map.specs.Numbered.{changed}
 use Rattle.data_crypt.specs.Blocks.{Seal, read_block, stored_block, stored_blocks}
@@ -47,6 +47,10 @@ disk_written disk file seal at bytes = changed disk file (on_body (body_written 
 -- block j stored anew with its part of the bytes, where the file had so many blocks before
 abbrev pub stored_anew : Option Seal → ℕ → ℕ → List ℕ → ℕ → List ℕ → List ℕ
 stored_anew seal had at bytes j block = rewritten (stored_block seal) (read_block seal) had at bytes j block
+
+-- so many bytes that are written from here on are enough for all of block j
+abbrev pub covers_block : ℕ → ℕ → ℕ → Bool
+covers_block at count j = nat_le at (BLOCK_SIZE * j) && nat_le (BLOCK_SIZE * j + BLOCK_SIZE) (at + count)
 
 -- some blocks of the file stored anew
 abbrev pub blocks_rewritten : Disk → ℕ → Option Seal → ℕ → ℕ → List ℕ → ℕ → ℕ → Disk

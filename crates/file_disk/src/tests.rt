@@ -75,7 +75,8 @@ fn write<R: Abort>(
     write_file(disk, alloc, 1, key, offset, bytes)
 }
 
-// A new file, written in odd pieces: a gap first, then over borders of blocks and units.
+// A new file, written in odd pieces: a gap first, then over borders of blocks and units, and other
+// bytes that a piece which covers block 1 overwrites.
 fn written_in_pieces<R: Abort>(
     rt: &R,
     alloc: Global,
@@ -102,6 +103,8 @@ fn written_in_pieces<R: Abort>(
             &contents[from as usize..to],
         )?;
     }
+    write(rt, &mut disk, alloc, key, 4000, &[0x5a; 4192])?;
+    write(rt, &mut disk, alloc, key, 4000, &contents[4000..8192])?;
     Ok(disk)
 }
 

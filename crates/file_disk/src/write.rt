@@ -1,7 +1,8 @@
 //! A piece is written into a file's stored blocks.
 ghost use Rattle.std.specs.Prelude.{◌≡◌, ◌+◌, ◌<◌, ◌≤◌, ◌^◌, length, IfErr, IsOk, OnErr, OnOk};
 ghost use Rattle.disk_tree.specs.DiskTree.{IsFileAt, file_blocks};
-ghost use Rattle.file_disk.specs.Bodies.{ExceedsDisk, blocks_rewritten, disk_written, end_block, stored_anew};
+ghost use Rattle.file_disk.specs.Bodies.{ExceedsDisk, blocks_rewritten, covers_block, disk_written, end_block};
+ghost use Rattle.file_disk.specs.Bodies.{stored_anew};
 ghost use Rattle.file_disk.specs.Keys.{seal_by, seal_of};
 
 use crate::cipher::{cipher_of, read, store};
@@ -78,7 +79,8 @@ fn rewrite_blocks(
     }
 }
 
-#[tactic(auto, unfolding(data_crypt::specs::Parts::rewritten))]
+// Stores block `index` anew with its part of the bytes. Where that part is the whole block, the old
+// bytes make no difference, and are not read.
 fn rewrite_block(
     cipher: &Option<FileCipher>,
     had: usize,
@@ -91,9 +93,17 @@ fn rewrite_block(
     requires near { index < 2 ^ 20 }
     ensures { block.new ≡ stored_anew (seal_by cipher.now) had offset bytes.now index block.old }
 {
-    if (index as usize) < had {
+    if (index as usize) < had && !covers_block(index, offset, bytes.len()) {
         read(cipher, index, block);
     }
     put_part(block, index, offset, bytes);
     store(cipher, index, block);
+}
+
+// Whether `len` bytes that are written from byte `offset` on cover all of block `index`.
+fn covers_block(index: u32, offset: u32, len: usize) -> bool
+    ensures { result ≡ covers_block offset len index }
+{
+    let begin = BLOCK_SIZE * index as usize;
+    offset as usize <= begin && begin - offset as usize + BLOCK_SIZE <= len
 }
