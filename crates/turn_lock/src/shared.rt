@@ -6,7 +6,7 @@ ghost use Rattle.call_history.specs.Prefix.{IsPrefix};
 ghost use Rattle.turn_lock.specs.Passes.{past_of, merged_entries, first_pass, IsMadeAt};
 ghost use Rattle.turn_lock.specs.Passes.{lower_part, upper_part, with_other};
 
-use crate::held::Held;
+use crate::held::{Held, Recorded};
 use crate::machine::{At, Machine, Worn};
 use crate::pass::Pass;
 use crate::recorder::Recorder;
@@ -55,9 +55,9 @@ impl<M: Machine> Shared<M> {
         ensures pass { IfOk result (λ r. r.1 ≡ first_pass r.0.table numbers allowance) }
     {
         let recorder = Recorder::new(alloc)?;
-        let value = Box::new(alloc, value)?;
+        let both = Box::new(alloc, Recorded { value, recorder })?;
         let mut slots = Vec::new(alloc);
-        slots.push(Some(Held { value, recorder }))?;
+        slots.push(Some(Held { both }))?;
         let limits = Limits { numbers, allowance };
         let Ok((table, seat)) = Table::new(alloc, &[0, 0], slots, &limits) else {
             return Err(AllocError);
@@ -94,13 +94,17 @@ impl<M: Machine> Shared<M> {
             return Err(Worn { made: pass.made });
         }
         let top = &self.table.shared;
-        let Held {
-            mut value,
-            mut recorder,
-        } = take_turn(rt, top, &mut pass.seat);
-        let lent = value.begin(pass.who, &call);
-        let place = enter::<Brand, M>(top, &mut pass.seat, &mut recorder, pass.who, &call, &lent);
-        give_back(top, &mut pass.seat, Held { value, recorder });
+        let Held { mut both } = take_turn(rt, top, &mut pass.seat);
+        let lent = both.value.begin(pass.who, &call);
+        let place = enter::<Brand, M>(
+            top,
+            &mut pass.seat,
+            &mut both.recorder,
+            pass.who,
+            &call,
+            &lent,
+        );
+        give_back(top, &mut pass.seat, Held { both });
         pass.left -= 1;
         pass.made += 1;
         // The turn is free by now, so that no other caller waits while the reply is finished.
@@ -173,7 +177,7 @@ impl<M: Machine> Shared<M> {
         let mut closed = self.table.close_with(seat);
         let held = closed.take(0).unwrap();
         closed.free();
-        let Held { value, recorder: _ } = held;
-        Box::into_inner(value)
+        let Held { both } = held;
+        Box::into_inner(both).value
     }
 }
