@@ -1,7 +1,8 @@
 //! From plain names to stored ones and back.
 
-ghost use Rattle.std.specs.Prelude.{◌≡◌, ◌+◌, ◌≤◌, ◌↔◌, [], ◌++◌, length, take, drop, IsErr, IfOk};
+ghost use Rattle.std.specs.Prelude.{◌≡◌, ◌+◌, ◌≤◌, ◌↔◌, [], ◌++◌, length, take, drop, replicate, IsErr, IfOk};
 ghost use Rattle.cts_mode.specs.Cts.{cts_decrypted};
+ghost use Rattle.name_crypt.specs.Plain.{IsPlain, IsStored};
 ghost use Rattle.name_crypt.specs.StoredName.{before_nul, padded_length, plain_name_with, stored_name_with};
 
 use crate::limits::{LEAST_STORED_BYTES, MOST_NAME_BYTES};
@@ -45,12 +46,34 @@ pub fn encrypt_name_with<L: Ledger>(
     ensures value { result ≡ stored_name_with key.now iv pad name.now }
     ensures tick { steps.new ≡ steps.old + 1 }
 {
-    steps.tick();
     let mut text = [0; MOST_NAME_BYTES];
-    let len = padded_length(pad, name.bytes().len());
-    fill(&mut text, name.bytes());
-    cts_encrypt(key, iv, &mut text[..len]);
+    let len = encrypt_into(key, iv, pad, name.bytes(), &mut text, steps);
     StoredName::of(&text[..len])
+}
+
+/// Writes the stored name of a plain name or target over the beginning of `text`, which is zeros, and tells
+/// its length: 16 to 255 bytes. The round keys are those of a names key. `steps` counts one more.
+pub fn encrypt_into<L: Ledger>(
+    key: &Aes256,
+    iv: [u8; 16],
+    pad: Pad,
+    name: &[u8],
+    text: &mut [u8; MOST_NAME_BYTES],
+    steps: &mut Steps<L>,
+) -> usize
+    requires plain { IsPlain name.now }
+    requires zeros { text.old ≡ replicate MOST_NAME_BYTES 0 }
+    ensures value { take result text.new ≡ stored_name_with key.now iv pad name.now }
+    ensures stored { IsStored (take result text.new) }
+    ensures least { LEAST_STORED_BYTES ≤ result }
+    ensures bound { result ≤ MOST_NAME_BYTES }
+    ensures tick { steps.new ≡ steps.old + 1 }
+{
+    steps.tick();
+    let len = padded_length(pad, name.len());
+    fill(text, name);
+    cts_encrypt(key, iv, &mut text[..len]);
+    len
 }
 
 /// The name or target of a stored one, under a names key of 32 bytes: the deciphered bytes before

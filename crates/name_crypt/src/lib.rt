@@ -13,14 +13,16 @@ mod stored;
 
 pub use aes_core::Aes256;
 pub use cipher::{NameCipher, name_iv};
-pub use encrypt::{NotPlain, decrypt_name, decrypt_name_with, encrypt_name, encrypt_name_with};
+pub use encrypt::{
+    NotPlain, decrypt_name, decrypt_name_with, encrypt_into, encrypt_name, encrypt_name_with,
+};
 pub use item_list::{Bytes, Items};
 pub use limits::{
     LEAST_STORED_BYTES, MOST_NAME_BYTES, MOST_SHOWN_BYTES, MOST_SPELLED_BYTES, MOST_TEXT_CHARACTERS,
 };
 pub use name_laws::{names_come_back, texts_stay_distinct};
 pub use nokey::{NoKeyText, nokey_matches, nokey_text};
-pub use plain::{Plain, PlainFault};
+pub use plain::{Plain, PlainFault, is_plain};
 pub use shown::{is_shown_as, shown_by};
 pub use steps::Steps;
 pub use stored::{StoredLength, StoredName};

@@ -1,6 +1,7 @@
 //! Plain names and targets.
 
-ghost use Rattle.std.specs.Prelude.{◌≡◌, ◌<◌, ◌≤◌, ◌↔◌, ◌⊎◌, ℕ, List, length, Contains, IsOk, IfOk, IsErrOf};
+ghost use Rattle.std.specs.Prelude.{◌≡◌, ◌<◌, ◌≤◌, ◌↔◌, ◌⊎◌, ℕ, List, length, Contains};
+ghost use Rattle.std.specs.Prelude.{IsOk, IsTrue, IfOk, IsErrOf};
 ghost use Rattle.byte_words.specs.Bytes.{AreBytes};
 ghost use Rattle.name_crypt.specs.Plain.{IsPlain};
 
@@ -34,6 +35,13 @@ pub enum PlainFault {
     /// One of them is NUL.
     #[error("a name has no NUL")]
     Nul,
+}
+
+/// Whether the bytes are a plain name or target: 1 to 255, none of them NUL.
+pub fn is_plain(bytes: &[u8]) -> bool
+    ensures { IsTrue result ↔ IsPlain bytes.now }
+{
+    !bytes.is_empty() && bytes.len() <= MOST_NAME_BYTES && !bytes.contains(&0)
 }
 
 impl Plain {

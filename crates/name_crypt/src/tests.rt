@@ -1,4 +1,5 @@
-ghost use Rattle.std.specs.Prelude.{◌≡◌, ◌<◌};
+ghost use Rattle.std.specs.Prelude.{◌≡◌, ◌<◌, ◌≤◌};
+ghost use Rattle.name_crypt.specs.Plain.{IsPlain};
 
 use super::*;
 use policy_ctx::Pad;
@@ -58,11 +59,19 @@ fn stored_from<L: Ledger>(blank: Blank, start: u64, name: &Plain) -> StoredName
     NameCipher::new(&KEY, start).encrypt(Pad::P4, name, &mut steps)
 }
 
+/// A name, and what is stored of it under the key of these tests from the start 0.
+const NAME: [u8; 32] = *b"a name of thirty-two bytes, this";
+
+const WITHOUT_START: [u8; 32] = [
+    0xd2, 0x8a, 0xd1, 0xc8, 0xdd, 0x43, 0x79, 0x59, 0xd7, 0x37, 0x9e, 0x87, 0x8c, 0xf5, 0x68, 0x99,
+    0xe2, 0x6a, 0xf8, 0x5f, 0x44, 0xa1, 0xe9, 0xc7, 0x71, 0x27, 0xba, 0xaf, 0x45, 0xad, 0x71, 0x9e,
+];
+
 // The two blocks are those of `openssl enc -aes-256-cbc`, swapped, with the start of node 12 in the
 // iv and without.
 #[test]
 fn start_of_a_node_is_in_the_iv(rt: HostRuntime) -> Result<(), Fail> {
-    let name = Plain::read(b"a name of thirty-two bytes, this")?;
+    let name = Plain::read(&NAME)?;
     let stored = [
         (
             12 << 32,
@@ -72,14 +81,7 @@ fn start_of_a_node_is_in_the_iv(rt: HostRuntime) -> Result<(), Fail> {
                 0x0d, 0x56, 0x1b, 0xeb,
             ],
         ),
-        (
-            0,
-            [
-                0xd2, 0x8a, 0xd1, 0xc8, 0xdd, 0x43, 0x79, 0x59, 0xd7, 0x37, 0x9e, 0x87, 0x8c, 0xf5,
-                0x68, 0x99, 0xe2, 0x6a, 0xf8, 0x5f, 0x44, 0xa1, 0xe9, 0xc7, 0x71, 0x27, 0xba, 0xaf,
-                0x45, 0xad, 0x71, 0x9e,
-            ],
-        ),
+        (0, WITHOUT_START),
     ];
     for (start, want) in stored {
         let found = stored_from::<Brand>(Blank::new(1), start, &name);
@@ -90,6 +92,30 @@ fn start_of_a_node_is_in_the_iv(rt: HostRuntime) -> Result<(), Fail> {
             "start {start}"
         );
     }
+    Ok(())
+}
+
+/// The stored name under the key of these tests, written over zeros, and its length.
+fn written<L: Ledger>(blank: Blank, name: &[u8]) -> ([u8; MOST_NAME_BYTES], usize)
+    requires name { blank.name ≡ L.name }
+    requires parts { blank.parts ≡ L.parts }
+    requires some { 0 < L.parts }
+    requires plain { IsPlain name.now }
+    ensures bound { result.1 ≤ MOST_NAME_BYTES }
+{
+    let mut steps = Steps::<L>::new(blank);
+    let key = Aes256::new(&KEY);
+    let mut text = [0; MOST_NAME_BYTES];
+    let len = encrypt_into(&key, [0; 16], Pad::P4, name, &mut text, &mut steps);
+    (text, len)
+}
+
+#[test]
+fn a_name_is_written_over_zeros(rt: HostRuntime) -> Result<(), Fail> {
+    assert!(rt; is_plain(&NAME));
+    assert!(rt; !is_plain(b"a\0b"));
+    let (text, len) = written::<Brand>(Blank::new(1), &NAME);
+    assert!(rt; &text[..len] == WITHOUT_START.as_slice());
     Ok(())
 }
 

@@ -4,20 +4,18 @@ use Rattle.cts_mode.specs.Cts.{cts_encrypted}
 use Rattle.byte_words.specs.Xor.{zero_filled}
 use Rattle.name_crypt.specs.StoredName.{stored_name_with, padded_length}
 use Rattle.name_crypt.proofs.NameLemmas.{padded_fits, take-filled}
-use Rattle.name_crypt.proofs.encrypt.encrypt_name_with.Goals as goal
+use Rattle.name_crypt.proofs.encrypt.encrypt_into.Goals as goal
 
 pub returns-clause-value : goal.returns-clause-value
 unfolding stored_name_with
 returns-clause-value g c =
-    let low : length c.args.name.now ≤ 255 = omega (arith, ap length c.bytes.ensures.value, c.bytes.ensures.plain.1) in
+    let low : length c.args.name.now ≤ 255 = omega (arith, c.requires.plain.1) in
     let fits = padded_fits c.args.pad (length c.args.name.now) low in
-    let size : c.padded_length-len.result ≡ padded_length c.args.pad (length c.args.name.now) =
-    c.padded_length-len.ensures ∙ ap (λ bytes. padded_length c.args.pad (length bytes)) c.bytes.ensures.value in
+    let size : c.padded_length-len.result ≡ padded_length c.args.pad (length c.args.name.now) = c.padded_length-len.ensures in
     let filled : c.fill.new.text ≡ c.args.name.now ++ drop (length c.args.name.now) (replicate 255 0) =
-    c.fill.ensures ∙ ap (λ bytes. bytes ++ drop (length bytes) (replicate 255 0)) c.bytes-2.ensures.value in
+    c.fill.ensures ∙ ap (λ text. c.args.name.now ++ drop (length c.args.name.now) text) c.requires.zeros in
     let taken : take c.padded_length-len.result c.fill.new.text ≡ zero_filled (padded_length c.args.pad (length c.args.name.now)) c.args.name.now =
     (λ i. take (size i) (filled i)) ∙ take-filled c.args.name.now (padded_length c.args.pad (length c.args.name.now)) fits.room fits.most in
-    c.of.ensures
-    ∙ take_at c.cts_encrypt.new.text (drop c.padded_length-len.result c.fill.new.text) c.padded_length-len.result
+    take_at c.cts_encrypt.new.text (drop c.padded_length-len.result c.fill.new.text) c.padded_length-len.result
     (omega (arith, length-take-le c.padded_length-len.result c.fill.new.text (omega (arith, size, fits.most, c.fill.array_long))))
     ∙ c.cts_encrypt.ensures ∙ ap (λ text. cts_encrypted c.args.key.now c.args.iv text) taken
