@@ -3,7 +3,7 @@ use Rattle.std.proofs.Common.{◌≡◌, ℕ, Bool, true, false, cond, ◌&&◌,
 use Rattle.std.specs.Ordering.{nat_cmp, eq_by_cmp, is_lt}
 use Rattle.std.specs.FinMap.{get-entries, entries_sorted, from_sorted, get-from_sorted, entries-from_sorted}
 use Rattle.std.specs.FinMap.Entries.{find, is_sorted, below_all}
-use Rattle.number_map.specs.Numbered.{Numbered, get, entries, AgreesUnder}
+use Rattle.number_map.specs.Numbered.{Numbered, entries, AgreesUnder}
 use Rattle.number_map.proofs.NumberedLemmas.{same_numbered}
 
 module _ {V W : Type 0} (f : V → W) where

@@ -209,3 +209,10 @@ module _ {V : Type 0} where
   -- the first of the entries that are left, where its slot has a value
   pub resolved_more : (slots : Slab V) (number key : ℕ) (value : V) (index : List (ℕ × ℕ)) → slab.get slots key ≡ Some value → resolved slots ((number, key) ∷ index) ≡ (number, value) ∷ resolved slots index
   resolved_more slots number key value index has = ap (λ o. with_slot number o (resolved slots index)) has
+
+  -- the same index, whatever it is called
+  pub sound_again : (slots : Slab V) (index again : List (ℕ × ℕ)) → again ≡ index → IsSound slots index → IsSound slots again
+  sound_again slots index again same sound = rw same sound
+
+  pub stored_again : (slots : Slab V) (index again : List (ℕ × ℕ)) (m : Numbered V) → again ≡ index → stored slots index ≡ m → stored slots again ≡ m
+  stored_again slots index again m same view = ap (stored slots) same ∙ view

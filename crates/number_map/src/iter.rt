@@ -1,6 +1,7 @@
 //! The iteration over a `NumberMap`, by rising number.
 ghost use Rattle.std.specs.Iterator.{YieldsFirstBy, item_count};
 
+use crate::rank::Rank;
 use slab::Slab;
 use std::collections::btree_map;
 use std::iter::FusedIterator;
@@ -10,7 +11,7 @@ use std::marker::Model;
 #[derive(Drop)]
 pub struct Iter<'a, V> {
     // The numbers that are left, each with the key of its slot.
-    pub(crate) index: btree_map::Iter<'a, u32, usize>,
+    pub(crate) index: btree_map::Iter<'a, Rank<u32>, usize>,
     pub(crate) slots: &'a Slab<V>,
 }
 
@@ -35,7 +36,7 @@ impl<'a, V> Iterator for Iter<'a, V> {
     fn next(&mut self) -> Option<(u32, &'a V)> {
         let (number, key) = self.index.next()?;
         match self.slots.get(*key) {
-            Some(value) => Some((*number, value)),
+            Some(value) => Some((number.of, value)),
             None => unreachable!(),
         }
     }

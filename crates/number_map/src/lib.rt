@@ -9,14 +9,17 @@ ghost use Rattle.number_map.specs.Numbered as map;
 
 mod iter;
 mod laws;
+mod rank;
 #[cfg(test)]
 mod tests;
 
 pub use iter::Iter;
 pub use laws::{changes_keep_agreement, changes_leave_the_rest, entries_agree_where_maps_do};
+pub use rank::Rank;
 use slab::Slab;
 use std::alloc::{AllocError, Global};
 use std::collections::BTreeMap;
+use std::collections::btree_map::Entry;
 use std::marker::Model;
 
 /// A map from numbers to values, seen as the finite map of its values by number.
@@ -26,7 +29,7 @@ use std::marker::Model;
 pub struct NumberMap<V> {
     slots: Slab<V>,
     // The key of each number's slot.
-    index: BTreeMap<u32, usize>,
+    index: BTreeMap<Rank<u32>, usize>,
 }
 
 impl<V> Model for NumberMap<V> {
@@ -68,7 +71,7 @@ impl<V: Drop> NumberMap<V> {
     pub fn get(&self, number: u32) -> Option<&V>
         ensures { option_copied result ≡ map.get self.now number }
     {
-        match self.index.get(&number) {
+        match self.index.get(&Rank { of: number }) {
             Some(key) => self.slots.get(*key),
             None => None,
         }
@@ -89,7 +92,7 @@ impl<V: Drop> NumberMap<V> {
         ensures* writes_back { sem 𝓛 (LendsValue V.row self.entry number result) }
         ensures value { option_copied_mut result ≡ map.get self.old number }
     {
-        let Some(&key) = self.index.get(&number) else {
+        let Some(&key) = self.index.get(&Rank { of: number }) else {
             return None;
         };
         self.slots.get_mut(key)
@@ -103,16 +106,17 @@ impl<V: Drop> NumberMap<V> {
         ensures kept { OnErr result (self.new ≡ self.old) }
         ensures only_new { OnErr result (map.get self.old number ≡ None) }
     {
-        match self.index.get(&number) {
-            Some(key) => {
-                let key = *key;
+        // One search finds the number's slot, or the place for a new number.
+        match self.index.entry(Rank { of: number })? {
+            Entry::Occupied(place) => {
+                let key = *place.get();
                 replace(&mut self.slots, key, value);
                 Ok(())
             }
-            None => {
+            Entry::Vacant(place) => {
                 self.slots.reserve(1)?;
                 let key = self.slots.vacant_key();
-                self.index.insert(number, key)?;
+                place.insert(key);
                 self.slots.insert_reserved(value);
                 Ok(())
             }
@@ -124,7 +128,7 @@ impl<V: Drop> NumberMap<V> {
         ensures value { result ≡ map.get self.old number }
         ensures removed { self.new ≡ map.remove self.old number }
     {
-        match self.index.remove(&number) {
+        match self.index.remove(&Rank { of: number }) {
             Some(key) => self.slots.try_remove(key),
             None => None,
         }

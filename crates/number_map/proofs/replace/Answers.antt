@@ -1,5 +1,4 @@
 -- One slot keeps having a value.
-use Rattle.std.proofs.Common.{sym}
 use Rattle.number_map.proofs.SlotLemmas.{count_written}
 use Rattle.number_map.proofs.replace.Goals as goal
 
