@@ -14,12 +14,5 @@ pub fn erase(disk: &mut DiskTree, dir: u32, name: &[u8]) -> bool
         (λ number. disk.new ≡ map.remove (dropped disk.old dir name.now number) number) }
     ensures kept { number_under name.now (children disk.old dir) ≡ None → disk.new ≡ disk.old }
 {
-    match disk.entry(dir, name) {
-        Some(number) => {
-            disk.drop_entry(dir, name);
-            disk.remove_node(number);
-            true
-        }
-        None => false,
-    }
+    disk.drop_named(dir, name).is_some()
 }

@@ -40,3 +40,9 @@ module _ {V : Type 0} (m : Numbered V) (k : ℕ) where
   -- changes at two numbers, in either order
   pub changed_apart : (x : ℕ) (f g : V → V) → (k ≢ x) → changed (changed m x g) k f ≡ changed (changed m k f) x g
   changed_apart x f g apart = apart_by_case x f g (get m x) refl apart
+
+-- a value that is put, with a change of its own before or after one elsewhere
+pub changed_first : {V : Type 0} (m : Numbered V) (k x : ℕ) (f g : V → V) (v : V) → (k ≢ x) → changed (insert m x (g v)) k f ≡ changed (changed (insert m x v) k f) x g
+changed_first m k x f g v apart =
+    ap (λ y. changed y k f) (sym (changed_inserted m x v g))
+    ∙ changed_apart (insert m x v) k x f g apart

@@ -1,16 +1,16 @@
 -- What each change of the disk makes of the count of its blocks, and of its entries.
-use Rattle.std.proofs.Common.{◌≡◌, ℕ, ◌+◌, ◌-◌, Option, Some, None, List, [], ◌∷◌, length, replicate, inl, inr, refl, sym, ap, ◌∙◌, arith, length-append}
+use Rattle.std.proofs.Common.{◌≡◌, ℕ, ◌+◌, ◌-◌, Option, Some, None, List, [], ◌∷◌, length, replicate, inl, inr, refl, sym, ap, subst, ◌∙◌, arith, length-append, true, ◌≢◌}
 use Rattle.std.proofs.lemmas.List.{length-replicate, length-set}
 use Rattle.std.proofs.lemmas.Bool.{cases_eq}
 use Rattle.std.specs.FinMap.{get-empty}
 use Rattle.std.specs.Ordering.{nat_cmp}
 use Rattle.std.specs.Str.{bytes_eq}
 use Rattle.number_map.specs.Numbered.{get, insert, remove, changed, empty}
-use Rattle.number_map.proofs.NumberedLemmas.{remove_same}
+use Rattle.number_map.proofs.NumberedLemmas.{remove_same, insert_other}
 use Rattle.disk_tree.specs.Entries.{Entries, number_under, with_entry, without_entry}
 use Rattle.disk_tree.specs.Blocks.{zero_block, grown, written, block_of, with_block}
-use Rattle.disk_tree.specs.Nodes.{entries_of, blocks_of, with_entries, with_blocks, with_size, on_body, IsFile}
-use Rattle.disk_tree.specs.DiskTree.{Disk, block_total, blocks_in, entries_in, file_blocks, children, of_node, IsFileAt, root, first_disk}
+use Rattle.disk_tree.specs.Nodes.{entries_of, blocks_of, with_entries, with_blocks, with_size, on_body, named_as, IsDir, IsFile}
+use Rattle.disk_tree.specs.DiskTree.{Disk, block_total, blocks_in, entries_in, file_blocks, children, of_node, IsDirAt, IsFileAt, entered, root, first_disk}
 use Rattle.disk_tree.specs.declared.node.StoredNode.{StoredNode}
 use Rattle.disk_tree.specs.declared.node.Body.{Body}
 use Rattle.disk_tree.specs.declared.node.Body.TheVariants.{Dir, File, Link}
@@ -110,3 +110,32 @@ moved_either disk dir to name new_name x found =
           ∙ ap (λ k. changed (changed disk dir taken) k put) same
       | inr apart ↦ changed_apart disk dir to taken put apart
     ]
+
+-- a number that has no node is no directory's
+pub dir_apart : (disk : Disk) (dir number : ℕ) → IsDirAt disk dir → get disk number ≡ None → dir ≢ number
+dir_apart disk dir number there absent same =
+    let Holds : Option StoredNode → Type 0 = of_node ⊥ (λ node. IsDir node.body) in
+    subst Holds (ap (get disk) same ∙ absent) there
+
+-- a directory beside a node that is added
+module _ (disk put : Disk) (dir number : ℕ) (node : StoredNode) (there : IsDirAt disk dir) (absent : get disk number ≡ None) (is : put ≡ insert disk number node) where
+  stays_beside : get put dir ≡ get disk dir
+  stays_beside = ap (λ (d : Disk). get d dir) is ∙ insert_other disk number node dir (dir_apart disk dir number there absent)
+
+  pub dir_beside : IsDirAt put dir
+  dir_beside =
+      let Holds : Option StoredNode → Type 0 = of_node ⊥ (λ node. IsDir node.body) in
+      subst Holds (sym stays_beside) there
+
+  pub children_beside : children put dir ≡ children disk dir
+  children_beside = ap entries_in stays_beside
+
+-- a node without blocks is added, and an entry
+pub entered_total : (disk new : Disk) (dir number : ℕ) (name : List ℕ) (node : StoredNode) → get disk number ≡ None → blocks_of node.body ≡ [] →
+    new ≡ entered (insert disk number node) dir name number → block_total disk ≡ block_total new
+entered_total disk new dir number name node absent bare is =
+    let put : StoredNode → StoredNode = on_body (with_entries (with_entry name number)) in
+    let added : Disk = insert disk number node in
+    sym (added_total disk number node absent bare)
+    ∙ same_total added (changed added dir put) dir put refl (λ v. entries_keep (with_entry name number) v.body)
+    ∙ same_total (changed added dir put) new number (named_as true) is (λ v. refl)

@@ -1,18 +1,16 @@
 -- The entries of a directory by place and by name, after each change.
-use Rattle.std.proofs.Common.{◌≡◌, ◌≢◌, ℕ, ◌+◌, ◌<◌, Bool, true, false, cond, ◌||◌, Option, Some, None, List, [], ◌∷◌, ◌++◌, is_some, inl, inr, refl, sym, ap, subst, ◌∙◌, arith, Ordering, Less, Greater, option_map}
+use Rattle.std.proofs.Common.{◌≡◌, ◌≢◌, ℕ, ◌+◌, ◌<◌, Bool, true, false, cond, ◌||◌, Option, Some, None, List, [], ◌∷◌, ◌++◌, IsSome, not, inl, inr, refl, sym, ap, subst, ◌∙◌, arith, Less, Greater, option_map}
 use Rattle.std.proofs.lemmas.Bool.{cases_Bool, cond-true, cond-false}
 use Rattle.std.proofs.lemmas.Map.{lookup-remove_entry}
 use Rattle.std.proofs.lemmas.Map.Keys.{sorted_head, sorted_tail, IsDistinct-head, IsDistinct-tail, IsDistinct-cons, IsDistinct-push}
-use Rattle.std.specs.Cmp.{nat_cmp_is, ranked, eq_by_cmp_equiv}
-use Rattle.std.specs.Cmp.Lexicographic.{slice_cmp, bytes_decides, nat_list_cmp_total, nat_list_eq_equiv, texts_ties}
+use Rattle.std.specs.Cmp.{nat_cmp_is, ranked}
+use Rattle.std.specs.Cmp.Lexicographic.{bytes_decides, nat_list_eq_equiv}
 use Rattle.std.specs.List.{AllByRecursion, IsDistinct, list_any}
 use Rattle.std.specs.List.Sorted.{IsStrictlySortedBy}
-use Rattle.std.specs.Map.{lookup, remove_entry, keys_of, values_of, IsKeyTest, AreApart, KeepsOthers}
-use Rattle.std.specs.Ordering.{nat_cmp, is_eq, eq_by_cmp, match_ordering}
+use Rattle.std.specs.Map.{lookup, remove_entry, keys_of, values_of}
+use Rattle.std.specs.Ordering.{nat_cmp, match_ordering}
 use Rattle.std.specs.Str.{bytes_eq}
-use Rattle.std.specs.BTreeMap.{BTreeMap, UpdatesBy, is_at, insert_entry}
-use Rattle.std.specs.declared.vec.Vec.{Vec}
-use Rattle.std.specs.declared.alloc.Global.{Global}
+use Rattle.std.specs.BTreeMap.{is_at, insert_entry}
 use Rattle.byte_words.specs.Bytes.{AreBytes}
 use Rattle.number_map.proofs.NumberTests.{tied, untied}
 use Rattle.disk_tree.specs.Entries.{Entries, HaveByteNames, number_under, without_entry}
@@ -131,6 +129,18 @@ last_place (e ∷ es) place v below =
 pub inserted_last : (es now : Ordered) (place : ℕ) (v : List ℕ × ℕ) → AreBelow place es → now ≡ insert_entry nat_cmp es place v → now ≡ es ++ (place, v) ∷ []
 inserted_last es now place v below is = is ∙ last_place es place v below
 
+-- the place behind the others goes again
+gone_last : (es : Ordered) (place : ℕ) (v : List ℕ × ℕ) → AreBelow place es → remove_entry (is_at (nat_cmp place)) (es ++ (place, v) ∷ []) ≡ es
+gone_last [] place v below = ap (λ b. cond b [] ((place, v) ∷ [])) (tied place place refl)
+gone_last (e ∷ es) place v below =
+    let lower : e.0 < place = ranked e.0 place Less (sym below.0) in
+    let differ : place ≢ e.0 = λ same. omega arith in
+    ap (λ b. cond b (es ++ (place, v) ∷ []) (e ∷ remove_entry (is_at (nat_cmp place)) (es ++ (place, v) ∷ []))) (untied place e.0 differ)
+    ∙ ap (λ rest. e ∷ rest) (gone_last es place v below.1)
+
+pub undone_last : (es put now : Ordered) (place : ℕ) (v : List ℕ × ℕ) → AreBelow place es → put ≡ es ++ (place, v) ∷ [] → now ≡ remove_entry (is_at (nat_cmp place)) put → now ≡ es
+undone_last es put now place v below is gone = gone ∙ ap (remove_entry (is_at (nat_cmp place))) is ∙ gone_last es place v below
+
 still_below : (x next : ℕ) → nat_cmp x next ≡ Less → nat_cmp x (next + 1) ≡ Less
 still_below x next less =
     let lower : x < next = ranked x next Less (sym less) in
@@ -213,53 +223,7 @@ module _ (es now : Ordered) (place number : ℕ) (name : List ℕ) (is : now ≡
             ∙ sym (cond-false (bytes_eq name other) (Some (place, number)) (oldest es other) differ)
       ]
 
--- ---- the index
-
-is_eq_bytes : (xs ys : List ℕ) → is_eq (slice_cmp nat_cmp xs ys) ≡ bytes_eq xs ys
-is_eq_bytes xs ys = sym (texts_ties xs ys)
-
-apart_names : (name other key : List ℕ) → bytes_eq name other ≡ false → bytes_eq name key ≡ true → bytes_eq other key ≡ false
-apart_names name other key differ same = nat_list_eq_equiv.symm other key ∙ sym (nat_list_eq_equiv.congr name key other same) ∙ differ
-
-other_entries : {K X : Type 0} (eq : K → K → Bool) (test : K → Bool) (old new : List (K × X)) → KeepsOthers eq test old new → (other : K → Bool) → IsKeyTest eq other → AreApart test other → lookup other new ≡ lookup other old
-unfolding KeepsOthers
-other_entries eq test old new h = h
-
-abbrev pub vec_cmp : Vec ℕ Global → Vec ℕ Global → Ordering
-vec_cmp x y = slice_cmp nat_cmp x.items y.items
-
--- what the index has under each name, after it is changed at one
-pub index_updates : (m n : BTreeMap (Vec ℕ Global) (ℕ × ℕ)) (name : List ℕ) (w : Option (ℕ × ℕ)) → UpdatesBy vec_cmp (λ k. slice_cmp nat_cmp name k.items) m n w →
-    (other : List ℕ) → indexed n.entries other ≡ cond (bytes_eq name other) w (indexed m.entries other)
-index_updates m n name w updates other =
-    elim (cases_Bool (bytes_eq name other)) as (λ _. indexed n.entries other ≡ cond (bytes_eq name other) w (indexed m.entries other)) [
-      | inl same ↦
-          let equal : name ≡ other = (bytes_decides name other).0 same in
-          ap (indexed n.entries) (sym equal) ∙ updates.1 ∙ sym (cond-true (bytes_eq name other) w (indexed m.entries other) same)
-      | inr differ ↦
-          other_entries (eq_by_cmp vec_cmp) (is_at (λ k. slice_cmp nat_cmp name k.items)) m.entries n.entries updates.3 (λ k. is_eq (slice_cmp nat_cmp other k.items))
-          (λ x y. (eq_by_cmp_equiv nat_list_cmp_total).congr other x.items y.items)
-          (λ k same. is_eq_bytes other k.items ∙ apart_names name other k.items differ (sym (is_eq_bytes name k.items) ∙ same))
-          ∙ sym (cond-false (bytes_eq name other) w (indexed m.entries other) differ)
-    ]
-
--- a name that is taken back from the index, where it had none
-pub taken_back : (was now again : Index) (name : List ℕ) (found : ℕ × ℕ) → indexed was name ≡ None → ((other : List ℕ) → indexed now other ≡ cond (bytes_eq name other) (Some found) (indexed was other)) →
-    ((other : List ℕ) → indexed again other ≡ cond (bytes_eq name other) None (indexed now other)) → (other : List ℕ) → indexed again other ≡ indexed was other
-taken_back was now again name found absent put gone other =
-    gone other ∙ ap (cond (bytes_eq name other) None) (put other) ∙ elim (cases_Bool (bytes_eq name other)) as (λ _. cond (bytes_eq name other) None (cond (bytes_eq name other) (Some found) (indexed was other)) ≡ indexed was other) [
-      | inl same ↦
-          let equal : name ≡ other = (bytes_decides name other).0 same in
-          cond-true (bytes_eq name other) None (cond (bytes_eq name other) (Some found) (indexed was other)) same ∙ sym (ap (indexed was) (sym equal) ∙ absent)
-      | inr differ ↦
-          cond-false (bytes_eq name other) None (cond (bytes_eq name other) (Some found) (indexed was other)) differ ∙ cond-false (bytes_eq name other) (Some found) (indexed was other) differ
-    ]
-
 -- ---- the whole
-
-pub none_of : {A : Type 0} (o : Option A) → is_some o ≡ false → o ≡ None
-none_of None is = refl
-none_of (Some x) is = absurd (cc)
 
 pub new_IsIndexed : (order : Ordered) (index : Index) → order ≡ [] → index ≡ [] → IsIndexed order index 0 false
 unfolding IsStrictlySortedBy IsDistinct
@@ -270,7 +234,7 @@ new_IsIndexed order index none nothing =
 
 module _ (order now : Ordered) (index after : Index) (next : ℕ) (doubled : Bool) (is : IsIndexed order index next doubled) (rising : IsStrictlySortedBy nat_cmp (keys_of now)) where
   -- a name that is put twice, or once the names are no longer told apart
-  pub doubled_IsIndexed : (later number : ℕ) (name : List ℕ) → AreBytes name → later ≡ next + 1 → now ≡ order ++ (next, (name, number)) ∷ [] → IsIndexed now index later true
+  pub doubled_IsIndexed : (later number : ℕ) (name : List ℕ) → AreBytes name → later ≡ next + 1 → now ≡ order ++ (next, (name, number)) ∷ [] → IsIndexed now after later true
   doubled_IsIndexed later number name bytes more put = record {
     rising = rising;
     ranged = put_ranged order now next number name put bytes is.ranged;
@@ -292,13 +256,26 @@ module _ (order now : Ordered) (index after : Index) (next : ℕ) (doubled : Boo
         named = λ d other. told other ∙ ap (cond (bytes_eq name other) (Some (next, number))) (is.named d other) ∙ sym (put_oldest order now next number name put absent other);
       }
 
+  -- either, as the index tells
+  pub put_IsIndexed : (later number : ℕ) (name : List ℕ) (alone : Bool) → AreBytes name → doubled ≡ false → later ≡ next + 1 → now ≡ order ++ (next, (name, number)) ∷ [] → (alone ≡ true → indexed index name ≡ None) →
+      (alone ≡ true → (other : List ℕ) → indexed after other ≡ cond (bytes_eq name other) (Some (next, number)) (indexed index other)) → IsIndexed now after later (not alone)
+  put_IsIndexed later number name true bytes single more put lacks told =
+      subst (λ (d : Bool). IsIndexed now after later d) single (named_IsIndexed later number name bytes single (lacks refl) more put (told refl))
+  put_IsIndexed later number name false bytes single more put lacks told = doubled_IsIndexed later number name bytes more put
+
   -- a name that goes
   pub dropped_IsIndexed : (name : List ℕ) (place number : ℕ) → oldest order name ≡ Some (place, number) → now ≡ remove_entry (is_at (nat_cmp place)) order →
-      ((other : List ℕ) → indexed after other ≡ cond (bytes_eq name other) None (indexed index other)) → IsIndexed now after next doubled
+      (IsSome (indexed index name) → (other : List ℕ) → indexed after other ≡ cond (bytes_eq name other) None (indexed index other)) → IsIndexed now after next doubled
   dropped_IsIndexed name place number found gone told = record {
     rising = rising;
     ranged = removed_ranged order now name place number is.rising found gone is.ranged;
     below = removed_below order now name place number is.rising found gone next is.below;
     apart = λ d. removed_apart order now name place number is.rising found gone (is.apart d);
-    named = λ d other. told other ∙ ap (cond (bytes_eq name other) None) (is.named d other) ∙ sym (removed_oldest order now name place number is.rising found gone (is.apart d) other);
+    named = λ d other. told (subst IsSome (sym (is.named d name ∙ found)) refl) other ∙ ap (cond (bytes_eq name other) None) (is.named d other) ∙ sym (removed_oldest order now name place number is.rising found gone (is.apart d) other);
   }
+
+-- an entry that finds no room in the index goes again
+pub undone_IsIndexed : (order now : Ordered) (index after : Index) (next : ℕ) (doubled : Bool) → IsIndexed order index next doubled → now ≡ order → after ≡ index → IsIndexed now after next doubled
+undone_IsIndexed order now index after next doubled is same kept =
+    let P : Ordered → Index → Type 0 = λ o i. IsIndexed o i next doubled in
+    subst (λ (i : Index). P now i) (sym kept) (subst (λ (o : Ordered). P o index) (sym same) is)

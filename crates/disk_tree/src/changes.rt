@@ -187,7 +187,7 @@ impl DiskTree {
 }
 
 // How many blocks go with the node.
-fn blocks_gone(node: Option<StoredNode>) -> usize
+pub(crate) fn blocks_gone(node: Option<StoredNode>) -> usize
     ensures { result ≡ length (blocks_in node) }
 {
     match node {

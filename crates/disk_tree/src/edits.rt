@@ -1,13 +1,15 @@
-//! Changes of one node of the map, which leave all others.
-ghost use Rattle.std.specs.Prelude.{◌≡◌, ◌≤◌, length, IsOk, OnOk, OnErr};
+//! Changes of one node of the map, which leave all others; and a node added with its entry.
+ghost use Rattle.std.specs.Prelude.{◌≡◌, ◌≤◌, None, length, IfErr, IsOk, OnOk, OnErr};
 ghost use Rattle.number_map.specs.Numbered as map;
 ghost use Rattle.disk_tree.specs.Blocks.{grown};
-ghost use Rattle.disk_tree.specs.DiskTree.{IsDirAt, IsFileAt, children, file_blocks};
+ghost use Rattle.disk_tree.specs.DiskTree.{IsDirAt, IsFileAt, children, entered, file_blocks};
 ghost use Rattle.disk_tree.specs.Entries.{number_under, with_entry, without_entry};
 ghost use Rattle.disk_tree.specs.Nodes.{with_entries, with_blocks, with_size};
 ghost use Rattle.disk_tree.specs.Nodes.{on_body, named_as, with_context};
 
+use crate::fault::DiskFault;
 use crate::node::StoredNode;
+use mount_limits::MOST_CHILDREN;
 use number_map::NumberMap;
 use std::alloc::{AllocError, Global};
 
@@ -50,6 +52,80 @@ pub(crate) fn add_entry(
     match nodes.get_mut(dir) {
         Some(node) => node.body.add_entry(alloc, name, number),
         None => unreachable!(),
+    }
+}
+
+// Makes an entry in the directory; NoSpace where it has as many as it may have. The directory is looked up
+// once for both.
+fn add_within(
+    nodes: &mut NumberMap<StoredNode>,
+    alloc: Global,
+    dir: u32,
+    name: &[u8],
+    number: u32,
+) -> Result<(), DiskFault>
+    requires { IsDirAt nodes.old dir }
+    ensures put { OnOk result (nodes.new
+        ≡ map.changed nodes.old dir (on_body (with_entries (with_entry name.now number)))) }
+    ensures kept { OnErr result (nodes.new ≡ nodes.old) }
+    ensures full { MOST_CHILDREN ≤ length (children nodes.old dir) → result ≡ Err DiskFault.NoSpace }
+    ensures no_space { IfErr result (λ fault. fault ≡ DiskFault.NoSpace
+        → MOST_CHILDREN ≤ length (children nodes.old dir)) }
+{
+    match nodes.get_mut(dir) {
+        Some(node) => {
+            if node.body.entry_count() >= MOST_CHILDREN {
+                return Err(DiskFault::NoSpace);
+            }
+            match node.body.add_entry(alloc, name, number) {
+                Ok(()) => Ok(()),
+                Err(_) => Err(DiskFault::NoMemory),
+            }
+        }
+        None => unreachable!(),
+    }
+}
+
+// The fault where a node finds no memory: the directory that it was made for may be full as well.
+fn fault_in(nodes: &NumberMap<StoredNode>, dir: u32) -> DiskFault
+    ensures full { MOST_CHILDREN ≤ length (children nodes.now dir) → result ≡ DiskFault.NoSpace }
+    ensures no_space { result ≡ DiskFault.NoSpace → MOST_CHILDREN ≤ length (children nodes.now dir) }
+{
+    match nodes.get(dir) {
+        Some(node) if node.body.entry_count() >= MOST_CHILDREN => DiskFault::NoSpace,
+        _ => DiskFault::NoMemory,
+    }
+}
+
+// Adds the node, named, and the entry that leads to it, or neither. The node comes first: it is taken
+// away by its number, where an entry's name may stand twice.
+pub(crate) fn add_named(
+    nodes: &mut NumberMap<StoredNode>,
+    alloc: Global,
+    dir: u32,
+    name: &[u8],
+    number: u32,
+    mut node: StoredNode,
+) -> Result<(), DiskFault>
+    requires dir { IsDirAt nodes.old dir }
+    requires absent { map.get nodes.old number ≡ None }
+    ensures added { OnOk result (nodes.new
+        ≡ entered (map.insert nodes.old number node) dir name.now number) }
+    ensures kept { OnErr result (nodes.new ≡ nodes.old) }
+    ensures full { MOST_CHILDREN ≤ length (children nodes.old dir) → result ≡ Err DiskFault.NoSpace }
+    ensures no_space { IfErr result (λ fault. fault ≡ DiskFault.NoSpace
+        → MOST_CHILDREN ≤ length (children nodes.old dir)) }
+{
+    node.named = true;
+    match nodes.set(number, node) {
+        Ok(()) => match add_within(nodes, alloc, dir, name, number) {
+            Ok(()) => Ok(()),
+            Err(fault) => {
+                nodes.remove(number);
+                Err(fault)
+            }
+        },
+        Err(_) => Err(fault_in(nodes, dir)),
     }
 }
 

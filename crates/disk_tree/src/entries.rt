@@ -2,10 +2,10 @@
 ghost use Rattle.std.specs.Prelude.{◌≡◌, [], length, OnOk, OnErr};
 ghost use Rattle.disk_tree.specs.Entries.{HaveByteNames, number_under, with_entry, without_entry};
 
-use crate::name_index::{
-    Index, Order, add_last, add_name, drop_name, drop_place, next_place, oldest_of,
-};
+use crate::held_index::{HeldIndex, oldest_of};
+use crate::name_index::{Order, add_last, drop_place, next_place};
 use item_list::Bytes;
+use number_map::Rank;
 use std::alloc::{AllocError, Global};
 use std::collections::BTreeMap;
 use std::collections::btree_map::Values;
@@ -14,15 +14,19 @@ use std::marker::Model;
 /// The entries of a directory, in the order in which they were made. In contracts it is the list of
 /// pairs of a stored name and a node's number.
 ///
-/// As long as no two have one name, a look-up, a new entry and a removal take a time that grows with
-/// the logarithm of the length.
+/// Names are found by their hash: a look-up takes a time that doesn't grow with the length, and a new
+/// entry and a removal take that and the logarithm of the length, for the entry's place; now and then a
+/// new entry makes the index grow, and moves all of it. The hash has a fixed seed, so whoever picks the
+/// names can make them collide, and then a search goes over those that do. From the first two on that
+/// have one name, or one hash of 64 bits, it goes over all, at most the 4,096 entries of a directory.
 #[derive(Drop)]
 pub struct DirEntries {
     order: Order,
-    index: Index,
+    index: HeldIndex,
     // Above every place.
     next: u64,
-    // Whether a name stood twice. From then on the index is let be, and the entries are searched.
+    // Whether a name, or the hash of one, stood twice. From then on the index is let be, and the entries
+    // are searched.
     doubled: bool,
 }
 
@@ -35,7 +39,7 @@ impl Model for DirEntries {
 
     ghost view = { λ es. values_of es.order.entries };
 
-    ghost invariant = { λ es. IsIndexed es.order.entries es.index.entries es.next es.doubled };
+    ghost invariant = { λ es. IsIndexed es.order.entries es.index es.next es.doubled };
 }
 
 impl DirEntries {
@@ -45,7 +49,7 @@ impl DirEntries {
     {
         DirEntries {
             order: BTreeMap::new(alloc),
-            index: BTreeMap::new(alloc),
+            index: HeldIndex::new(),
             next: 0,
             doubled: false,
         }
@@ -59,7 +63,7 @@ impl DirEntries {
     }
 
     /// The entries, the oldest first.
-    pub fn iter(&self) -> Values<'_, u64, (Bytes, u32)>
+    pub fn iter(&self) -> Values<'_, Rank<u64>, (Bytes, u32)>
         ensures rest { result ≡ self.now }
     {
         self.order.values()
@@ -82,7 +86,8 @@ impl DirEntries {
         }
     }
 
-    // Puts an entry behind the others. After want of memory all is as before.
+    // Puts an entry behind the others. After want of memory all is as before. The index comes last, and
+    // is searched once: what it had there tells whether the name is alone.
     pub(crate) fn push(&mut self, alloc: Global, name: &[u8], number: u32) -> Result<(), AllocError>
         ensures put { OnOk result (self.new ≡ with_entry name.now number self.old) }
         ensures kept { OnErr result (self.new ≡ self.old) }
@@ -92,24 +97,25 @@ impl DirEntries {
             return Err(AllocError);
         };
         let stored = Bytes::from_vec(Vec::from_slice(alloc, name)?);
-        if self.doubled || self.index.contains_key(name) {
+        if self.doubled {
             return match add_last(&mut self.order, place, stored, number) {
                 Ok(()) => {
-                    self.doubled = true;
                     self.next = next;
                     Ok(())
                 }
                 Err(_) => Err(AllocError),
             };
         }
-        match add_name(&mut self.index, alloc, name, (place, number)) {
-            Ok(()) => match add_last(&mut self.order, place, stored, number) {
-                Ok(()) => {
+        let indexed = Bytes::from_vec(Vec::from_slice(alloc, name)?);
+        match add_last(&mut self.order, place, stored, number) {
+            Ok(()) => match self.index.add(alloc, indexed, (place, number)) {
+                Ok(alone) => {
+                    self.doubled = !alone;
                     self.next = next;
                     Ok(())
                 }
                 Err(_) => {
-                    drop_name(&mut self.index, name);
+                    drop_place(&mut self.order, place);
                     Err(AllocError)
                 }
             },
@@ -123,9 +129,9 @@ impl DirEntries {
         ensures removed { self.new ≡ without_entry name.now self.old }
     {
         match oldest_of(&self.order, &self.index, self.doubled, name) {
-            Some((place, number)) => {
-                drop_place(&mut self.order, place);
-                drop_name(&mut self.index, name);
+            Some((oldest, number)) => {
+                drop_place(&mut self.order, oldest);
+                self.index.remove(name);
                 Some(number)
             }
             None => None,

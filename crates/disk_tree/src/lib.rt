@@ -7,8 +7,10 @@ mod changes;
 mod edits;
 mod entries;
 mod fault;
+mod held_index;
 mod laws;
 mod name_index;
+mod named;
 mod node;
 #[cfg(test)]
 mod tests;

@@ -1,51 +1,59 @@
 //! The entries of a directory by place, and their index by name.
-ghost use Rattle.std.specs.Prelude.{◌≡◌, ◌+◌, ◌++◌, [], ◌∷◌, ℕ, List, false};
-ghost use Rattle.std.specs.Prelude.{if◌then◌else◌, IfSome, OnOk, OnErr};
+ghost use Rattle.std.specs.Prelude.{◌≡◌, ◌+◌, ◌++◌, [], ◌∷◌, ℕ, List, true};
+ghost use Rattle.std.specs.Prelude.{if◌then◌else◌, IfSome, IsSome, IfOk, OnOk, OnErr};
 ghost use Rattle.std.specs.List.Sorted.{IsStrictlySortedBy};
 ghost use Rattle.std.specs.Map.{keys_of, remove_entry};
 ghost use Rattle.std.specs.Ordering.{nat_cmp};
 ghost use Rattle.std.specs.BTreeMap.{is_at};
 ghost use Rattle.std.specs.Str.{bytes_eq};
-ghost use Rattle.disk_tree.specs.Indexed.{AreBelow, indexed, oldest};
+ghost use Rattle.disk_tree.specs.Indexed.{AreBelow, hash_of as hash, indexed, oldest};
 
 use item_list::Bytes;
+use number_map::Rank;
 use std::alloc::{AllocError, Global};
-use std::collections::BTreeMap;
+use std::collections::{BTreeMap, HashMap};
+use std::hash::{FoldHasher, Hasher};
 
-// The entries by place: the stored name and the node's number.
-pub(crate) type Order = BTreeMap<u64, (Bytes, u32)>;
+// The entries by place: the stored name and the node's number. A map of ranks is searched faster than one
+// of plain numbers.
+pub(crate) type Order = BTreeMap<Rank<u64>, (Bytes, u32)>;
 
-// The place and the number of each name.
-pub(crate) type Index = BTreeMap<Vec<u8>, (u64, u32)>;
+// Each name with its place and number, under the name's hash. The names are hashed here, since a map by
+// names would hash them byte by byte.
+pub(crate) type Index = HashMap<u64, (Bytes, (u64, u32))>;
 
-// The place and the number of the oldest entry of this name. The index has them as long as no name
-// was doubled.
-pub(crate) fn oldest_of(
-    order: &Order,
-    index: &Index,
-    doubled: bool,
-    name: &[u8],
-) -> Option<(u64, u32)>
-    requires { doubled ≡ false → (other : List ℕ)
-        → indexed index.now.entries other ≡ oldest order.now.entries other }
-    ensures { result ≡ oldest order.now.entries name.now }
+// The hash of a name. Its seed is fixed.
+pub(crate) fn hash_of(name: &[u8]) -> u64
+    ensures { result ≡ hash name.now }
 {
-    if doubled {
-        return searched(order, name);
-    }
-    match index.get(name) {
-        Some(found) => Some(*found),
+    let mut hasher = FoldHasher::default();
+    hasher.write(name);
+    hasher.finish()
+}
+
+// What the index has under the name.
+pub(crate) fn told(index: &Index, name: &[u8]) -> Option<(u64, u32)>
+    ensures { result ≡ indexed index.now.entries name.now }
+{
+    match index.get(&hash_of(name)) {
+        Some(found) => {
+            if name == found.0.as_slice() {
+                Some(found.1)
+            } else {
+                None
+            }
+        }
         None => None,
     }
 }
 
-// The same by a search from the oldest on.
-fn searched(order: &Order, name: &[u8]) -> Option<(u64, u32)>
+// The place and the number of the oldest entry of this name, by a search from the oldest on.
+pub(crate) fn searched(order: &Order, name: &[u8]) -> Option<(u64, u32)>
     ensures { result ≡ oldest order.now.entries name.now }
 {
     'each: for (place, entry) in order.iter() {
         if name == entry.0.as_slice() {
-            return Some((*place, entry.1));
+            return Some((place.of, entry.1));
         }
     }
     None
@@ -63,7 +71,7 @@ pub(crate) fn add_last(
     ensures kept { OnErr result (order.new.entries ≡ order.old.entries) }
     ensures rising { IsStrictlySortedBy nat_cmp (keys_of order.new.entries) }
 {
-    order.insert(place, (name, number))?;
+    order.insert(Rank { of: place }, (name, number))?;
     Ok(())
 }
 
@@ -72,30 +80,30 @@ pub(crate) fn drop_place(order: &mut Order, place: u64)
     ensures gone { order.new.entries ≡ remove_entry (is_at (nat_cmp place)) order.old.entries }
     ensures rising { IsStrictlySortedBy nat_cmp (keys_of order.new.entries) }
 {
-    order.remove(&place);
+    order.remove(&Rank { of: place });
 }
 
-// Says where the name is.
+// Says where the name is, in place of what the index had under its hash. Whether it had nothing there.
 pub(crate) fn add_name(
     index: &mut Index,
-    alloc: Global,
-    name: &[u8],
+    name: Bytes,
     found: (u64, u32),
-) -> Result<(), AllocError>
-    ensures put { OnOk result ((other : List ℕ) → indexed index.new.entries other ≡ if bytes_eq name.now other
-        then Some found else indexed index.old.entries other) }
+) -> Result<bool, AllocError>
+    ensures lacked { IfOk result (λ alone. alone ≡ true → indexed index.old.entries name ≡ None) }
+    ensures put { IfOk result (λ alone. alone ≡ true → (other : List ℕ) → indexed index.new.entries other
+        ≡ if bytes_eq name other then Some found else indexed index.old.entries other) }
     ensures kept { OnErr result (index.new.entries ≡ index.old.entries) }
 {
-    index.insert(Vec::from_slice(alloc, name)?, found)?;
-    Ok(())
+    let before = index.insert(hash_of(name.as_slice()), (name, found))?;
+    Ok(before.is_none())
 }
 
-// Forgets the name.
+// Forgets a name that the index has. Of another it may forget one of the same hash.
 pub(crate) fn drop_name(index: &mut Index, name: &[u8])
-    ensures { (other : List ℕ) → indexed index.new.entries other ≡ if bytes_eq name.now other then None
-        else indexed index.old.entries other }
+    ensures { IsSome (indexed index.old.entries name.now) → (other : List ℕ) → indexed index.new.entries other
+        ≡ if bytes_eq name.now other then None else indexed index.old.entries other }
 {
-    index.remove(name);
+    index.remove(&hash_of(name));
 }
 
 // The place behind this one. Places are not used again; 2^64 of them outlast every run.

@@ -1,6 +1,7 @@
 ghost use Rattle.std.specs.Prelude.{◌≡◌, []};
 ghost use Rattle.disk_tree.specs.Nodes.{blocks_of};
 
+use crate::name_index::hash_of;
 use crate::{BlockList, Body, DirEntries, DiskFault, DiskTree, StoredNode};
 use std::alloc::Global;
 use std::process::Abort;
@@ -71,6 +72,17 @@ fn add_dir<R: Abort>(
 ) -> Result<(), DiskFault> {
     assert!(rt; tree.node(number).is_none());
     tree.add_node(number, dir(alloc))
+}
+
+fn add_named<R: Abort>(
+    rt: &R,
+    tree: &mut DiskTree,
+    alloc: Global,
+    (dir, name): (u32, &[u8]),
+    number: u32,
+) -> Result<(), DiskFault> {
+    assert!(rt; tree.is_dir(dir) && tree.node(number).is_none());
+    tree.add_named(alloc, dir, name, number, file(alloc))
 }
 
 fn is_named(tree: &DiskTree, number: u32) -> bool {
@@ -144,6 +156,38 @@ fn names_stand_in_the_order_in_which_they_were_made(rt: HostRuntime) -> Result<(
 }
 
 #[test]
+fn names_of_one_hash_lead_each_to_its_node(rt: HostRuntime) -> Result<(), Fail> {
+    // The last eight bytes make the hash 0, whatever stands before them.
+    let one = b"one name\x15\x7c\x4a\x7f\xb9\x79\x37\x9e";
+    let another = b"another.\x15\x7c\x4a\x7f\xb9\x79\x37\x9e";
+    assert!(rt; hash_of(one) == hash_of(another));
+    let alloc = rt.alloc();
+    let mut tree = DiskTree::new(alloc)?;
+    assert!(rt; put(&rt, &mut tree, alloc, 0, one, 1).is_ok());
+    assert!(rt; tree.entry(0, another).is_none() && !tree.drop_entry(0, another));
+    assert!(rt; put(&rt, &mut tree, alloc, 0, another, 2).is_ok());
+    assert!(rt; tree.entry(0, one) == Some(1) && tree.entry(0, another) == Some(2));
+    assert!(rt; tree.drop_entry(0, one));
+    assert!(rt; tree.entry(0, one).is_none() && tree.entry(0, another) == Some(2));
+    Ok(())
+}
+
+#[test]
+fn a_node_comes_and_goes_with_its_name(rt: HostRuntime) -> Result<(), Fail> {
+    let alloc = rt.alloc();
+    let mut tree = DiskTree::new(alloc)?;
+    assert!(rt; add_named(&rt, &mut tree, alloc, (0, b"a"), 1).is_ok());
+    assert!(rt; add_named(&rt, &mut tree, alloc, (0, b"b"), 2).is_ok());
+    assert!(rt; has_names(&tree, 0, &[b"a", b"b"]) && is_named(&tree, 2));
+    assert!(rt; grow(&rt, &mut tree, alloc, 1, 3).is_ok());
+    assert!(rt; tree.drop_named(0, b"c").is_none());
+    assert!(rt; tree.drop_named(0, b"a") == Some(1));
+    assert!(rt; tree.node(1).is_none() && tree.block_total() == 0);
+    assert!(rt; has_names(&tree, 0, &[b"b"]) && tree.entry(0, b"b") == Some(2));
+    Ok(())
+}
+
+#[test]
 fn a_write_changes_one_block_alone(rt: HostRuntime) -> Result<(), Fail> {
     let alloc = rt.alloc();
     let mut tree = DiskTree::new(alloc)?;
@@ -175,6 +219,8 @@ fn the_disk_is_full_at_its_borders_and_not_before(rt: HostRuntime) -> Result<(),
         assert!(rt; put(&rt, &mut tree, alloc, 0, &number.to_be_bytes(), number).is_ok());
     }
     assert!(rt; put(&rt, &mut tree, alloc, 0, b"more", 5000) == Err(DiskFault::NoSpace));
+    let full = add_named(&rt, &mut tree, alloc, (0, b"more"), 65536);
+    assert!(rt; full == Err(DiskFault::NoSpace));
     assert!(rt; put(&rt, &mut tree, alloc, 1, b"from", 5000).is_ok());
     assert!(rt;
         move_to(&rt, &mut tree, alloc, (1, b"from"), (0, b"to")) == Err(DiskFault::NoSpace)
@@ -182,6 +228,8 @@ fn the_disk_is_full_at_its_borders_and_not_before(rt: HostRuntime) -> Result<(),
     assert!(rt; move_to(&rt, &mut tree, alloc, (0, &[0, 0, 0, 1]), (0, b"to")).is_ok());
 
     tree.remove_node(65535);
+    let full = add_named(&rt, &mut tree, alloc, (0, b"more"), 65535);
+    assert!(rt; full == Err(DiskFault::NoSpace));
     assert!(rt; tree.node(65535).is_none());
     assert!(rt; tree.add_node(65535, file(alloc)).is_ok());
     assert!(rt; grow(&rt, &mut tree, alloc, 65535, 16385) == Err(DiskFault::NoSpace));

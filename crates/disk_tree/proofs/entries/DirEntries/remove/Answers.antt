@@ -8,8 +8,8 @@ use Rattle.disk_tree.proofs.entries.DirEntries.remove.Goals as goal
 
 pub invariant_of-self : goal.invariant_of-self
 invariant_of-self c =
-    dropped_IsIndexed c.self.inside.order.entries c.drop_place.new.order.entries c.self.inside.index.entries c.drop_name.new.index.entries c.self.inside.next c.self.inside.doubled c.self.invariant c.drop_place.ensures.rising
-    c.args.name.now c.in-Some.place c.in-Some.number (sym c.oldest_of.ensures ∙ c.in-Some.is) c.drop_place.ensures.gone c.drop_name.ensures
+    dropped_IsIndexed c.self.inside.order.entries c.drop_place.new.order.entries c.self.inside.index c.remove.new.self c.self.inside.next c.self.inside.doubled c.self.invariant c.drop_place.ensures.rising
+    c.args.name.now c.in-Some.oldest c.in-Some.number (sym c.oldest_of.ensures ∙ c.in-Some.is) c.drop_place.ensures.gone c.remove.ensures
 
 pub returns-in-Some-clause-number : goal.returns-in-Some-clause-number
 returns-in-Some-clause-number c =
@@ -18,7 +18,7 @@ returns-in-Some-clause-number c =
 
 pub returns-in-Some-clause-removed : goal.returns-in-Some-clause-removed
 returns-in-Some-clause-removed c =
-    removed_values c.self.inside.order.entries c.drop_place.new.order.entries c.args.name.now c.in-Some.place c.in-Some.number c.self.invariant.rising (sym c.oldest_of.ensures ∙ c.in-Some.is) c.drop_place.ensures.gone
+    removed_values c.self.inside.order.entries c.drop_place.new.order.entries c.args.name.now c.in-Some.oldest c.in-Some.number c.self.invariant.rising (sym c.oldest_of.ensures ∙ c.in-Some.is) c.drop_place.ensures.gone
     ∙ ap (without_entry c.args.name.now) c.self.view_is
 
 pub returns-in-None-clause-number : goal.returns-in-None-clause-number

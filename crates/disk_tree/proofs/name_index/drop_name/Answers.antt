@@ -1,7 +1,0 @@
--- A name is told by its bytes.
-use Rattle.std.proofs.Common.{None}
-use Rattle.disk_tree.proofs.IndexLemmas.{index_updates}
-use Rattle.disk_tree.proofs.name_index.drop_name.Goals as goal
-
-pub returns : goal.returns
-returns c = index_updates c.args.index.now c.remove.new.self c.args.name.now None c.remove.ensures.updates

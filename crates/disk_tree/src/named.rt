@@ -1,0 +1,65 @@
+//! Nodes that come and go with the entry that leads to them.
+ghost use Rattle.std.specs.Prelude.{◌≡◌, ◌≤◌, ◌⊎◌, [], None, length, IfErr, IfSome, OnOk, OnErr};
+ghost use Rattle.mount_limits.specs.declared.TheConstants.{MOST_CHILDREN};
+ghost use Rattle.number_map.specs.Numbered as map;
+ghost use Rattle.disk_tree.specs.DiskTree.{IsDirAt, children, entered, dropped};
+ghost use Rattle.disk_tree.specs.Entries.{number_under};
+ghost use Rattle.disk_tree.specs.Nodes.{blocks_of};
+
+use crate::changes::blocks_gone;
+use crate::edits;
+use crate::fault::DiskFault;
+use crate::node::StoredNode;
+use crate::tree::DiskTree;
+use mount_limits::MOST_NODES;
+use std::alloc::Global;
+
+impl DiskTree {
+    /// Adds a node under a number that has none, and the entry that leads to it; the node is named. A
+    /// file has no blocks yet.
+    ///
+    /// NoSpace where 65,536 nodes are there, or the directory has 4,096 entries. After a fault the tree
+    /// is as before.
+    pub fn add_named(
+        &mut self,
+        alloc: Global,
+        dir: u32,
+        name: &[u8],
+        number: u32,
+        node: StoredNode,
+    ) -> Result<(), DiskFault>
+        requires dir { IsDirAt self.old dir }
+        requires absent { map.get self.old number ≡ None }
+        requires no_blocks { blocks_of node.body ≡ [] }
+        ensures added { OnOk result (self.new
+            ≡ entered (map.insert self.old number node) dir name.now number) }
+        ensures kept { OnErr result (self.new ≡ self.old) }
+        ensures full { MOST_NODES ≤ map.len self.old → result ≡ Err DiskFault.NoSpace }
+        ensures full_dir { MOST_CHILDREN ≤ length (children self.old dir) → result ≡ Err DiskFault.NoSpace }
+        ensures no_space { IfErr result (λ fault. fault ≡ DiskFault.NoSpace
+            → (MOST_NODES ≤ map.len self.old) ⊎ (MOST_CHILDREN ≤ length (children self.old dir))) }
+    {
+        if self.nodes.len() >= MOST_NODES {
+            return Err(DiskFault::NoSpace);
+        }
+        edits::add_named(&mut self.nodes, alloc, dir, name, number, node)
+    }
+
+    /// Takes the entry away, and the node that it leads to with its blocks, and tells the node's number;
+    /// `None` where no entry has the name. It takes no memory.
+    pub fn drop_named(&mut self, dir: u32, name: &[u8]) -> Option<u32>
+        ensures number { result ≡ number_under name.now (children self.old dir) }
+        ensures gone { IfSome (number_under name.now (children self.old dir)) (λ number.
+            self.new ≡ map.remove (dropped self.old dir name.now number) number) }
+        ensures kept { number_under name.now (children self.old dir) ≡ None → self.new ≡ self.old }
+    {
+        match edits::remove_entry(&mut self.nodes, dir, name) {
+            Some(number) => {
+                let gone = blocks_gone(self.nodes.remove(number));
+                self.blocks -= gone;
+                Some(number)
+            }
+            None => None,
+        }
+    }
+}
