@@ -1,14 +1,23 @@
 -- How keys are cached; words of private functions.
-use Rattle.std.specs.Prelude.{ℕ, Bool, List, not, ◌&&◌, ◌==◌}
+use Rattle.std.specs.Prelude.{◌≡◌, ℕ, Bool, List, Option, IfSome, not, ◌&&◌, ◌==◌}
 use Rattle.std.specs.Ordering.{nat_cmp}
 use Rattle.std.specs.Global.{Global}
 use Rattle.std.specs.declared.boxed.Box.{Box}
 use Rattle.key_counts.specs.Shown.{shown}
 use Rattle.policy_ctx.specs.declared.policy.KeyId.{KeyId}
 use Rattle.policy_ctx.specs.KeyIds.{same_id}
+use Rattle.byte_words.specs.Bytes.{AreBytes}
+use Rattle.fsc_keys.specs.declared.file_keys.FileKey.{FileKey}
 use Rattle.inode_refs.specs.declared.node_key.NodeKey.{NodeKey}
 use Rattle.inode_refs.specs.Cached.{KeyMap, PinMap, pins_at}
+use Rattle.inode_refs.specs.Ciphers.{names_in}
 
+-- the cipher of a key of names is that of its bytes; a key of contents has none
+pub record IsCipherIn (cipher : Option (List ℕ)) (key : FileKey) : Type 0 where
+  pub same : cipher ≡ names_in key
+  pub ranged : IfSome cipher AreBytes
+
+-- a cached key in its box; its round keys aren't seen
 abbrev pub KeyBox : Type 0
 KeyBox = Box NodeKey Global
 

@@ -1,3 +1,4 @@
 pub mod Cached
+pub mod Ciphers
 pub mod Kept
 pub mod Users

@@ -1,16 +1,19 @@
 //! The cache of keys and pins by node.
 
 ghost use Rattle.std.specs.Prelude.{◌≡◌, ◌+◌, ◌-◌, ◌<◌, ◌^◌, ◌||◌, true, false};
-ghost use Rattle.std.specs.Prelude.{option_copied, is_some, is_none, IsSome, IsOk, OnOk, OnErr};
+ghost use Rattle.std.specs.Prelude.{option_copied, is_some, is_none, IsSome, IfSome, IsOk, OnOk, OnErr};
 ghost use Rattle.std.specs.Option.{option_map};
 ghost use Rattle.std.specs.FinMap as map;
+ghost use Rattle.byte_words.specs.Bytes.{AreBytes};
 ghost use Rattle.inode_refs.specs.Cached.{no_cache, key_at, pins_of, with_pins, users_of, is_unpinned};
 ghost use Rattle.inode_refs.specs.Cached.{given, evicted, all_evicted};
-ghost use Rattle.inode_refs.specs.Users.{id_at, user_at, coming, leaving};
+ghost use Rattle.inode_refs.specs.Ciphers.{names_key_at};
+ghost use Rattle.inode_refs.specs.Users.{id_at};
 
 use crate::kept::{Keys, discard, forget, goes, is_pinned, keep_in, pin_in, stays_for, users_in};
 use crate::node_key::NodeKey;
 use crate::users::Users;
+use aes_core::Aes256;
 use fsc_keys::{FileKey, KeyId};
 use key_counts as counts;
 use std::alloc::{AllocError, Global};
@@ -78,7 +81,19 @@ impl InodeCache {
         ensures { option_copied result ≡ option_map (λ key. key.key) (key_at self.now node) }
     {
         match self.keys.get(&node) {
-            Some(kept) => Some(&kept.key),
+            Some(kept) => Some(kept.key()),
+            None => None,
+        }
+    }
+
+    /// The cipher of the node's names, where a names key is cached: its round keys are made once, when
+    /// the key comes.
+    pub fn cipher_of(&self, node: u32) -> Option<&Aes256>
+        ensures value { option_copied result ≡ names_key_at self.now node }
+        ensures ranged { IfSome result (λ cipher. AreBytes cipher.now) }
+    {
+        match self.keys.get(&node) {
+            Some(kept) => kept.cipher(),
             None => None,
         }
     }
@@ -94,47 +109,13 @@ impl InodeCache {
     }
 
     // The identifier of the node's key.
-    fn id_at(&self, node: u32) -> Option<KeyId>
+    pub(crate) fn id_at(&self, node: u32) -> Option<KeyId>
         ensures { result ≡ id_at self.now node }
     {
         match self.keys.get(&node) {
-            Some(kept) => Some(kept.id),
+            Some(kept) => Some(kept.id()),
             None => None,
         }
-    }
-
-    // The identifier for which the node counts.
-    fn user_at(&self, node: u32) -> Option<KeyId>
-        ensures { result ≡ user_at self.now node }
-    {
-        if self.pins(node) == 0 {
-            return None;
-        }
-        self.id_at(node)
-    }
-
-    // The identifier for which the node counts from its next pin on, with the key that comes with that.
-    fn coming(&self, node: u32, key: &Option<NodeKey>) -> Option<KeyId>
-        ensures { result ≡ coming self.now node key.now }
-    {
-        if self.user_at(node).is_some() {
-            return None;
-        }
-        match (self.id_at(node), key) {
-            (Some(id), _) => Some(id),
-            (None, Some(key)) => Some(key.id),
-            (None, None) => None,
-        }
-    }
-
-    // The identifier for which the node counts no longer once a pin goes.
-    fn leaving(&self, node: u32) -> Option<KeyId>
-        ensures { result ≡ leaving self.now node }
-    {
-        if self.pins(node) != 1 {
-            return None;
-        }
-        self.id_at(node)
     }
 
     /// Caches the key of the node, in the place of the one before. Only a node without a key takes

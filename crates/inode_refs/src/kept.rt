@@ -9,6 +9,7 @@ ghost use Rattle.policy_ctx.specs.KeyIds.{same_id};
 ghost use Rattle.inode_refs.specs.Cached.{pins_at, with_pins, given};
 ghost use Rattle.inode_refs.specs.Kept.{keys_of, pins_in, is_user};
 
+use crate::cached_key::CachedKey;
 use crate::node_key::NodeKey;
 use fsc_keys::KeyId;
 use key_counts as counts;
@@ -16,7 +17,7 @@ use std::alloc::{AllocError, Global};
 use std::collections::BTreeMap;
 
 /// The keys of nodes, each in a box of its own.
-pub(crate) type Keys = BTreeMap<u32, Box<NodeKey>>;
+pub(crate) type Keys = BTreeMap<u32, Box<CachedKey>>;
 
 // Whether the node has pins.
 pub(crate) fn is_pinned(pins: &BTreeMap<u32, u32>, node: u32) -> bool
@@ -31,27 +32,27 @@ pub(crate) fn users_in(keys: &Keys, pins: &BTreeMap<u32, u32>, id: &KeyId) -> us
     ensures ordered { tree.IsOrdered nat_cmp keys.now }
 {
     keys.iter()
-        .filter(|(node, kept)| is_pinned(pins, **node) && kept.id == *id)
+        .filter(|(node, kept)| is_pinned(pins, **node) && kept.id() == *id)
         .count()
 }
 
 // Whether the key was drawn from another master key. One that wasn't is overwritten.
-pub(crate) fn stays_for(kept: &mut Box<NodeKey>, id: &KeyId) -> bool
+pub(crate) fn stays_for(kept: &mut Box<CachedKey>, id: &KeyId) -> bool
     ensures stays { result ≡ not (same_id kept.old.value.id id.now) }
     ensures same { IsTrue result → kept.new ≡ kept.old }
 {
-    if kept.id != *id {
+    if kept.id() != *id {
         return true;
     }
-    kept.key.wipe();
+    kept.wipe();
     false
 }
 
 // Overwrites the key, which doesn't stay.
-pub(crate) fn goes(kept: &mut Box<NodeKey>) -> bool
+pub(crate) fn goes(kept: &mut Box<CachedKey>) -> bool
     ensures { result ≡ false }
 {
-    kept.key.wipe();
+    kept.wipe();
     false
 }
 
@@ -60,7 +61,7 @@ pub(crate) fn forget(keys: &mut Keys, node: u32)
     ensures { keys_of keys.new.entries ≡ map.remove (keys_of keys.old.entries) node }
 {
     match keys.remove(&node) {
-        Some(mut kept) => kept.key.wipe(),
+        Some(mut kept) => kept.wipe(),
         None => {}
     }
 }
@@ -84,14 +85,14 @@ pub(crate) fn keep_in(
     ensures cached { IsSome (map.get (keys_of keys.old.entries) node) → IsOk result }
 {
     if let Some(kept) = keys.get_mut(&node) {
-        kept.key.wipe();
-        **kept = key;
+        kept.wipe();
+        **kept = CachedKey::of(key);
         return Ok(());
     }
-    let boxed = match Box::new(alloc, key) {
+    let boxed = match Box::new(alloc, CachedKey::of(key)) {
         Ok(boxed) => boxed,
         Err(mut refused) => {
-            refused.value.key.wipe();
+            refused.value.wipe();
             return Err(AllocError);
         }
     };
@@ -99,7 +100,7 @@ pub(crate) fn keep_in(
         Ok(_) => Ok(()),
         Err(refused) => {
             let (_, mut boxed) = refused.value;
-            boxed.key.wipe();
+            boxed.wipe();
             Err(AllocError)
         }
     }

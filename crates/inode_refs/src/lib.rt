@@ -2,12 +2,15 @@
 #![tactic(auto)]
 
 mod cache;
+mod cached_key;
 mod kept;
 mod node_key;
 #[cfg(test)]
 mod tests;
+mod user_ids;
 mod users;
 
+pub use aes_core::Aes256;
 pub use cache::InodeCache;
 pub use fsc_keys::{FileKey, KeyId};
 pub use node_key::NodeKey;

@@ -40,3 +40,24 @@ fn a_key_stays_until_it_is_evicted_without_pins(rt: HostRuntime) -> Result<(), F
     assert!(rt; cache.key_of(9).is_none());
     Ok(())
 }
+
+// OpenSSL's AES-256 of a block of zeros under these keys.
+#[test]
+fn cipher_is_that_of_the_names_key(rt: HostRuntime) -> Result<(), Fail> {
+    let alloc = rt.alloc();
+    let id = KeyId([1; 16]);
+    let mut cache = InodeCache::new(alloc);
+    for (number, want) in [
+        (7, 0x0a4dee87e76ce0d47c6e1cdfc76d20a3_u128),
+        (9, 0x3fb865a2e2740494ffff67a03e830ea3_u128),
+    ] {
+        cache.keep(alloc, 7, id, names_key(number))?;
+        let block = cache
+            .cipher_of(7)
+            .map(|cipher| cipher.encrypt_block([0; 16]));
+        assert!(rt; block == Some(want.to_be_bytes()));
+    }
+    cache.keep(alloc, 7, id, FileKey::Contents([7; 64]))?;
+    assert!(rt; cache.cipher_of(7).is_none() && cache.key_of(7).is_some());
+    Ok(())
+}
