@@ -1,7 +1,8 @@
 -- In a keyed directory a name leads where its stored form does, under the key that the state has.
 use Rattle.std.proofs.Common.{◌≡◌, ℕ, ◌<◌, Bool, true, false, cond, not, ◌&&◌, List, [], length, Option, Some, None, option_map, is_some, unwrap_or, bytes_eq, inl, inr, refl, sym, ap, ◌∙◌, subst, arith}
 use Rattle.std.specs.Map.{lookup}
-use Rattle.std.specs.Option.{option_map_or}
+use Rattle.std.specs.Option.{option_map_or, option_or}
+use Rattle.std.specs.Prelude.{IfSome, option_and_then}
 use Rattle.std.proofs.lemmas.Bool.{or_cases, true≢false}
 use Rattle.std.proofs.lemmas.Slice.Eq.{bytes_eq-Decides}
 use Rattle.byte_words.specs.Bytes.{AreBytes}
@@ -12,6 +13,7 @@ use Rattle.policy_ctx.proofs.KeyIdLemmas.{same_id-refl}
 use Rattle.policy_ctx.specs.KeyIds.{same_id}
 use Rattle.fsc_keys.specs.Keys.{key_bytes, file_key_of, mode_key_of}
 use Rattle.fsc_keys.specs.declared.file_keys.FileKey.{FileKey}
+use Rattle.fsc_keys.specs.declared.file_keys.FileKey.TheVariants as key
 use Rattle.fsc_keys.specs.declared.file_keys.KeyKind.TheVariants.{Names}
 use Rattle.number_map.specs.Numbered.{get}
 use Rattle.name_crypt.specs.Plain.{IsPlain}
@@ -22,9 +24,12 @@ use Rattle.key_ring.specs.Holding.{Holding, secret_of, HoldsClaimedSecrets}
 use Rattle.key_ring.specs.Modes.{Modes, mode_at, users_in}
 use Rattle.key_ring.specs.declared.mode_key.ModeKey.{ModeKey}
 use Rattle.inode_refs.specs.Cached.{Cache, key_at}
+use Rattle.inode_refs.specs.Ciphers.{names_in}
 use Rattle.inode_refs.specs.declared.node_key.NodeKey.{NodeKey}
 use Rattle.plain_tree.specs.Nodes.{Name, Node, Body, Dir, File, Link, is_dir_in, is_dir_at, children, context_at}
-use Rattle.disk_tree.specs.DiskTree.{Disk}
+use Rattle.disk_tree.specs.DiskTree.{Disk, entries_in}
+use Rattle.disk_tree.specs.declared.node.StoredNode.{StoredNode}
+use Rattle.disk_tree.specs.Entries.{number_under}
 use Rattle.disk_tree.specs.DiskTree.{children as stored_entries}
 use Rattle.mount_model.specs.PlainMount.{PlainMount, HandleList, has_handle}
 use Rattle.mount_model.specs.Sealed.{raw_for, node_key, node_start, sealed_name, texts}
@@ -34,7 +39,9 @@ use Rattle.mount_state.specs.Contexts.{context_in, has_own, has_shared, uses_own
 use Rattle.mount_state.specs.Contexts.{kind_in as stored_kind}
 use Rattle.mount_state.specs.Discipline.{Forgets}
 use Rattle.mount_state.specs.Led.{led_to}
-use Rattle.mount_state.specs.NamesKey.{cached_key, drawn_key, key_from, LeadsUnder}
+use Rattle.mount_state.specs.NamesKey.{cached_key, drawn_key, key_from}
+use Rattle.mount_state.specs.NamesCipher.{own_names_key, used_mode_key, other_key, IsCipherUnder, LeadsByOther}
+use Rattle.mount_state.specs.NamesCipher.{led_under as led_by_cipher}
 use Rattle.mount_state.specs.Stored.{stored_node, stored_form}
 use Rattle.mount_state.specs.StandsFor.{TreeStands, KeysStand, CachesStand, kind_in}
 use Rattle.mount_state.proofs.LedLemmas.{decided, led_by, name_of_entry}
@@ -47,7 +54,7 @@ names_key raw c = elim c.policy.by_mode as (λ b. is_of_kind Names (cond b (mode
 pub is_names_key : (m : PlainMount) (c : Context) → is_of_kind Names (node_key m.raws c Names) ≡ true
 is_names_key m c = names_key (raw_for m.raws c) c
 
-dir_kind : (o : Option Node) → is_dir_in o ≡ true → kind_in o ≡ Names
+pub dir_kind : (o : Option Node) → is_dir_in o ≡ true → kind_in o ≡ Names
 dir_kind None bad = refl
 dir_kind (Some v) is = at v.body is
   where
@@ -100,6 +107,64 @@ module _ (m : PlainMount) (dir : ℕ) (c : Context) (here : context_at m.nodes d
       of_secret (Some raw) there is =
           sym (some_same (key_from c raw) k is)
           ∙ sym (ap (λ o. key_from c (unwrap_or o [])) (stand.secrets c.policy.id raw there))
+
+  -- so is one that is cached for the directory, of which the cipher stands ready
+  pub own_is : (cache : Cache) (modes : Modes) → CachesStand cache modes m → kind_in (get m.nodes dir) ≡ Names → (bytes : List ℕ) → own_names_key cache dir c ≡ Some bytes → key.Names bytes ≡ node_key m.raws c Names
+  own_is cache modes stand names bytes is = by_flag c.policy.by_mode is
+    where
+      some_bytes : (x y : List ℕ) → Some x ≡ Some y → x ≡ y
+      some_bytes x y e = cc
+
+      of_kind : (k : FileKey) → names_in k ≡ Some bytes → k ≡ key.Names bytes
+      of_kind (key.Contents b) bad = let none : None ≡ Some bytes = bad in absurd (cc)
+      of_kind (key.Names b) same = ap key.Names (some_bytes b bytes same)
+
+      of_node : (o : Option NodeKey) → key_at cache dir ≡ o → option_and_then (λ kept. names_in kept.key) o ≡ Some bytes → key.Names bytes ≡ node_key m.raws c Names
+      of_node None there bad = let none : None ≡ Some bytes = bad in absurd (cc)
+      of_node (Some kept) there is =
+          sym (of_kind kept.key is) ∙ (stand.file_keys dir kept c there here ∙ ap (node_key m.raws c) names)
+
+      by_flag : (b : Bool) → cond b None (option_and_then (λ kept. names_in kept.key) (key_at cache dir)) ≡ Some bytes → key.Names bytes ≡ node_key m.raws c Names
+      by_flag true bad = let none : None ≡ Some bytes = bad in absurd (cc)
+      by_flag false is = of_node (key_at cache dir) refl is
+
+  -- and one that stands elsewhere
+  pub other_is : (ring : Holding) (cache : Cache) (modes : Modes) → KeysStand ring m → CachesStand cache modes m → is_dir_at m.nodes dir ≡ true → (k : FileKey) → other_key ring modes c ≡ Some k → k ≡ node_key m.raws c Names
+  other_is ring cache modes keys stand is_dir k is = by_used (used_mode_key modes c) refl is
+    where
+      some_same : (x y : FileKey) → Some x ≡ Some y → x ≡ y
+      some_same x y e = cc
+
+      of_flag : (b : Bool) → c.policy.by_mode ≡ b → (x : FileKey) → cond b (option_map (λ mode. mode.key) (mode_at modes c.policy.id Names)) None ≡ Some x → cached_key cache modes dir c ≡ Some x
+      of_flag true flag x is =
+          ap (λ b. cond b (option_map (λ mode. mode.key) (mode_at modes c.policy.id Names)) (option_map (λ kept. kept.key) (key_at cache dir))) flag ∙ is
+      of_flag false flag x bad = let none : None ≡ Some x = bad in absurd (cc)
+
+      by_used : (o : Option FileKey) → used_mode_key modes c ≡ o → option_or o (drawn_key ring c) ≡ Some k → k ≡ node_key m.raws c Names
+      by_used None none is = drawn_is ring keys k is
+      by_used (Some x) used is = sym (some_same x k is) ∙ cached_is cache modes stand is_dir x (of_flag c.policy.by_mode refl x used)
+
+  -- so the cipher under it is that of the directory's names
+  module _ (ring : Holding) (cache : Cache) (modes : Modes) (keys : KeysStand ring m) (stand : CachesStand cache modes m) (is_dir : is_dir_at m.nodes dir ≡ true) where
+    of_names : (k : FileKey) → other_key ring modes c ≡ Some k → is_of_kind Names k ≡ true
+    of_names k is = ap (is_of_kind Names) (other_is ring cache modes keys stand is_dir k is) ∙ is_names_key m c
+
+    pub other_bytes : (bytes : List ℕ) → IsCipherUnder (other_key ring modes c) (Some bytes) → bytes ≡ key_bytes (node_key m.raws c Names)
+    other_bytes bytes under = by_case (other_key ring modes c) refl under
+      where
+        some_bytes : (x y : List ℕ) → Some x ≡ Some y → x ≡ y
+        some_bytes x y e = cc
+
+        by_case : (o : Option FileKey) → other_key ring modes c ≡ o → IsCipherUnder o (Some bytes) → bytes ≡ key_bytes (node_key m.raws c Names)
+        by_case None none bad = let some : Some bytes ≡ None = bad in absurd (cc)
+        by_case (Some k) is under = some_bytes bytes (key_bytes k) (under (of_names k is)) ∙ ap key_bytes (other_is ring cache modes keys stand is_dir k is)
+
+    pub no_other : IsCipherUnder (other_key ring modes c) None → other_key ring modes c ≡ None
+    no_other under = by_case (other_key ring modes c) refl under
+      where
+        by_case : (o : Option FileKey) → other_key ring modes c ≡ o → IsCipherUnder o None → o ≡ None
+        by_case None none under = refl
+        by_case (Some k) is under = let bad : None ≡ Some (key_bytes k) = under (of_names k is) in absurd (cc)
 
   -- where the directory is keyed, the state has the key
   module _ (disk : Disk) (next : ℕ) (well : IsWellFormed m) (tree : TreeStands disk next m) (is_dir : is_dir_at m.nodes dir ≡ true) where
@@ -154,6 +219,37 @@ module _ (m : PlainMount) (dir : ℕ) (c : Context) (here : context_at m.nodes d
             from_mode (mode_at modes c.policy.id Names) refl (omega arith) none
         by_flag false flag held none = from_own (key_at cache dir) (rule.file_keys.kept dir c.policy.id (own_here flag) held) none
 
+    -- so its cipher is cached, or the key stands elsewhere
+    pub some_cipher : (ring : Holding) (cache : Cache) (modes : Modes) (live : HandleList) → Forgets disk ring.claims cache modes live → HoldsClaimedSecrets ring → ring.claims ≡ m.claims → live ≡ m.handles
+        → is_keyed m dir ≡ true → own_names_key cache dir c ≡ None → other_key ring modes c ≡ None → ⊥
+    some_cipher ring cache modes live rule secrets claims handles keyed no_own no_other =
+        let both = neither (used_mode_key modes c) (drawn_key ring c) no_other in
+        some_key ring cache modes live rule secrets claims handles keyed (by_flag c.policy.by_mode refl no_own both.0) both.1
+      where
+        neither : (o p : Option FileKey) → option_or o p ≡ None → (o ≡ None) × (p ≡ None)
+        neither None p none = (refl, none)
+        neither (Some x) p bad = let none : Some x ≡ None = bad in absurd (cc)
+
+        names_kind : stored_kind (get disk dir) ≡ Names
+        names_kind = ap stored_kind (tree.nodes dir) ∙ stored_dir_kind m dir (get m.nodes dir) is_dir
+
+        of_kind : (k : FileKey) → is_of_kind Names k ≡ true → names_in k ≡ None → ⊥
+        of_kind (key.Contents b) bad none = absurd (true≢false (sym bad))
+        of_kind (key.Names b) there none = let bad : Some b ≡ None = none in absurd (cc)
+
+        of_node : (o : Option NodeKey) → key_at cache dir ≡ o → option_and_then (λ kept. names_in kept.key) o ≡ None → option_map (λ kept. kept.key) o ≡ None
+        of_node None there none = refl
+        of_node (Some kept) there none =
+            absurd (of_kind kept.key (sym (ap (λ kind. is_of_kind kind kept.key) names_kind) ∙ rule.file_keys.kind dir kept there) none)
+
+        by_flag : (b : Bool) → c.policy.by_mode ≡ b → cond b None (option_and_then (λ kept. names_in kept.key) (key_at cache dir)) ≡ None
+            → cond b (option_map (λ mode. mode.key) (mode_at modes c.policy.id Names)) None ≡ None → cached_key cache modes dir c ≡ None
+        by_flag true flag own used =
+            ap (λ b. cond b (option_map (λ mode. mode.key) (mode_at modes c.policy.id Names)) (option_map (λ kept. kept.key) (key_at cache dir))) flag ∙ used
+        by_flag false flag own used =
+            ap (λ b. cond b (option_map (λ mode. mode.key) (mode_at modes c.policy.id Names)) (option_map (λ kept. kept.key) (key_at cache dir))) flag
+            ∙ of_node (key_at cache dir) refl own
+
     -- the search
     module _ (distinct : NamesStayDistinct) (keyed : is_keyed m dir ≡ true) (ranged : AreBytes (key_bytes (node_key m.raws c Names))) where
       apart : (name other : Name) → IsPlain name → AreBytes name → IsPlain other → AreBytes other → bytes_eq (sealed_name m.raws dir c name) (sealed_name m.raws dir c other) ≡ bytes_eq name other
@@ -174,11 +270,30 @@ module _ (m : PlainMount) (dir : ℕ) (c : Context) (here : context_at m.nodes d
           ∙ (apart name other plain bytes (is.0.size.0, is.1, is.0.nul) is.0.bytes
           ∙ ap (bytes_eq name) (sym (shown_plain other))))
 
-    -- what is found under a key that is the directory's
-    pub led_under : NamesStayDistinct → is_keyed m dir ≡ true → (k : FileKey) (read : Context) → read ≡ c → k ≡ node_key m.raws c Names → (is_of_kind Names k ≡ true → AreBytes (key_bytes k))
-        → (name : Name) → IsPlain name → AreBytes name → (there : Option ℕ) → LeadsUnder disk dir read k name there → there ≡ led_to m dir name
-    led_under distinct keyed k read read_is k_is ranged name plain bytes there leads =
-        let kind : is_of_kind Names k ≡ true = ap (is_of_kind Names) k_is ∙ is_names_key m c in
-        leads kind
-        ∙ ((λ i. lookup (bytes_eq (stored_name (key_bytes (k_is i)) (node_start dir (read_is i)) (read_is i).policy.pad name)) (stored_entries disk dir))
-        ∙ keyed_led distinct keyed (subst (λ (x : FileKey). AreBytes (key_bytes x)) k_is (ranged kind)) name plain bytes)
+    -- what is found under the bytes of the directory's key
+    pub led_under : NamesStayDistinct → is_keyed m dir ≡ true → (bytes : List ℕ) (read : Context) → read ≡ c → bytes ≡ key_bytes (node_key m.raws c Names) → AreBytes bytes
+        → (name : Name) → IsPlain name → AreBytes name → (there : Option ℕ) → there ≡ number_under (stored_name bytes (node_start dir read) read.policy.pad name) (stored_entries disk dir) → there ≡ led_to m dir name
+    led_under distinct keyed bytes read read_is is ranged name plain name_bytes there leads =
+        leads
+        ∙ ((λ i. number_under (stored_name (is i) (node_start dir (read_is i)) (read_is i).policy.pad name) (stored_entries disk dir))
+        ∙ keyed_led distinct keyed (subst AreBytes is ranged) name plain name_bytes)
+
+    -- so is what is found under a cipher that is made for this once, where none is cached
+    pub led_by_other : NamesStayDistinct → is_keyed m dir ≡ true
+        → (ring : Holding) (cache : Cache) (modes : Modes) (live : HandleList) → Forgets disk ring.claims cache modes live → HoldsClaimedSecrets ring
+        → KeysStand ring m → CachesStand cache modes m → live ≡ m.handles
+        → (read : Context) → read ≡ c → own_names_key cache dir read ≡ None
+        → (node : StoredNode) → get disk dir ≡ Some node → (name : Name) → IsPlain name → AreBytes name
+        → (there : Option ℕ) → LeadsByOther ring modes dir read name node.body there → there ≡ led_to m dir name
+    led_by_other distinct keyed ring cache modes live rule secrets keys stand handles read read_is uncached node node_is name plain bytes there leads =
+        by_case leads.0 leads.1.0 leads.1.1.0 leads.1.1.1
+      where
+        by_case : (o : Option (List ℕ)) → IsCipherUnder (other_key ring modes read) o → IfSome o AreBytes → there ≡ led_by_cipher dir read name node.body o → there ≡ led_to m dir name
+        by_case None under ranged is =
+            absurd (some_cipher ring cache modes live rule secrets keys.claims handles keyed
+            (subst (λ (x : Context). own_names_key cache dir x ≡ None) read_is uncached)
+            (no_other ring cache modes keys stand is_dir (subst (λ (x : Context). IsCipherUnder (other_key ring modes x) None) read_is under)))
+        by_case (Some key) under ranged is =
+            led_under distinct keyed key read read_is
+            (other_bytes ring cache modes keys stand is_dir key (subst (λ (x : Context). IsCipherUnder (other_key ring modes x) (Some key)) read_is under)) ranged name plain bytes there
+            (is ∙ ap (λ (o : Option StoredNode). number_under (stored_name key (node_start dir read) read.policy.pad name) (entries_in o)) (sym node_is))

@@ -8,6 +8,7 @@ pub mod Stored
 pub mod StandsFor
 pub mod Led
 pub mod NamesKey
+pub mod NamesCipher
 pub mod SameButKeys
 pub mod Given
 pub mod Passed

@@ -14,7 +14,8 @@ use name_crypt::{
 
 impl MountState {
     /// The node to which the name leads in a directory without policy; none where no entry has the
-    /// name. The time grows with the logarithm of how many entries there are.
+    /// name. The time doesn't grow with how many entries there are, as long as no names collide in
+    /// their hash.
     pub fn entry_by_name(&self, dir: u32, name: &[u8]) -> Option<u32>
         ensures value { result ≡ number_under name.now (children self.now.disk dir) }
         ensures stands { LeadsPlain self.now dir name.now result }
@@ -23,8 +24,10 @@ impl MountState {
     }
 
     /// The node to which the no-key text leads in a locked directory; none where no name has the text.
-    /// Nothing is deciphered. The time grows with the logarithm of how many entries there are; only a
-    /// text that has a hash is compared with each.
+    /// Nothing is deciphered. The time doesn't grow with how many entries there are, as long as no names
+    /// collide in their hash; only a text that has a hash is compared with each.
+    // Not inlined: the usual way would keep room for what it makes.
+    #[inline(never)]
     pub fn entry_by_text(&self, dir: u32, text: &[u8]) -> Option<u32>
         ensures value { result ≡ lookup (is_text_of text.now) (children self.now.disk dir) }
         ensures stands { LeadsLocked self.now dir text.now result }

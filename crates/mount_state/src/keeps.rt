@@ -21,12 +21,12 @@ pub(crate) fn keep_key(alloc: Global, state: &mut MountState, dir: u32)
     ensures same { SameButKeys state.old state.new }
     ensures stands { StaysFor state.old state.new }
 {
-    let Some(context) = own_context(&state.disk, dir) else {
-        return;
-    };
     if state.inodes.key_of(dir).is_some() {
         return;
     }
+    let Some(context) = own_context(&state.disk, dir) else {
+        return;
+    };
     let _exact = state.ring.claims();
     let Some(secret) = state.ring.secret_of(&context.policy.id) else {
         return;

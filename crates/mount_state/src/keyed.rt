@@ -1,26 +1,33 @@
 //! What a name leads to in a directory whose key is at hand.
 
-ghost use Rattle.std.specs.Prelude.{◌≡◌, ◌+◌, ◌≤◌, true, option_copied};
+ghost use Rattle.std.specs.Prelude.{◌≡◌, ◌+◌, ◌≤◌, true, Some, IfSome, option_copied};
 ghost use Rattle.byte_words.specs.Bytes.{AreBytes};
+ghost use Rattle.disk_tree.specs.Entries.{number_under};
+ghost use Rattle.disk_tree.specs.Nodes.{entries_of};
 ghost use Rattle.fsc_keys.specs.Keys.{key_bytes};
-ghost use Rattle.key_ring.specs.Holding.{HoldsClaimedSecrets};
 ghost use Rattle.fsc_keys.specs.declared.file_keys.KeyKind.TheVariants.{Names};
-ghost use Rattle.mount_state.specs.Contexts.{is_of_kind};
+ghost use Rattle.key_ring.specs.Holding.{HoldsClaimedSecrets};
+ghost use Rattle.name_crypt.specs.Plain.{IsPlain};
+ghost use Rattle.name_crypt.specs.StoredName.{stored_name};
+ghost use Rattle.number_map.specs.Numbered as map;
 ghost use Rattle.mount_model.specs.Sealed.{node_start};
-ghost use Rattle.mount_state.specs.NamesKey.{cached_key, drawn_key, IsContextOf, LeadsUnder};
+ghost use Rattle.mount_state.specs.Contexts.{is_of_kind};
+ghost use Rattle.mount_state.specs.NamesCipher.{IsCipherUnder, LeadsByOther, other_key, own_names_key};
+ghost use Rattle.mount_state.specs.NamesCipher.{used_mode_key};
+ghost use Rattle.mount_state.specs.NamesKey.{IsContextIn, drawn_key};
 ghost use Rattle.mount_state.specs.Led.{LeadsKeyed};
 
 use super::MountState;
-use disk_tree::{DiskTree, StoredNode};
+use disk_tree::StoredNode;
 use fsc_keys::{FileKey, KeyKind};
-use name_crypt::{NameCipher, Plain, Steps, names_come_back};
+use name_crypt::{Aes256, MOST_NAME_BYTES, Plain, Steps, encrypt_into, name_iv, names_come_back};
 use policy_ctx::{Context, decode_context};
 use std::sync::ledger::Ledger;
 
 impl MountState {
     /// The node to which the name leads in a keyed directory with a policy; none where no entry has the
-    /// name. At most one name is encrypted, and then looked up in a time that grows with the logarithm
-    /// of how many entries there are.
+    /// name. At most one name is encrypted, and then looked up in a time that doesn't grow with how many
+    /// entries there are, as long as no names collide.
     pub fn entry_by_key<L: Ledger>(
         &self,
         dir: u32,
@@ -30,35 +37,97 @@ impl MountState {
         ensures stands { LeadsKeyed self.now dir name.now result }
         ensures ticks { steps.new ≤ steps.old + 1 }
     {
+        let node = self.disk.node(dir)?;
+        self.entry_in(dir, node, name.bytes(), steps)
+    }
+
+    // The same, where the directory was looked up, of a name that lies anywhere.
+    pub(crate) fn entry_in<L: Ledger>(
+        &self,
+        dir: u32,
+        node: &StoredNode,
+        name: &[u8],
+        steps: &mut Steps<L>,
+    ) -> Option<u32>
+        requires there { map.get self.now.disk dir ≡ Some node.now }
+        requires plain { IsPlain name.now }
+        ensures stands { LeadsKeyed self.now dir name.now result }
+        ensures ticks { steps.new ≤ steps.old + 1 }
+    {
         // That two names are stored alike only where they are the same.
         names_come_back();
-        let _plain = name.bytes();
-        let context = context_of(&self.disk, dir)?;
-        if let Some(key) = self.cached_key(dir, &context) {
-            return entry_under(&self.disk, dir, &context, key, name, steps);
+        are_bytes(name);
+        let context = context_of(node)?;
+        if let Some(cipher) = self.own_cipher(dir, &context) {
+            return entry_under(node, dir, &context, cipher, name, steps);
         }
-        let mut key = self.drawn_key(&context)?;
-        let found = entry_under(&self.disk, dir, &context, &key, name, steps);
-        key.wipe();
-        found
+        self.entry_anew(dir, node, &context, name, steps)
     }
 
-    // The key of the directory's names, where one is cached: its own, or that of its mode.
-    fn cached_key(&self, dir: u32, context: &Context) -> Option<&FileKey>
-        ensures { option_copied result ≡ cached_key self.now.inodes self.now.modes dir context.now }
+    // The node under the name's stored form, by a cipher that is made for this once. Apart from the way with a
+    // cached one, which then keeps no room for round keys.
+    #[inline(never)]
+    fn entry_anew<L: Ledger>(
+        &self,
+        dir: u32,
+        node: &StoredNode,
+        context: &Context,
+        name: &[u8],
+        steps: &mut Steps<L>,
+    ) -> Option<u32>
+        requires { IsPlain name.now }
+        ensures value { LeadsByOther self.now.ring self.now.modes dir context.now name.now node.now.body result }
+        ensures claimed { HoldsClaimedSecrets self.now.ring }
+        ensures ticks { steps.new ≤ steps.old + 1 }
+    {
+        let _claims = self.ring.claims();
+        let cipher = self.other_cipher(context)?;
+        entry_under(node, dir, context, &cipher, name, steps)
+    }
+
+    /// The cipher that is cached for the names of the directory, or for the symlink's target; none under
+    /// flag 8.
+    pub fn own_cipher(&self, node: u32, context: &Context) -> Option<&Aes256>
+        ensures value { option_copied result ≡ own_names_key self.now.inodes node context.now }
+        ensures ranged { IfSome result (λ cipher. AreBytes cipher.now) }
     {
         if context.policy.by_mode {
-            return self.modes.key_of(&context.policy.id, KeyKind::Names);
+            return None;
         }
-        self.inodes.key_of(dir)
+        self.inodes.cipher_of(node)
     }
 
-    // The same key drawn from the secret, where a user has a claim.
-    fn drawn_key(&self, context: &Context) -> Option<FileKey>
-        ensures value { result ≡ drawn_key self.now.ring context.now }
+    // The cipher where none is cached for the directory itself: under the key of the mode, where that is in
+    // use, else under a key that is drawn from the secret; none where no user has a claim.
+    fn other_cipher(&self, context: &Context) -> Option<Aes256>
+        ensures value { IsCipherUnder (other_key self.now.ring self.now.modes context.now) result }
+        ensures ranged { IfSome result AreBytes }
         ensures claimed { HoldsClaimedSecrets self.now.ring }
     {
         let _claims = self.ring.claims();
+        if let Some(key) = self.used_mode_key(context) {
+            return cipher_of(key);
+        }
+        let mut key = self.drawn_key(context)?;
+        let cipher = cipher_of(&key);
+        key.wipe();
+        cipher
+    }
+
+    // The key of the mode, where the policy has one for each mode and it is in use.
+    fn used_mode_key(&self, context: &Context) -> Option<&FileKey>
+        ensures { option_copied result ≡ used_mode_key self.now.modes context.now }
+    {
+        if !context.policy.by_mode {
+            return None;
+        }
+        self.modes.key_of(&context.policy.id, KeyKind::Names)
+    }
+
+    // The key of the names, drawn from the secret; none where no user has a claim.
+    fn drawn_key(&self, context: &Context) -> Option<FileKey>
+        ensures { result ≡ drawn_key self.now.ring context.now }
+    {
         match self.ring.secret_of(&context.policy.id) {
             Some(secret) if context.policy.by_mode => Some(secret.mode_key(KeyKind::Names)),
             Some(secret) => Some(secret.file_key(KeyKind::Names, &context.nonce)),
@@ -68,42 +137,47 @@ impl MountState {
 }
 
 // The context of the node, where it has one.
-fn context_of(disk: &DiskTree, node: u32) -> Option<Context>
-    ensures { IsContextOf disk.now node result }
+fn context_of(node: &StoredNode) -> Option<Context>
+    ensures { IsContextIn node.now.context result }
 {
-    match disk.node(node) {
-        Some(
-            StoredNode {
-                context: Some(context),
-                ..
-            },
-        ) => decode_context(context).ok(),
-        _ => None,
+    match &node.context {
+        Some(context) => decode_context(context).ok(),
+        None => None,
     }
 }
 
-// The node under the name's stored form. A contents key enciphers no name.
-fn entry_under<L: Ledger>(
-    disk: &DiskTree,
-    dir: u32,
-    context: &Context,
-    key: &FileKey,
-    name: &Plain,
-    steps: &mut Steps<L>,
-) -> Option<u32>
-    ensures value { LeadsUnder disk.now dir context.now key.now name.now result }
-    ensures ranged { is_of_kind Names key.now ≡ true → AreBytes (key_bytes key.now) }
-    ensures ticks { steps.new ≤ steps.old + 1 }
+// The cipher under a key of names. A contents key enciphers no name.
+fn cipher_of(key: &FileKey) -> Option<Aes256>
+    ensures value { is_of_kind Names key.now ≡ true → result ≡ Some (key_bytes key.now) }
+    ensures ranged { IfSome result AreBytes }
 {
     match key {
         FileKey::Names(bytes) => {
             are_bytes(&bytes[..]);
-            let cipher = NameCipher::new(bytes, start_of(dir, context));
-            let stored = cipher.encrypt(context.policy.pad, name, steps);
-            disk.entry(dir, stored.bytes())
+            Some(Aes256::new(bytes))
         }
         FileKey::Contents(_) => None,
     }
+}
+
+// The node under the name's stored form.
+fn entry_under<L: Ledger>(
+    node: &StoredNode,
+    dir: u32,
+    context: &Context,
+    cipher: &Aes256,
+    name: &[u8],
+    steps: &mut Steps<L>,
+) -> Option<u32>
+    requires { IsPlain name.now }
+    ensures value { result ≡ number_under (stored_name cipher.now (node_start dir context.now) context.now.policy.pad
+        name.now) (entries_of node.now.body) }
+    ensures ticks { steps.new ≡ steps.old + 1 }
+{
+    let iv = name_iv(start_of(dir, context));
+    let mut text = [0; MOST_NAME_BYTES];
+    let len = encrypt_into(cipher, iv, context.policy.pad, name, &mut text, steps);
+    node.body.find(&text[..len])
 }
 
 // Each number of a slice of bytes lies below 256.
@@ -113,12 +187,12 @@ fn are_bytes(bytes: &[u8])
     let _len = bytes.len();
 }
 
-// Where the names of the directory count their units from.
-fn start_of(dir: u32, context: &Context) -> u64
-    ensures { result ≡ node_start dir context.now }
+/// Where the names of the directory, or the symlink's target, count their units from.
+pub fn start_of(node: u32, context: &Context) -> u64
+    ensures { result ≡ node_start node context.now }
 {
     if context.policy.by_mode {
-        u64::from(dir) << 32
+        u64::from(node) << 32
     } else {
         0
     }

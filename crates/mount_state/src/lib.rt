@@ -16,6 +16,7 @@ mod walk;
 
 pub use handle_fault::HandleFault;
 pub use handle_table::HandleTable;
+pub use keyed::start_of;
 pub use mount_model::{Handle, KeyId, KeyState, Path, Refusal};
 pub use state::MountState;
 pub use walk::{entry_of, walked_node, walked_parent, walked_parent_past};

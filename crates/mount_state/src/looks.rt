@@ -1,16 +1,14 @@
 //! The state of an empty mount, and what a state answers of keys.
 
-ghost use Rattle.std.specs.Prelude.{◌≡◌, ◌↔◌, false, None, IfOk, is_some, option_map};
+ghost use Rattle.std.specs.Prelude.{◌≡◌, ◌↔◌, false, None, Some, IfOk, is_some};
 ghost use Rattle.number_map.specs.Numbered as map;
 ghost use Rattle.user_claims.specs.Claims.{is_present};
 ghost use Rattle.key_ring.specs.Holding.{secret_of};
 ghost use Rattle.key_ring.specs.Modes.{mode_at};
 ghost use Rattle.fsc_keys.specs.declared.file_keys.KeyKind.{KeyKind};
-ghost use Rattle.policy_ctx.specs.Context.{id_in};
 ghost use Rattle.mount_model.specs.PlainMount.{PlainMount, empty_mount};
 ghost use Rattle.mount_model.specs.States as plain;
-ghost use Rattle.mount_state.specs.Contexts.{context_in};
-ghost use Rattle.mount_state.specs.Held.{HoldsNothing, is_busy, key_state, is_keyed};
+ghost use Rattle.mount_state.specs.Held.{HoldsNothing, is_busy, key_state, is_keyed, is_keyed_under};
 ghost use Rattle.mount_state.specs.StandsFor.{StandsFor};
 
 use super::{HandleTable, KeyId, KeyState, MountState};
@@ -18,7 +16,7 @@ use disk_tree::{DiskTree, StoredNode};
 use inode_refs::InodeCache;
 use key_ring::{KeyRing, ModeKeys};
 use meta_files::MetaFiles;
-use policy_ctx::id_in;
+use policy_ctx::{CONTEXT_LEN, id_in};
 use std::alloc::{AllocError, Global};
 
 /// The number of the node that is made first, behind the root.
@@ -74,10 +72,29 @@ impl MountState {
         ensures value { result ≡ is_keyed self.now.disk self.now.ring.claims self.now.handles.live node }
         ensures stands { (m : PlainMount) → StandsFor self.now m → result ≡ plain.is_keyed m node }
     {
-        match key_named(&self.disk, node) {
-            Some(id) => self.is_present(&id) || self.inodes.pins(node) > 0,
+        match self.disk.node(node) {
+            Some(stored) => self.keyed_as(node, stored),
             None => true,
         }
+    }
+
+    /// The same, where the node was looked up.
+    pub fn keyed_as(&self, node: u32, stored: &StoredNode) -> bool
+        requires { map.get self.now.disk node ≡ Some stored.now }
+        ensures value { result ≡ is_keyed self.now.disk self.now.ring.claims self.now.handles.live node }
+        ensures stands { (m : PlainMount) → StandsFor self.now m → result ≡ plain.is_keyed m node }
+    {
+        match &stored.context {
+            Some(context) => self.keyed_under(node, context),
+            None => true,
+        }
+    }
+
+    // The same of a node that has this context.
+    pub(crate) fn keyed_under(&self, node: u32, context: &[u8; CONTEXT_LEN]) -> bool
+        ensures { result ≡ is_keyed_under self.now.ring.claims self.now.handles.live node (Some context.now) }
+    {
+        self.is_present(&id_in(context)) || self.inodes.pins(node) > 0
     }
 
     // Whether some user has a claim on the key: exactly where its secret is held.
@@ -86,20 +103,5 @@ impl MountState {
         ensures secret { result ≡ is_some (secret_of self.now.ring id.now) }
     {
         self.ring.claims().count_of_id(id) > 0
-    }
-}
-
-// The key that the node's context names; none where it has no context.
-fn key_named(disk: &DiskTree, node: u32) -> Option<KeyId>
-    ensures { result ≡ option_map id_in (context_in (map.get disk.now node)) }
-{
-    match disk.node(node) {
-        Some(
-            StoredNode {
-                context: Some(context),
-                ..
-            },
-        ) => Some(id_in(context)),
-        _ => None,
     }
 }

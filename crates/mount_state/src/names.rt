@@ -4,7 +4,7 @@ ghost use Rattle.std.specs.Prelude.{◌≡◌, ◌+◌, ◌≤◌};
 ghost use Rattle.mount_state.specs.Led.{Leads};
 
 use crate::state::MountState;
-use name_crypt::{Plain, Steps};
+use name_crypt::{Steps, is_plain};
 use std::sync::ledger::Ledger;
 
 // The node to which the part leads in the directory: plain where it has no policy, by one encryption
@@ -21,14 +21,14 @@ pub(crate) fn number_of<L: Ledger>(
     let Some(node) = state.disk.node(dir) else {
         return None;
     };
-    let Some(_context) = &node.context else {
-        return state.entry_by_name(dir, part);
+    let Some(context) = &node.context else {
+        return node.body.find(part);
     };
-    if !state.keyed(dir) {
+    if !state.keyed_under(dir, context) {
         return state.entry_by_text(dir, part);
     }
-    let Ok(name) = Plain::read(part) else {
+    if !is_plain(part) {
         return None;
-    };
-    state.entry_by_key(dir, &name, steps)
+    }
+    state.entry_in(dir, node, part, steps)
 }

@@ -1,6 +1,6 @@
 //! Where paths lead, in the stored tree.
 
-ghost use Rattle.std.specs.Prelude.{◌≡◌, ◌+◌, ◌-◌, ◌≤◌, take, length, OnOk};
+ghost use Rattle.std.specs.Prelude.{◌≡◌, ◌+◌, ◌-◌, ◌≤◌, Ok, Err, take, length, IfErr, IfOk, OnOk};
 ghost use Rattle.disk_tree.specs.DiskTree.{IsDirAt};
 ghost use Rattle.mount_model.specs.PlainMount.{PlainMount};
 ghost use Rattle.mount_model.specs.Walk.{looked_in, stepped, walked, parent, last_part};
@@ -193,21 +193,32 @@ fn directory_kept(
     ensures stands { StaysFor state.old state.new }
     ensures same { SameButKeys state.old state.new }
 {
-    let found = directory_for(state, dir, part)?;
-    keep_key(alloc, state, dir);
-    Ok(found)
+    match directory_for(state, dir, part) {
+        Ok(true) => {
+            keep_key(alloc, state, dir);
+            Ok(dir)
+        }
+        Ok(false) => Ok(dir),
+        Err(refusal) => Err(refusal),
+    }
 }
 
-// The directory, where the part may be looked up in it.
-fn directory_for(state: &MountState, dir: u32, part: &[u8]) -> Result<u32, Refusal>
-    ensures value { (m : PlainMount) → StandsFor state.now m → result ≡ looked_in m dir part.now }
+// Whether the directory has a policy, where the part may be looked up in it. That it has spares a step, and
+// no clause says it.
+fn directory_for(state: &MountState, dir: u32, part: &[u8]) -> Result<bool, Refusal>
+    ensures found { IfOk result (λ _. (m : PlainMount) → StandsFor state.now m → looked_in m dir part.now ≡ Ok dir) }
+    ensures refused { IfErr result (λ refusal. (m : PlainMount) → StandsFor state.now m
+        → looked_in m dir part.now ≡ Err refusal) }
     ensures dir { OnOk result (IsDirAt state.now.disk dir) }
 {
-    if !state.disk.is_dir(dir) {
+    let Some(node) = state.disk.node(dir) else {
+        return Err(Refusal::NotDir);
+    };
+    if !node.body.is_dir() {
         return Err(Refusal::NotDir);
     }
     if part.len() > MOST_NAME_BYTES {
         return Err(Refusal::NameTooLong);
     }
-    Ok(dir)
+    Ok(node.context.is_some())
 }
