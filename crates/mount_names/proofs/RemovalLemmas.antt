@@ -154,6 +154,14 @@ drop_is old new e bytes is there gone =
     subst (λ (o : Option ℕ). IfSome o (λ n. new ≡ disk.dropped old e.dir e.stored n)) there
     (subst (λ (b : List ℕ). IfSome (number_under b (stored_entries old e.dir)) (λ n. new ≡ disk.dropped old e.dir b n)) is gone)
 
+-- the same where the node goes with its name
+pub gone_is : (old new : Disk) (e : Entry) (bytes : List ℕ) → bytes ≡ e.stored → IsEntryOn old e
+    → IfSome (number_under bytes (stored_entries old e.dir)) (λ n. new ≡ remove (disk.dropped old e.dir bytes n) n)
+    → new ≡ remove (disk.dropped old e.dir e.stored e.number) e.number
+gone_is old new e bytes is there gone =
+    subst (λ (o : Option ℕ). IfSome o (λ n. new ≡ remove (disk.dropped old e.dir e.stored n) n)) there
+    (subst (λ (b : List ℕ). IfSome (number_under b (stored_entries old e.dir)) (λ n. new ≡ remove (disk.dropped old e.dir b n) n)) is gone)
+
 -- ---- what must be forgotten goes on being forgotten
 
 module _ (s : MountState) (e : Entry) (left : Disk) (is : left ≡ disk.dropped s.disk e.dir e.stored e.number) where

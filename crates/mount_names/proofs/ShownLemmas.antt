@@ -1,5 +1,5 @@
 -- A stored form that is read as the node's names are is shown as the mount shows the name.
-use Rattle.std.proofs.Common.{◌≡◌, ◌≢◌, ℕ, ◌≤◌, true, false, cond, [], length, Some, None, refl, sym, ap, subst, ◌∙◌, arith}
+use Rattle.std.proofs.Common.{◌≡◌, ◌≢◌, ℕ, ◌≤◌, true, false, cond, List, [], length, Some, None, refl, sym, ap, subst, ◌∙◌, arith}
 use Rattle.byte_words.specs.Bytes.{AreBytes}
 use Rattle.policy_ctx.specs.declared.policy.Context.{Context}
 use Rattle.fsc_keys.specs.Keys.{key_bytes}
@@ -60,6 +60,12 @@ module _ (m : PlainMount) (n : ℕ) (name : Name) (plain : IsPlain name) where
           (λ none. some_bytes (sym as_it_is ∙ none)),
           subst IsStored (sym sealed) sealed_fits,
         )
+
+-- a name under the bytes of the node's key is its stored form
+pub sealed_under : (m : PlainMount) (n : ℕ) (c : Context) (bytes : List ℕ) → bytes ≡ key_bytes (node_key m.raws c Names) → (name : Name)
+    → stored_name bytes (node_start n c) c.policy.pad name ≡ stored_form m.raws n (Some c) name
+unfolding sealed_name
+sealed_under m n c bytes is name = ap (λ (x : List ℕ). stored_name x (node_start n c) c.policy.pad name) is
 
 -- a name under the cipher of the node's names is its stored form
 pub sealed_by : (m : PlainMount) (n : ℕ) (c : Context) (cipher : NameCipher) → cipher ≡ names_cipher m.raws n c → (name : Name)

@@ -6,3 +6,4 @@ pub mod Encrypted
 pub mod Found
 pub mod Removed
 pub mod Moved
+pub mod Sealing

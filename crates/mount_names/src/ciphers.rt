@@ -5,14 +5,13 @@ ghost use Rattle.byte_words.specs.Bytes.{AreBytes};
 ghost use Rattle.disk_tree.specs.DiskTree.{IsDirAt};
 ghost use Rattle.fsc_keys.specs.declared.file_keys.KeyKind.TheVariants.{Names};
 ghost use Rattle.key_ring.specs.Holding.{HoldsClaimedSecrets};
-ghost use Rattle.mount_model.specs.Sealed.{node_start};
 ghost use Rattle.mount_state.specs.Contexts.{is_of_kind};
 ghost use Rattle.mount_state.specs.NamesKey.{cached_key, drawn_key};
 ghost use Rattle.mount_names.specs.Shown.{IsCipherOf, cipher_with};
 
 use byte_words::slice_is_bytes;
 use fsc_keys::{FileKey, KeyKind};
-use mount_state::MountState;
+use mount_state::{MountState, start_of};
 use name_crypt::NameCipher;
 use policy_ctx::Context;
 
@@ -92,16 +91,5 @@ pub(crate) fn cipher_under(key: &FileKey, number: u32, context: &Context) -> Opt
             Some(NameCipher::new(bytes, start_of(number, context)))
         }
         FileKey::Contents(_) => None,
-    }
-}
-
-// Where the node's names count their units from.
-fn start_of(number: u32, context: &Context) -> u64
-    ensures { result ≡ node_start number context.now }
-{
-    if context.policy.by_mode {
-        u64::from(number) << 32
-    } else {
-        0
     }
 }

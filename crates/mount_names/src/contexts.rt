@@ -1,14 +1,13 @@
 //! The context of a node.
 
-ghost use Rattle.std.specs.Prelude.{◌≡◌, None};
+ghost use Rattle.std.specs.Prelude.{◌≡◌, None, Some};
 ghost use Rattle.number_map.specs.Numbered.{get};
 ghost use Rattle.plain_tree.specs.Nodes.{context_at};
 ghost use Rattle.mount_model.specs.PlainMount.{PlainMount};
-ghost use Rattle.mount_state.specs.Contexts.{context_in};
-ghost use Rattle.mount_state.specs.NamesKey.{IsContextOf};
+ghost use Rattle.mount_state.specs.NamesKey.{IsContextIn};
 ghost use Rattle.mount_state.specs.StandsFor.{StandsFor};
 
-use disk_tree::{DiskTree, StoredNode};
+use disk_tree::StoredNode;
 use mount_state::MountState;
 use policy_ctx::{Context, decode_context};
 
@@ -16,21 +15,27 @@ use policy_ctx::{Context, decode_context};
 pub(crate) fn context_of(state: &MountState, number: u32) -> Option<Context>
     ensures { (m : PlainMount) → StandsFor state.now m → result ≡ context_at m.nodes number }
 {
-    context_on(&state.disk, number)
+    match state.disk.node(number) {
+        Some(node) => context_told(state, number, node),
+        None => None,
+    }
 }
 
-// The context that lies on the disk.
-fn context_on(disk: &DiskTree, number: u32) -> Option<Context>
-    ensures read { IsContextOf disk.now number result }
-    ensures none { context_in (get disk.now number) ≡ None → result ≡ None }
+// The same where the node was looked up.
+pub(crate) fn context_told(state: &MountState, number: u32, node: &StoredNode) -> Option<Context>
+    requires { get state.now.disk number ≡ Some node.now }
+    ensures { (m : PlainMount) → StandsFor state.now m → result ≡ context_at m.nodes number }
 {
-    match disk.node(number) {
-        Some(
-            StoredNode {
-                context: Some(context),
-                ..
-            },
-        ) => decode_context(context).ok(),
-        _ => None,
+    context_in(node)
+}
+
+// The context that the node has.
+fn context_in(node: &StoredNode) -> Option<Context>
+    ensures read { IsContextIn node.now.context result }
+    ensures none { node.now.context ≡ None → result ≡ None }
+{
+    match &node.context {
+        Some(context) => decode_context(context).ok(),
+        None => None,
     }
 }

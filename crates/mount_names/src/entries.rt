@@ -1,22 +1,24 @@
 //! The entry of a directory that is shown as a part: the name as it is stored, and its node.
 
-ghost use Rattle.std.specs.Prelude.{◌≡◌, ◌+◌, ◌≤◌, true, length, option_map, IfOk, IfSome};
+ghost use Rattle.std.specs.Prelude.{◌≡◌, ◌+◌, ◌≤◌, true, Some, length, option_map, IfOk};
 ghost use Rattle.std.specs.Map.{lookup_entry};
 ghost use Rattle.disk_tree.specs.DiskTree.{children};
+ghost use Rattle.number_map.specs.Numbered.{get};
 ghost use Rattle.plain_tree.specs.Nodes.{is_dir_at};
 ghost use Rattle.mount_model.specs.PlainMount.{PlainMount};
 ghost use Rattle.mount_model.specs.Walk.{found};
 ghost use Rattle.mount_state.specs.Led.{is_text_of};
 ghost use Rattle.mount_state.specs.SameButKeys.{SameButKeys, StaysFor};
 ghost use Rattle.mount_state.specs.StandsFor.{StandsFor};
-ghost use Rattle.mount_names.specs.Found.{IsEntryOn, IsStoredFor, entry_found, entry_end, stored_if};
+ghost use Rattle.mount_names.specs.Found.{IsEntryOn, IsStoredFor, entry_found, entry_end};
+ghost use Rattle.mount_names.specs.Found.{or_not_found, stored_if};
 
-use crate::contexts::context_of;
+use crate::contexts::context_told;
 use crate::stored_names::stored_as;
 use disk_tree::{Body, DirEntries, DiskTree, StoredNode};
 use mount_model::{Path, Refusal};
 use mount_state::{MountState, walked_parent};
-use name_crypt::{MOST_NAME_BYTES, Plain, Steps, StoredName, names_come_back, nokey_matches};
+use name_crypt::{MOST_NAME_BYTES, Steps, StoredName, is_plain, names_come_back, nokey_matches};
 use short_bytes::Filled;
 use std::alloc::Global;
 use std::sync::ledger::Ledger;
@@ -51,61 +53,67 @@ pub(crate) fn entry_at<L: Ledger>(
     let Some(part) = path.part(last) else {
         unreachable!()
     };
-    match entry_shown(state, dir, part.bytes(), steps) {
-        Some(entry) => Ok(entry),
-        None => Err(Refusal::NotFound),
-    }
+    entry_shown(state, dir, part.bytes(), steps)
 }
 
 // The entry of the directory that is shown as the part: its name where the directory is keyed, by one
-// encryption, else its no-key text, and then nothing is enciphered nor deciphered.
+// encryption, else its no-key text, and then nothing is enciphered nor deciphered. NotFound without one.
 pub(crate) fn entry_shown<L: Ledger>(
     state: &MountState,
     dir: u32,
     part: &[u8],
     steps: &mut Steps<L>,
-) -> Option<Entry>
+) -> Result<Entry, Refusal>
     ensures found { (m : PlainMount) → StandsFor state.now m → is_dir_at m.nodes dir ≡ true
-        → result ≡ entry_found m dir part.now }
-    ensures there { IfSome result (IsEntryOn state.now.disk) }
-    ensures dir { IfSome result (λ entry. entry.dir ≡ dir) }
+        → result ≡ or_not_found (entry_found m dir part.now) }
+    ensures there { IfOk result (IsEntryOn state.now.disk) }
+    ensures dir { IfOk result (λ entry. entry.dir ≡ dir) }
     ensures ticks { steps.new ≤ steps.old + 1 }
 {
-    let stored = stored_shown(state, dir, part, steps)?;
-    match state.disk.entry(dir, stored.bytes()) {
-        Some(number) => Some(Entry {
+    let Some(node) = state.disk.node(dir) else {
+        return Err(Refusal::NotFound);
+    };
+    let Some(stored) = stored_shown(state, dir, node, part, steps) else {
+        return Err(Refusal::NotFound);
+    };
+    match node.body.find(stored.bytes()) {
+        Some(number) => Ok(Entry {
             dir,
             stored,
             number,
         }),
-        None => None,
+        None => Err(Refusal::NotFound),
     }
 }
 
-// The stored form of the name that is shown as the part.
+// The stored form of the name that is shown as the part, in the directory that was looked up.
 fn stored_shown<L: Ledger>(
     state: &MountState,
     dir: u32,
+    node: &StoredNode,
     part: &[u8],
     steps: &mut Steps<L>,
 ) -> Option<Filled<MOST_NAME_BYTES>>
+    requires { get state.now.disk dir ≡ Some node.now }
     ensures named { (m : PlainMount) → StandsFor state.now m → is_dir_at m.nodes dir ≡ true
         → IsStoredFor state.now.disk m dir (found m dir part.now) result }
     ensures ticks { steps.new ≤ steps.old + 1 }
 {
     // That names are stored alike only where they are the same, and that stored names have 16 to 255 bytes.
     names_come_back();
-    if !state.keyed(dir) {
+    if !state.keyed_as(dir, node) {
         return stored_by_text(&state.disk, dir, part);
     }
-    let Ok(name) = Plain::read(part) else {
+    if !is_plain(part) {
         return None;
-    };
-    let context = context_of(state, dir);
-    stored_as(state, dir, &context, &name, steps)
+    }
+    let context = context_told(state, dir, node);
+    stored_as(state, dir, &context, part, steps)
 }
 
 // The first stored name of the directory that has the text. It goes over the entries.
+// Not inlined: the usual way would keep room for what it makes.
+#[inline(never)]
 fn stored_by_text(disk: &DiskTree, dir: u32, text: &[u8]) -> Option<Filled<MOST_NAME_BYTES>>
     ensures { result ≡ option_map (λ e. e.0) (lookup_entry (is_text_of text.now) (children disk.now dir)) }
 {

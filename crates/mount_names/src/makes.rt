@@ -1,10 +1,9 @@
 //! The calls that make a node: a directory, a file or a symlink.
 
-ghost use Rattle.std.specs.Prelude.{◌≡◌, ◌+◌, ◌<◌, ◌≤◌, ◌^◌, [], None, length, true, option_map, OnOk, OnErr};
+ghost use Rattle.std.specs.Prelude.{◌≡◌, ◌+◌, ◌<◌, ◌≤◌, ◌^◌, [], length, true, option_map};
 ghost use Rattle.policy_ctx.specs.Context.{context_bytes};
-ghost use Rattle.number_map.specs.Numbered as map;
 ghost use Rattle.plain_tree.specs.Nodes as node;
-ghost use Rattle.disk_tree.specs.DiskTree.{IsDirAt, entered};
+ghost use Rattle.disk_tree.specs.DiskTree.{IsDirAt};
 ghost use Rattle.disk_tree.specs.Nodes.{blocks_of};
 ghost use Rattle.mount_model.specs.Carried.{IsPath};
 ghost use Rattle.mount_model.specs.ClaimHistory.{is_refused};
@@ -17,7 +16,7 @@ ghost use Rattle.mount_names.specs.Made.{MakesAt};
 ghost use Rattle.mount_names.specs.SameButTree.{SameButTree};
 
 use crate::places::{Place, place_at};
-use disk_tree::{BlockList, Body, DirEntries, DiskFault, DiskTree, StoredNode};
+use disk_tree::{BlockList, Body, DirEntries, StoredNode};
 use mount_model::{Path, Refusal, Reply};
 use mount_state::MountState;
 use name_crypt::Steps;
@@ -111,7 +110,8 @@ pub(crate) fn make(
         named: true,
         body,
     };
-    match add_named(alloc, &mut state.disk, place, number, node) {
+    let stored = place.stored.bytes();
+    match state.disk.add_named(alloc, place.dir, stored, number, node) {
         Ok(()) => {
             state.next_node = number + 1;
             Reply::Done
@@ -140,32 +140,5 @@ fn stored_context(context: &Option<Context>) -> Option<[u8; CONTEXT_LEN]>
     match context {
         Some(context) => Some(encode_context(context)),
         None => None,
-    }
-}
-
-// Adds the node and the name that leads to it, or neither.
-fn add_named(
-    alloc: Global,
-    disk: &mut DiskTree,
-    place: &Place,
-    number: u32,
-    node: StoredNode,
-) -> Result<(), DiskFault>
-    requires dir { IsDirAt disk.old place.now.dir }
-    requires absent { map.get disk.old number ≡ None }
-    requires no_blocks { blocks_of node.body ≡ [] }
-    ensures added { OnOk result (disk.new
-        ≡ entered (map.insert disk.old number node) place.now.dir place.now.stored number) }
-    ensures kept { OnErr result (disk.new ≡ disk.old) }
-{
-    if let Err(fault) = disk.add_node(number, node) {
-        return Err(fault);
-    }
-    match disk.put_entry(alloc, place.dir, place.stored.bytes(), number) {
-        Ok(()) => Ok(()),
-        Err(fault) => {
-            disk.remove_node(number);
-            Err(fault)
-        }
     }
 }

@@ -101,10 +101,7 @@ fn source_at<L: Ledger>(
     let Some(part) = path.part(last) else {
         unreachable!()
     };
-    match entry_shown(state, dir, part.bytes(), steps) {
-        Some(entry) => Ok(entry),
-        None => Err(Refusal::NotFound),
-    }
+    entry_shown(state, dir, part.bytes(), steps)
 }
 
 // The place of the new path's last part, where the entry can be moved to it.

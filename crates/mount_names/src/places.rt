@@ -12,12 +12,12 @@ ghost use Rattle.mount_state.specs.SameButKeys.{SameButKeys, StaysFor};
 ghost use Rattle.mount_state.specs.StandsFor.{StandsFor};
 ghost use Rattle.mount_names.specs.Made.{IsPlaceAt, IsPlaceOf, IsRefusedAt, IsRefusedIn};
 
-use crate::contexts::context_of;
+use crate::contexts::context_told;
 use crate::stored_names::{clashes, stored_as};
 use mount_limits::{MOST_CHILDREN, MOST_NODES};
 use mount_model::{Path, Refusal};
 use mount_state::{MountState, walked_parent};
-use name_crypt::{MOST_NAME_BYTES, Plain, Steps, names_come_back};
+use name_crypt::{MOST_NAME_BYTES, Steps, is_plain, names_come_back};
 use policy_ctx::Context;
 use short_bytes::Filled;
 use std::alloc::Global;
@@ -81,20 +81,23 @@ fn place_in<L: Ledger>(
 {
     // That two names are stored alike only where they are the same.
     names_come_back();
-    if !state.disk.is_dir(dir) {
+    let Some(node) = state.disk.node(dir) else {
+        return Err(Refusal::NotDir);
+    };
+    if !node.body.is_dir() {
         return Err(Refusal::NotDir);
     }
-    let context = context_of(state, dir);
+    let context = context_told(state, dir, node);
     if lacks_key(state, &context) {
         return Err(Refusal::NoKey);
     }
-    let Ok(name) = Plain::read(part) else {
+    if !is_plain(part) {
         return Err(Refusal::Inval);
-    };
-    let Some(stored) = stored_as(state, dir, &context, &name, steps) else {
+    }
+    let Some(stored) = stored_as(state, dir, &context, part, steps) else {
         return Err(Refusal::NoKey);
     };
-    if state.disk.entry(dir, stored.bytes()).is_some() {
+    if node.body.find(stored.bytes()).is_some() {
         return Err(Refusal::Exists);
     }
     if long {

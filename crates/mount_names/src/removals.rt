@@ -92,10 +92,13 @@ fn remove_dir(state: &mut MountState, entry: &Entry) -> Reply
     ensures refused { is_refused result ≡ true → SameButKeys state.old state.new }
     ensures same { SameButTree state.old state.new }
 {
-    if !state.disk.is_dir(entry.number) {
+    let Some(node) = state.disk.node(entry.number) else {
+        return Reply::Refused(Refusal::NotDir);
+    };
+    if !node.body.is_dir() {
         return Reply::Refused(Refusal::NotDir);
     }
-    if state.disk.entry_count(entry.number) > 0 {
+    if node.body.entry_count() > 0 {
         return Reply::Refused(Refusal::NotEmpty);
     }
     drop_entry(state, entry);
@@ -109,10 +112,11 @@ fn drop_entry(state: &mut MountState, entry: &Entry)
     ensures same { SameButTree state.old state.new }
 {
     let number = entry.number;
-    state.disk.drop_entry(entry.dir, entry.stored.bytes());
+    let stored = entry.stored.bytes();
     if state.inodes.pins(number) > 0 {
+        state.disk.drop_entry(entry.dir, stored);
         return;
     }
     state.inodes.drop_key(number);
-    state.disk.remove_node(number);
+    state.disk.drop_named(entry.dir, stored);
 }

@@ -8,17 +8,19 @@ ghost use Rattle.plain_tree.specs.Nodes.{Name, context_at, entry};
 ghost use Rattle.policy_ctx.specs.declared.policy.Context.{Context};
 ghost use Rattle.mount_model.specs.NameAnswers as plain;
 ghost use Rattle.mount_model.specs.PlainMount.{PlainMount};
+ghost use Rattle.mount_model.specs.Sealed.{node_start};
 ghost use Rattle.mount_model.specs.States.{is_keyed};
 ghost use Rattle.mount_state.specs.StandsFor.{StandsFor};
 ghost use Rattle.mount_state.specs.Stored.{stored_form};
 ghost use Rattle.mount_names.specs.Made.{HasByteKey};
+ghost use Rattle.mount_names.specs.Sealing.{SealsAs, SealsByBytes};
 ghost use Rattle.mount_names.specs.Shown.{HasNames};
 
 use crate::ciphers::cipher_of;
-use mount_state::MountState;
+use mount_state::{MountState, start_of};
 use name_crypt::{
-    MOST_NAME_BYTES, MOST_SPELLED_BYTES, NameCipher, Plain, Steps, StoredName, names_come_back,
-    nokey_text, texts_stay_distinct,
+    Aes256, MOST_NAME_BYTES, MOST_SPELLED_BYTES, NameCipher, Plain, Steps, StoredName,
+    encrypt_into, name_iv, names_come_back, nokey_text, texts_stay_distinct,
 };
 use policy_ctx::{Context, Pad};
 use short_bytes::Filled;
@@ -30,9 +32,10 @@ pub(crate) fn stored_as<L: Ledger>(
     state: &MountState,
     number: u32,
     context: &Option<Context>,
-    name: &Plain,
+    name: &[u8],
     steps: &mut Steps<L>,
 ) -> Option<Filled<MOST_NAME_BYTES>>
+    requires { IsPlain name.now }
     ensures value { (m : PlainMount) → StandsFor state.now m → HasNames m number
         → context.now ≡ context_at m.nodes number → is_keyed m number ≡ true
         → result ≡ Some (stored_form m.raws number context.now name.now) }
@@ -41,12 +44,66 @@ pub(crate) fn stored_as<L: Ledger>(
     ensures ticks { steps.new ≤ steps.old + 1 }
 {
     match context {
-        Some(context) => match cipher_of(state, number, context) {
-            Some(cipher) => Some(enciphered(&cipher, context.policy.pad, name, steps)),
-            None => None,
-        },
-        None => Some(Filled::of(name.bytes())),
+        Some(context) => sealed_as(state, number, context, name, steps),
+        None => Some(Filled::of(name)),
     }
+}
+
+// The same where the node has this context: under the cipher that is cached, else under one that is made.
+fn sealed_as<L: Ledger>(
+    state: &MountState,
+    number: u32,
+    context: &Context,
+    name: &[u8],
+    steps: &mut Steps<L>,
+) -> Option<Filled<MOST_NAME_BYTES>>
+    requires { IsPlain name.now }
+    ensures value { SealsAs state.now number context.now name.now result }
+    ensures ranged { SealsByBytes state.now number context.now }
+    ensures ticks { steps.new ≤ steps.old + 1 }
+{
+    if let Some(cipher) = state.own_cipher(number, context) {
+        return Some(sealed(cipher, number, context, name, steps));
+    }
+    sealed_anew(state, number, context, name, steps)
+}
+
+// The same under a cipher that is made for this once. Apart from the way with a cached one, which then keeps
+// no room for round keys.
+#[inline(never)]
+fn sealed_anew<L: Ledger>(
+    state: &MountState,
+    number: u32,
+    context: &Context,
+    name: &[u8],
+    steps: &mut Steps<L>,
+) -> Option<Filled<MOST_NAME_BYTES>>
+    requires { IsPlain name.now }
+    ensures value { SealsAs state.now number context.now name.now result }
+    ensures ranged { SealsByBytes state.now number context.now }
+    ensures ticks { steps.new ≤ steps.old + 1 }
+{
+    let made = cipher_of(state, number, context)?;
+    Some(sealed(&made.key, number, context, name, steps))
+}
+
+// The name of the node under the cipher of its names. `steps` counts one more.
+fn sealed<L: Ledger>(
+    cipher: &Aes256,
+    number: u32,
+    context: &Context,
+    name: &[u8],
+    steps: &mut Steps<L>,
+) -> Filled<MOST_NAME_BYTES>
+    requires { IsPlain name.now }
+    ensures value { result
+        ≡ stored_name cipher.now (node_start number context.now) context.now.policy.pad name.now }
+    ensures tick { steps.new ≡ steps.old + 1 }
+{
+    let iv = name_iv(start_of(number, context));
+    let mut text = [0; MOST_NAME_BYTES];
+    let len = encrypt_into(cipher, iv, context.policy.pad, name, &mut text, steps);
+    Filled::of(&text[..len])
 }
 
 // The name under the cipher. `steps` counts one more.
@@ -95,6 +152,19 @@ fn shares_text(state: &MountState, dir: u32, stored: &[u8]) -> bool
     if stored.len() <= MOST_SPELLED_BYTES {
         return false;
     }
+    shares_long_text(state, dir, stored)
+}
+
+// The same of a stored name of more bytes. Not inlined: the usual way would keep room for what it makes.
+#[inline(never)]
+fn shares_long_text(state: &MountState, dir: u32, stored: &[u8]) -> bool
+    ensures { (m : PlainMount) (c : Context) (name : Name) → StandsFor state.now m
+        → context_at m.nodes dir ≡ Some c → IsPlain name → AreBytes name
+        → stored.now ≡ stored_form m.raws dir (context_at m.nodes dir) name
+        → result ≡ plain.clashes m dir name }
+{
+    // That each stored name has 16 to 255 bytes.
+    names_come_back();
     match StoredName::read(stored) {
         Ok(name) => state
             .entry_by_text(dir, nokey_text(&name).bytes())

@@ -9,13 +9,13 @@ ghost use Rattle.mount_model.specs.WellFormed.{IsName};
 ghost use Rattle.mount_state.specs.StandsFor.{StandsFor};
 ghost use Rattle.mount_names.specs.Moved.{IsNewName, name_refusal, place_refusal, move_refusal};
 
-use crate::contexts::context_of;
+use crate::contexts::{context_of, context_told};
 use crate::entries::Entry;
 use crate::places::{Place, has_most_entries};
 use crate::stored_names::{clashes, stored_as};
 use mount_model::Refusal;
 use mount_state::MountState;
-use name_crypt::{Plain, Steps, names_come_back};
+use name_crypt::{Steps, is_plain, names_come_back};
 use policy_ctx::{Context, Policy, encode_policy};
 use std::sync::ledger::Ledger;
 
@@ -64,17 +64,21 @@ fn new_name<L: Ledger>(
 {
     // That two names are stored alike only where they are the same.
     names_come_back();
-    if !state.keyed(dir) {
+    // The directory is there, as the caller asked.
+    let Some(node) = state.disk.node(dir) else {
+        return Err(Refusal::NoKey);
+    };
+    if !state.keyed_as(dir, node) {
         return Err(Refusal::NoKey);
     }
-    let Ok(name) = Plain::read(part) else {
+    if !is_plain(part) {
         return Err(Refusal::Inval);
-    };
-    let context = context_of(state, dir);
-    let Some(stored) = stored_as(state, dir, &context, &name, steps) else {
+    }
+    let context = context_told(state, dir, node);
+    let Some(stored) = stored_as(state, dir, &context, part, steps) else {
         return Err(Refusal::NoKey);
     };
-    if state.disk.entry(dir, stored.bytes()).is_some() {
+    if node.body.find(stored.bytes()).is_some() {
         return Err(Refusal::Exists);
     }
     Ok(Place {

@@ -8,28 +8,28 @@ use Rattle.mount_names.proofs.FoundLemmas.{locked_part, other_part, keyed_part}
 use Rattle.mount_names.proofs.PlaceLemmas.{dir_names}
 use Rattle.mount_names.proofs.entries.stored_shown.Goals as goal
 
-pub returns-then-not-keyed-clause-named : goal.returns-then-not-keyed-clause-named
-returns-then-not-keyed-clause-named g c = λ m st is_dir.
+pub returns-then-not-keyed_as-clause-named : goal.returns-then-not-keyed_as-clause-named
+returns-then-not-keyed_as-clause-named g c = λ m st is_dir.
     let s = c.args.state.now in
     subst (λ (o : Option (List ℕ)). IsStoredFor s.disk m c.args.dir (found m c.args.dir c.args.part.now) o) (sym c.stored_by_text.ensures)
-    (locked_part s.disk s.next_node m st.well st.tree c.args.dir c.args.part.now c.names_come_back.ensures.fit (sym (c.keyed.ensures.stands m st) ∙ c.if-not-keyed.true))
+    (locked_part s.disk s.next_node m st.well st.tree c.args.dir c.args.part.now c.names_come_back.ensures.fit (sym (c.keyed_as.ensures.stands m st) ∙ c.if-not-keyed_as.true))
 
-pub returns-in_default-clause-named : goal.returns-in_default-clause-named
-returns-in_default-clause-named g c = λ m st is_dir.
+pub returns-then-not-is_plain-clause-named : goal.returns-then-not-is_plain-clause-named
+returns-then-not-is_plain-clause-named g c = λ m st is_dir.
     let s = c.args.state.now in
-    other_part s.disk s.next_node m st.well st.tree c.args.dir c.args.part.now (sym (c.keyed.ensures.stands m st) ∙ c.if-not-keyed.false)
-    (λ plain. false≢true (c.in_default.ensures.plain.1 plain))
+    other_part s.disk s.next_node m st.well st.tree c.args.dir c.args.part.now (sym (c.keyed_as.ensures.stands m st) ∙ c.if-not-keyed_as.false)
+    (λ plain. false≢true (sym c.if-not-is_plain.true ∙ c.is_plain.ensures.1 plain))
 
 pub returns-clause-named : goal.returns-clause-named
 returns-clause-named g c = λ m st is_dir.
     let s = c.args.state.now in
     let d = c.args.dir in
-    let keyed : is_keyed m d ≡ true = sym (c.keyed.ensures.stands m st) ∙ c.if-not-keyed.false in
-    let is = c.context_of-context.ensures m st in
+    let keyed : is_keyed m d ≡ true = sym (c.keyed_as.ensures.stands m st) ∙ c.if-not-keyed_as.false in
+    let is = c.context_told-context.ensures m st in
     let names = dir_names s.disk s.next_node m st.well st.tree d is_dir in
     let key = c.stored_as.ensures.ranged m st names is keyed in
     let form : c.stored_as.result ≡ Some (form_in m d c.args.part.now)
     = c.stored_as.ensures.value m st names is keyed
-    ∙ (λ i. Some (stored_form m.raws d (is i) (c.in-Ok.ensures.value i))) in
+    ∙ (λ i. Some (stored_form m.raws d (is i) c.args.part.now)) in
     subst (λ (o : Option (List ℕ)). IsStoredFor s.disk m d (found m d c.args.part.now) o) (sym form)
-    (keyed_part s.disk s.next_node m st.well st.tree d c.args.part.now keyed is_dir c.names_come_back.ensures.distinct key (c.in-Ok.ensures.plain.0 refl) (λ i. omega (arith, c.type_inv.part i)) (form_in m d c.args.part.now) refl)
+    (keyed_part s.disk s.next_node m st.well st.tree d c.args.part.now keyed is_dir c.names_come_back.ensures.distinct key (c.is_plain.ensures.0 c.if-not-is_plain.false) (λ i. omega (arith, c.type_inv.part i)) (form_in m d c.args.part.now) refl)

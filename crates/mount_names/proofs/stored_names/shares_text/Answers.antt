@@ -1,10 +1,6 @@
-use Rattle.std.proofs.Common.{◌≤◌, length, is_some, inl, inr, refl, sym, ap, ◌∙◌, arith}
-use Rattle.std.specs.Map.{lookup}
+use Rattle.std.proofs.Common.{◌≤◌, length, sym, arith}
 use Rattle.name_crypt.specs.declared.limits.TheConstants.{MOST_SPELLED_BYTES}
-use Rattle.name_crypt.specs.NoKeyText.{nokey_text_of}
-use Rattle.disk_tree.specs.DiskTree.{children}
-use Rattle.mount_state.specs.Led.{is_text_of}
-use Rattle.mount_names.proofs.ClashLemmas.{short_apart, clash_found, stored_fits}
+use Rattle.mount_names.proofs.ClashLemmas.{short_apart}
 use Rattle.mount_names.proofs.stored_names.shares_text.Goals as goal
 
 pub returns-then-stored-le-MOST_SPELLED_BYTES : goal.returns-then-stored-le-MOST_SPELLED_BYTES
@@ -14,19 +10,5 @@ returns-then-stored-le-MOST_SPELLED_BYTES c = λ m context name st here key plai
     sym (short_apart s.disk s.next_node m st.well st.tree c.args.dir name plain bytes context here c.names_come_back.ensures.fit c.names_come_back.ensures.distinct
     c.names_come_back.ensures.bytes c.texts_stay_distinct.ensures.short c.texts_stay_distinct.ensures.long key c.args.stored.now form small free)
 
-pub returns-in-Ok : goal.returns-in-Ok
-returns-in-Ok c = λ m context name st here key plain bytes form free.
-    let s = c.args.state.now in
-    c.is_some.ensures
-    ∙ (ap is_some (c.entry_by_text.ensures.value
-    ∙ ap (λ t. lookup (is_text_of t) (children s.disk c.args.dir)) (c.bytes.ensures.value ∙ (c.nokey_text.ensures ∙ ap nokey_text_of c.in-Ok.ensures.value)))
-    ∙ clash_found s.disk s.next_node m st.well st.tree c.args.dir name plain bytes context here c.names_come_back.ensures.fit c.args.stored.now form)
-
-pub returns-in-Err : goal.returns-in-Err
-returns-in-Err c = λ m context name st here key plain bytes form free.
-    let s = c.args.state.now in
-    let fits = stored_fits s.disk s.next_node m st.well st.tree c.args.dir name plain bytes context here c.names_come_back.ensures.fit c.args.stored.now form in
-    elim (c.in-Err.ensures.length.0 refl) [
-      | inl small ↦ absurd (omega (arith, fits.0))
-      | inr large ↦ absurd (omega (arith, fits.1))
-    ]
+pub returns : goal.returns
+returns c = λ m context name st here key plain bytes form free. c.shares_long_text.ensures m context name st here plain bytes form

@@ -1,6 +1,6 @@
-use Rattle.std.proofs.Common.{◌≡◌, ℕ, true, List, is_some, refl, sym, ap, ◌∙◌}
+use Rattle.std.proofs.Common.{◌≡◌, true, is_some, refl, sym, ap, ◌∙◌}
 use Rattle.plain_tree.specs.Nodes.{entry}
-use Rattle.disk_tree.specs.DiskTree.{children}
+use Rattle.disk_tree.specs.DiskTree.{entries_in}
 use Rattle.disk_tree.specs.Entries.{number_under}
 use Rattle.mount_model.specs.States.{is_keyed}
 use Rattle.mount_state.specs.Stored.{stored_form}
@@ -14,35 +14,35 @@ pub returns-then-is_some-clause-refused : goal.returns-then-is_some-clause-refus
 returns-then-is_some-clause-refused g c = λ m st is_dir named.
     let s = c.args.state.now in
     let d = c.args.dir in
-    let keyed : is_keyed m d ≡ true = sym (c.keyed.ensures.stands m st) ∙ c.if-not-keyed.false in
-    let is = c.context_of-context.ensures m st in
+    let keyed : is_keyed m d ≡ true = sym (c.keyed_as.ensures.stands m st) ∙ c.if-not-keyed_as.false in
+    let is = c.context_told-context.ensures m st in
     let names = dir_names s.disk s.next_node m st.well st.tree d is_dir in
-    let form : c.in-Some.stored ≡ form_in m d c.args.part.now
-    = same_bytes _ _ (c.in-Some.ensures.value m st names is keyed) ∙ (λ i. stored_form m.raws d (is i) (c.in-Ok.ensures.value i)) in
-    let found : c.entry.result ≡ entry m.nodes d c.args.part.now
-    = c.entry.ensures
-    ∙ (ap (λ (x : List ℕ). number_under x (children s.disk d)) (c.bytes.ensures.value ∙ form)
-    ∙ keyed_entry s.disk s.next_node m st.well st.tree d c.args.part.now keyed is_dir c.names_come_back.ensures.distinct (c.in-Some.ensures.ranged m st names is keyed) (name_plain c.args.part.now named) named.0.bytes) in
+    let form : c.in-Some-stored_as.stored ≡ form_in m d c.args.part.now
+    = same_bytes _ _ (c.in-Some-stored_as.ensures.value m st names is keyed) ∙ (λ i. stored_form m.raws d (is i) c.args.part.now) in
+    let found : c.find.result ≡ entry m.nodes d c.args.part.now
+    = c.find.ensures
+    ∙ ((λ i. number_under ((c.bytes.ensures.value ∙ form) i) (entries_in (c.in-Some.ensures i)))
+    ∙ keyed_entry s.disk s.next_node m st.well st.tree d c.args.part.now keyed is_dir c.names_come_back.ensures.distinct (c.in-Some-stored_as.ensures.ranged m st names is keyed) (name_plain c.args.part.now named) named.0.bytes) in
     taken_there m d c.args.part.now keyed (sym (c.is_some.ensures ∙ ap is_some found) ∙ c.if-is_some.true)
 
 pub returns-clause-placed : goal.returns-clause-placed
 returns-clause-placed g c = λ m st is_dir named.
     let s = c.args.state.now in
     let d = c.args.dir in
-    let keyed : is_keyed m d ≡ true = sym (c.keyed.ensures.stands m st) ∙ c.if-not-keyed.false in
-    let is = c.context_of-context.ensures m st in
+    let keyed : is_keyed m d ≡ true = sym (c.keyed_as.ensures.stands m st) ∙ c.if-not-keyed_as.false in
+    let is = c.context_told-context.ensures m st in
     let names = dir_names s.disk s.next_node m st.well st.tree d is_dir in
-    let form : c.in-Some.stored ≡ form_in m d c.args.part.now
-    = same_bytes _ _ (c.in-Some.ensures.value m st names is keyed) ∙ (λ i. stored_form m.raws d (is i) (c.in-Ok.ensures.value i)) in
-    let found : c.entry.result ≡ entry m.nodes d c.args.part.now
-    = c.entry.ensures
-    ∙ (ap (λ (x : List ℕ). number_under x (children s.disk d)) (c.bytes.ensures.value ∙ form)
-    ∙ keyed_entry s.disk s.next_node m st.well st.tree d c.args.part.now keyed is_dir c.names_come_back.ensures.distinct (c.in-Some.ensures.ranged m st names is keyed) (name_plain c.args.part.now named) named.0.bytes) in
+    let form : c.in-Some-stored_as.stored ≡ form_in m d c.args.part.now
+    = same_bytes _ _ (c.in-Some-stored_as.ensures.value m st names is keyed) ∙ (λ i. stored_form m.raws d (is i) c.args.part.now) in
+    let found : c.find.result ≡ entry m.nodes d c.args.part.now
+    = c.find.ensures
+    ∙ ((λ i. number_under ((c.bytes.ensures.value ∙ form) i) (entries_in (c.in-Some.ensures i)))
+    ∙ keyed_entry s.disk s.next_node m st.well st.tree d c.args.part.now keyed is_dir c.names_come_back.ensures.distinct (c.in-Some-stored_as.ensures.ranged m st names is keyed) (name_plain c.args.part.now named) named.0.bytes) in
     record {
       dir = refl;
       context = is;
       stored = form;
       keyed = keyed;
       free = sym (c.is_some.ensures ∙ ap is_some found) ∙ c.if-is_some.false;
-      key = c.in-Some.ensures.ranged m st names is keyed;
+      key = c.in-Some-stored_as.ensures.ranged m st names is keyed;
     }

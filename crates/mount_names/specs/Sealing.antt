@@ -1,0 +1,24 @@
+-- The stored form of a name, or a target, of a node that is keyed under this context.
+use Rattle.std.specs.Prelude.{◌≡◌, ℕ, true, List, Option, Some}
+use Rattle.byte_words.specs.Bytes.{AreBytes}
+use Rattle.policy_ctx.specs.declared.policy.Context.{Context}
+use Rattle.fsc_keys.specs.Keys.{key_bytes}
+use Rattle.fsc_keys.specs.declared.file_keys.KeyKind.TheVariants.{Names}
+use Rattle.plain_tree.specs.Nodes.{Name, context_at}
+use Rattle.mount_model.specs.PlainMount.{PlainMount}
+use Rattle.mount_model.specs.Sealed.{node_key}
+use Rattle.mount_model.specs.States.{is_keyed}
+use Rattle.mount_state.specs.Stored.{stored_form}
+use Rattle.mount_state.specs.StandsFor.{StandsFor}
+use Rattle.mount_state.specs.declared.state.MountState.{MountState}
+use Rattle.mount_names.specs.Shown.{HasNames}
+
+-- in whatever mount the state stands for, these bytes are the stored form
+abbrev pub SealsAs : MountState → ℕ → Context → Name → Option (List ℕ) → Type 0
+SealsAs s n c name stored = (m : PlainMount) → StandsFor s m → HasNames m n
+    → context_at m.nodes n ≡ Some c → is_keyed m n ≡ true → stored ≡ Some (stored_form m.raws n (Some c) name)
+
+-- in whatever mount the state stands for, the key of these names is of bytes
+abbrev pub SealsByBytes : MountState → ℕ → Context → Type 0
+SealsByBytes s n c = (m : PlainMount) → StandsFor s m → HasNames m n
+    → context_at m.nodes n ≡ Some c → is_keyed m n ≡ true → AreBytes (key_bytes (node_key m.raws c Names))
