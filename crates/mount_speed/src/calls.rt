@@ -1,5 +1,6 @@
 //! The calls that the kernels make, and their paths.
 ghost use Rattle.std.specs.Prelude.{◌≡◌};
+ghost use Rattle.mount_model.specs.Fits.{Fits};
 
 use fsc_keys::{RawKey, key_id};
 use item_list::Bytes;
@@ -84,7 +85,9 @@ pub(crate) fn open(alloc: Global, number: u32) -> Result<Call, AllocError> {
 }
 
 /// Reads the first block of the file that is open under the handle.
-pub(crate) fn read(handle: u32) -> Call {
+pub(crate) fn read(handle: u32) -> Call
+    ensures { Fits result }
+{
     call(Op::Read {
         handle,
         offset: 0,

@@ -1,6 +1,7 @@
 //! A mount that threads call, each in its turn.
 ghost use Rattle.std.specs.Prelude.{◌≡◌};
 ghost use Rattle.std.specs.Thread.{IsSync};
+ghost use Rattle.mount_model.specs.Fits.{Fits};
 
 use crate::asking::is_refused;
 use crate::calls::{call, id_of_key, open, read};
@@ -100,11 +101,11 @@ fn ask_one<W: Wait>(
     let id = id_of_key();
     let mut refused = 0u64;
     for _ in 0..calls {
-        let asked = match subject {
-            Subject::Status => call(Op::KeyStatus { id }),
-            Subject::Read => read(handle),
+        let reply = match subject {
+            Subject::Status => ask_fitting(rt, shared, &mut pass, call(Op::KeyStatus { id })),
+            Subject::Read => ask_fitting(rt, shared, &mut pass, read(handle)),
         };
-        if is_refused(&ask(rt, shared, &mut pass, asked)) {
+        if is_refused(&reply) {
             refused = refused.saturating_add(1);
         }
     }
@@ -119,6 +120,20 @@ fn ask<W: Wait>(rt: &W, shared: &Shared<Mount>, pass: &mut Pass<Mount>, call: Ca
     if !call.fits() {
         return Reply::Refused(Refusal::Inval);
     }
+    ask_fitting(rt, shared, pass, call)
+}
+
+// The same of a call that may be asked.
+fn ask_fitting<W: Wait>(
+    rt: &W,
+    shared: &Shared<Mount>,
+    pass: &mut Pass<Mount>,
+    call: Call,
+) -> Reply
+    requires belongs { pass.old.table ≡ shared.now.table }
+    requires fits { Fits call }
+    ensures { pass.new.table ≡ pass.old.table }
+{
     match shared.call(rt, pass, call) {
         Ok(at) => at.reply,
         Err(_) => Reply::Refused(Refusal::NoSpace),
