@@ -2,8 +2,8 @@
 ghost use Rattle.std.specs.Prelude.{All};
 ghost use Rattle.mount_model.specs.Fits.{Fits};
 
-use crate::calls::{call, open};
-use crate::work::{Work, encrypted_top};
+use crate::calls::{call, id_of_key, open};
+use crate::work::{Work, encrypted_top, tell_status};
 use mount_model::{Call, Op, Reply};
 use mount_shared::Mount;
 use std::alloc::{AllocError, Global};
@@ -34,6 +34,18 @@ pub(crate) fn open_and_close(alloc: Global, count: u32) -> Result<u64, AllocErro
                 asked.ask(&call(Op::Close { handle }));
             }
         }
+    }
+    Ok(asked.refused)
+}
+
+/// Tells the status of the key so many times, while 4,096 files are open that need it, by a call that is
+/// made for each, as who asks in turn makes one for each. How many calls were refused.
+pub(crate) fn tell_anew(alloc: Global, count: u32) -> Result<u64, AllocError> {
+    let mut asked = Asked::new(alloc)?;
+    asked.ask_often(tell_status(alloc)?.before.as_slice(), 1);
+    let id = id_of_key();
+    for _ in 0..count {
+        asked.ask(&call(Op::KeyStatus { id }));
     }
     Ok(asked.refused)
 }

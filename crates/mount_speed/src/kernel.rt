@@ -1,5 +1,5 @@
 //! The kernels by name.
-use crate::asking::{make_calls, open_and_close};
+use crate::asking::{make_calls, open_and_close, tell_anew};
 use crate::counts::{Callers, FEW, NameCount};
 use crate::turns::{Subject, ask_in_turns};
 use crate::work::{self, MOST};
@@ -26,6 +26,8 @@ pub(crate) enum Kernel {
     WriteOne,
     OpenClose,
     Status,
+    /// The same, by a call that is made for each.
+    StatusAnew,
     /// Threads ask in turns.
     Shared(Subject, Callers),
 }
@@ -46,6 +48,7 @@ impl Kernel {
             "write-1" => Some(Kernel::WriteOne),
             "open-close" => Some(Kernel::OpenClose),
             "status-4096" => Some(Kernel::Status),
+            "status-anew" => Some(Kernel::StatusAnew),
             _ => Kernel::numbered(name),
         }
     }
@@ -84,6 +87,7 @@ impl Kernel {
             Kernel::WriteOne => work::write_bytes(alloc, 1000, 1)?,
             Kernel::Status => work::tell_status(alloc)?,
             Kernel::OpenClose => return open_and_close(alloc, count),
+            Kernel::StatusAnew => return tell_anew(alloc, count),
             Kernel::Shared(subject, callers) => {
                 return ask_in_turns(rt, alloc, subject, callers, count);
             }

@@ -124,12 +124,7 @@ fn ask<W: Wait>(rt: &W, shared: &Shared<Mount>, pass: &mut Pass<Mount>, call: Ca
 }
 
 // The same of a call that may be asked.
-fn ask_fitting<W: Wait>(
-    rt: &W,
-    shared: &Shared<Mount>,
-    pass: &mut Pass<Mount>,
-    call: Call,
-) -> Reply
+fn ask_fitting<W: Wait>(rt: &W, shared: &Shared<Mount>, pass: &mut Pass<Mount>, call: Call) -> Reply
     requires belongs { pass.old.table ≡ shared.now.table }
     requires fits { Fits call }
     ensures { pass.new.table ≡ pass.old.table }
