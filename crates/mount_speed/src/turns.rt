@@ -123,7 +123,8 @@ fn ask<W: Wait>(rt: &W, shared: &Shared<Mount>, pass: &mut Pass<Mount>, call: Ca
     ask_fitting(rt, shared, pass, call)
 }
 
-// The same of a call that may be asked.
+// The same of a call that may be asked. Inlined, as the bare calls are, so that the turn alone is measured.
+#[inline(always)]
 fn ask_fitting<W: Wait>(rt: &W, shared: &Shared<Mount>, pass: &mut Pass<Mount>, call: Call) -> Reply
     requires belongs { pass.old.table ≡ shared.now.table }
     requires fits { Fits call }
