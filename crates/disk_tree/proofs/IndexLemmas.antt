@@ -1,11 +1,13 @@
 -- The entries of a directory by place and by name, after each change.
-use Rattle.std.proofs.Common.{◌≡◌, ◌≢◌, ℕ, ◌+◌, ◌<◌, Bool, true, false, cond, ◌||◌, Option, Some, None, List, [], ◌∷◌, ◌++◌, IsSome, not, inl, inr, refl, sym, ap, subst, ◌∙◌, arith, Less, Greater, option_map}
+use Rattle.std.proofs.Common.{◌≡◌, ◌≢◌, ◌↔◌, ℕ, ◌+◌, ◌-◌, ◌<◌, Bool, true, false, cond, ◌||◌, Option, Some, None, List, [], ◌∷◌, ◌++◌, IsSome, IfSome, IfNone, length, slice_get, not, inl, inr, refl, sym, ap, subst, ◌∙◌, arith, Less, Greater, option_map}
 use Rattle.std.proofs.lemmas.Bool.{cases_Bool, cond-true, cond-false}
+use Rattle.std.proofs.lemmas.List.{length-append}
+use Rattle.std.proofs.lemmas.List.Elements.{recursion_from_All}
 use Rattle.std.proofs.lemmas.Map.{lookup-remove_entry}
 use Rattle.std.proofs.lemmas.Map.Keys.{sorted_head, sorted_tail, IsDistinct-head, IsDistinct-tail, IsDistinct-cons, IsDistinct-push}
 use Rattle.std.specs.Cmp.{nat_cmp_is, ranked}
 use Rattle.std.specs.Cmp.Lexicographic.{bytes_decides, nat_list_eq_equiv}
-use Rattle.std.specs.List.{AllByRecursion, IsDistinct, list_any}
+use Rattle.std.specs.List.{All, AllByRecursion, IsDistinct, list_any}
 use Rattle.std.specs.List.Sorted.{IsStrictlySortedBy}
 use Rattle.std.specs.Map.{lookup, remove_entry, keys_of, values_of}
 use Rattle.std.specs.Ordering.{nat_cmp, match_ordering}
@@ -14,7 +16,7 @@ use Rattle.std.specs.BTreeMap.{is_at, insert_entry}
 use Rattle.byte_words.specs.Bytes.{AreBytes}
 use Rattle.number_map.proofs.NumberTests.{tied, untied}
 use Rattle.disk_tree.specs.Entries.{Entries, HaveByteNames, number_under, without_entry}
-use Rattle.disk_tree.specs.Indexed.{Ordered, Index, by_name, oldest, indexed, AreBelow, IsIndexed}
+use Rattle.disk_tree.specs.Indexed.{Ordered, Index, by_name, newest_place, oldest, indexed, AreBelow, IsIndexed}
 
 -- ---- by name and in order
 
@@ -140,6 +142,33 @@ gone_last (e ∷ es) place v below =
 
 pub undone_last : (es put now : Ordered) (place : ℕ) (v : List ℕ × ℕ) → AreBelow place es → put ≡ es ++ (place, v) ∷ [] → now ≡ remove_entry (is_at (nat_cmp place)) put → now ≡ es
 undone_last es put now place v below is gone = gone ∙ ap (remove_entry (is_at (nat_cmp place))) is ∙ gone_last es place v below
+
+-- what was put last is at the end
+last_got : {X : Type 0} (xs : List X) (x : X) → slice_get (xs ++ x ∷ []) (length xs) ≡ Some x
+last_got [] x = refl
+last_got (y ∷ ys) x = last_got ys x
+
+-- nothing goes where nothing is
+without_none : {K X : Type 0} (test : K → Bool) (es : List (K × X)) → (0 < length es → ⊥) → es ≡ remove_entry test es
+without_none test [] none = refl
+without_none test (e ∷ es) none = absurd (none (omega arith))
+
+-- the newest entry is taken from the end
+module _ (es now : Ordered) (place : ℕ) (newest : Bool) (told : newest ≡ true ↔ (newest_place es ≡ Some place)) (is_newest : newest ≡ true) where
+  popped_some : (e : ℕ × (List ℕ × ℕ)) → es ≡ now ++ e ∷ [] → All (λ q. nat_cmp q e.0 ≡ Less) (keys_of now) → now ≡ remove_entry (is_at (nat_cmp place)) es
+  popped_some e is below =
+      let end : length es - 1 ≡ length now = omega (arith, ap length is, length-append now (e ∷ [])) in
+      let got : slice_get es (length es - 1) ≡ Some e = ap (slice_get es) end ∙ ap (λ (l : Ordered). slice_get l (length now)) is ∙ last_got now e in
+      let at_end : Some e.0 ≡ Some place = sym (ap (option_map (λ (p : ℕ × (List ℕ × ℕ)). p.0)) got) ∙ told.0 is_newest in
+      let same : e.0 ≡ place = ap (λ (o : Option ℕ). elim o [ None ↦ 0 | Some p ↦ p ]) at_end in
+      sym (ap (λ (p : ℕ). remove_entry (is_at (nat_cmp p)) es) (sym same)
+      ∙ ap (remove_entry (is_at (nat_cmp e.0))) is
+      ∙ gone_last now e.0 e.1 (recursion_from_All (λ q. nat_cmp q e.0 ≡ Less) (keys_of now) below))
+
+  pub popped_last : (popped : Option (ℕ × (List ℕ × ℕ))) → (0 < length es → IsSome popped) → IfSome popped (λ e. es ≡ now ++ e ∷ []) →
+      IfSome popped (λ e. All (λ q. nat_cmp q e.0 ≡ Less) (keys_of now)) → IfNone popped (now ≡ es) → now ≡ remove_entry (is_at (nat_cmp place)) es
+  popped_last None some is below kept = kept ∙ without_none (is_at (nat_cmp place)) es (λ more. let no : IsSome {T = ℕ × (List ℕ × ℕ)} None = some more in absurd (cc))
+  popped_last (Some e) some is below kept = popped_some e is below
 
 still_below : (x next : ℕ) → nat_cmp x next ≡ Less → nat_cmp x (next + 1) ≡ Less
 still_below x next less =

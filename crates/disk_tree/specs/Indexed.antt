@@ -1,5 +1,6 @@
 -- How the entries of a directory lie in memory: in the order in which they were made, and by name.
-use Rattle.std.specs.Prelude.{◌≡◌, ℕ, Bool, false, cond, nat_eq, List, [], map, Option, None, Some}
+use Rattle.std.specs.Prelude.{◌≡◌, ℕ, ◌-◌, Bool, false, cond, nat_eq, List, [], map, length, slice_get}
+use Rattle.std.specs.Prelude.{Option, None, Some, option_map}
 use Rattle.std.specs.Str.{bytes_eq}
 use Rattle.std.specs.Ordering.{nat_cmp}
 use Rattle.std.specs.declared.cmp.Ordering.TheVariants.{Less}
@@ -33,6 +34,10 @@ hash_of name = finish (write initial name)
 -- the entries, each with its place, under their names
 abbrev pub by_name : Ordered → List (List ℕ × (ℕ × ℕ))
 by_name order = map (λ e. (e.1.0, (e.0, e.1.1))) order
+
+-- the place of the newest entry
+abbrev pub newest_place : Ordered → Option ℕ
+newest_place order = option_map (λ e. e.0) (slice_get order (length order - 1))
 
 -- the oldest entry of this name
 abbrev pub oldest : Ordered → List ℕ → Option (ℕ × ℕ)

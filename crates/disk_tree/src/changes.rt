@@ -21,7 +21,8 @@ impl DiskTree {
 
     /// Adds a node under a number that has none. A file has no blocks yet.
     ///
-    /// NoSpace where 65,536 nodes are there. After a fault the tree is as before.
+    /// NoSpace where 65,536 nodes are there; else NoMemory where no memory was found. After a fault the
+    /// tree is as before.
     pub fn add_node(&mut self, number: u32, node: StoredNode) -> Result<(), DiskFault>
         requires absent { map.get self.old number ≡ None }
         requires no_blocks { blocks_of node.body ≡ [] }
@@ -56,7 +57,8 @@ impl DiskTree {
 
     /// Makes an entry, which leads to the node; the node is named from then on.
     ///
-    /// NoSpace where the directory has 4,096 entries. After a fault the tree is as before.
+    /// NoSpace where the directory has 4,096 entries; else NoMemory where no memory was found. After a
+    /// fault the tree is as before.
     pub fn put_entry(
         &mut self,
         alloc: Global,
@@ -102,8 +104,8 @@ impl DiskTree {
     /// Moves the entry to a new name, in the same directory or in another. The new name leads to the
     /// same node, which stays named.
     ///
-    /// NoSpace where `to` is another directory and has 4,096 entries. After a fault the tree is as
-    /// before.
+    /// NoSpace where `to` is another directory and has 4,096 entries; else NoMemory where no memory was
+    /// found. After a fault the tree is as before.
     pub fn move_entry(
         &mut self,
         alloc: Global,
@@ -140,7 +142,8 @@ impl DiskTree {
     /// Adds blocks of zeros at the end of the file until it has `blocks`. A file that has as many
     /// stays as it is, and takes no memory.
     ///
-    /// NoSpace where more than 16,384 blocks would stand in all. After a fault the tree is as before.
+    /// NoSpace where more than 16,384 blocks would stand in all; else NoMemory where no memory was
+    /// found. After a fault the tree is as before.
     pub fn grow(&mut self, alloc: Global, file: u32, blocks: u32) -> Result<(), DiskFault>
         requires { IsFileAt self.old file }
         ensures grown { OnOk result (self.new

@@ -1,12 +1,12 @@
 //! The entries of a directory by place, and their index by name.
-ghost use Rattle.std.specs.Prelude.{◌≡◌, ◌+◌, ◌++◌, [], ◌∷◌, ℕ, List, true};
-ghost use Rattle.std.specs.Prelude.{if◌then◌else◌, IfSome, IsSome, IfOk, OnOk, OnErr};
+ghost use Rattle.std.specs.Prelude.{◌≡◌, ◌+◌, ◌++◌, [], ◌∷◌, ℕ, List, true, ◌↔◌, if◌then◌else◌};
+ghost use Rattle.std.specs.Prelude.{IfSome, IsSome, IfOk, OnOk, OnErr};
 ghost use Rattle.std.specs.List.Sorted.{IsStrictlySortedBy};
 ghost use Rattle.std.specs.Map.{keys_of, remove_entry};
 ghost use Rattle.std.specs.Ordering.{nat_cmp};
 ghost use Rattle.std.specs.BTreeMap.{is_at};
 ghost use Rattle.std.specs.Str.{bytes_eq};
-ghost use Rattle.disk_tree.specs.Indexed.{AreBelow, hash_of as hash, indexed, oldest};
+ghost use Rattle.disk_tree.specs.Indexed.{AreBelow, hash_of as hash, indexed, newest_place, oldest};
 
 use item_list::Bytes;
 use number_map::Rank;
@@ -80,7 +80,23 @@ pub(crate) fn drop_place(order: &mut Order, place: u64)
     ensures gone { order.new.entries ≡ remove_entry (is_at (nat_cmp place)) order.old.entries }
     ensures rising { IsStrictlySortedBy nat_cmp (keys_of order.new.entries) }
 {
+    // The newest entry is often the one that goes, and a search for it goes past all other places of
+    // each node of the map on its way.
+    if is_newest(order, place) {
+        order.pop_last();
+        return;
+    }
     order.remove(&Rank { of: place });
+}
+
+// Whether the last entry stands at this place.
+fn is_newest(order: &Order, place: u64) -> bool
+    ensures { result ≡ true ↔ (newest_place order.now.entries ≡ Some place) }
+{
+    match order.last_key_value() {
+        Some((newest, _)) => newest.of == place,
+        None => false,
+    }
 }
 
 // Says where the name is, in place of what the index had under its hash. Whether it had nothing there.

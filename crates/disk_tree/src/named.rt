@@ -18,8 +18,8 @@ impl DiskTree {
     /// Adds a node under a number that has none, and the entry that leads to it; the node is named. A
     /// file has no blocks yet.
     ///
-    /// NoSpace where 65,536 nodes are there, or the directory has 4,096 entries. After a fault the tree
-    /// is as before.
+    /// NoSpace where 65,536 nodes are there, or the directory has 4,096 entries; else NoMemory where no
+    /// memory was found. After a fault the tree is as before.
     pub fn add_named(
         &mut self,
         alloc: Global,
