@@ -29,7 +29,7 @@ use Rattle.mount_state.specs.StandsFor.{TreeStands}
 use Rattle.mount_state.proofs.EntryLemmas.{children_stand, name_there}
 use Rattle.mount_state.proofs.KeyedLemmas.{keyed_led}
 use Rattle.mount_state.proofs.LedLemmas.{plain_led}
-use Rattle.mount_names.specs.declared.entries.Entry.{Entry}
+use Rattle.mount_names.specs.Places.{Entry}
 use Rattle.mount_names.specs.Found.{form_in, entry_in, entry_found, IsStoredFor, or_not_found, entry_walked, entry_end}
 use Rattle.mount_names.specs.Made.{HasByteKey}
 use Rattle.mount_names.specs.Removed.{IsEntryOf}

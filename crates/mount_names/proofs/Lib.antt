@@ -16,6 +16,7 @@ pub mod PolicyRules
 pub mod PolicyStands
 pub mod SetLemmas
 pub mod FoundLemmas
+pub mod TextLemmas
 pub mod NodesLemmas
 pub mod RemovalLemmas
 pub mod MoveLemmas

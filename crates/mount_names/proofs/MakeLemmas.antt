@@ -33,7 +33,7 @@ use Rattle.mount_state.specs.Stored.{stored_body, stored_node}
 use Rattle.mount_state.specs.StandsFor.{StandsFor, CachesStand}
 use Rattle.mount_state.specs.StandsFor.{kind_of as plain_kind_of, kind_in as plain_kind}
 use Rattle.mount_state.specs.declared.state.MountState.{MountState}
-use Rattle.mount_names.specs.declared.places.Place.{Place}
+use Rattle.mount_names.specs.Places.{Place}
 use Rattle.mount_state.specs.Given.{IsGivenOrNoMemory, IsRefusedAsDue}
 use Rattle.mount_names.specs.Made.{IsPlaceAt}
 use Rattle.mount_names.proofs.AgreeLemmas.{made_agrees}

@@ -6,6 +6,7 @@ use Rattle.plain_tree.specs.Nodes.{Name, Nodes, context_at, context_in, entry}
 use Rattle.plain_tree.specs.Changes.{on_children, name_taken, moved}
 use Rattle.plain_tree.specs.Nodes.{without_child}
 use Rattle.plain_tree.specs.Facts.{AgreesBy}
+use Rattle.plain_tree.proofs.ChildLemmas.{itself}
 use Rattle.plain_tree.proofs.FoundLemmas.{found_entry}
 use Rattle.disk_tree.specs.DiskTree.{Disk}
 use Rattle.disk_tree.specs.DiskTree as disk
@@ -14,6 +15,9 @@ use Rattle.disk_tree.specs.Entries.{number_under}
 use Rattle.disk_tree.specs.Entries.{without_entry}
 use Rattle.disk_tree.specs.Nodes.{on_body, with_entries}
 use Rattle.policy_ctx.specs.declared.policy.Context.{Context}
+use Rattle.policy_ctx.specs.declared.policy.Policy.{Policy}
+use Rattle.policy_ctx.specs.Policy.{policy_bytes}
+use Rattle.mount_model.specs.PolicyAnswers.{is_same_policy}
 use Rattle.mount_model.specs.declared.reply.Refusal.{Refusal}
 use Rattle.mount_model.specs.declared.reply.Refusal.TheVariants.{NoKey, Inval, Exists, XDev, NoSpace, NoKeyClash, NotFound}
 use Rattle.mount_model.specs.declared.reply.Reply.{Reply}
@@ -26,7 +30,7 @@ use Rattle.mount_model.specs.PlainMount.{PlainMount}
 use Rattle.mount_model.specs.Answered.{Answer, refused, done, at_node, at_entry}
 use Rattle.mount_model.specs.States.{is_keyed, shown}
 use Rattle.mount_model.specs.NameAnswers.{clashes}
-use Rattle.mount_model.specs.RenameAnswer.{may_hold, is_full_elsewhere, with_moved, answer_to_move, answer_to_move_from, answer_to_rename_in, answer_to_rename}
+use Rattle.mount_model.specs.RenameAnswer.{may_hold, has_policy, is_full_elsewhere, with_moved, answer_to_move, answer_to_move_from, answer_to_rename_in, answer_to_rename}
 use Rattle.mount_model.specs.Walk.{PathParts, Walked, found, is_root, last_part, parent, is_at_or_above}
 use Rattle.mount_model.specs.WellFormed.{IsWellFormed}
 use Rattle.mount_model.specs.Carried.{IsPath}
@@ -36,10 +40,9 @@ use Rattle.mount_state.specs.Stored.{stored_node, stored_form}
 use Rattle.mount_state.specs.StandsFor.{StandsFor, CachesStand}
 use Rattle.mount_state.specs.StandsFor.{kind_in as plain_kind}
 use Rattle.mount_state.specs.declared.state.MountState.{MountState}
-use Rattle.mount_names.specs.declared.entries.Entry.{Entry}
-use Rattle.mount_names.specs.declared.places.Place.{Place}
+use Rattle.mount_names.specs.Places.{Entry, Place}
 use Rattle.mount_names.specs.Found.{IsEntryOn, entry_in, entry_found, or_not_found}
-use Rattle.mount_names.specs.Moved.{source_walked, source_end, IsNewName, name_refusal, place_refusal, first_of, move_refusal, target_walked, target_refusal, IsTargetAt}
+use Rattle.mount_names.specs.Moved.{source_in, source_walked, source_end, IsNewName, name_refusal, place_refusal, first_of, move_refusal, target_walked, target_refusal, IsTargetAt}
 use Rattle.mount_names.specs.Removed.{IsEntryOf}
 use Rattle.mount_names.specs.SameButTree.{SameButTree}
 use Rattle.mount_names.proofs.AgreeLemmas.{put_agrees, taken_agrees}
@@ -52,6 +55,28 @@ use Rattle.mount_names.proofs.FoundLemmas.{stored_apart, ok_entry, no_entry}
 use Rattle.mount_names.proofs.HeldLemmas.{caches_alike}
 use Rattle.mount_names.proofs.NodesLemmas.{with_nodes, nodes_stand, context_left_so, kind_left_so, read_moved}
 
+abbrev some_policy : Policy → Option Policy
+some_policy p = Some p
+
+abbrev none_policy : Option Policy
+none_policy = None
+
+-- ---- a node may stay in its directory
+
+pub may_stay : (m : PlainMount) → IsWellFormed m → (old : Name) (e : Entry) → IsEntryOf m old e → may_hold (context_at m.nodes e.dir) (context_at m.nodes e.number) ≡ true
+may_stay m well old e of = under (context_at m.nodes e.dir) refl
+  where
+    same : (p q : Policy) → some_policy p ≡ some_policy q → p ≡ q
+    same p q is = cc
+
+    held : (c : Context) (o : Option Context) → option_map (λ (x : Context). x.policy) o ≡ Some c.policy → has_policy c.policy o ≡ true
+    held c None none = let bad : none_policy ≡ some_policy c.policy = none in absurd (cc)
+    held c (Some x) is = ap (λ (p : Policy). is_same_policy p c.policy) (same x.policy c.policy is) ∙ itself (policy_bytes c.policy)
+
+    under : (o : Option Context) → context_at m.nodes e.dir ≡ o → may_hold o (context_at m.nodes e.number) ≡ true
+    under None here = refl
+    under (Some c) here = held c (context_at m.nodes e.number) (well.nodes.sealed.inherits e.dir old e.number c here of.there)
+
 -- ---- where the name comes from
 
 pub record IsFrom (m : PlainMount) (path : PathParts) (e : Entry) : Type 0 where
@@ -60,6 +85,9 @@ pub record IsFrom (m : PlainMount) (path : PathParts) (e : Entry) : Type 0 where
   pub keyed : not (is_keyed m e.dir) ≡ false
   pub found_so : found m e.dir (last_part path) ≡ Some (name, e.number)
   pub of : IsEntryOf m name e
+
+pub source_keyed : (m : PlainMount) (part : Name) (d : ℕ) → is_keyed m d ≡ true → source_in m part d ≡ or_not_found (entry_found m d part)
+source_keyed m part d keyed = ap (λ b. cond (not b) (no_entry NoKey) (or_not_found (entry_found m d part))) keyed
 
 module _ (m : PlainMount) (path new_path : PathParts) where
   abbrev rename_at : Walked → Answer

@@ -28,7 +28,7 @@ use Rattle.mount_state.specs.StandsFor.{StandsFor, CachesStand}
 use Rattle.mount_state.specs.StandsFor.{kind_in as plain_kind}
 use Rattle.mount_state.specs.declared.state.MountState.{MountState}
 use Rattle.mount_state.proofs.UserLemmas.{pins_tell}
-use Rattle.mount_names.specs.declared.entries.Entry.{Entry}
+use Rattle.mount_names.specs.Places.{Entry}
 use Rattle.mount_names.specs.Found.{IsEntryOn}
 use Rattle.mount_state.specs.Given.{IsGiven}
 use Rattle.mount_names.specs.Removed.{IsEntryOf}

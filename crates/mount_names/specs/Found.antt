@@ -1,6 +1,5 @@
 -- The entry of a directory that is found by a part, as the state has it: with the name as it is stored.
-use Rattle.std.specs.Prelude.{◌≡◌, ℕ, Bool, List, Option, Some, None, IfSome, option_map, Result}
-use Rattle.std.specs.Prelude.{Ok, Err, if◌then◌else◌}
+use Rattle.std.specs.Prelude.{◌≡◌, ℕ, List, Option, Some, None, IfSome, option_map, Result, Ok, Err}
 use Rattle.plain_tree.specs.Nodes.{Name, context_at}
 use Rattle.disk_tree.specs.DiskTree.{Disk, children}
 use Rattle.disk_tree.specs.Entries.{number_under}
@@ -9,15 +8,11 @@ use Rattle.mount_model.specs.declared.reply.Refusal.TheVariants.{NotFound}
 use Rattle.mount_model.specs.PlainMount.{PlainMount}
 use Rattle.mount_model.specs.Walk.{PathParts, Walked, found, last_part, parent}
 use Rattle.mount_state.specs.Stored.{stored_form}
-use Rattle.mount_names.specs.declared.entries.Entry.{Entry}
+use Rattle.mount_names.specs.Places.{Entry}
 
 -- on the disk the stored name leads to the node
 abbrev pub IsEntryOn : Disk → Entry → Type 0
 IsEntryOn disk entry = number_under entry.stored (children disk entry.dir) ≡ Some entry.number
-
--- the bytes, where this holds of them
-abbrev pub stored_if : Bool → List ℕ → Option (List ℕ)
-stored_if holds bytes = if holds then Some bytes else None
 
 -- ---- in a mount
 

@@ -6,4 +6,5 @@ pub mod Encrypted
 pub mod Found
 pub mod Removed
 pub mod Moved
+pub mod Places
 pub mod Sealing

@@ -21,7 +21,7 @@ use Rattle.mount_state.specs.Stored.{stored_body}
 use Rattle.disk_tree.specs.declared.node.Body.{Body as StoredBody}
 use Rattle.mount_model.specs.declared.reply.Reply.{Reply}
 use Rattle.mount_state.specs.Given.{IsGivenOrNoMemory}
-use Rattle.mount_names.specs.declared.places.Place.{Place}
+use Rattle.mount_names.specs.Places.{Place}
 
 -- in the mount the place's directory can get the name, and the place has its stored form
 pub record IsPlaceOf (m : PlainMount) (name : Name) (place : Place) : Type 0 where

@@ -9,7 +9,7 @@ use Rattle.mount_model.specs.Walk.{PathParts, is_root}
 use Rattle.mount_model.specs.WellFormed.{IsWellFormed}
 use Rattle.mount_state.specs.StandsFor.{StandsFor}
 use Rattle.mount_state.specs.declared.state.MountState.{MountState}
-use Rattle.mount_names.specs.declared.entries.Entry.{Entry}
+use Rattle.mount_names.specs.Places.{Entry}
 use Rattle.mount_names.specs.Found.{form_in, entry_end}
 use Rattle.mount_state.specs.Given.{IsGiven}
 

@@ -19,7 +19,7 @@ use crate::places::{Place, place_at};
 use disk_tree::{BlockList, Body, DirEntries, StoredNode};
 use mount_model::{Path, Refusal, Reply};
 use mount_state::MountState;
-use name_crypt::Steps;
+use name_crypt::{MOST_NAME_BYTES, Steps};
 use policy_ctx::{CONTEXT_LEN, Context, encode_context};
 use std::alloc::Global;
 use std::sync::ledger::Ledger;
@@ -44,7 +44,8 @@ pub fn mkdir<L: Ledger>(
     ensures same { SameButTree state.old state.new }
     ensures ticks { steps.new ≤ steps.old + length path.now }
 {
-    match place_at(alloc, state, path, false, steps) {
+    let mut room = [0; MOST_NAME_BYTES];
+    match place_at(alloc, state, path, false, &mut room, steps) {
         Ok(place) => make(alloc, state, &place, nonce, empty_dir(alloc)),
         Err(refusal) => Reply::Refused(refusal),
     }
@@ -66,7 +67,8 @@ pub fn create<L: Ledger>(
     ensures same { SameButTree state.old state.new }
     ensures ticks { steps.new ≤ steps.old + length path.now }
 {
-    match place_at(alloc, state, path, false, steps) {
+    let mut room = [0; MOST_NAME_BYTES];
+    match place_at(alloc, state, path, false, &mut room, steps) {
         Ok(place) => make(alloc, state, &place, nonce, empty_file(alloc)),
         Err(refusal) => Reply::Refused(refusal),
     }
@@ -110,8 +112,10 @@ pub(crate) fn make(
         named: true,
         body,
     };
-    let stored = place.stored.bytes();
-    match state.disk.add_named(alloc, place.dir, stored, number, node) {
+    match state
+        .disk
+        .add_named(alloc, place.dir, place.stored, number, node)
+    {
         Ok(()) => {
             state.next_node = number + 1;
             Reply::Done

@@ -2,6 +2,7 @@
 
 ghost use Rattle.std.specs.Prelude.{◌≡◌, ◌+◌, ◌≤◌, true, Some, length, IfErr, IfOk};
 ghost use Rattle.disk_tree.specs.DiskTree.{IsDirAt};
+ghost use Rattle.plain_tree.specs.Nodes.{Name};
 ghost use Rattle.mount_model.specs.Carried.{IsPath};
 ghost use Rattle.mount_model.specs.ClaimHistory.{is_refused};
 ghost use Rattle.mount_model.specs.PlainMount.{PlainMount};
@@ -11,14 +12,17 @@ ghost use Rattle.mount_state.specs.StandsFor.{StandsFor};
 ghost use Rattle.mount_names.specs.Found.{IsEntryOn};
 ghost use Rattle.mount_state.specs.Given.{IsGivenOrNoMemory, IsRefusedAsDue};
 ghost use Rattle.mount_names.specs.Moved.{IsTargetAt, Moves, RefusesAsDue, Renames, source_end, target_refusal};
+ghost use Rattle.mount_names.specs.Removed.{IsEntryOf};
 ghost use Rattle.mount_names.specs.SameButTree.{SameButTree};
+ghost use Rattle.mount_names.specs.Places.{IsBlank};
 
-use crate::entries::{Entry, entry_shown};
+use crate::entries::{Entry, entry_named};
 use crate::places::Place;
+use crate::stored_names::NameRoom;
 use crate::targets::target_in;
 use mount_model::{Path, Refusal, Reply};
 use mount_state::{MountState, walked_parent, walked_parent_past};
-use name_crypt::Steps;
+use name_crypt::{MOST_NAME_BYTES, Steps};
 use std::alloc::Global;
 use std::sync::ledger::Ledger;
 
@@ -48,7 +52,8 @@ pub fn rename<L: Ledger>(
     if old_path.is_empty() || new_path.is_empty() {
         return Reply::Refused(Refusal::Inval);
     }
-    match source_at(alloc, state, old_path, steps) {
+    let mut room = [0; MOST_NAME_BYTES];
+    match source_at(alloc, state, old_path, &mut room, steps) {
         Ok(entry) => rename_entry(alloc, state, &entry, new_path, steps),
         Err(refusal) => Reply::Refused(refusal),
     }
@@ -70,20 +75,23 @@ fn rename_entry<L: Ledger>(
     ensures same { SameButTree state.old state.new }
     ensures ticks { steps.new ≤ steps.old + length new_path.now }
 {
-    match target_at(alloc, state, entry, new_path, steps) {
+    let mut room = [0; MOST_NAME_BYTES];
+    match target_at(alloc, state, entry, new_path, &mut room, steps) {
         Ok(place) => move_to(alloc, state, entry, &place),
         Err(refusal) => Reply::Refused(refusal),
     }
 }
 
 // The entry at the end of the old path, of a directory that is keyed.
-fn source_at<L: Ledger>(
+fn source_at<'a, L: Ledger>(
     alloc: Global,
     state: &mut MountState,
-    path: &Path,
+    path: &'a Path,
+    room: &'a mut NameRoom,
     steps: &mut Steps<L>,
-) -> Result<Entry, Refusal>
-    requires { 1 ≤ length path.now }
+) -> Result<Entry<'a>, Refusal>
+    requires some { 1 ≤ length path.now }
+    requires blank { IsBlank room.old }
     ensures value { (m : PlainMount) → StandsFor state.old m → result ≡ source_end m path.now }
     ensures there { IfOk result (IsEntryOn state.old.disk) }
     ensures stands { StaysFor state.old state.new }
@@ -95,28 +103,28 @@ fn source_at<L: Ledger>(
         Ok(dir) => dir,
         Err(refusal) => return Err(refusal),
     };
-    if !state.keyed(dir) {
-        return Err(Refusal::NoKey);
-    }
     let Some(part) = path.part(last) else {
         unreachable!()
     };
-    entry_shown(state, dir, part.bytes(), steps)
+    entry_named(state, dir, part.bytes(), room, steps)
 }
 
 // The place of the new path's last part, where the entry can be moved to it.
-fn target_at<L: Ledger>(
+fn target_at<'a, L: Ledger>(
     alloc: Global,
     state: &mut MountState,
     entry: &Entry,
-    path: &Path,
+    path: &'a Path,
+    room: &'a mut NameRoom,
     steps: &mut Steps<L>,
-) -> Result<Place, Refusal>
-    requires { 1 ≤ length path.now }
-    ensures refused { IfErr result (λ refusal. (m : PlainMount) → StandsFor state.old m → IsPath path.now
+) -> Result<Place<'a>, Refusal>
+    requires some { 1 ≤ length path.now }
+    requires blank { IsBlank room.old }
+    ensures refused { IfErr result (λ refusal. (m : PlainMount) (old : Name) → StandsFor state.old m
+        → IsPath path.now → IsEntryOf m old entry.now
         → target_refusal m entry.now path.now ≡ Some refusal) }
-    ensures placed { IfOk result (λ place. (m : PlainMount) → StandsFor state.old m → IsPath path.now
-        → IsTargetAt m entry.now path.now place) }
+    ensures placed { IfOk result (λ place. (m : PlainMount) (old : Name) → StandsFor state.old m
+        → IsPath path.now → IsEntryOf m old entry.now → IsTargetAt m entry.now path.now place) }
     ensures dir { IfOk result (λ place. IsDirAt state.new.disk place.dir) }
     ensures stands { StaysFor state.old state.new }
     ensures same { SameButKeys state.old state.new }
@@ -125,7 +133,7 @@ fn target_at<L: Ledger>(
     let last = path.len() - 1;
     match walked_parent_past(alloc, state, path, entry.number, steps) {
         Ok((dir, past)) => match path.part(last) {
-            Some(part) => target_in(state, entry, dir, past, part.bytes(), steps),
+            Some(part) => target_in(state, entry, dir, past, part.bytes(), room, steps),
             None => unreachable!(),
         },
         Err(refusal) => Err(refusal),
@@ -140,10 +148,9 @@ fn move_to(alloc: Global, state: &mut MountState, entry: &Entry, place: &Place) 
     ensures refused { is_refused result ≡ true → SameButKeys state.old state.new }
     ensures same { SameButTree state.old state.new }
 {
-    let stored = place.stored.bytes();
     match state
         .disk
-        .move_entry(alloc, entry.dir, entry.stored.bytes(), place.dir, stored)
+        .move_entry(alloc, entry.dir, entry.stored, place.dir, place.stored)
     {
         Ok(()) => Reply::Done,
         Err(_) => Reply::Refused(Refusal::NoMemory),

@@ -2,7 +2,7 @@
 
 ghost use Rattle.std.specs.Prelude.{◌≡◌, ◌+◌, ◌<◌, ◌≤◌, ◌^◌, true, false, length, nat_le, IfErr, IfOk};
 ghost use Rattle.disk_tree.specs.DiskTree.{IsDirAt};
-ghost use Rattle.number_map.specs.Numbered.{len};
+ghost use Rattle.number_map.specs.Numbered.{get, len};
 ghost use Rattle.plain_tree.specs.Nodes.{children, is_dir_at};
 ghost use Rattle.mount_model.specs.Carried.{IsPath};
 ghost use Rattle.mount_model.specs.NameAnswers as plain;
@@ -11,35 +11,47 @@ ghost use Rattle.mount_model.specs.WellFormed.{IsName};
 ghost use Rattle.mount_state.specs.SameButKeys.{SameButKeys, StaysFor};
 ghost use Rattle.mount_state.specs.StandsFor.{StandsFor};
 ghost use Rattle.mount_names.specs.Made.{IsPlaceAt, IsPlaceOf, IsRefusedAt, IsRefusedIn};
+ghost use Rattle.mount_names.specs.Places.{IsBlank};
 
 use crate::contexts::context_told;
-use crate::stored_names::{clashes, stored_as};
+use crate::stored_names::{NameRoom, clashes, stored_as};
+use disk_tree::StoredNode;
 use mount_limits::{MOST_CHILDREN, MOST_NODES};
 use mount_model::{Path, Refusal};
 use mount_state::{MountState, walked_parent};
-use name_crypt::{MOST_NAME_BYTES, Steps, is_plain, names_come_back};
+use name_crypt::{Steps, is_plain, names_come_back};
 use policy_ctx::Context;
-use short_bytes::Filled;
 use std::alloc::Global;
+use std::marker::Model;
 use std::sync::ledger::Ledger;
 
 /// A directory that gets a name: its number, its context, and the name in its stored form.
 #[derive(Drop)]
-pub(crate) struct Place {
+pub(crate) struct Place<'a> {
     pub dir: u32,
     pub context: Option<Context>,
-    pub stored: Filled<MOST_NAME_BYTES>,
+    pub stored: &'a [u8],
+}
+
+impl<'a> Model for Place<'a> {
+    ghost use Rattle.mount_names.specs.Places.{Place};
+
+    ghost Value = { Place };
+
+    ghost view = { λ p. record { dir = p.dir; context = p.context; stored = p.stored.now } };
 }
 
 // The place of the path's last part, where it can be made: refused as a creation is for every cause
 // but want of memory. `long` tells whether a target of too many bytes comes with it.
-pub(crate) fn place_at<L: Ledger>(
+pub(crate) fn place_at<'a, L: Ledger>(
     alloc: Global,
     state: &mut MountState,
-    path: &Path,
+    path: &'a Path,
     long: bool,
+    room: &'a mut NameRoom,
     steps: &mut Steps<L>,
-) -> Result<Place, Refusal>
+) -> Result<Place<'a>, Refusal>
+    requires { IsBlank room.old }
     ensures refused { IfErr result (λ refusal. IsRefusedAt state.old path.now long refusal) }
     ensures placed { IfOk result (λ place. (m : PlainMount) → StandsFor state.old m → IsPath path.now
         → IsPlaceAt m path.now place) }
@@ -56,7 +68,7 @@ pub(crate) fn place_at<L: Ledger>(
     let last = path.len() - 1;
     match walked_parent(alloc, state, path, steps) {
         Ok(dir) => match path.part(last) {
-            Some(part) => place_in(state, dir, part.bytes(), long, steps),
+            Some(part) => place_in(state, dir, part.bytes(), long, room, steps),
             None => unreachable!(),
         },
         Err(refusal) => Err(refusal),
@@ -64,16 +76,18 @@ pub(crate) fn place_at<L: Ledger>(
 }
 
 // The place of the name in the directory.
-fn place_in<L: Ledger>(
+fn place_in<'a, L: Ledger>(
     state: &MountState,
     dir: u32,
-    part: &[u8],
+    part: &'a [u8],
     long: bool,
+    room: &'a mut NameRoom,
     steps: &mut Steps<L>,
-) -> Result<Place, Refusal>
+) -> Result<Place<'a>, Refusal>
+    requires { IsBlank room.old }
     ensures refused { IfErr result (λ refusal. IsRefusedIn state.now dir part.now long refusal) }
-    ensures placed { IfOk result (λ place. (m : PlainMount) → StandsFor state.now m → is_dir_at m.nodes dir ≡ true
-        → IsName part.now → IsPlaceOf m part.now place) }
+    ensures placed { IfOk result (λ place. (m : PlainMount) → StandsFor state.now m
+        → is_dir_at m.nodes dir ≡ true → IsName part.now → IsPlaceOf m part.now place) }
     ensures dir { IfOk result (λ place. (place.dir ≡ dir) × IsDirAt state.now.disk dir) }
     ensures short { IfOk result (λ _. long ≡ false) }
     ensures room { IfOk result (λ _. state.now.next_node + 1 < 2 ^ 32) }
@@ -94,19 +108,19 @@ fn place_in<L: Ledger>(
     if !is_plain(part) {
         return Err(Refusal::Inval);
     }
-    let Some(stored) = stored_as(state, dir, &context, part, steps) else {
+    let Some(stored) = stored_as(state, dir, &context, part, room, steps) else {
         return Err(Refusal::NoKey);
     };
-    if node.body.find(stored.bytes()).is_some() {
+    if node.body.find(stored).is_some() {
         return Err(Refusal::Exists);
     }
     if long {
         return Err(Refusal::NameTooLong);
     }
-    if clashes(state, dir, &context, stored.bytes()) {
+    if clashes(state, dir, &context, stored) {
         return Err(Refusal::NoKeyClash);
     }
-    if is_full(state, dir) {
+    if is_full(state, dir, node) {
         return Err(Refusal::NoSpace);
     }
     Ok(Place {
@@ -127,19 +141,21 @@ fn lacks_key(state: &MountState, context: &Option<Context>) -> bool
 }
 
 // Whether the directory, the mount or the numbers are used up.
-fn is_full(state: &MountState, dir: u32) -> bool
+fn is_full(state: &MountState, dir: u32, node: &StoredNode) -> bool
+    requires { get state.now.disk dir ≡ Some node.now }
     ensures value { (m : PlainMount) → StandsFor state.now m → result ≡ plain.is_full m dir }
     ensures room { result ≡ false → state.now.next_node + 1 < 2 ^ 32 }
 {
-    has_most_entries(state, dir) || (has_most_nodes(state) || state.next_node == u32::MAX)
+    has_most_in(state, dir, node) || (has_most_nodes(state) || state.next_node == u32::MAX)
 }
 
-// Whether the directory has as many entries as one may have.
-pub(crate) fn has_most_entries(state: &MountState, dir: u32) -> bool
+// Whether the directory, which was looked up, has as many entries as one may have.
+fn has_most_in(state: &MountState, dir: u32, node: &StoredNode) -> bool
+    requires { get state.now.disk dir ≡ Some node.now }
     ensures { (m : PlainMount) → StandsFor state.now m
         → result ≡ nat_le MOST_CHILDREN (length (children m.nodes dir)) }
 {
-    state.disk.entry_count(dir) >= MOST_CHILDREN
+    node.body.entry_count() >= MOST_CHILDREN
 }
 
 fn has_most_nodes(state: &MountState) -> bool

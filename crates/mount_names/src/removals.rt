@@ -15,7 +15,7 @@ ghost use Rattle.mount_names.specs.SameButTree.{SameButTree};
 use crate::entries::{Entry, entry_at};
 use mount_model::{Path, Refusal, Reply};
 use mount_state::MountState;
-use name_crypt::Steps;
+use name_crypt::{MOST_NAME_BYTES, Steps};
 use std::alloc::Global;
 use std::sync::ledger::Ledger;
 
@@ -40,7 +40,8 @@ pub fn unlink<L: Ledger>(
     if path.is_empty() {
         return Reply::Refused(Refusal::IsDir);
     }
-    match entry_at(alloc, state, path, steps) {
+    let mut room = [0; MOST_NAME_BYTES];
+    match entry_at(alloc, state, path, &mut room, steps) {
         Ok(entry) => unlink_entry(state, &entry),
         Err(refusal) => Reply::Refused(refusal),
     }
@@ -65,7 +66,8 @@ pub fn rmdir<L: Ledger>(
     if path.is_empty() {
         return Reply::Refused(Refusal::Inval);
     }
-    match entry_at(alloc, state, path, steps) {
+    let mut room = [0; MOST_NAME_BYTES];
+    match entry_at(alloc, state, path, &mut room, steps) {
         Ok(entry) => remove_dir(state, &entry),
         Err(refusal) => Reply::Refused(refusal),
     }
@@ -112,11 +114,10 @@ fn drop_entry(state: &mut MountState, entry: &Entry)
     ensures same { SameButTree state.old state.new }
 {
     let number = entry.number;
-    let stored = entry.stored.bytes();
     if state.inodes.pins(number) > 0 {
-        state.disk.drop_entry(entry.dir, stored);
+        state.disk.drop_entry(entry.dir, entry.stored);
         return;
     }
     state.inodes.drop_key(number);
-    state.disk.drop_named(entry.dir, stored);
+    state.disk.drop_named(entry.dir, entry.stored);
 }

@@ -1,6 +1,6 @@
 //! Names in their stored form, and whether two of them would be told apart only by the key.
 
-ghost use Rattle.std.specs.Prelude.{◌≡◌, ◌+◌, ◌≤◌, false, true, Some, is_some};
+ghost use Rattle.std.specs.Prelude.{◌≡◌, ◌+◌, ◌≤◌, false, true, Some, is_some, option_copied};
 ghost use Rattle.byte_words.specs.Bytes.{AreBytes};
 ghost use Rattle.name_crypt.specs.Plain.{IsPlain};
 ghost use Rattle.name_crypt.specs.StoredName.{stored_name};
@@ -13,6 +13,7 @@ ghost use Rattle.mount_model.specs.States.{is_keyed};
 ghost use Rattle.mount_state.specs.StandsFor.{StandsFor};
 ghost use Rattle.mount_state.specs.Stored.{stored_form};
 ghost use Rattle.mount_names.specs.Made.{HasByteKey};
+ghost use Rattle.mount_names.specs.Places.{IsBlank};
 ghost use Rattle.mount_names.specs.Sealing.{SealsAs, SealsByBytes};
 ghost use Rattle.mount_names.specs.Shown.{HasNames};
 
@@ -26,84 +27,94 @@ use policy_ctx::{Context, Pad};
 use short_bytes::Filled;
 use std::sync::ledger::Ledger;
 
+/// Room for the longest stored name.
+pub(crate) type NameRoom = [u8; MOST_NAME_BYTES];
+
 // The name of the directory, or the target of the symlink, as it is stored: itself where the node has
-// no context, else by one encryption; none where the key is not at hand.
-pub(crate) fn stored_as<L: Ledger>(
+// no context, else by one encryption, in the room; none where the key is not at hand.
+pub(crate) fn stored_as<'a, L: Ledger>(
     state: &MountState,
     number: u32,
     context: &Option<Context>,
-    name: &[u8],
+    name: &'a [u8],
+    room: &'a mut NameRoom,
     steps: &mut Steps<L>,
-) -> Option<Filled<MOST_NAME_BYTES>>
-    requires { IsPlain name.now }
+) -> Option<&'a [u8]>
+    requires plain { IsPlain name.now }
+    requires blank { IsBlank room.old }
     ensures value { (m : PlainMount) → StandsFor state.now m → HasNames m number
         → context.now ≡ context_at m.nodes number → is_keyed m number ≡ true
-        → result ≡ Some (stored_form m.raws number context.now name.now) }
+        → option_copied result ≡ Some (stored_form m.raws number context.now name.now) }
     ensures ranged { (m : PlainMount) → StandsFor state.now m → HasNames m number
         → context.now ≡ context_at m.nodes number → is_keyed m number ≡ true → HasByteKey m number }
     ensures ticks { steps.new ≤ steps.old + 1 }
 {
     match context {
-        Some(context) => sealed_as(state, number, context, name, steps),
-        None => Some(Filled::of(name)),
+        Some(context) => sealed_as(state, number, context, name, room, steps),
+        None => Some(name),
     }
 }
 
 // The same where the node has this context: under the cipher that is cached, else under one that is made.
-fn sealed_as<L: Ledger>(
+fn sealed_as<'a, L: Ledger>(
     state: &MountState,
     number: u32,
     context: &Context,
     name: &[u8],
+    room: &'a mut NameRoom,
     steps: &mut Steps<L>,
-) -> Option<Filled<MOST_NAME_BYTES>>
-    requires { IsPlain name.now }
-    ensures value { SealsAs state.now number context.now name.now result }
+) -> Option<&'a [u8]>
+    requires plain { IsPlain name.now }
+    requires blank { IsBlank room.old }
+    ensures value { SealsAs state.now number context.now name.now (option_copied result) }
     ensures ranged { SealsByBytes state.now number context.now }
     ensures ticks { steps.new ≤ steps.old + 1 }
 {
     if let Some(cipher) = state.own_cipher(number, context) {
-        return Some(sealed(cipher, number, context, name, steps));
+        return Some(sealed(cipher, number, context, name, room, steps));
     }
-    sealed_anew(state, number, context, name, steps)
+    sealed_anew(state, number, context, name, room, steps)
 }
 
 // The same under a cipher that is made for this once. Apart from the way with a cached one, which then keeps
 // no room for round keys.
 #[inline(never)]
-fn sealed_anew<L: Ledger>(
+fn sealed_anew<'a, L: Ledger>(
     state: &MountState,
     number: u32,
     context: &Context,
     name: &[u8],
+    room: &'a mut NameRoom,
     steps: &mut Steps<L>,
-) -> Option<Filled<MOST_NAME_BYTES>>
-    requires { IsPlain name.now }
-    ensures value { SealsAs state.now number context.now name.now result }
+) -> Option<&'a [u8]>
+    requires plain { IsPlain name.now }
+    requires blank { IsBlank room.old }
+    ensures value { SealsAs state.now number context.now name.now (option_copied result) }
     ensures ranged { SealsByBytes state.now number context.now }
     ensures ticks { steps.new ≤ steps.old + 1 }
 {
     let made = cipher_of(state, number, context)?;
-    Some(sealed(&made.key, number, context, name, steps))
+    Some(sealed(&made.key, number, context, name, room, steps))
 }
 
 // The name of the node under the cipher of its names. `steps` counts one more.
-fn sealed<L: Ledger>(
+fn sealed<'a, L: Ledger>(
     cipher: &Aes256,
     number: u32,
     context: &Context,
     name: &[u8],
+    room: &'a mut NameRoom,
     steps: &mut Steps<L>,
-) -> Filled<MOST_NAME_BYTES>
-    requires { IsPlain name.now }
-    ensures value { result
+) -> &'a [u8]
+    requires plain { IsPlain name.now }
+    requires blank { IsBlank room.old }
+    ensures value { result.now
         ≡ stored_name cipher.now (node_start number context.now) context.now.policy.pad name.now }
     ensures tick { steps.new ≡ steps.old + 1 }
 {
     let iv = name_iv(start_of(number, context));
-    let mut text = [0; MOST_NAME_BYTES];
-    let len = encrypt_into(cipher, iv, context.policy.pad, name, &mut text, steps);
-    Filled::of(&text[..len])
+    let len = encrypt_into(cipher, iv, context.policy.pad, name, room, steps);
+    &room[..len]
 }
 
 // The name under the cipher. `steps` counts one more.

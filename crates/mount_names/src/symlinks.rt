@@ -50,7 +50,8 @@ pub fn symlink<L: Ledger>(
     ensures ticks { steps.new ≤ steps.old + length path.now + 1 }
 {
     let long = target.len() > MOST_NAME_BYTES;
-    match place_at(alloc, state, path, long, steps) {
+    let mut room = [0; MOST_NAME_BYTES];
+    match place_at(alloc, state, path, long, &mut room, steps) {
         Ok(place) => link_at(alloc, state, &place, target, nonce, steps),
         Err(refusal) => Reply::Refused(refusal),
     }

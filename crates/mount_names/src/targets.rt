@@ -1,18 +1,21 @@
 //! Where a moved name goes: whether the directory can get it, and the name's stored form.
 
-ghost use Rattle.std.specs.Prelude.{◌≡◌, ◌+◌, ◌≤◌, true, None, Some, IfErr, IfOk};
+ghost use Rattle.std.specs.Prelude.{◌≡◌, ◌+◌, ◌≤◌, true, length, nat_le, None, Some, IfErr, IfOk};
 ghost use Rattle.disk_tree.specs.DiskTree.{IsDirAt};
-ghost use Rattle.plain_tree.specs.Nodes.{Name, is_dir_at};
+ghost use Rattle.plain_tree.specs.Nodes.{Name, children, context_at, is_dir_at};
 ghost use Rattle.mount_model.specs.PlainMount.{PlainMount};
 ghost use Rattle.mount_model.specs.RenameAnswer as plain;
 ghost use Rattle.mount_model.specs.WellFormed.{IsName};
 ghost use Rattle.mount_state.specs.StandsFor.{StandsFor};
 ghost use Rattle.mount_names.specs.Moved.{IsNewName, name_refusal, place_refusal, move_refusal};
+ghost use Rattle.mount_names.specs.Removed.{IsEntryOf};
+ghost use Rattle.mount_names.specs.Places.{IsBlank};
 
 use crate::contexts::{context_of, context_told};
 use crate::entries::Entry;
-use crate::places::{Place, has_most_entries};
-use crate::stored_names::{clashes, stored_as};
+use crate::places::Place;
+use crate::stored_names::{NameRoom, clashes, stored_as};
+use mount_limits::MOST_CHILDREN;
 use mount_model::Refusal;
 use mount_state::MountState;
 use name_crypt::{Steps, is_plain, names_come_back};
@@ -21,25 +24,29 @@ use std::sync::ledger::Ledger;
 
 // The place of the name in the directory, where the entry can be moved to it. `past` tells whether the
 // walk to the directory passed the entry's node.
-pub(crate) fn target_in<L: Ledger>(
+pub(crate) fn target_in<'a, L: Ledger>(
     state: &MountState,
     entry: &Entry,
     dir: u32,
     past: bool,
-    part: &[u8],
+    part: &'a [u8],
+    room: &'a mut NameRoom,
     steps: &mut Steps<L>,
-) -> Result<Place, Refusal>
-    ensures refused { IfErr result (λ refusal. (m : PlainMount) → StandsFor state.now m → is_dir_at m.nodes dir ≡ true
-        → IsName part.now → move_refusal m entry.now dir past part.now ≡ Some refusal) }
-    ensures placed { IfOk result (λ place. (m : PlainMount) → StandsFor state.now m → is_dir_at m.nodes dir ≡ true
-        → IsName part.now → IsNewName m dir part.now place × (move_refusal m entry.now dir past part.now ≡ None)) }
+) -> Result<Place<'a>, Refusal>
+    requires { IsBlank room.old }
+    ensures refused { IfErr result (λ refusal. (m : PlainMount) (old : Name) → StandsFor state.now m
+        → is_dir_at m.nodes dir ≡ true → IsName part.now → IsEntryOf m old entry.now
+        → move_refusal m entry.now dir past part.now ≡ Some refusal) }
+    ensures placed { IfOk result (λ place. (m : PlainMount) (old : Name) → StandsFor state.now m
+        → is_dir_at m.nodes dir ≡ true → IsName part.now → IsEntryOf m old entry.now
+        → IsNewName m dir part.now place × (move_refusal m entry.now dir past part.now ≡ None)) }
     ensures dir { IfOk result (λ place. (place.dir ≡ dir) × IsDirAt state.now.disk dir) }
     ensures ticks { steps.new ≤ steps.old + 1 }
 {
     if !state.disk.is_dir(dir) {
         return Err(Refusal::NotDir);
     }
-    match new_name(state, dir, part, steps) {
+    match new_name(state, dir, part, room, steps) {
         Ok(place) => match why_not(state, entry, &place, past) {
             Some(refusal) => Err(refusal),
             None => Ok(place),
@@ -49,16 +56,18 @@ pub(crate) fn target_in<L: Ledger>(
 }
 
 // The name that the directory would get, where it is keyed and has none such.
-fn new_name<L: Ledger>(
+fn new_name<'a, L: Ledger>(
     state: &MountState,
     dir: u32,
-    part: &[u8],
+    part: &'a [u8],
+    room: &'a mut NameRoom,
     steps: &mut Steps<L>,
-) -> Result<Place, Refusal>
-    ensures refused { IfErr result (λ refusal. (m : PlainMount) → StandsFor state.now m → is_dir_at m.nodes dir ≡ true
-        → IsName part.now → name_refusal m dir part.now ≡ Some refusal) }
-    ensures placed { IfOk result (λ place. (m : PlainMount) → StandsFor state.now m → is_dir_at m.nodes dir ≡ true
-        → IsName part.now → IsNewName m dir part.now place) }
+) -> Result<Place<'a>, Refusal>
+    requires { IsBlank room.old }
+    ensures refused { IfErr result (λ refusal. (m : PlainMount) → StandsFor state.now m
+        → is_dir_at m.nodes dir ≡ true → IsName part.now → name_refusal m dir part.now ≡ Some refusal) }
+    ensures placed { IfOk result (λ place. (m : PlainMount) → StandsFor state.now m
+        → is_dir_at m.nodes dir ≡ true → IsName part.now → IsNewName m dir part.now place) }
     ensures dir { IfOk result (λ place. place.dir ≡ dir) }
     ensures ticks { steps.new ≤ steps.old + 1 }
 {
@@ -75,10 +84,10 @@ fn new_name<L: Ledger>(
         return Err(Refusal::Inval);
     }
     let context = context_told(state, dir, node);
-    let Some(stored) = stored_as(state, dir, &context, part, steps) else {
+    let Some(stored) = stored_as(state, dir, &context, part, room, steps) else {
         return Err(Refusal::NoKey);
     };
-    if node.body.find(stored.bytes()).is_some() {
+    if node.body.find(stored).is_some() {
         return Err(Refusal::Exists);
     }
     Ok(Place {
@@ -90,23 +99,36 @@ fn new_name<L: Ledger>(
 
 // Why the entry can't be moved to that place.
 fn why_not(state: &MountState, entry: &Entry, place: &Place, past: bool) -> Option<Refusal>
-    ensures { (m : PlainMount) (name : Name) → StandsFor state.now m → IsName name
-        → IsNewName m place.now.dir name place.now
+    ensures { (m : PlainMount) (old name : Name) → StandsFor state.now m → IsName name
+        → IsEntryOf m old entry.now → IsNewName m place.now.dir name place.now
         → result ≡ place_refusal m entry.now place.now.dir past name }
 {
     if past {
         return Some(Refusal::Inval);
     }
-    if !may_hold(&place.context, &context_of(state, entry.number)) {
+    if !may_come(state, entry, place) {
         return Some(Refusal::XDev);
     }
-    if clashes(state, place.dir, &place.context, place.stored.bytes()) {
+    if clashes(state, place.dir, &place.context, place.stored) {
         return Some(Refusal::NoKeyClash);
     }
     if is_full_elsewhere(state, entry.dir, place.dir) {
         return Some(Refusal::NoSpace);
     }
     None
+}
+
+// Whether the place's directory may hold the entry's node. It may where it holds it already: what a directory
+// with a policy holds has that policy, and one without may hold all.
+fn may_come(state: &MountState, entry: &Entry, place: &Place) -> bool
+    ensures { (m : PlainMount) (old : Name) → StandsFor state.now m → IsEntryOf m old entry.now
+        → place.now.context ≡ context_at m.nodes place.now.dir
+        → result ≡ plain.may_hold (context_at m.nodes place.now.dir) (context_at m.nodes entry.now.number) }
+{
+    if place.dir == entry.dir {
+        return true;
+    }
+    may_hold(&place.context, &context_of(state, entry.number))
 }
 
 // Whether a directory of the one context may hold a node of the other.
@@ -133,4 +155,12 @@ fn is_full_elsewhere(state: &MountState, from: u32, to: u32) -> bool
     ensures { (m : PlainMount) → StandsFor state.now m → result ≡ plain.is_full_elsewhere m from to }
 {
     to != from && has_most_entries(state, to)
+}
+
+// Whether the directory has as many entries as one may have.
+fn has_most_entries(state: &MountState, dir: u32) -> bool
+    ensures { (m : PlainMount) → StandsFor state.now m
+        → result ≡ nat_le MOST_CHILDREN (length (children m.nodes dir)) }
+{
+    state.disk.entry_count(dir) >= MOST_CHILDREN
 }

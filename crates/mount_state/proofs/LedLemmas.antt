@@ -1,9 +1,8 @@
 -- The stored entries of a directory lead where its plain ones do.
-use Rattle.std.proofs.Common.{◌≡◌, ℕ, ◌<◌, ◌≤◌, Bool, true, false, cond, ◌&&◌, List, [], ◌∷◌, length, Option, Some, None, option_map, is_some, bytes_eq, inl, inr, refl, sym, ap, ◌∙◌}
+use Rattle.std.proofs.Common.{◌≡◌, ℕ, Bool, true, false, cond, ◌&&◌, List, [], ◌∷◌, Option, Some, None, option_map, is_some, bytes_eq, inl, inr, refl, sym, ap, ◌∙◌}
 use Rattle.std.specs.Map.{lookup, lookup_entry}
-use Rattle.std.proofs.lemmas.Bool.{cases_Bool, cases_lt, true≢false, le-leb}
+use Rattle.std.proofs.lemmas.Bool.{cases_Bool, true≢false, le-leb}
 use Rattle.std.proofs.lemmas.Slice.Eq.{bytes_eq-Decides}
-use Rattle.name_crypt.specs.declared.limits.TheConstants.{LEAST_STORED_BYTES, MOST_NAME_BYTES}
 use Rattle.policy_ctx.specs.declared.policy.Context.{Context}
 use Rattle.number_map.specs.Numbered.{get}
 use Rattle.name_crypt.specs.Plain.{IsPlain, IsStored}
@@ -35,16 +34,6 @@ decided b x y to from = elim (cases_Bool (bytes_eq x y)) [
     | inr not_so ↦ not_so ∙ sym other
   ]
 ]
-
-at_least : (a b : ℕ) → (b < a → ⊥) → a ≤ b
-at_least a b never = elim (cases_lt b a) [ inl less ↦ absurd (never less) | inr most ↦ most ]
-
--- what a comparison with the text of a stored name tells
-pub text_tells : (text stored : List ℕ) (b : Bool) → (length stored < LEAST_STORED_BYTES → ⊥) → (MOST_NAME_BYTES < length stored → ⊥)
-    → (b ≡ true → text ≡ nokey_text_of stored) → (text ≡ nokey_text_of stored → b ≡ true) → b ≡ is_text_of text stored
-text_tells text stored b small large to from =
-    decided b text (nokey_text_of stored) to from
-    ∙ sym (λ i. (le-leb _ _ (at_least LEAST_STORED_BYTES (length stored) small) i && le-leb _ _ (at_least (length stored) MOST_NAME_BYTES large) i) && bytes_eq text (nokey_text_of stored))
 
 -- ---- entries
 

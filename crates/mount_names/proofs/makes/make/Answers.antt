@@ -1,4 +1,4 @@
-use Rattle.std.proofs.Common.{◌≡◌, ℕ, ◌+◌, true, List, Option, option_map, refl, sym, ap, subst, ◌∙◌}
+use Rattle.std.proofs.Common.{◌≡◌, ◌+◌, true, Option, option_map, refl, sym, ap, subst, ◌∙◌}
 use Rattle.policy_ctx.specs.declared.policy.Context.{Context}
 use Rattle.policy_ctx.specs.Context.{context_bytes}
 use Rattle.number_map.specs.Numbered.{insert}
@@ -6,6 +6,7 @@ use Rattle.disk_tree.specs.DiskTree.{Disk, entered}
 use Rattle.disk_tree.specs.declared.node.StoredNode.{StoredNode}
 use Rattle.mount_state.specs.Discipline.{Forgets}
 use Rattle.mount_state.specs.Safe.{IsSafe}
+use Rattle.mount_names.specs.Places.{Place}
 use Rattle.mount_names.proofs.DiskRules.{made_rule, made_safe}
 use Rattle.mount_names.proofs.MakeLemmas.{made_node, made_stands, made_given, well_after}
 use Rattle.mount_names.proofs.makes.make.Goals as goal
@@ -15,7 +16,7 @@ invariant_of-state c =
     let s = c.args.state.now in
     let node : StoredNode = record { context = c.stored_context.result; named = true; body = c.args.body } in
     let added : c.add_named.new.self ≡ entered (insert s.disk s.next_node node) c.args.place.now.dir c.args.place.now.stored s.next_node
-    = c.in-Ok.ensures.added ∙ ap (λ (b : List ℕ). entered (insert s.disk s.next_node node) c.args.place.now.dir b s.next_node) c.bytes-stored.ensures.value in
+    = c.in-Ok.ensures.added ∙ ap (λ (x : Place). entered (insert s.disk s.next_node node) x.dir x.stored s.next_node) c.place.view_is in
     record {
       forgets = subst (λ (x : Disk). Forgets x s.ring.claims s.inodes s.modes s.handles.live) (sym added)
           (made_rule s.disk s.next_node s.ring.claims s.inodes s.modes s.handles.live s.forgets s.safe
@@ -30,7 +31,7 @@ returns-in-Ok-clause-stands c = λ m path body st at short stored well.
     let s = c.args.state.now in
     let node : StoredNode = record { context = c.stored_context.result; named = true; body = c.args.body } in
     let added : c.add_named.new.self ≡ entered (insert s.disk s.next_node node) c.args.place.now.dir c.args.place.now.stored s.next_node
-    = c.in-Ok.ensures.added ∙ ap (λ (b : List ℕ). entered (insert s.disk s.next_node node) c.args.place.now.dir b s.next_node) c.bytes-stored.ensures.value in
+    = c.in-Ok.ensures.added ∙ ap (λ (x : Place). entered (insert s.disk s.next_node node) x.dir x.stored s.next_node) c.place.view_is in
     made_given c.args.state.now m st path c.args.place.now at c.args.nonce.now body short _
     (made_stands c.args.state.now m st path c.args.place.now at c.args.nonce.now body _ _ added refl refl refl refl refl refl
     (made_node c.args.state.now m st path c.args.place.now at c.args.nonce.now body c.args.body stored _ (λ i. record { context = (c.stored_context.ensures ∙ ap (λ (o : Option Context). option_map context_bytes o) c.context_of_new.ensures) i; named = true; body = c.args.body }))

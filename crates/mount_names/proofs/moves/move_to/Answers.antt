@@ -1,16 +1,22 @@
-use Rattle.std.proofs.Common.{refl, inl}
+use Rattle.std.proofs.Common.{◌≡◌, refl, inl, sym, subst}
+use Rattle.std.specs.Prelude.{IfSome}
+use Rattle.disk_tree.specs.DiskTree.{children, moved}
+use Rattle.disk_tree.specs.Entries.{number_under}
+use Rattle.mount_names.specs.Found.{IsEntryOn}
+use Rattle.mount_names.specs.Places.{Entry, Place}
 use Rattle.mount_names.proofs.MoveLemmas.{move_seen, moved_keeps, moved_is_safe, moved_stands}
 use Rattle.mount_names.proofs.moves.move_to.Goals as goal
 
 pub invariant_of-state : goal.invariant_of-state
 invariant_of-state c =
     let s = c.args.state.now in
-    let e = c.args.entry.now in
-    let p = c.args.place.now in
+    let e : Entry = record { dir = c.entry.inside.dir; stored = c.entry.inside.stored.now; number = c.entry.inside.number } in
+    let p : Place = record { dir = c.place.inside.dir; context = c.place.inside.context; stored = c.place.inside.stored.now } in
+    let there = subst (IsEntryOn s.disk) (sym c.entry.view_is) c.requires.there in
     record {
-      forgets = moved_keeps s e p c.move_entry.new.self c.bytes.result.now c.bytes-stored.result.now c.bytes.ensures.value c.bytes-stored.ensures.value c.requires.there
+      forgets = moved_keeps s e p c.move_entry.new.self e.stored p.stored refl refl there
           c.move_entry.result c.move_entry.ensures.moved c.move_entry.ensures.kept;
-      safe = moved_is_safe s e p c.move_entry.new.self c.bytes.result.now c.bytes-stored.result.now c.bytes.ensures.value c.bytes-stored.ensures.value c.requires.there
+      safe = moved_is_safe s e p c.move_entry.new.self e.stored p.stored refl refl there
           c.move_entry.result c.move_entry.ensures.moved c.move_entry.ensures.kept;
     }
 
@@ -19,5 +25,8 @@ returns-in-Ok-clause-stands c = λ m name new_name st of at well.
     let s = c.args.state.now in
     let e = c.args.entry.now in
     let p = c.args.place.now in
-    let is = move_seen s.disk c.move_entry.new.self e p c.bytes.result.now c.bytes-stored.result.now c.bytes.ensures.value c.bytes-stored.ensures.value c.requires.there c.in-Ok.ensures.moved in
+    let left = c.move_entry.new.self in
+    let from = subst (λ (x : Entry). IfSome (number_under x.stored (children s.disk x.dir)) (λ n. left ≡ moved s.disk x.dir x.stored c.place.inside.dir c.place.inside.stored.now n)) c.entry.view_is c.in-Ok.ensures.moved in
+    let there = subst (λ (y : Place). IfSome (number_under e.stored (children s.disk e.dir)) (λ n. left ≡ moved s.disk e.dir e.stored y.dir y.stored n)) c.place.view_is from in
+    let is = move_seen s.disk left e p e.stored p.stored refl refl c.requires.there there in
     inl (refl, moved_stands s m st e name of p new_name at _ (record { ring = refl; meta = refl; pins = refl; handles = refl; modes = refl }) refl is refl well)

@@ -7,7 +7,7 @@ pub returns-in-Ok-clause-stands : goal.returns-in-Ok-clause-stands
 returns-in-Ok-clause-stands g c = λ m name st fits of well.
     let e = c.args.entry.now in
     let path = c.args.new_path.now in
-    let at = c.in-Ok.ensures.placed m st fits in
+    let at = c.in-Ok.ensures.placed m name st fits of in
     moved_given m e name path c.in-Ok.place at c.move_to.result c.move_to.new.state
     (c.move_to.ensures.stands m name (last_part path) (c.in-Ok.ensures.stands m st) of at.named (moved_well m e name path c.in-Ok.place at well))
 
@@ -15,7 +15,7 @@ pub returns-in-Ok-clause-due : goal.returns-in-Ok-clause-due
 returns-in-Ok-clause-due g c = λ m name st fits of.
     let e = c.args.entry.now in
     let path = c.args.new_path.now in
-    let at = c.in-Ok.ensures.placed m st fits in
+    let at = c.in-Ok.ensures.placed m name st fits of in
     due_done (after_moving m e name path c.in-Ok.place at) (answer_to_move_from m path e.dir name e.number) c.move_to.result (moved_is m e name path c.in-Ok.place at)
 
 pub returns-in-Err-clause-stands : goal.returns-in-Err-clause-stands
@@ -23,11 +23,11 @@ returns-in-Err-clause-stands g c = λ m name st fits of well.
     let e = c.args.entry.now in
     let path = c.args.new_path.now in
     refused_so m (answer_to_move_from m path e.dir name e.number) c.in-Err.refusal
-    (target_refused m e name path c.in-Err.refusal (c.in-Err.ensures.refused m st fits)) c.target_at.new.state (c.in-Err.ensures.stands m st)
+    (target_refused m e name path c.in-Err.refusal (c.in-Err.ensures.refused m name st fits of)) c.target_at.new.state (c.in-Err.ensures.stands m st)
 
 pub returns-in-Err-clause-due : goal.returns-in-Err-clause-due
 returns-in-Err-clause-due g c = λ m name st fits of.
     let e = c.args.entry.now in
     let path = c.args.new_path.now in
     due_refused m (answer_to_move_from m path e.dir name e.number) c.in-Err.refusal
-    (target_refused m e name path c.in-Err.refusal (c.in-Err.ensures.refused m st fits))
+    (target_refused m e name path c.in-Err.refusal (c.in-Err.ensures.refused m name st fits of))

@@ -20,13 +20,13 @@ returns-then-is_some-clause-refused g c = λ m nonce body st is_dir named same.
     let keyed = keyed_here s.disk s.next_node m st.well st.tree c.args.dir is_dir context is holds in
     let names = dir_names s.disk s.next_node m st.well st.tree c.args.dir is_dir in
     let held = is_held s.disk s.next_node m st.well st.tree c.args.dir is_dir context is holds in
-    let form : c.in-Some-stored_as.stored ≡ stored_form m.raws c.args.dir context c.args.part.now
+    let form : c.in-Some-stored_as.stored.now ≡ stored_form m.raws c.args.dir context c.args.part.now
     = same_bytes _ _ (c.in-Some-stored_as.ensures.value m st names is keyed) in
     let key = c.in-Some-stored_as.ensures.ranged m st names is keyed in
     let found : c.find.result ≡ entry m.nodes c.args.dir c.args.part.now
     = c.find.ensures
-    ∙ ((λ i. lookup (bytes_eq (c.bytes.ensures.value i)) (entries_in (c.in-Some.ensures i)))
-    ∙ taken_is s.disk s.next_node m st.well st.tree c.args.dir is_dir context is holds c.args.part.now named c.names_come_back.ensures.distinct key c.in-Some-stored_as.stored form) in
+    ∙ ((λ i. lookup (bytes_eq c.in-Some-stored_as.stored.now) (entries_in (c.in-Some.ensures i)))
+    ∙ taken_is s.disk s.next_node m st.well st.tree c.args.dir is_dir context is holds c.args.part.now named c.names_come_back.ensures.distinct key c.in-Some-stored_as.stored.now form) in
     let told : c.is_some.result ≡ is_some (entry m.nodes c.args.dir c.args.part.now) = c.is_some.ensures ∙ ap is_some found in
     refused_taken m c.args.part.now nonce body c.args.dir held (sym told ∙ c.if-is_some.true)
 
@@ -39,13 +39,13 @@ returns-then-long-clause-refused g c = λ m nonce body st is_dir named same.
     let keyed = keyed_here s.disk s.next_node m st.well st.tree c.args.dir is_dir context is holds in
     let names = dir_names s.disk s.next_node m st.well st.tree c.args.dir is_dir in
     let held = is_held s.disk s.next_node m st.well st.tree c.args.dir is_dir context is holds in
-    let form : c.in-Some-stored_as.stored ≡ stored_form m.raws c.args.dir context c.args.part.now
+    let form : c.in-Some-stored_as.stored.now ≡ stored_form m.raws c.args.dir context c.args.part.now
     = same_bytes _ _ (c.in-Some-stored_as.ensures.value m st names is keyed) in
     let key = c.in-Some-stored_as.ensures.ranged m st names is keyed in
     let found : c.find.result ≡ entry m.nodes c.args.dir c.args.part.now
     = c.find.ensures
-    ∙ ((λ i. lookup (bytes_eq (c.bytes.ensures.value i)) (entries_in (c.in-Some.ensures i)))
-    ∙ taken_is s.disk s.next_node m st.well st.tree c.args.dir is_dir context is holds c.args.part.now named c.names_come_back.ensures.distinct key c.in-Some-stored_as.stored form) in
+    ∙ ((λ i. lookup (bytes_eq c.in-Some-stored_as.stored.now) (entries_in (c.in-Some.ensures i)))
+    ∙ taken_is s.disk s.next_node m st.well st.tree c.args.dir is_dir context is holds c.args.part.now named c.names_come_back.ensures.distinct key c.in-Some-stored_as.stored.now form) in
     let told : c.is_some.result ≡ is_some (entry m.nodes c.args.dir c.args.part.now) = c.is_some.ensures ∙ ap is_some found in
     let free : is_some (entry m.nodes c.args.dir c.args.part.now) ≡ false = sym told ∙ c.if-is_some.false in
     refused_long m c.args.part.now nonce body c.args.dir held free (same ∙ c.if-long.true)
@@ -59,19 +59,19 @@ returns-then-clashes-clause-refused g c = λ m nonce body st is_dir named same.
     let keyed = keyed_here s.disk s.next_node m st.well st.tree c.args.dir is_dir context is holds in
     let names = dir_names s.disk s.next_node m st.well st.tree c.args.dir is_dir in
     let held = is_held s.disk s.next_node m st.well st.tree c.args.dir is_dir context is holds in
-    let form : c.in-Some-stored_as.stored ≡ stored_form m.raws c.args.dir context c.args.part.now
+    let form : c.in-Some-stored_as.stored.now ≡ stored_form m.raws c.args.dir context c.args.part.now
     = same_bytes _ _ (c.in-Some-stored_as.ensures.value m st names is keyed) in
     let key = c.in-Some-stored_as.ensures.ranged m st names is keyed in
     let found : c.find.result ≡ entry m.nodes c.args.dir c.args.part.now
     = c.find.ensures
-    ∙ ((λ i. lookup (bytes_eq (c.bytes.ensures.value i)) (entries_in (c.in-Some.ensures i)))
-    ∙ taken_is s.disk s.next_node m st.well st.tree c.args.dir is_dir context is holds c.args.part.now named c.names_come_back.ensures.distinct key c.in-Some-stored_as.stored form) in
+    ∙ ((λ i. lookup (bytes_eq c.in-Some-stored_as.stored.now) (entries_in (c.in-Some.ensures i)))
+    ∙ taken_is s.disk s.next_node m st.well st.tree c.args.dir is_dir context is holds c.args.part.now named c.names_come_back.ensures.distinct key c.in-Some-stored_as.stored.now form) in
     let told : c.is_some.result ≡ is_some (entry m.nodes c.args.dir c.args.part.now) = c.is_some.ensures ∙ ap is_some found in
     let free : is_some (entry m.nodes c.args.dir c.args.part.now) ≡ false = sym told ∙ c.if-is_some.false in
-    let form_at : c.in-Some-stored_as.stored ≡ stored_form m.raws c.args.dir (context_at m.nodes c.args.dir) c.args.part.now
+    let form_at : c.in-Some-stored_as.stored.now ≡ stored_form m.raws c.args.dir (context_at m.nodes c.args.dir) c.args.part.now
     = form ∙ ap (λ (o : Option Context). stored_form m.raws c.args.dir o c.args.part.now) is in
     let clash_is : c.clashes.result ≡ clashes m c.args.dir c.args.part.now
-    = c.clashes.ensures m c.args.part.now st key is (name_plain c.args.part.now named) named.0.bytes (c.bytes-2.ensures.value ∙ form_at) free in
+    = c.clashes.ensures m c.args.part.now st key is (name_plain c.args.part.now named) named.0.bytes form_at free in
     refused_clash m c.args.part.now nonce body c.args.dir held free (same ∙ c.if-long.false) (sym clash_is ∙ c.if-clashes.true)
 
 pub returns-then-is_full-clause-refused : goal.returns-then-is_full-clause-refused
@@ -83,19 +83,19 @@ returns-then-is_full-clause-refused g c = λ m nonce body st is_dir named same.
     let keyed = keyed_here s.disk s.next_node m st.well st.tree c.args.dir is_dir context is holds in
     let names = dir_names s.disk s.next_node m st.well st.tree c.args.dir is_dir in
     let held = is_held s.disk s.next_node m st.well st.tree c.args.dir is_dir context is holds in
-    let form : c.in-Some-stored_as.stored ≡ stored_form m.raws c.args.dir context c.args.part.now
+    let form : c.in-Some-stored_as.stored.now ≡ stored_form m.raws c.args.dir context c.args.part.now
     = same_bytes _ _ (c.in-Some-stored_as.ensures.value m st names is keyed) in
     let key = c.in-Some-stored_as.ensures.ranged m st names is keyed in
     let found : c.find.result ≡ entry m.nodes c.args.dir c.args.part.now
     = c.find.ensures
-    ∙ ((λ i. lookup (bytes_eq (c.bytes.ensures.value i)) (entries_in (c.in-Some.ensures i)))
-    ∙ taken_is s.disk s.next_node m st.well st.tree c.args.dir is_dir context is holds c.args.part.now named c.names_come_back.ensures.distinct key c.in-Some-stored_as.stored form) in
+    ∙ ((λ i. lookup (bytes_eq c.in-Some-stored_as.stored.now) (entries_in (c.in-Some.ensures i)))
+    ∙ taken_is s.disk s.next_node m st.well st.tree c.args.dir is_dir context is holds c.args.part.now named c.names_come_back.ensures.distinct key c.in-Some-stored_as.stored.now form) in
     let told : c.is_some.result ≡ is_some (entry m.nodes c.args.dir c.args.part.now) = c.is_some.ensures ∙ ap is_some found in
     let free : is_some (entry m.nodes c.args.dir c.args.part.now) ≡ false = sym told ∙ c.if-is_some.false in
-    let form_at : c.in-Some-stored_as.stored ≡ stored_form m.raws c.args.dir (context_at m.nodes c.args.dir) c.args.part.now
+    let form_at : c.in-Some-stored_as.stored.now ≡ stored_form m.raws c.args.dir (context_at m.nodes c.args.dir) c.args.part.now
     = form ∙ ap (λ (o : Option Context). stored_form m.raws c.args.dir o c.args.part.now) is in
     let clash_is : c.clashes.result ≡ clashes m c.args.dir c.args.part.now
-    = c.clashes.ensures m c.args.part.now st key is (name_plain c.args.part.now named) named.0.bytes (c.bytes-2.ensures.value ∙ form_at) free in
+    = c.clashes.ensures m c.args.part.now st key is (name_plain c.args.part.now named) named.0.bytes form_at free in
     refused_full m c.args.part.now nonce body c.args.dir held free (same ∙ c.if-long.false) (sym clash_is ∙ c.if-clashes.false) (sym (c.is_full.ensures.value m st) ∙ c.if-is_full.true)
 
 pub returns-clause-placed : goal.returns-clause-placed
@@ -107,19 +107,19 @@ returns-clause-placed g c = λ m st is_dir named.
     let keyed = keyed_here s.disk s.next_node m st.well st.tree c.args.dir is_dir context is holds in
     let names = dir_names s.disk s.next_node m st.well st.tree c.args.dir is_dir in
     let held = is_held s.disk s.next_node m st.well st.tree c.args.dir is_dir context is holds in
-    let form : c.in-Some-stored_as.stored ≡ stored_form m.raws c.args.dir context c.args.part.now
+    let form : c.in-Some-stored_as.stored.now ≡ stored_form m.raws c.args.dir context c.args.part.now
     = same_bytes _ _ (c.in-Some-stored_as.ensures.value m st names is keyed) in
     let key = c.in-Some-stored_as.ensures.ranged m st names is keyed in
     let found : c.find.result ≡ entry m.nodes c.args.dir c.args.part.now
     = c.find.ensures
-    ∙ ((λ i. lookup (bytes_eq (c.bytes.ensures.value i)) (entries_in (c.in-Some.ensures i)))
-    ∙ taken_is s.disk s.next_node m st.well st.tree c.args.dir is_dir context is holds c.args.part.now named c.names_come_back.ensures.distinct key c.in-Some-stored_as.stored form) in
+    ∙ ((λ i. lookup (bytes_eq c.in-Some-stored_as.stored.now) (entries_in (c.in-Some.ensures i)))
+    ∙ taken_is s.disk s.next_node m st.well st.tree c.args.dir is_dir context is holds c.args.part.now named c.names_come_back.ensures.distinct key c.in-Some-stored_as.stored.now form) in
     let told : c.is_some.result ≡ is_some (entry m.nodes c.args.dir c.args.part.now) = c.is_some.ensures ∙ ap is_some found in
     let free : is_some (entry m.nodes c.args.dir c.args.part.now) ≡ false = sym told ∙ c.if-is_some.false in
-    let form_at : c.in-Some-stored_as.stored ≡ stored_form m.raws c.args.dir (context_at m.nodes c.args.dir) c.args.part.now
+    let form_at : c.in-Some-stored_as.stored.now ≡ stored_form m.raws c.args.dir (context_at m.nodes c.args.dir) c.args.part.now
     = form ∙ ap (λ (o : Option Context). stored_form m.raws c.args.dir o c.args.part.now) is in
     let clash_is : c.clashes.result ≡ clashes m c.args.dir c.args.part.now
-    = c.clashes.ensures m c.args.part.now st key is (name_plain c.args.part.now named) named.0.bytes (c.bytes-2.ensures.value ∙ form_at) free in
+    = c.clashes.ensures m c.args.part.now st key is (name_plain c.args.part.now named) named.0.bytes form_at free in
     record {
       context = is;
       stored = form_at;

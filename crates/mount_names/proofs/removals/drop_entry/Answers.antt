@@ -1,6 +1,11 @@
-use Rattle.std.proofs.Common.{refl, ap}
+use Rattle.std.proofs.Common.{◌≡◌, refl, ap, subst, ◌∙◌}
+use Rattle.std.specs.Prelude.{IfSome}
+use Rattle.number_map.specs.Numbered.{remove}
 use Rattle.inode_refs.specs.Cached.{Cache}
-use Rattle.disk_tree.specs.DiskTree.{dropped}
+use Rattle.inode_refs.specs.Cached.{pins_of}
+use Rattle.disk_tree.specs.DiskTree.{children, dropped}
+use Rattle.disk_tree.specs.Entries.{number_under}
+use Rattle.mount_names.specs.Places.{Entry}
 use Rattle.mount_names.proofs.RemovalLemmas.{held_told, free_told, drop_is, gone_is, kept_stands, gone_stands, dropped_keeps, dropped_is_safe, gone_keeps, gone_is_safe}
 use Rattle.mount_names.proofs.removals.drop_entry.Goals as goal
 
@@ -8,7 +13,7 @@ pub invariant_of-state : goal.invariant_of-state
 invariant_of-state c =
     let s = c.args.state.now in
     let e = c.args.entry.now in
-    let left = drop_is s.disk c.drop_entry.new.self e c.bytes-stored.result.now c.bytes-stored.ensures.value c.requires c.drop_entry.ensures.gone in
+    let left = drop_is s.disk c.drop_entry.new.self e e.stored refl c.requires (subst (λ (x : Entry). IfSome (number_under x.stored (children s.disk x.dir)) (λ n. c.drop_entry.new.self ≡ dropped s.disk x.dir x.stored n)) c.entry.view_is c.drop_entry.ensures.gone) in
     record {
       forgets = dropped_keeps s e c.drop_entry.new.self left;
       safe = dropped_is_safe s e c.drop_entry.new.self left;
@@ -18,19 +23,19 @@ pub returns-then-pins-gt0-clause-stands : goal.returns-then-pins-gt0-clause-stan
 returns-then-pins-gt0-clause-stands c = λ m name st of well.
     let s = c.args.state.now in
     let e = c.args.entry.now in
-    let left = drop_is s.disk c.drop_entry.new.self e c.bytes-stored.result.now c.bytes-stored.ensures.value c.requires c.drop_entry.ensures.gone in
-    let held = held_told s e.number c.pins.result c.pins.ensures c.if-pins-gt0.true in
+    let left = drop_is s.disk c.drop_entry.new.self e e.stored refl c.requires (subst (λ (x : Entry). IfSome (number_under x.stored (children s.disk x.dir)) (λ n. c.drop_entry.new.self ≡ dropped s.disk x.dir x.stored n)) c.entry.view_is c.drop_entry.ensures.gone) in
+    let held = held_told s e.number c.pins.result (c.pins.ensures ∙ ap (λ (x : Entry). pins_of s.inodes x.number) c.entry.view_is) c.if-pins-gt0.true in
     kept_stands s m st e name of _ (record { ring = refl; meta = refl; pins = refl; handles = refl; modes = refl }) refl well held left refl
 
 pub invariant_of-state-2 : goal.invariant_of-state-2
 invariant_of-state-2 c =
     let s = c.args.state.now in
     let e = c.args.entry.now in
-    let gone = gone_is s.disk c.drop_named.new.self e c.bytes-stored.result.now c.bytes-stored.ensures.value c.requires c.drop_named.ensures.gone in
-    let free = free_told s e.number c.pins.result c.pins.ensures c.if-pins-gt0.false in
+    let gone = gone_is s.disk c.drop_named.new.self e e.stored refl c.requires (subst (λ (x : Entry). IfSome (number_under x.stored (children s.disk x.dir)) (λ n. c.drop_named.new.self ≡ remove (dropped s.disk x.dir x.stored n) n)) c.entry.view_is c.drop_named.ensures.gone) in
+    let free = free_told s e.number c.pins.result (c.pins.ensures ∙ ap (λ (x : Entry). pins_of s.inodes x.number) c.entry.view_is) c.if-pins-gt0.false in
     let left = dropped s.disk e.dir e.stored e.number in
     record {
-      forgets = gone_keeps s e left refl free c.drop_named.new.self c.drop_key.new.self gone c.drop_key.ensures;
+      forgets = gone_keeps s e left refl free c.drop_named.new.self c.drop_key.new.self gone (c.drop_key.ensures ∙ ap (λ (x : Entry). let fewer : Cache = record s.inodes { keys = remove s.inodes.keys x.number } in fewer) c.entry.view_is);
       safe = gone_is_safe s e left refl free c.drop_named.new.self gone;
     }
 
@@ -38,7 +43,7 @@ pub returns-clause-stands : goal.returns-clause-stands
 returns-clause-stands c = λ m name st of well.
     let s = c.args.state.now in
     let e = c.args.entry.now in
-    let gone = gone_is s.disk c.drop_named.new.self e c.bytes-stored.result.now c.bytes-stored.ensures.value c.requires c.drop_named.ensures.gone in
-    let free = free_told s e.number c.pins.result c.pins.ensures c.if-pins-gt0.false in
+    let gone = gone_is s.disk c.drop_named.new.self e e.stored refl c.requires (subst (λ (x : Entry). IfSome (number_under x.stored (children s.disk x.dir)) (λ n. c.drop_named.new.self ≡ remove (dropped s.disk x.dir x.stored n) n)) c.entry.view_is c.drop_named.ensures.gone) in
+    let free = free_told s e.number c.pins.result (c.pins.ensures ∙ ap (λ (x : Entry). pins_of s.inodes x.number) c.entry.view_is) c.if-pins-gt0.false in
     gone_stands s m st e name of _ (record { ring = refl; meta = refl; pins = ap (λ (k : Cache). k.pins) c.drop_key.ensures; handles = refl; modes = refl }) refl well free
-    gone c.drop_key.ensures
+    gone (c.drop_key.ensures ∙ ap (λ (x : Entry). let fewer : Cache = record s.inodes { keys = remove s.inodes.keys x.number } in fewer) c.entry.view_is)

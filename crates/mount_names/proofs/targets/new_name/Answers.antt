@@ -17,11 +17,11 @@ returns-then-is_some-clause-refused g c = λ m st is_dir named.
     let keyed : is_keyed m d ≡ true = sym (c.keyed_as.ensures.stands m st) ∙ c.if-not-keyed_as.false in
     let is = c.context_told-context.ensures m st in
     let names = dir_names s.disk s.next_node m st.well st.tree d is_dir in
-    let form : c.in-Some-stored_as.stored ≡ form_in m d c.args.part.now
+    let form : c.in-Some-stored_as.stored.now ≡ form_in m d c.args.part.now
     = same_bytes _ _ (c.in-Some-stored_as.ensures.value m st names is keyed) ∙ (λ i. stored_form m.raws d (is i) c.args.part.now) in
     let found : c.find.result ≡ entry m.nodes d c.args.part.now
     = c.find.ensures
-    ∙ ((λ i. number_under ((c.bytes.ensures.value ∙ form) i) (entries_in (c.in-Some.ensures i)))
+    ∙ ((λ i. number_under (form i) (entries_in (c.in-Some.ensures i)))
     ∙ keyed_entry s.disk s.next_node m st.well st.tree d c.args.part.now keyed is_dir c.names_come_back.ensures.distinct (c.in-Some-stored_as.ensures.ranged m st names is keyed) (name_plain c.args.part.now named) named.0.bytes) in
     taken_there m d c.args.part.now keyed (sym (c.is_some.ensures ∙ ap is_some found) ∙ c.if-is_some.true)
 
@@ -32,11 +32,11 @@ returns-clause-placed g c = λ m st is_dir named.
     let keyed : is_keyed m d ≡ true = sym (c.keyed_as.ensures.stands m st) ∙ c.if-not-keyed_as.false in
     let is = c.context_told-context.ensures m st in
     let names = dir_names s.disk s.next_node m st.well st.tree d is_dir in
-    let form : c.in-Some-stored_as.stored ≡ form_in m d c.args.part.now
+    let form : c.in-Some-stored_as.stored.now ≡ form_in m d c.args.part.now
     = same_bytes _ _ (c.in-Some-stored_as.ensures.value m st names is keyed) ∙ (λ i. stored_form m.raws d (is i) c.args.part.now) in
     let found : c.find.result ≡ entry m.nodes d c.args.part.now
     = c.find.ensures
-    ∙ ((λ i. number_under ((c.bytes.ensures.value ∙ form) i) (entries_in (c.in-Some.ensures i)))
+    ∙ ((λ i. number_under (form i) (entries_in (c.in-Some.ensures i)))
     ∙ keyed_entry s.disk s.next_node m st.well st.tree d c.args.part.now keyed is_dir c.names_come_back.ensures.distinct (c.in-Some-stored_as.ensures.ranged m st names is keyed) (name_plain c.args.part.now named) named.0.bytes) in
     record {
       dir = refl;

@@ -1,51 +1,58 @@
-use Rattle.std.proofs.Common.{◌≡◌, sym, ◌∙◌}
-use Rattle.plain_tree.specs.Nodes.{context_at}
+use Rattle.std.proofs.Common.{◌≡◌, sym, ap, subst, ◌∙◌}
 use Rattle.mount_model.specs.NameAnswers.{clashes}
-use Rattle.mount_model.specs.RenameAnswer.{may_hold}
+use Rattle.mount_model.specs.RenameAnswer.{is_full_elsewhere}
+use Rattle.mount_names.specs.Moved.{IsNewName}
+use Rattle.mount_names.specs.Places.{Place}
 use Rattle.mount_names.proofs.MoveLemmas.{below_itself, other_policy, clash_there, full_there, nothing_against}
 use Rattle.mount_names.proofs.PlaceLemmas.{name_plain}
 use Rattle.mount_names.proofs.targets.why_not.Goals as goal
 
 pub returns-then-past : goal.returns-then-past
-returns-then-past c = λ m name st named at.
+returns-then-past c = λ m old name st named of at.
     sym (below_itself m c.args.entry.now c.args.place.now.dir c.args.past name c.if-past.true)
 
-pub returns-then-not-may_hold : goal.returns-then-not-may_hold
-returns-then-not-may_hold c = λ m name st named at.
+pub returns-then-not-may_come : goal.returns-then-not-may_come
+returns-then-not-may_come c = λ m old name st named of at.
     let e = c.args.entry.now in
     let p = c.args.place.now in
-    let holds : c.may_hold.result ≡ may_hold (context_at m.nodes p.dir) (context_at m.nodes e.number)
-    = c.may_hold.ensures ∙ (λ i. may_hold (at.context i) (c.context_of.ensures m st i)) in
-    sym (other_policy m e p.dir c.args.past name c.if-past.false (sym holds ∙ c.if-not-may_hold.true))
+    let holds = c.may_come.ensures m old st of at.context in
+    sym (other_policy m e p.dir c.args.past name c.if-past.false (sym holds ∙ c.if-not-may_come.true))
 
 pub returns-then-clashes : goal.returns-then-clashes
-returns-then-clashes c = λ m name st named at.
+returns-then-clashes c = λ m old name st named of at.
     let e = c.args.entry.now in
     let p = c.args.place.now in
-    let holds : c.may_hold.result ≡ may_hold (context_at m.nodes p.dir) (context_at m.nodes e.number)
-    = c.may_hold.ensures ∙ (λ i. may_hold (at.context i) (c.context_of.ensures m st i)) in
+    let holds = c.may_come.ensures m old st of at.context in
+    let here = subst (λ (y : Place). IsNewName m y.dir name y) (sym c.place.view_is) at in
     let clash : c.clashes.result ≡ clashes m p.dir name
-    = c.clashes.ensures m name st at.key at.context (name_plain name named) named.0.bytes (c.bytes.ensures.value ∙ at.stored) at.free in
-    sym (clash_there m e p.dir c.args.past name c.if-past.false (sym holds ∙ c.if-not-may_hold.false) (sym clash ∙ c.if-clashes.true))
+    = c.clashes.ensures m name st here.key here.context (name_plain name named) named.0.bytes here.stored here.free
+    ∙ ap (λ (y : Place). clashes m y.dir name) c.place.view_is in
+    sym (clash_there m e p.dir c.args.past name c.if-past.false (sym holds ∙ c.if-not-may_come.false) (sym clash ∙ c.if-clashes.true))
 
 pub returns-then-is_full_elsewhere : goal.returns-then-is_full_elsewhere
-returns-then-is_full_elsewhere c = λ m name st named at.
+returns-then-is_full_elsewhere c = λ m old name st named of at.
     let e = c.args.entry.now in
     let p = c.args.place.now in
-    let holds : c.may_hold.result ≡ may_hold (context_at m.nodes p.dir) (context_at m.nodes e.number)
-    = c.may_hold.ensures ∙ (λ i. may_hold (at.context i) (c.context_of.ensures m st i)) in
+    let holds = c.may_come.ensures m old st of at.context in
+    let here = subst (λ (y : Place). IsNewName m y.dir name y) (sym c.place.view_is) at in
     let clash : c.clashes.result ≡ clashes m p.dir name
-    = c.clashes.ensures m name st at.key at.context (name_plain name named) named.0.bytes (c.bytes.ensures.value ∙ at.stored) at.free in
-    sym (full_there m e p.dir c.args.past name c.if-past.false (sym holds ∙ c.if-not-may_hold.false) (sym clash ∙ c.if-clashes.false)
-    (sym (c.is_full_elsewhere.ensures m st) ∙ c.if-is_full_elsewhere.true))
+    = c.clashes.ensures m name st here.key here.context (name_plain name named) named.0.bytes here.stored here.free
+    ∙ ap (λ (y : Place). clashes m y.dir name) c.place.view_is in
+    let full : c.is_full_elsewhere.result ≡ is_full_elsewhere m e.dir p.dir
+    = c.is_full_elsewhere.ensures m st ∙ (λ i. is_full_elsewhere m (c.entry.view_is i).dir (c.place.view_is i).dir) in
+    sym (full_there m e p.dir c.args.past name c.if-past.false (sym holds ∙ c.if-not-may_come.false) (sym clash ∙ c.if-clashes.false)
+    (sym full ∙ c.if-is_full_elsewhere.true))
 
 pub returns : goal.returns
-returns c = λ m name st named at.
+returns c = λ m old name st named of at.
     let e = c.args.entry.now in
     let p = c.args.place.now in
-    let holds : c.may_hold.result ≡ may_hold (context_at m.nodes p.dir) (context_at m.nodes e.number)
-    = c.may_hold.ensures ∙ (λ i. may_hold (at.context i) (c.context_of.ensures m st i)) in
+    let holds = c.may_come.ensures m old st of at.context in
+    let here = subst (λ (y : Place). IsNewName m y.dir name y) (sym c.place.view_is) at in
     let clash : c.clashes.result ≡ clashes m p.dir name
-    = c.clashes.ensures m name st at.key at.context (name_plain name named) named.0.bytes (c.bytes.ensures.value ∙ at.stored) at.free in
-    sym (nothing_against m e p.dir c.args.past name c.if-past.false (sym holds ∙ c.if-not-may_hold.false) (sym clash ∙ c.if-clashes.false)
-    (sym (c.is_full_elsewhere.ensures m st) ∙ c.if-is_full_elsewhere.false))
+    = c.clashes.ensures m name st here.key here.context (name_plain name named) named.0.bytes here.stored here.free
+    ∙ ap (λ (y : Place). clashes m y.dir name) c.place.view_is in
+    let full : c.is_full_elsewhere.result ≡ is_full_elsewhere m e.dir p.dir
+    = c.is_full_elsewhere.ensures m st ∙ (λ i. is_full_elsewhere m (c.entry.view_is i).dir (c.place.view_is i).dir) in
+    sym (nothing_against m e p.dir c.args.past name c.if-past.false (sym holds ∙ c.if-not-may_come.false) (sym clash ∙ c.if-clashes.false)
+    (sym full ∙ c.if-is_full_elsewhere.false))

@@ -1,7 +1,7 @@
 use Rattle.std.proofs.Common.{◌≡◌, length, ◌∙◌}
 use Rattle.plain_tree.specs.Nodes.{children}
 use Rattle.mount_names.proofs.LenLemmas.{entries_len}
-use Rattle.mount_names.proofs.places.has_most_entries.Goals as goal
+use Rattle.mount_names.proofs.targets.has_most_entries.Goals as goal
 
 pub returns : goal.returns
 returns c = λ m st.
