@@ -1,0 +1,214 @@
+"""Wrong edits of the code: how they are read and applied, the functions that they lie in, and what a check tells of each.
+
+Nothing here runs a prover. `tools/edits` tries the edits, `tools/test_edits` tries this.
+"""
+import re
+from dataclasses import dataclass
+
+PARTS = ("src", "specs", "proofs")
+FUNCTION = re.compile(r"( *)(?:pub(?:\([a-z]+\))? )?(?:const |unsafe )*fn (\w+)")
+BLOCK = re.compile(r"(?:pub(?:\([a-z]+\))? )?(?:unsafe )?(impl|trait|macro_rules|mod)\b(.*)")
+
+# What a check says of a goal of the code, and of a file of a proof.
+GOAL = re.compile(r"note: (src/\S+?):(\d+):\d+: .*\bnot proved\b")
+PROOF = re.compile(r"(?:\./)?proofs/(\S+?):\d+:\d+: error\b(.*)")
+# A text that could not be read: no contract was tried.
+UNREAD = re.compile(r"error\[[\w-]+\]|(?:\./)?(?:src|specs)/\S+?:\d+:\d+: error\b")
+# A proof that only cites what the edit took away says little of the contract.
+BY_A_NAME = re.compile(r"has no field|is not in scope|has no `|was not admitted")
+
+
+class BadEdit(Exception):
+    """An edit that can't be applied."""
+
+
+@dataclass(frozen=True)
+class Function:
+    """A function of a file: the type whose method it is, if any, and its lines, the first of the body among them, from 0."""
+    file: str
+    of_type: str
+    name: str
+    first: int
+    body: int
+    last: int
+
+    def has_line(self, file, number):
+        return file == self.file and self.first <= number <= self.last
+
+    def has_proof(self, path):
+        """Whether this file, below proofs/, is of its proof: its module's folder, its type's, and its own name, or that of a ring of functions."""
+        module = [] if self.file in ("src/lib.rt", "src/main.rt") else self.file[4:-3].split("/")
+        folders = path.split("/")[:-1]
+        below = folders[len(module):]
+        names = [word for it in below for word in re.split(r"[+-]", it)]
+        of_type = not self.of_type or any(it.startswith(self.of_type) for it in below)
+        return folders[:len(module)] == module and self.name in names and of_type
+
+
+@dataclass(frozen=True)
+class Edit:
+    """A wrong edit: its name, its replacements (file, old text, new text), and the one function whose body it changes, if that is all."""
+    name: str
+    pairs: tuple
+    function: Function = None
+
+
+def type_of(header):
+    """The type that an impl's header is for."""
+    bare, before = header, None
+    while bare != before:
+        before, bare = bare, re.sub(r"<[^<>]*>", "", bare)
+    words = re.findall(r"\w+", bare.split(" for ")[-1])
+    return next((it for it in words if it not in ("mut", "dyn")), "")
+
+
+def extent(lines, first, indent):
+    """The first line of a function's body, and its last line, or None where it has no body."""
+    for at in range(first, len(lines)):
+        line = lines[at].rstrip()
+        if at == first and line.endswith("}"):
+            return first, first
+        if not line.startswith(indent) or line[len(indent):len(indent) + 1] == " ":
+            continue
+        if line.endswith(";"):
+            return None
+        if line.endswith("{"):
+            last = next((it for it in range(at, len(lines)) if lines[it].rstrip() == indent + "}"), None)
+            return last and (at + 1, last)
+    return None
+
+
+def functions(file, text):
+    """The functions of a file as `rt fmt` lays it out, those of traits and macros aside, which reach further than their own proof."""
+    lines, found, kind, of_type, behind = text.split("\n"), [], "", "", -1
+    for at, line in enumerate(lines):
+        block = BLOCK.match(line)
+        if block:
+            kind, of_type = block[1], type_of(block[2]) if block[1] == "impl" else ""
+        head = FUNCTION.match(line)
+        if not head or at <= behind or kind in ("trait", "macro_rules") and head[1]:
+            continue
+        lies = extent(lines, at, head[1])
+        if lies:
+            found.append(Function(file, of_type if head[1] else "", head[2], at, *lies))
+            behind = lies[1]
+    return found
+
+
+def pairs_of(text):
+    """The replacements that an edit's text tells."""
+    found, file, old = [], "", None
+    for line in text.split("\n"):
+        if line.startswith("file: "):
+            file = line[6:].strip()
+            if not re.match(r"(src|specs|proofs)/(?!.*\.\.)", file):
+                raise BadEdit(f"{file} is no file of src/, specs/ or proofs/")
+        elif line.startswith("old: "):
+            old = line[5:]
+        elif line.startswith("new:"):
+            if not file or not old:
+                raise BadEdit("a line 'new:' stands before its 'file:' or 'old:'")
+            found.append((file, old, line[4:].removeprefix(" ")))
+            old = None
+    if not found:
+        raise BadEdit("it has no pair of lines 'old:' and 'new:'")
+    return tuple(found)
+
+
+def once(text, old, new):
+    """The text with the new part in place of the old one, which stands in it once."""
+    if text.count(old) != 1:
+        raise BadEdit(f"its text stands {text.count(old)} times, and not once: {old}")
+    return text.replace(old, new)
+
+
+def whole(edit, texts):
+    """The texts of the files that the edit changes."""
+    made = {}
+    for file, old, new in edit.pairs:
+        if file not in texts:
+            raise BadEdit(f"there is no file {file}")
+        made[file] = once(made.get(file, texts[file]), old, new)
+    return made
+
+
+def read_edit(name, text, texts):
+    """The edit of this text over the files of its crate."""
+    pairs, homes, now = pairs_of(text), set(), dict(texts)
+    for file, old, new in pairs:
+        now.update(whole(Edit(name, ((file, old, new),)), now))
+        number = texts[file].count("\n", 0, max(texts[file].find(old), 0))
+        inside = [it for it in functions(file, texts[file]) if it.body <= number <= it.last]
+        homes.add(inside[0] if inside and old in texts[file] else None)
+    if now == texts:
+        raise BadEdit("it changes nothing")
+    return Edit(name, pairs, homes.pop() if len(homes) == 1 else None)
+
+
+def applied(edits, texts):
+    """The texts of the files that these edits change, each of them alone in its function, or one edit alone."""
+    if len(edits) == 1 and not edits[0].function:
+        return whole(edits[0], texts)
+    made = {}
+    for edit in edits:
+        home = edit.function
+        lines = made.get(home.file, texts[home.file]).split("\n")
+        part = "\n".join(lines[home.first:home.last + 1])
+        for _, old, new in edit.pairs:
+            part = once(part, old, new)
+        lines[home.first:home.last + 1] = part.split("\n")
+        made[home.file] = "\n".join(lines)
+    return made
+
+
+def in_rounds(edits):
+    """The edits in rounds, the k-th of each function in round k, and those that go alone."""
+    rounds, numbers, alone = [], {}, []
+    for edit in edits:
+        if not edit.function:
+            alone.append(edit)
+            continue
+        number = numbers[edit.function] = numbers.get(edit.function, -1) + 1
+        rounds += [[]] if number == len(rounds) else []
+        rounds[number].append(edit)
+    return rounds, alone
+
+
+def changes_nothing(texts, taken):
+    """An edit that adds a comment to a function of the crate, one that isn't taken where there is one."""
+    every = [it for file in sorted(texts) if file.startswith("src/") and "test" not in file for it in functions(file, texts[file])]
+    home = next((it for it in every if it not in taken), every[0])
+    line = texts[home.file].split("\n")[home.last]
+    if home.first == home.last:
+        return Edit("(a comment)", ((home.file, line, f"{line} // as it was"),), home)
+    head = texts[home.file].split("\n")[home.first]
+    return Edit("(a comment)", ((home.file, head, f"{head} // as it was"),), home)
+
+
+def is_unread(said):
+    """The line that says that a text of the code or of the definitions could not be read, if there is one."""
+    return next((it for it in said if UNREAD.match(it) or " error[" in it), None)
+
+
+def told_inside(said, homes):
+    """For each of these functions, the lines that refuse it: at a goal, or in a file of its proof."""
+    found = {it: [] for it in homes}
+    for line in said:
+        goal, proof = GOAL.match(line), PROOF.match(line)
+        if goal:
+            of = [it for it in homes if it.has_line(goal[1], int(goal[2]) - 1)]
+        else:
+            of = [it for it in homes if proof and it.has_proof(proof[1])]
+        if len(of) == 1:
+            found[of[0]].append(line)
+    return found
+
+
+def told(said):
+    """Each line that refuses something."""
+    return [it for it in said if GOAL.match(it) or PROOF.match(it)]
+
+
+def is_strong(line):
+    """Whether a line that refuses says more than that a proof cites a name that is gone."""
+    return bool(GOAL.match(line)) or not BY_A_NAME.search(line)
