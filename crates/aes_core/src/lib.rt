@@ -10,8 +10,6 @@ mod plane_rounds;
 mod rounds;
 mod shuffles;
 mod substitution_circuit;
-#[cfg(test)]
-mod tests;
 mod transposition;
 mod vectors;
 

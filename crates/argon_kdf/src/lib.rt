@@ -35,8 +35,6 @@ mod reference;
 mod segment;
 mod slices;
 mod stretch;
-#[cfg(test)]
-mod tests;
 
 // Memory full of zeros.
 fn zero_blocks(alloc: Global, count: usize) -> Result<Vec<Block>, AllocError>

@@ -37,5 +37,3 @@ pub fn written_bytes_are_read()
     ensures grow { ContentsGrow }
 {}
 
-#[cfg(test)]
-mod tests;

@@ -7,8 +7,6 @@ ghost use Rattle.cts_mode.specs.Cts.{cts_encrypted, cts_decrypted};
 
 mod blocks;
 mod chain;
-#[cfg(test)]
-mod tests;
 
 use aes_core::Aes256;
 use blocks::{block_from, filled, whole, xor};

@@ -2,10 +2,6 @@
 #![tactic(auto)]
 
 mod laws;
-#[cfg(test)]
-mod tests;
-#[cfg(test)]
-mod vectors;
 
 ghost use Rattle.std.specs.Prelude.{◌≡◌, ◌+◌, ◌-◌, ◌≤◌, ◌^◌, length};
 ghost use Rattle.byte_words.specs.Contents.{spliced};

@@ -12,8 +12,6 @@ mod laws;
 mod name_index;
 mod named;
 mod node;
-#[cfg(test)]
-mod tests;
 mod tree;
 
 pub use blocks::{Block, BlockList};

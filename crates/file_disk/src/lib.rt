@@ -7,8 +7,6 @@ mod key;
 mod laws;
 mod lent;
 mod read;
-#[cfg(test)]
-mod tests;
 mod write;
 
 pub use disk_tree::{DiskFault, DiskTree};

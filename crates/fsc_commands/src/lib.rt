@@ -20,16 +20,10 @@ mod policy_add;
 mod policy_changes;
 mod policy_new;
 mod protectors;
-#[cfg(test)]
-mod scripted;
-#[cfg(test)]
-mod scripted_tests;
 mod session;
 mod stars;
 mod stores;
 mod stretches;
-#[cfg(test)]
-mod tests;
 mod told;
 mod turn;
 mod unlocking;

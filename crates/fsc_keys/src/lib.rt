@@ -7,8 +7,6 @@ mod draws;
 mod file_keys;
 mod prepared_key;
 mod raw_key;
-#[cfg(test)]
-mod tests;
 
 pub use descriptors::descriptor;
 pub use file_keys::{FileKey, KeyKind, file_key, key_id, mode_key};

@@ -14,8 +14,6 @@ mod derivation;
 mod hash;
 mod keyed;
 mod prepared;
-#[cfg(test)]
-mod tests;
 
 /// HMAC-SHA-256 of the message `first ++ second` (RFC 2104). The key may have any length.
 pub fn hmac256(key: &[u8], first: &[u8], second: &[u8]) -> [u8; 32]

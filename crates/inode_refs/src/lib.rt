@@ -5,8 +5,6 @@ mod cache;
 mod cached_key;
 mod kept;
 mod node_key;
-#[cfg(test)]
-mod tests;
 mod user_ids;
 mod users;
 

@@ -114,5 +114,3 @@ impl Items<u8> {
     }
 }
 
-#[cfg(test)]
-mod tests;

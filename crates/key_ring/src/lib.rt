@@ -6,8 +6,6 @@ mod mode_key;
 mod mode_keys;
 mod ring;
 mod secrets;
-#[cfg(test)]
-mod tests;
 
 pub use fsc_keys::{FileKey, KeyId, KeyKind, PreparedKey, RawKey};
 pub use mode_key::ModeKey;

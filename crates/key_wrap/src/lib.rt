@@ -5,8 +5,6 @@
 mod counter;
 mod stretched;
 mod tags;
-#[cfg(test)]
-mod tests;
 
 ghost use Rattle.std.specs.Prelude.{◌≡◌, ◌≤◌, IfErr, IfOk, None, Some, length};
 ghost use Rattle.key_wrap.specs.Laws.{LengthStays, OpensAgain};

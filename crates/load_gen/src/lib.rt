@@ -6,8 +6,6 @@ mod laws;
 mod numbers;
 mod operations;
 mod script;
-#[cfg(test)]
-mod tests;
 mod words;
 
 pub use laws::generated_scripts_are_spelled;

@@ -5,8 +5,6 @@ mod fault;
 mod files;
 mod laws;
 mod name_index;
-#[cfg(test)]
-mod tests;
 
 pub use fault::StoreFault;
 pub use files::{LAST_VERSION, MOST_RECORD_BYTES, MOST_RECORDS, MetaFiles};

@@ -12,8 +12,6 @@ mod need;
 mod needs;
 mod opens;
 mod reads;
-#[cfg(test)]
-mod tests;
 mod writes;
 
 pub use closes::close;

@@ -7,8 +7,6 @@ mod caches;
 mod clearings;
 mod removals;
 mod statuses;
-#[cfg(test)]
-mod tests;
 
 pub use additions::add_key;
 pub use caches::drop_caches;

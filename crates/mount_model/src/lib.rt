@@ -9,8 +9,6 @@ pub mod limits;
 mod path;
 mod port;
 mod reply;
-#[cfg(test)]
-mod tests;
 
 pub use call::{Call, Op};
 pub use fsc_keys::KeyId;

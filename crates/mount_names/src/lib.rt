@@ -17,8 +17,6 @@ mod removals;
 mod stored_names;
 mod symlinks;
 mod targets;
-#[cfg(test)]
-mod tests;
 
 pub use links::read_link;
 pub use listings::list;

@@ -4,8 +4,6 @@
 
 mod loads;
 mod stores;
-#[cfg(test)]
-mod tests;
 
 pub use loads::meta_load;
 pub use mount_model::{Bytes, Reply};

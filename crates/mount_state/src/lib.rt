@@ -10,8 +10,6 @@ mod keyed;
 mod looks;
 mod names;
 mod state;
-#[cfg(test)]
-mod tests;
 mod walk;
 
 pub use handle_fault::HandleFault;

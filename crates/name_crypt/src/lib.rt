@@ -27,5 +27,3 @@ pub use shown::{is_shown_as, shown_by};
 pub use steps::Steps;
 pub use stored::{StoredLength, StoredName};
 
-#[cfg(test)]
-mod tests;

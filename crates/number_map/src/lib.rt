@@ -10,8 +10,6 @@ ghost use Rattle.number_map.specs.Numbered as map;
 mod iter;
 mod laws;
 mod rank;
-#[cfg(test)]
-mod tests;
 
 pub use iter::Iter;
 pub use laws::{changes_keep_agreement, changes_leave_the_rest, entries_agree_where_maps_do};

@@ -5,8 +5,6 @@ mod decode;
 mod encode;
 mod fault;
 mod policy;
-#[cfg(test)]
-mod tests;
 
 pub use decode::{decode_context, decode_policy};
 pub use encode::{encode_context, encode_policy, id_in, is_by_mode};

@@ -27,5 +27,3 @@ pub use rewrapping::rewrap;
 pub use short_bytes::Label;
 pub use wraps::{MOST_WRAPS, Wrap, WrapFault, WrapList};
 
-#[cfg(test)]
-mod tests;

@@ -11,8 +11,6 @@ mod notes;
 mod outcome;
 mod replies;
 mod status;
-#[cfg(test)]
-mod tests;
 
 pub use laws::{
     different_replies_have_different_lines, lines_tell_their_entries, logs_tell_their_entries,

@@ -11,8 +11,6 @@ mod script_laws;
 mod session_forms;
 mod settings_writer;
 mod statements;
-#[cfg(test)]
-mod tests;
 mod verb;
 mod verb_writer;
 mod verbs;

@@ -10,8 +10,6 @@ mod places;
 mod record_words;
 mod secret_words;
 mod secrets;
-#[cfg(test)]
-mod tests;
 mod word;
 mod word_laws;
 mod word_writer;

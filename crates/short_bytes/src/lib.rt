@@ -7,5 +7,3 @@ mod label;
 pub use filled::Filled;
 pub use label::{Label, MOST_LABEL_BYTES};
 
-#[cfg(test)]
-mod tests;

@@ -15,5 +15,3 @@ pub use numbers::{DecimalText, decimal_digits, decimal_value, decimal_value_u64}
 pub use words::{nth_word, word_count};
 pub use writing::{push_decimal, push_lower_hex};
 
-#[cfg(test)]
-mod tests;

@@ -3,8 +3,6 @@
 
 mod claims;
 mod fault;
-#[cfg(test)]
-mod tests;
 
 pub use claims::{Claims, MOST_CLAIMS};
 pub use fault::ClaimFault;

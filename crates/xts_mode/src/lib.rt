@@ -3,8 +3,6 @@
 
 mod block;
 mod group;
-#[cfg(test)]
-mod tests;
 
 ghost use Rattle.std.specs.Prelude.{◌≡◌, ◌%◌, ◌++◌, List, ℕ, length};
 ghost use Rattle.xts_mode.specs.Laws.{DecryptionUndoes, EncryptionUndoes, KeepsLength, MakesUnits};

@@ -1,0 +1,22 @@
+//! Ciphers, hashes and what is derived, against their standards and other implementations. This crate
+//! has tests alone.
+#![tactic(auto)]
+
+#[cfg(test)]
+mod aes;
+#[cfg(test)]
+mod argon2;
+#[cfg(test)]
+mod blake2;
+#[cfg(test)]
+mod block_vectors;
+#[cfg(test)]
+mod blocks;
+#[cfg(test)]
+mod cts;
+#[cfg(test)]
+mod hmac;
+#[cfg(test)]
+mod wraps;
+#[cfg(test)]
+mod xts;

@@ -1,0 +1,78 @@
+//! Calls that may be asked, and the numbers of answers.
+
+use mount_model::{Bytes, Call, KeyState, Op, Part, Path, Refusal};
+use std::alloc::{AllocError, Global};
+use std::test::Fail;
+
+// So many letters.
+fn bytes_of(alloc: Global, length: usize) -> Result<Bytes, AllocError> {
+    let mut bytes = Bytes::new(alloc);
+    for _ in 0..length {
+        bytes.push(b'a')?;
+    }
+    Ok(bytes)
+}
+
+#[test]
+fn keys_of_1_to_128_bytes_may_be_asked_for(rt: HostRuntime) -> Result<(), Fail> {
+    let alloc = rt.alloc();
+    for (length, fits) in [(0, false), (1, true), (128, true), (129, false)] {
+        let raw = bytes_of(alloc, length)?;
+        let call = Call {
+            uid: 1000,
+            op: Op::AddKey { raw },
+        };
+        assert_eq!(rt; call.fits(), fits, "a raw key of {length} bytes");
+        let copy = call.copy(alloc)?;
+        assert_eq!(rt; copy.fits(), fits);
+    }
+    Ok(())
+}
+
+#[test]
+fn paths_are_copied(rt: HostRuntime) -> Result<(), Fail> {
+    let alloc = rt.alloc();
+    let mut path = Path::root(alloc);
+    path.push(Part::new(bytes_of(alloc, 1000)?))?;
+    let copy = path.copy(alloc)?;
+    assert_eq!(rt; copy.len(), 1);
+    assert!(rt; copy.part(1).is_none());
+    Ok(())
+}
+
+#[test]
+fn answers_have_numbers(rt: HostRuntime) -> Result<(), Fail> {
+    // As in linux/fscrypt.h.
+    for (state, number) in [
+        (KeyState::Absent, 1),
+        (KeyState::Present, 2),
+        (KeyState::Incomplete, 3),
+    ] {
+        assert_eq!(rt; state.number(), number);
+    }
+    // As docs/ANSWERS.md lists them.
+    let refusals = [
+        Refusal::NoKey,
+        Refusal::Access,
+        Refusal::Quota,
+        Refusal::Inval,
+        Refusal::Exists,
+        Refusal::NotFound,
+        Refusal::NotDir,
+        Refusal::IsDir,
+        Refusal::NotEmpty,
+        Refusal::XDev,
+        Refusal::NoData,
+        Refusal::BadHandle,
+        Refusal::NameTooLong,
+        Refusal::TooBig,
+        Refusal::NoSpace,
+        Refusal::NoKeyClash,
+        Refusal::Changed { version: 2 },
+        Refusal::NoMemory,
+    ];
+    for (place, refusal) in refusals.iter().enumerate() {
+        assert_eq!(rt; usize::from(refusal.number()), place + 1);
+    }
+    Ok(())
+}

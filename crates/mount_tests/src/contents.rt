@@ -1,0 +1,159 @@
+//! Files in blocks, as Linux stores them.
+ghost use Rattle.std.specs.Prelude.{◌≡◌, ◌%◌, ◌^◌, []};
+ghost use Rattle.disk_tree.specs.Nodes.{blocks_of};
+
+use disk_tree::{BlockList, Body, StoredNode};
+use file_disk::{ContentsKey, DiskFault, DiskTree, Unit, begin_read, finish_read, write_file};
+use sha2::{Digest, Sha256};
+use std::alloc::Global;
+use std::process::Abort;
+use std::test::Fail;
+
+// Files of 9,192 bytes that Linux 6.12 stored in units of 512 bytes, with the SHA-256 of their first
+// two blocks: under a key of the file's own, and under a mode key as inode 116. Byte q is
+// (131 q + 29 (q / 256) + 1) modulo 256. HKDF-SHA512 makes the keys of the master key 00 to 3f, the
+// nonce ec675c89bde4a3d29efbc8d8305eef99 and the filesystem's UUID fsc-memory-mount.
+const OWN_KEY: &str =
+    "edc43bbd4aa562bd040ff10bd6f2d1cc0a1883baa8464e9ea8d4ab9d08c0991448da82f949d80c64c166d5610e8bf072d9641b1fb51c7d1c6ebebfd958b2affc";
+
+const MODE_KEY: &str =
+    "9c621e403c192295d98e7fc9eedc07eecb1381239e734a752102ce4617295eaf0cc48e789014e0bae5a67af6097aac1beaa57fcd07cccbfd8247b9e90d2b515b";
+
+const OWN_BLOCKS: [&str; 2] = [
+    "e92b5cec4dd44473982420ef375a96a83a280a7aca624787bca199a9fc06a3d6",
+    "2d222f41dbfe2bc1c771134bc90455d64b6b4b1ded3234fe79bf47bb7505ddc1",
+];
+
+const MODE_BLOCKS: [&str; 2] = [
+    "9d2a840add58767cac9621a569edc84887cf27c1269432b507f75a9cfd0fff1d",
+    "137dd371f4402d6c17a71427a35df315daf63a2b04b83aec219326897aec0d49",
+];
+
+fn contents() -> [u8; 9192] {
+    let mut contents = [0u8; 9192];
+    for (place, byte) in contents.iter_mut().enumerate() {
+        let sum = place.wrapping_mul(131).wrapping_add(place / 256 * 29);
+        *byte = (sum.wrapping_add(1) % 256) as u8;
+    }
+    contents
+}
+
+fn file(alloc: Global) -> StoredNode
+    ensures { blocks_of result.body ≡ [] }
+{
+    StoredNode {
+        context: None,
+        named: false,
+        body: Body::File {
+            blocks: BlockList::new(alloc),
+            size: 0,
+        },
+    }
+}
+
+fn key_of(digits: &str, start: u64) -> Option<ContentsKey>
+    requires { start % 2 ^ 32 ≡ 0 }
+{
+    let mut bytes = [0; 64];
+    hex::decode_to_slice(digits, &mut bytes).ok()?;
+    Some(ContentsKey {
+        bytes,
+        start,
+        unit: Unit::U512,
+    })
+}
+
+fn write<R: Abort>(
+    rt: &R,
+    disk: &mut DiskTree,
+    alloc: Global,
+    key: &Option<ContentsKey>,
+    offset: u32,
+    bytes: &[u8],
+) -> Result<(), DiskFault> {
+    assert!(rt; disk.is_file(1));
+    assert!(rt; offset <= 500_000 && bytes.len() <= 500_000);
+    write_file(disk, alloc, 1, key, offset, bytes)
+}
+
+// A new file, written in odd pieces: a gap first, then over borders of blocks and units, and other
+// bytes that a piece which covers block 1 overwrites.
+fn written_in_pieces<R: Abort>(
+    rt: &R,
+    alloc: Global,
+    key: &Option<ContentsKey>,
+) -> Result<DiskTree, Fail> {
+    let mut disk = DiskTree::new(alloc)?;
+    assert!(rt; disk.node(1).is_none());
+    disk.add_node(1, file(alloc))?;
+    let contents = contents();
+    for (from, to) in [
+        (5000, 9192),
+        (0, 1),
+        (4095, 4097),
+        (1, 4095),
+        (4097, 5000),
+        (700, 700),
+    ] {
+        write(
+            rt,
+            &mut disk,
+            alloc,
+            key,
+            from,
+            &contents[from as usize..to],
+        )?;
+    }
+    write(rt, &mut disk, alloc, key, 4000, &[0x5a; 4192])?;
+    write(rt, &mut disk, alloc, key, 4000, &contents[4000..8192])?;
+    Ok(disk)
+}
+
+#[test]
+fn a_file_written_in_pieces_is_stored_as_linux_stores_it(rt: HostRuntime) -> Result<(), Fail> {
+    for (digits, start, blocks) in [
+        (OWN_KEY, 0, &OWN_BLOCKS),
+        (MODE_KEY, 116 << 32, &MODE_BLOCKS),
+    ] {
+        let key = key_of(digits, start);
+        assert!(rt; key.is_some());
+        let disk = written_in_pieces(&rt, rt.alloc(), &key)?;
+        assert_eq!(rt; disk.file_size(1), 9192);
+        assert_eq!(rt; disk.block_count(1), 3);
+        for (index, sha256) in blocks.iter().enumerate() {
+            assert!(rt; index < 2 && disk.block_count(1) == 3);
+            let digest = Sha256::digest(disk.block(1, index as u32));
+            assert_eq!(rt;
+                hex::encode(rt.alloc(), digest.as_slice())?.as_str(),
+                *sha256
+            );
+        }
+    }
+    Ok(())
+}
+
+#[test]
+fn a_read_gives_what_was_written(rt: HostRuntime) -> Result<(), Fail> {
+    let alloc = rt.alloc();
+    let contents = contents();
+    for key in [key_of(OWN_KEY, 0), key_of(MODE_KEY, 116 << 32), None] {
+        let disk = written_in_pieces(&rt, alloc, &key)?;
+        for (offset, len, end) in [
+            (0, 4096, 4096),
+            (4090, 20, 4110),
+            (2048, 4096, 6144),
+            (9000, 4096, 9192),
+        ] {
+            match begin_read(&disk, alloc, 1, &key, offset, len)? {
+                Some(lent) => assert_eq!(rt;
+                    finish_read(lent).as_slice(),
+                    &contents[offset as usize..end]
+                ),
+                None => panic!(rt; "the file has bytes there"),
+            }
+        }
+        assert!(rt; begin_read(&disk, alloc, 1, &key, 9192, 1)?.is_none());
+        assert!(rt; begin_read(&disk, alloc, 1, &key, 0, 0)?.is_none());
+    }
+    Ok(())
+}

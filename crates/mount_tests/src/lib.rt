@@ -1,0 +1,21 @@
+//! The parts of a mount and its calls, each once with ample memory. This crate has tests alone.
+#![tactic(auto)]
+
+#[cfg(test)]
+mod calls;
+#[cfg(test)]
+mod claims;
+#[cfg(test)]
+mod contents;
+#[cfg(test)]
+mod disk;
+#[cfg(test)]
+mod handles;
+#[cfg(test)]
+mod keys;
+#[cfg(test)]
+mod names;
+#[cfg(test)]
+mod node_keys;
+#[cfg(test)]
+mod records;

@@ -1,4 +1,0 @@
-use Rattle.name_crypt.proofs.tests.stored_name_lengths_and_round_trip.Given as goal
-
-abbrev pub ghosts-stored_once : goal.ghosts-stored_once
-ghosts-stored_once g a = record { name = a.blank.name; parts = a.blank.parts }

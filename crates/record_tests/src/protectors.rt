@@ -1,0 +1,180 @@
+//! Records of protectors.
+
+use argon_kdf::argon2id;
+use key_wrap::unwrap;
+use protector_meta::{
+    Descriptor, MetaFault, Protector, ProtectorKind, decode_protector, encode_protector,
+};
+use std::alloc::{AllocError, Global};
+use std::test::Fail;
+
+/// A protector of the passphrase `correct horse`, made outside.
+pub(crate) const LOGIN: [&[u8]; 7] = [
+    b"fsc-protector 1",
+    b"name login",
+    b"kind pass 1 64 1 57ef597275f46ccf69b328c1718006d0",
+    b"descriptor 42580fb292d14fe7",
+    b"iv 85e5b95065dc32429794f1951385a775",
+    b"key e8f88e94594aae5d4c1678dd38e26ec154855304aac2c8f7c8b487129bbcd575",
+    b"tag 476ce1185d34c30da83bb6e2579ff7297ec97da508d2dea6ab63972e615329f1",
+];
+
+/// A protector of the secret of 32 bytes 0x11, made outside.
+pub(crate) const BACKUP: [&[u8]; 7] = [
+    b"fsc-protector 1",
+    b"name backup",
+    b"kind raw",
+    b"descriptor 357130f6173b452d",
+    b"iv 01fbd7215e026502dfe23ba171216232",
+    b"key 0cdca66d456a97fb47b532ed7f012311cc8679220ea6ef3413236032dadf1fa9",
+    b"tag 82b771a983b19289aff4ef3019617f4efa41fbdb2111e08e2648b5836c2a8722",
+];
+
+// The lines with a line feed behind each.
+pub(crate) fn record(alloc: Global, lines: &[&[u8]]) -> Result<Vec<u8>, AllocError> {
+    let mut text = Vec::new(alloc);
+    for line in lines {
+        text.extend_from_slice(line)?;
+        text.push(b'\n')?;
+    }
+    Ok(text)
+}
+
+// The same, with another line in the place of this number.
+pub(crate) fn with_line(
+    alloc: Global,
+    lines: &[&[u8]],
+    number: u32,
+    said: &[u8],
+) -> Result<Vec<u8>, AllocError> {
+    let mut text = Vec::new(alloc);
+    for (i, line) in lines.iter().enumerate() {
+        text.extend_from_slice(if i + 1 == number as usize { said } else { line })?;
+        text.push(b'\n')?;
+    }
+    Ok(text)
+}
+
+// The key of a protector whose secret is known.
+pub(crate) fn protector_key(alloc: Global, protector: &Protector) -> Result<[u8; 32], Fail> {
+    let mut wrapping = [0x11; 32];
+    if let ProtectorKind::Pass(stretching) = &protector.kind {
+        let costs = stretching.costs();
+        let salt = stretching.salt();
+        argon2id(
+            alloc,
+            &costs,
+            b"correct horse",
+            salt,
+            b"",
+            b"",
+            &mut wrapping,
+        )?;
+    }
+    let mut key = [0; 32];
+    unwrap(
+        &wrapping,
+        &protector.iv,
+        &protector.key,
+        &protector.tag,
+        &mut key,
+    )?;
+    Ok(key)
+}
+
+#[test]
+fn records_of_a_session_open_to_the_keys_of_their_descriptors(rt: HostRuntime) -> Result<(), Fail> {
+    for (lines, len) in [(LOGIN, 279), (BACKUP, 239)] {
+        let text = record(rt.alloc(), &lines)?;
+        assert_eq!(rt; text.len(), len);
+        let protector = decode_protector(&text)?;
+        let key = protector_key(rt.alloc(), &protector)?;
+        assert!(rt; Descriptor::of_key(&key) == protector.descriptor);
+        let again = encode_protector(rt.alloc(), &protector)?;
+        assert_eq!(rt; again.as_slice(), text.as_slice());
+    }
+    Ok(())
+}
+
+#[test]
+fn a_missing_line_is_at_fault_at_its_number(rt: HostRuntime) -> Result<(), Fail> {
+    for missing in 0..7 {
+        let mut lines: Vec<&[u8]> = Vec::new(rt.alloc());
+        for (i, line) in BACKUP.iter().enumerate() {
+            if i != missing {
+                lines.push(line)?;
+            }
+        }
+        let text = record(rt.alloc(), &lines)?;
+        let want = MetaFault::Bad {
+            line: missing as u32 + 1,
+        };
+        assert_eq!(rt; decode_protector(&text).err(), Some(want));
+    }
+    Ok(())
+}
+
+#[test]
+fn a_line_that_is_not_as_its_place_asks_is_at_fault(rt: HostRuntime) -> Result<(), Fail> {
+    let cases: [(u32, &[u8]); 20] = [
+        (1, b""),
+        (1, b"fsc-protector 2"),
+        (1, b"fsc-policy 1"),
+        (2, b"name "),
+        (2, b"name Backup"),
+        (2, b"name  backup"),
+        (2, b"name abcdefghijabcdefghijabcdefghijabc"),
+        (3, b"kind raw "),
+        (3, b"kind pass 1 64 1 57ef597275f46ccf69b328c1718006d"),
+        (3, b"kind pass 01 64 1 57ef597275f46ccf69b328c1718006d0"),
+        (3, b"kind pass 17 64 1 57ef597275f46ccf69b328c1718006d0"),
+        (3, b"kind pass 1 7 1 57ef597275f46ccf69b328c1718006d0"),
+        (3, b"kind pass 1 64 9 57ef597275f46ccf69b328c1718006d0"),
+        (3, b"kind pass 1 64 57ef597275f46ccf69b328c1718006d0"),
+        (4, b"descriptor 357130F6173b452d"),
+        (4, b"descriptor 357130f6173b452"),
+        (5, b"iv 01FBd7215e026502dfe23ba171216232"),
+        (5, b"iv\t01fbd7215e026502dfe23ba171216232"),
+        (6, b"iv 01fbd7215e026502dfe23ba171216232"),
+        (
+            7,
+            b"tag 82b771a983b19289aff4ef3019617f4efa41fbdb2111e08e2648b5836c2a8722\r",
+        ),
+    ];
+    for (number, said) in cases {
+        let text = with_line(rt.alloc(), &BACKUP, number, said)?;
+        assert_eq!(rt;
+            decode_protector(&text).err(),
+            Some(MetaFault::Bad { line: number })
+        );
+    }
+    Ok(())
+}
+
+#[test]
+fn what_follows_the_last_line_feed_is_at_fault_at_its_own_number(
+    rt: HostRuntime,
+) -> Result<(), Fail> {
+    assert_eq!(rt;
+        decode_protector(b"").err(),
+        Some(MetaFault::Bad { line: 1 })
+    );
+    assert_eq!(rt;
+        decode_protector(b"fsc-protector 1").err(),
+        Some(MetaFault::Bad { line: 1 })
+    );
+    let mut text = record(rt.alloc(), &BACKUP)?;
+    for said in [b"tag".as_slice(), b"\n", b"\n"] {
+        text.extend_from_slice(said)?;
+        assert_eq!(rt;
+            decode_protector(&text).err(),
+            Some(MetaFault::Bad { line: 8 })
+        );
+    }
+    text.truncate(238);
+    assert_eq!(rt;
+        decode_protector(&text).err(),
+        Some(MetaFault::Bad { line: 7 })
+    );
+    Ok(())
+}

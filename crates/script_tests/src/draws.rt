@@ -1,0 +1,146 @@
+//! What commands draw, and the names that stars mean.
+
+use call_history::Entry;
+use fsc_commands::{EntryList, Purpose, draw, path_meant};
+use item_list::Bytes;
+use mount_model::{Call, NameList, Op, Refusal, Reply};
+use script_lang::read_path;
+use std::alloc::{AllocError, Global};
+use std::test::Fail;
+
+// A caller, a command, a purpose, and what is drawn for them.
+type DrawRow = (u8, u64, Purpose, &'static str);
+
+// What Python's hmac and hashlib draw from 32 zeros.
+const DRAWN_FROM_ZEROS: [DrawRow; 5] = [
+    (
+        0,
+        0,
+        Purpose::NonceOrKey,
+        "5f1e8d5fe33ddabd2f4835479fee20dbd8da57d49abf021f7bff5ea431fdae497058ed9784555d82f1044ad0062a4d6693ab198a909da9ad90f47f0f694d2db9",
+    ),
+    (
+        0,
+        0,
+        Purpose::Iv,
+        "32d8181f6ab843f83537a3438f40b3204e3ba0b89c901565c9e5ca35e56f9af17c89d441399abaca14d9126c4b9b859389f3286196a3e3c64aee87080d6f9cb5",
+    ),
+    (
+        0,
+        0,
+        Purpose::Salt,
+        "675befcfbf97f33a9c785c61e0cacd87974315f5a67484dacc6246279b0b9432c45e1e29381de4c89dee09011b127bd403a30909465ea5e3838efd12a7957a25",
+    ),
+    (
+        0,
+        1,
+        Purpose::NonceOrKey,
+        "3028da3f8a808b52077b909eb29c51523da32ef1f46a9af7d14eb4bbdfcfee01bc3524979b43735681187cbc4f2df8471e0897c99db194afed567df95c346304",
+    ),
+    (
+        1,
+        0,
+        Purpose::NonceOrKey,
+        "da99867768e6b2137209e264b0c7929688a0f35fe60cbfe951b183f98ef352cda5e71eb70a87a54f36b6ec686a1de7a619a0b59256da7435bf9192be0462f2ce",
+    ),
+];
+
+// And from the bytes 00 to 1f.
+const DRAWN_FROM_COUNTING: [DrawRow; 2] = [
+    (
+        7,
+        4_294_967_295,
+        Purpose::Salt,
+        "8cd7c8342bdd01bb1d5839421d0e6624e75533aaeae6c58e819a3c840b7eda56b8bec886c2a93a1052d75da883ef211e4b704daaff84727e48a5796c86c2d1d2",
+    ),
+    (
+        255,
+        19_999,
+        Purpose::Iv,
+        "b2c7e6f6211be34929a3a4dbeb92ebdda0e187367d5eabcf88e72729285bee3db77df9c0ceb2f29a2946804fd66179190feb7939e9d1c169007d36abeb7be1d2",
+    ),
+];
+
+#[test]
+fn draws_are_those_of_python(rt: HostRuntime) -> Result<(), Fail> {
+    for (caller, command, purpose, wanted) in DRAWN_FROM_ZEROS {
+        let (whole, nonce) = drawn(rt.alloc(), &[0; 32], caller, command, purpose)?;
+        assert_eq!(rt; whole.as_str(), wanted);
+        assert!(rt; wanted.starts_with(nonce.as_str()));
+    }
+    let mut counting = [0; 32];
+    for i in 0..32 {
+        counting[i] = i as u8;
+    }
+    for (caller, command, purpose, wanted) in DRAWN_FROM_COUNTING {
+        let (whole, nonce) = drawn(rt.alloc(), &counting, caller, command, purpose)?;
+        assert_eq!(rt; whole.as_str(), wanted);
+        assert!(rt; wanted.starts_with(nonce.as_str()));
+    }
+    Ok(())
+}
+
+// The digits of a whole draw, and of one of 16 bytes.
+fn drawn(
+    alloc: Global,
+    seed: &[u8; 32],
+    caller: u8,
+    command: u64,
+    purpose: Purpose,
+) -> Result<(String, String), AllocError> {
+    let mut bytes = [0; 64];
+    draw(seed, caller, command, purpose, &mut bytes);
+    let mut nonce = [0; 16];
+    draw(seed, caller, command, purpose, &mut nonce);
+    Ok((hex::encode(alloc, bytes)?, hex::encode(alloc, nonce)?))
+}
+
+// A star means the name of its number, and its own text where there is none or it can't be a part.
+#[test]
+fn stars_mean_listed_names(rt: HostRuntime) -> Result<(), Fail> {
+    let alloc = rt.alloc();
+    let mut told = EntryList::new(alloc);
+    told.push(listing(vec![in alloc;
+        Bytes::from_vec(Vec::from_slice(alloc, b"a b")?),
+        Bytes::from_vec(Vec::from_slice(alloc, b"..")?),
+    ]?))?;
+    told.push(entry(Reply::Refused(Refusal::NotFound)))?;
+    let Some(path) = read_path(alloc, b"/e/*0/*1/*2/%2A0")? else {
+        assert!(rt; false);
+        return Ok(());
+    };
+    let meant = path_meant(alloc, &told, &path)?;
+    for (index, wanted) in ["e", "a b", "*1", "*2", "*0"].iter().enumerate() {
+        assert!(rt;
+            meant
+                .part(index)
+                .is_some_and(|part| part.bytes() == wanted.as_bytes())
+        );
+    }
+    assert_eq!(rt; meant.len(), 5);
+    Ok(())
+}
+
+// A listing that told these names.
+fn listing(names: Vec<Bytes>) -> (u64, Entry<Call, Reply>) {
+    entry(Reply::Names {
+        names: NameList::from_vec(names),
+        more: false,
+    })
+}
+
+// A call with this reply.
+fn entry(reply: Reply) -> (u64, Entry<Call, Reply>) {
+    let call = Call {
+        uid: 0,
+        op: Op::DropCaches,
+    };
+    (
+        0,
+        Entry {
+            who: 0,
+            call,
+            reply,
+        },
+    )
+}

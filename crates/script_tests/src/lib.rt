@@ -1,0 +1,21 @@
+//! Scripts, sessions, and runs of the tool over fakes. This crate has tests alone.
+#![tactic(auto)]
+
+#[cfg(test)]
+mod draws;
+#[cfg(test)]
+mod endings;
+#[cfg(test)]
+mod generated;
+#[cfg(test)]
+mod outside;
+#[cfg(test)]
+mod scripted;
+#[cfg(test)]
+mod scripts;
+#[cfg(test)]
+mod sessions;
+#[cfg(test)]
+mod texts;
+#[cfg(test)]
+mod words;

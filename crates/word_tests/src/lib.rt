@@ -1,0 +1,7 @@
+//! Words and small types, each called with ample memory. This crate has tests alone.
+#![tactic(auto)]
+
+#[cfg(test)]
+mod lists;
+#[cfg(test)]
+mod words;

@@ -1,0 +1,85 @@
+//! Words of 64 bits as bytes, short bytes, labels and digits.
+
+use byte_words::{read_word, write_words, xor_into};
+use short_bytes::{Filled, Label};
+use std::hash::{DefaultHasher, Hash, Hasher};
+use std::test::Fail;
+use text_words::{hex_bytes, lower_hex_bytes, push_decimal, push_lower_hex};
+
+#[test]
+fn words_have_the_low_byte_first(rt: HostRuntime) {
+    let mut bytes = [0; 16];
+    write_words(&[0x0807_0605_0403_0201, u64::MAX], &mut bytes);
+    let mut want = [
+        1, 2, 3, 4, 5, 6, 7, 8, 255, 255, 255, 255, 255, 255, 255, 255,
+    ];
+    assert_eq!(rt; bytes, want);
+    assert_eq!(rt; read_word(&want, 0), 0x0807_0605_0403_0201);
+
+    xor_into(&mut want, &bytes);
+    assert_eq!(rt; want, [0; 16]);
+}
+
+/// What a map would look the value up by.
+fn hash_of<T: Hash>(value: &T) -> u64 {
+    let mut hasher = DefaultHasher::new();
+    value.hash(&mut hasher);
+    hasher.finish()
+}
+
+#[test]
+fn bytes_are_compared_and_hashed_as_they_are_seen(rt: HostRuntime) -> Result<(), Fail> {
+    let mut grown = Filled::<4>::new();
+    grown.append(b"ab");
+    grown.append(b"cd");
+    let whole = Filled::<4>::of(b"abcd");
+    assert_eq!(rt; grown, whole);
+    assert_eq!(rt; hash_of(&grown), hash_of(&whole));
+    assert_eq!(rt; Filled::<4>::read(b"abcd"), Some(whole));
+    assert_eq!(rt; Filled::<4>::read(b"abcde"), None);
+
+    grown.wipe();
+    assert_eq!(rt; grown, Filled::of(&[0; 4]));
+    assert_eq!(rt; grown.len(), 4);
+    assert!(rt; grown != Filled::of(&[0; 3]));
+    Ok(())
+}
+
+#[test]
+fn labels_have_characters_and_bounds(rt: HostRuntime) -> Result<(), Fail> {
+    assert!(rt;
+        Label::read(b"login-2_b").is_some_and(|label| label.bytes() == b"login-2_b".as_slice())
+    );
+    let letters = [b'z'; 33];
+    assert!(rt; Label::read(&letters[..32]).is_some());
+    assert!(rt; Label::read(&letters).is_none());
+    assert!(rt; Label::read(b"").is_none());
+    assert!(rt; Label::read(b"Login").is_none());
+    assert!(rt; Label::read(b"a.b").is_none());
+    Ok(())
+}
+
+#[test]
+fn digits_stand_behind_the_text(rt: HostRuntime) -> Result<(), Fail> {
+    let mut text = Vec::from_slice(rt.alloc(), b"users=")?;
+    push_decimal(&mut text, 0)?;
+    text.push(b' ')?;
+    push_decimal(&mut text, u64::MAX)?;
+    text.push(b' ')?;
+    push_lower_hex(&mut text, &[0, 0x0f, 0xa5, 0xff])?;
+    push_lower_hex(&mut text, &[])?;
+    assert_eq!(rt;
+        text.as_slice(),
+        b"users=0 18446744073709551615 000fa5ff".as_slice()
+    );
+    Ok(())
+}
+
+#[test]
+fn digits_of_just_so_many_bytes_are_read(rt: HostRuntime) {
+    assert_eq!(rt; hex_bytes(b"0Fa5"), Some([0x0f, 0xa5]));
+    assert_eq!(rt; lower_hex_bytes(b"0fa5"), Some([0x0f, 0xa5]));
+    assert_eq!(rt; lower_hex_bytes::<2>(b"0Fa5"), None);
+    assert_eq!(rt; hex_bytes::<2>(b"0fa5f"), None);
+    assert_eq!(rt; hex_bytes::<2>(b"0fa5ff"), None);
+}
