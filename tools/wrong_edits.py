@@ -9,6 +9,9 @@ PARTS = ("src", "specs", "proofs")
 FUNCTION = re.compile(r"( *)(?:pub(?:\([a-z]+\))? )?(?:const |unsafe )*fn (\w+)")
 BLOCK = re.compile(r"(?:pub(?:\([a-z]+\))? )?(?:unsafe )?(impl|trait|macro_rules|mod)\b(.*)")
 
+# A module that only a check of the tests reads.
+TESTS = re.compile(r"^#\[cfg\(test\)\]\n(?:pub(?:\(\w+\))? )?mod (\w+);\n", re.M)
+
 # What a check says of a goal of the code, and of a file of a proof.
 GOAL = re.compile(r"note: (src/\S+?):(\d+):\d+: .*\bnot proved\b")
 PROOF = re.compile(r"(?:\./)?proofs/(\S+?):\d+:\d+: error\b(.*)")
@@ -108,7 +111,7 @@ def pairs_of(text):
         elif line.startswith("new:"):
             if not file or not old:
                 raise BadEdit("a line 'new:' stands before its 'file:' or 'old:'")
-            found.append((file, old, line[4:].removeprefix(" ")))
+            found.append((file, old, re.sub(r"\A ", "", line[4:])))
             old = None
     if not found:
         raise BadEdit("it has no pair of lines 'old:' and 'new:'")
@@ -183,6 +186,17 @@ def changes_nothing(texts, taken):
         return Edit("(a comment)", ((home.file, line, f"{line} // as it was"),), home)
     head = texts[home.file].split("\n")[home.first]
     return Edit("(a comment)", ((home.file, head, f"{head} // as it was"),), home)
+
+
+def without_tests(texts):
+    """A crate's files as a check without its tests reads them, with no empty line, by their paths: a verdict on an edit rests on no more."""
+    inside = []
+    for file, text in texts.items():
+        folder = "src" if file in ("src/lib.rt", "src/main.rt") else file[:-3]
+        inside += [f"{folder}/{it}" for it in TESTS.findall(text) if file.endswith(".rt")]
+    left_out = tuple(f"{at}{end}" for at in inside for end in (".rt", "/"))
+    own = {it: text for it, text in texts.items() if not it.startswith(left_out)}
+    return {it: re.sub(r"\n\s*\n", "\n", TESTS.sub("", text)).strip() for it, text in own.items()}
 
 
 def is_unread(said):
