@@ -73,6 +73,8 @@ def extent(lines, first, indent):
             return first, first
         if not line.startswith(indent) or line[len(indent):len(indent) + 1] == " ":
             continue
+        if line == indent + "{}":
+            return at, at
         if line.endswith(";"):
             return None
         if line.endswith("{"):
