@@ -15,8 +15,9 @@ TESTS = re.compile(r"^#\[cfg\(test\)\]\n(?:pub(?:\(\w+\))? )?mod (\w+);\n", re.M
 # What a check says of a goal of the code, and of a file of a proof.
 GOAL = re.compile(r"note: (src/\S+?):(\d+):\d+: .*\bnot proved\b")
 PROOF = re.compile(r"(?:\./)?proofs/(\S+?):\d+:\d+: error\b(.*)")
-# A text that could not be read: no contract was tried.
-UNREAD = re.compile(r"error\[[\w-]+\]|(?:\./)?(?:src|specs)/\S+?:\d+:\d+: error\b")
+# What it says of a text of the code or of the definitions, which it refuses, or can't read: then no contract was tried.
+STATED = re.compile(r"(?:\./)?(?:src|specs)/\S+?:\d+:\d+: error: (`[^`]*`: )?(.*)")
+UNREAD = re.compile(r"is not in scope|has no field|is no name|operand is missing|expected the end|cannot continue")
 # A proof that only cites what the edit took away says little of the contract.
 BY_A_NAME = re.compile(r"has no field|is not in scope|has no `|was not admitted")
 
@@ -201,9 +202,12 @@ def without_tests(texts):
     return {it: re.sub(r"\n\s*\n", "\n", TESTS.sub("", text)).strip() for it, text in own.items()}
 
 
-def is_unread(said):
-    """The line that says that a text of the code or of the definitions could not be read, if there is one."""
-    return next((it for it in said if UNREAD.match(it) or " error[" in it), None)
+def is_unread(line):
+    """Whether a line says that a text of the code or of the definitions could not be read."""
+    stated = STATED.match(line)
+    if stated:
+        return not stated[1] or bool(UNREAD.search(re.sub(r"`[^`]*`", "", stated[2])))
+    return bool(re.match(r"(\S+ )?error\[[\w-]+\]", line))
 
 
 def told_inside(said, homes):
@@ -222,7 +226,7 @@ def told_inside(said, homes):
 
 def told(said):
     """Each line that refuses something."""
-    return [it for it in said if GOAL.match(it) or PROOF.match(it)]
+    return [it for it in said if GOAL.match(it) or PROOF.match(it) or STATED.match(it) and not is_unread(it)]
 
 
 def is_strong(line):
