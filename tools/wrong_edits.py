@@ -18,8 +18,8 @@ PROOF = re.compile(r"(?:\./)?proofs/(\S+?):\d+:\d+: error\b(.*)")
 # What it says of a text of the code or of the definitions, which it refuses, or can't read: then no contract was tried.
 STATED = re.compile(r"(?:\./)?(?:src|specs)/\S+?:\d+:\d+: error: (`[^`]*`: )?(.*)")
 UNREAD = re.compile(r"is not in scope|has no field|is no name|operand is missing|expected the end|cannot continue")
-# A proof that only cites what the edit took away says little of the contract.
-BY_A_NAME = re.compile(r"has no field|is not in scope|has no `|was not admitted")
+# A proof that only cites what the edit took away says little of the contract, and what stands on such a proof nothing at all.
+BY_A_NAME = re.compile(r"has no field|is not in scope|has no `|was not admitted|which was rejected, w\w+ not checked")
 
 
 class BadEdit(Exception):
