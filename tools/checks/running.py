@@ -1,0 +1,27 @@
+"""The program that is checked, and a run of it."""
+import os
+import subprocess
+
+TOP = os.path.dirname(os.path.dirname(os.path.dirname(os.path.abspath(__file__))))
+PROGRAM = os.path.join(TOP, "crates", "fscrypt_cli", "out", "fscrypt_cli")
+ZEROS = "0" * 64
+SERIAL = ["replay", "--serial", "--seed", ZEROS]
+THREADED = ["replay", "--seed", ZEROS]
+SECONDS = 120
+
+
+def run(words, given=b"", program=PROGRAM, **more):
+    """Runs the program and returns its status, what it wrote and what it told."""
+    source = {} if "stdin" in more else {"input": given}
+    sink = {} if "stdout" in more else {"stdout": subprocess.PIPE}
+    ended = subprocess.run([program, *words], stderr=subprocess.PIPE, timeout=SECONDS, check=False,
+                           **source, **sink, **more)
+    return ended.returncode, ended.stdout or b"", ended.stderr
+
+
+def scripts():
+    """The paths of all scripts of examples/, and of its rows."""
+    for folder in ("examples", os.path.join("examples", "rows")):
+        for name in sorted(os.listdir(os.path.join(TOP, folder))):
+            if name.endswith(".fsc"):
+                yield os.path.join(TOP, folder, name)

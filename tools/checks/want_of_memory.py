@@ -1,0 +1,171 @@
+"""Whether a log is right where some calls of its run found no memory.
+
+A refused call changes nothing that any call tells (docs/ANSWERS.md), and each command of a session ends with the first
+call that is refused, where all its calls before only load records. So the others are answered as in a run of the
+script in which the command is one that does nothing, `drop-caches`. What that run tells comes from the program itself,
+which had memory then.
+"""
+import collections
+
+REFUSED = "refused no-memory"
+IDLE = "drop-caches"
+
+# Calls that take no memory, and so are never refused for want of it.
+FREE = {"remove-key", "remove-key-all", "key-status", "close", IDLE}
+
+# What the calls of each session command begin with, from its words.
+SHAPES = {
+    "protector": ["meta-put protector/{1} "],
+    "protector-change": ["meta-get protector/{1}", "meta-put protector/{1} "],
+    "policy-new": ["meta-get protector/{2}", "meta-put policy/{1} "],
+    "policy-add": ["meta-get protector/{2}", "meta-get policy/{1}", "meta-get protector/{4}", "meta-put policy/{1} "],
+    "policy-drop": ["meta-get policy/{1}", "meta-put policy/{1} "],
+    "unlock": ["meta-get protector/{2}", "meta-get policy/{1}", "add-key "],
+    "lock": ["meta-get policy/{1}", "remove-key "],
+    "status": ["meta-get policy/{1}", "key-status "],
+    "encrypt": ["meta-get policy/{2}", "set-policy "],
+    "migrate": ["meta-get policy/{1}", "meta-put policy/{1} "],
+}
+
+Command = collections.namedtuple("Command", "caller line words")
+Entry = collections.namedtuple("Entry", "caller call reply")
+
+
+class Wrong(Exception):
+    """What is wrong with a log."""
+
+
+def commands_of(script):
+    """The commands of each caller, in order."""
+    sections = []
+    for number, line in enumerate(script.split("\n"), 1):
+        words = line.split(" ")
+        if not line or line.startswith("#"):
+            continue
+        if words[0] == "caller":
+            sections.append([])
+        else:
+            sections[-1].append(Command(len(sections) - 1, number, words))
+    return sections
+
+
+def rotation_of(sections):
+    """The commands in the order of a run in turns."""
+    longest = max(map(len, sections), default=0)
+    return [it[turn] for turn in range(longest) for it in sections if turn < len(it)]
+
+
+def parsed(log):
+    """The entries of a log, whose places count from 0, and its notes."""
+    entries, notes = [], {}
+    for line in log.splitlines():
+        words = line.split(" ")
+        if words[0] == "note":
+            notes[int(words[1]), int(words[2])] = words[3]
+            continue
+        asked, reply = line.split(" = ", 1)
+        place, caller, _, call = asked.split(" ", 3)
+        if int(place) != len(entries) or notes:
+            raise Wrong(f"the place of {line!r}")
+        entries.append(Entry(int(caller), call, reply))
+    return entries, notes
+
+
+def grouped(order, log):
+    """The entries of a run in turns, each with its command; and the notes."""
+    entries, notes = parsed(log)
+    told, at = [], 0
+    for command in order:
+        count = calls_made(command, entries[at:at + 4], notes.get((command.caller, command.line)))
+        told.extend((command, it) for it in entries[at:at + count])
+        at += count
+    if at != len(entries):
+        raise Wrong("there are more entries than the commands ask for")
+    return told, notes
+
+
+def calls_made(command, entries, outcome):
+    """How many of the entries are the command's, which ended with this outcome."""
+    if command.words[0] not in SHAPES:
+        return 1
+    count = 0
+    for head in SHAPES[command.words[0]]:
+        if count == len(entries) or not entries[count].call.startswith(head.format(*command.words)):
+            break
+        count += 1
+        if entries[count - 1].reply.startswith("refused ") or outcome == "current":
+            break
+    return count
+
+
+class Judge:
+    """Judges logs of one script's runs, by what `replay` makes of scripts: the log of a run that has memory."""
+
+    def __init__(self, script, replay):
+        self.script, self.replay, self.known = script, replay, {}
+        self.sections = commands_of(script)
+        self.order = rotation_of(self.sections)
+
+    def without(self, refused):
+        """What the run tells in which these commands do nothing."""
+        if refused not in self.known:
+            lines = self.script.split("\n")
+            for number in refused:
+                lines[number - 1] = IDLE
+            idle = [it._replace(words=[IDLE]) if it.line in refused else it for it in self.order]
+            self.known[refused] = grouped(idle, self.replay("\n".join(lines)))
+        return self.known[refused]
+
+    def check(self, log):
+        """Raises Wrong where the log is not that of a run in turns in which some calls found no memory."""
+        entries, notes = parsed(log)
+        refused, made = frozenset(), {}
+        at = 0
+        while True:
+            due = list(self.due(refused, made))
+            while at < min(len(entries), len(due)) and entries[at] == due[at][1]:
+                at += 1
+            if at == len(entries) == len(due):
+                break
+            if at >= min(len(entries), len(due)):
+                raise Wrong(f"there are {len(entries)} entries in place of {len(due)}")
+            command = due[at][0]
+            if entries[at] != due[at][1]._replace(reply=REFUSED) or entries[at].call.split(" ")[0] in FREE:
+                raise Wrong(f"entry {at} is {entries[at]} in place of {due[at][1]}")
+            made[command.line] = [it for owner, it in due[:at] if owner.line == command.line] + [entries[at]]
+            refused |= {command.line}
+            at += 1
+        self.check_notes(notes, refused)
+
+    def due(self, refused, made):
+        """The entries of the run in which these commands were refused, with what they made before."""
+        for command, entry in self.without(refused)[0]:
+            if command.line in refused:
+                yield from ((command, it) for it in made[command.line])
+            else:
+                yield command, entry
+
+    def check_notes(self, notes, refused):
+        """Each note is as in the run without the refused commands, and theirs tell the want of memory."""
+        due = dict(self.without(refused)[1])
+        due |= {(it.caller, it.line): "no-memory" for it in self.order if it.line in refused and it.words[0] in SHAPES}
+        if list(notes.items()) != sorted(due.items()):
+            raise Wrong(f"the notes are {notes} in place of {due}")
+
+    def check_callers(self, log):
+        """The same of a run of many callers in threads, as far as each caller's own lines tell it."""
+        entries, notes = parsed(log)
+        for caller, section in enumerate(self.sections):
+            own = [it for it in entries if it.caller == caller]
+            for command in section:
+                outcome = notes.get((caller, command.line))
+                if (outcome is None) == (command.words[0] in SHAPES):
+                    raise Wrong(f"the note of line {command.line}")
+                count = calls_made(command, own[:4], outcome)
+                mine, own = own[:count], own[count:]
+                if not mine or any(it.reply == REFUSED and it.call.split(" ")[0] in FREE for it in mine):
+                    raise Wrong(f"the calls of line {command.line} are {mine}")
+                if outcome is not None and (outcome == "no-memory") != (mine[-1].reply == REFUSED):
+                    raise Wrong(f"the note of line {command.line} is {outcome} behind {mine[-1]}")
+            if own:
+                raise Wrong(f"caller {caller} has entries behind its last command")
