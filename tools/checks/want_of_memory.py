@@ -28,7 +28,7 @@ SHAPES = {
 }
 
 Command = collections.namedtuple("Command", "caller line words")
-Entry = collections.namedtuple("Entry", "caller call reply")
+Entry = collections.namedtuple("Entry", "caller user call reply")
 
 
 class Wrong(Exception):
@@ -62,13 +62,20 @@ def parsed(log):
         words = line.split(" ")
         if words[0] == "note":
             notes[int(words[1]), int(words[2])] = words[3]
-            continue
-        asked, reply = line.split(" = ", 1)
-        place, caller, _, call = asked.split(" ", 3)
-        if int(place) != len(entries) or notes:
-            raise Wrong(f"the place of {line!r}")
-        entries.append(Entry(int(caller), call, reply))
+        else:
+            asked, reply = line.split(" = ", 1)
+            _, caller, user, call = asked.split(" ", 3)
+            entries.append(Entry(int(caller), user, call, reply))
+    if written(entries, notes) != log:
+        raise Wrong("a place is not the number of its entry, or a note is out of order")
     return entries, notes
+
+
+def written(entries, notes):
+    """The log of these."""
+    lines = [f"{at} {it.caller} {it.user} {it.call} = {it.reply}" for at, it in enumerate(entries)]
+    lines += [f"note {caller} {line} {outcome}" for (caller, line), outcome in sorted(notes.items())]
+    return "".join(it + "\n" for it in lines)
 
 
 def grouped(order, log):
@@ -149,7 +156,7 @@ class Judge:
         """Each note is as in the run without the refused commands, and theirs tell the want of memory."""
         due = dict(self.without(refused)[1])
         due |= {(it.caller, it.line): "no-memory" for it in self.order if it.line in refused and it.words[0] in SHAPES}
-        if list(notes.items()) != sorted(due.items()):
+        if notes != due:
             raise Wrong(f"the notes are {notes} in place of {due}")
 
     def check_callers(self, log):

@@ -1,10 +1,12 @@
 """Runs the program under gdb, takes a core of it at each moment, and tells what its heap and its stacks hold.
 
-A core has the registers too; they count as stack, where a call would spill them.
+A core has the registers too; they count as stack, where a call would spill them. How many copies a stack keeps depends
+on how its frames are aligned, so the program has no environment, and its path and its words have always one length.
 """
 import os
 import pty
 import re
+import shutil
 import struct
 import subprocess
 import threading
@@ -27,7 +29,7 @@ def gdb_lines(program, words, files, numbers, room):
     """
     script, terminal = files
     yield from ("set pagination off", "set confirm off", "set debuginfod enabled off", "set auto-solib-add off",
-                "set dump-excluded-mappings on", f"exec-file {program}", "catch syscall write")
+                "set dump-excluded-mappings on", "set exec-wrapper env -i", f"exec-file {program}", "catch syscall write")
     met, begun = 0, False
     for name, number in sorted(numbers.items(), key=lambda it: it[1]):
         yield f"condition 1 $rdi == 2 && *(char *)($rsi + $rdx - 1) == '{CALLER}'"
@@ -49,13 +51,14 @@ def taken(name, room):
 
 def cores(program, words, script, numbers, room):
     """For each moment the memory of the run: what it has of heap, and of stacks with registers."""
-    path = os.path.join(room, "script")
+    path, place = os.path.join(room, "script"), os.path.join(room, "fsc")
+    shutil.copy(program, place)
     with open(path, "w", encoding="ascii") as it:
         it.write(script)
     ours, theirs = pty.openpty()
     commands = os.path.join(room, "commands")
     with open(commands, "w", encoding="utf-8") as it:
-        it.writelines(line + "\n" for line in gdb_lines(program, words, (path, os.ttyname(theirs)), numbers, room))
+        it.writelines(line + "\n" for line in gdb_lines(place, words, (path, os.ttyname(theirs)), numbers, room))
     reader = threading.Thread(target=drained, args=(ours,), daemon=True)
     reader.start()
     try:

@@ -5,7 +5,7 @@ What is drawn, derived and wrapped is said in docs/FORMATS.md.
 import hashlib
 
 from key_search.argon import argon2id
-from key_search.ciphers import expanded, extracted, keystream, padded, round_keys, states
+from key_search.ciphers import expanded, extracted, keystream, mac, padded, round_keys, states, xored
 
 PASSES, KIB = 1, 8
 SEED = hashlib.sha256(b"the seed of the run").digest()
@@ -19,13 +19,13 @@ HEADS = ["caller 1001", "drop-caches", "caller 1000"]
 class Key:
     """Bytes to look for. The row is the line of the table that they count for."""
 
-    def __init__(self, row, value, is_text=False):
-        self.row, self.value, self.is_text = row, value, is_text
+    def __init__(self, row, value, has_words=True):
+        self.row, self.value, self.has_words = row, value, has_words
 
     def forms(self):
         """The bytes as they are, and as words of four and eight bytes with the last byte first, as a hash reads them."""
         yield self.value
-        if not self.is_text:
+        if self.has_words:
             for size in (4, 8):
                 if len(self.value) % size == 0:
                     words = (self.value[at:at + size] for at in range(0, len(self.value), size))
@@ -65,9 +65,9 @@ class Secret:
 
     def keys(self):
         """What a run has of it."""
-        yield Key("secrets of the script", self.value, is_text=not self.is_raw)
+        yield Key("secrets of the script", self.value, has_words=self.is_raw)
         if self.is_raw:
-            yield Key("their digits", self.value.hex().encode(), is_text=True)
+            yield Key("their digits", self.value.hex().encode(), has_words=False)
         else:
             tag, digest, blocks = self.made
             yield Key("what a passphrase is stretched to", tag)
@@ -145,17 +145,28 @@ class Session:
         told |= {name: it.hex() for name, it in self.texts.items()}
         return told | {"shared": self.shared.hex(), "shared_id": derived(self.shared, b"\x01", 16).hex()}
 
-    def beginning(self):
-        """A script that makes the policy and tells its record."""
-        lines = [line.format(**self.words()) for _, line in PLAN[:NUMBERS["add spare"]]]
-        return "\n".join([*HEADS, *lines, "meta-get policy/docs"]) + "\n"
+    def record(self):
+        """The record of the policy when it is made: its key is wrapped under the protector's, that under the secret."""
+        login, policy = drawn(NUMBERS["make login"], NONCE_OR_KEY, 32), drawn(NUMBERS["make docs"], NONCE_OR_KEY, 64)
+        iv = drawn(NUMBERS["make docs"], IV, 16)
+        wrapped, tag = wrap(login, iv, policy)
+        return ["fsc-policy 2", "name docs", "id " + derived(policy, b"\x01", 16).hex(), "options 32 0",
+                f"wrap login {iv.hex()} {wrapped.hex()} {tag.hex()}"]
 
-    def script(self, record):
-        """The whole script, given the record that the beginning told."""
-        lines = record.decode().splitlines()
+    def script(self):
+        """The whole script. The older record is the policy's, in the first version."""
+        lines = self.record()
         old = "".join(it + "\n" for it in ["fsc-policy 1", "name old", lines[2], lines[4]])
         words = self.words() | {"old": old.encode().hex()}
         return "\n".join([*HEADS, *(line.format(**words) for _, line in PLAN)]) + "\n"
+
+    def told(self):
+        """What the log has to tell, so that the keys are known to be the run's: the records of protector and policy."""
+        iv = drawn(NUMBERS["make login"], IV, 16)
+        wrapped, tag = wrap(self.secrets["login"].wrapping_key(), iv, drawn(NUMBERS["make login"], NONCE_OR_KEY, 32))
+        yield f"iv {iv.hex()}\nkey {wrapped.hex()}\ntag {tag.hex()}\n".encode().hex()
+        yield "\n".join(self.record()).encode().hex()
+        yield "added " + derived(self.shared, b"\x01", 16).hex()
 
     def keys(self):
         """Each key of the run."""
@@ -171,12 +182,12 @@ class Session:
             yield from wrap_keys(key, drawn(NUMBERS[command], IV, 16))
         yield from raw_keys("the policy's raw key", policy)
         yield from raw_keys("the raw key of the script", self.shared)
-        yield Key("its digits", self.shared.hex().encode(), is_text=True)
+        yield Key("its digits", self.shared.hex().encode(), has_words=False)
         yield from node_keys(policy, self.shared)
         yield from seed_keys()
         for text in self.texts.values():
             yield Key("written bytes", text)
-            yield Key("their digits in the script", text.hex().encode(), is_text=True)
+            yield Key("their digits in the script", text.hex().encode(), has_words=False)
 
 
 def derived(raw, use, length):
@@ -186,8 +197,17 @@ def derived(raw, use, length):
 
 def mac_keys(row, name, key):
     """What HMAC makes of its key."""
-    for it in (*padded(name, key), *states(name, key)):
-        yield Key(row, it, is_text=True)
+    for it in padded(name, key):
+        yield Key(row, it)
+    for it in states(name, key):
+        yield Key(row, it, has_words=False)
+
+
+def wrap(key, iv, secret):
+    """A secret wrapped under a key, and the tag."""
+    stretched = expanded("sha256", extracted("sha256", key), b"", 64)
+    wrapped = xored(secret, keystream(stretched[:32], iv, len(secret)))
+    return wrapped, mac("sha256", stretched[32:], iv + wrapped)
 
 
 def wrap_keys(key, iv):
@@ -233,7 +253,7 @@ def with_round_keys(row, key):
 def seed_keys():
     """The seed, from which every drawn key follows, and what stands for it."""
     yield Key("the seed", SEED)
-    yield Key("the seed's digits", SEED.hex().encode(), is_text=True)
+    yield Key("the seed's digits", SEED.hex().encode(), has_words=False)
     middle = extracted("sha512", SEED)
     yield Key("HKDF's key of the seed", middle)
     yield from mac_keys("HMAC's padded keys and states of that", "sha512", middle)
