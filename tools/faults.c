@@ -1,4 +1,5 @@
-/* Makes allocations fail, for tools/faults: a shared object that is loaded before the C library.
+/* Makes allocations fail, for tools/faults: a shared object that is loaded before the C library. A thread, whose stack
+ * the C library allocates by itself, counts as one.
  *
  * FSC_FAIL_FROM and FSC_FAIL_TO name the allocations that fail, counted from 1 in the order in which they are asked
  * for, by whichever thread. The file FSC_FAIL_COUNTS, of 16 bytes, has two counts in the end, however the program
@@ -7,6 +8,7 @@
 #include <dlfcn.h>
 #include <errno.h>
 #include <fcntl.h>
+#include <pthread.h>
 #include <stdatomic.h>
 #include <stdlib.h>
 #include <sys/mman.h>
@@ -81,4 +83,12 @@ int posix_memalign(void **block, size_t align, size_t size)
     if (!next)
         *(void **)&next = dlsym(RTLD_NEXT, "posix_memalign");
     return fails() ? ENOMEM : next(block, align, size);
+}
+
+int pthread_create(pthread_t *thread, const pthread_attr_t *attributes, void *(*run)(void *), void *given)
+{
+    static int (*next)(pthread_t *, const pthread_attr_t *, void *(*)(void *), void *);
+    if (!next)
+        *(void **)&next = dlsym(RTLD_NEXT, "pthread_create");
+    return fails() ? EAGAIN : next(thread, attributes, run, given);
 }
