@@ -1,7 +1,5 @@
-"""Allocations that fail, and keys in a core of the program."""
-import shutil
+"""Allocations that fail, keys in a core of the program, and wipes in its machine code."""
 import subprocess
-import tempfile
 
 from checks.running import PROGRAM, SERIAL, THREADED, TOP, run
 from checks.want_of_memory import Judge, Wrong
@@ -59,4 +57,13 @@ def keys_in_core(tally):
     tally.wants("no key stands more often than docs/SECURITY.md tells", tool.returncode == 0, tool.stdout.decode())
 
 
-CHECKS = (failing_allocations, judged_logs, keys_in_core)
+def wipes_in_code(tally):
+    """What the sources promise to overwrite is overwritten in the machine code."""
+    tool = subprocess.run([f"{TOP}/tools/wipes_in_code", PROGRAM], stdout=subprocess.PIPE, stderr=subprocess.STDOUT, check=False)
+    if tool.returncode == NO_TOOL:
+        print("check: there is no objdump, so no machine code was read")
+        return
+    tally.wants("the machine code overwrites what the sources promise", tool.returncode == 0, tool.stdout.decode())
+
+
+CHECKS = (failing_allocations, judged_logs, keys_in_core, wipes_in_code)
