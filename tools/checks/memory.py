@@ -52,7 +52,7 @@ def keys_in_core(tally):
     """No key stands more often in a core of the program than docs/SECURITY.md tells."""
     tool = subprocess.run([f"{TOP}/tools/keys_in_core", PROGRAM], stdout=subprocess.PIPE, stderr=subprocess.STDOUT, check=False)
     if tool.returncode == NO_TOOL:
-        print("check: there is no gdb, so no core was taken")
+        print("check: gdb is not there or may not trace, so no core was taken")
         return
     tally.wants("no key stands more often than docs/SECURITY.md tells", tool.returncode == 0, tool.stdout.decode())
 

@@ -68,6 +68,8 @@ def cores(program, words, script, numbers, room):
         os.close(theirs)
         reader.join(timeout=SECONDS)
         os.close(ours)
+    if "Operation not permitted" in told and "\nMOMENT " not in told:
+        raise PermissionError("gdb may not trace a program here")
     found = {}
     for part in told.split("\nMOMENT ")[1:]:
         name = part.split("\n")[0]
