@@ -3,16 +3,17 @@ use Rattle.std.proofs.Common.{◌≡◌, ℕ, ◌+◌, ◌≤◌, ◌++◌, Some
 use Rattle.std.specs.Prelude.{Option, Result}
 use Rattle.call_history.specs.Placed.{entries_of}
 use Rattle.mount_model.specs.Port.{PlacedCalls}
+use Rattle.reply_text.specs.Shown.{PlacedShown}
 use Rattle.reply_text.specs.declared.outcome.Outcome.{Outcome}
 use Rattle.fsc_commands.specs.Steps.{Reaches}
 use Rattle.fsc_commands.specs.Steps.Steps.{Done}
 use Rattle.fsc_commands.specs.CommandSteps.{CommandSteps, when_ok}
 use Rattle.fsc_commands.specs.Made.{Made, MadePart, CameBySome}
-use Rattle.fsc_commands.proofs.StepsLemmas.{entries_of-append, Reaches-on}
+use Rattle.fsc_commands.proofs.StepsLemmas.{entries_of-append, grown_twice, Reaches-on}
 
 -- a part that got an outcome ends the work
 pub part_ends : {P A : Type 0} (came : PlacedCalls → P → Type 0) (port : P) (left before_left most : ℕ) (steps : (A → CommandSteps) → CommandSteps)
-    (next : A → CommandSteps) (got : Result A Outcome) (outcome : Outcome) (old new : PlacedCalls) → most ≤ 4 → got ≡ Err outcome
+    (next : A → CommandSteps) (got : Result A Outcome) (outcome : Outcome) (old new : PlacedShown) → most ≤ 4 → got ≡ Err outcome
     → MadePart came port left before_left most steps got old new → Made came port left before_left 4 (steps next) (Some outcome) old new
 part_ends came port left before_left most steps next got outcome old new low is part =
     let few = part.few in
@@ -29,7 +30,7 @@ part_ends came port left before_left most steps next got outcome old new low is 
 pub part_goes_on : {P A : Type 0} (came : P → PlacedCalls → P → Type 0)
     (by_more : (first second third : P) (e f : PlacedCalls) → came first e second → came second f third → came first (e ++ f) third)
     (first second third : P) (left between before_left most rest : ℕ) (steps : (A → CommandSteps) → CommandSteps) (next : A → CommandSteps)
-    (got : Result A Outcome) (value : A) (outcome : Option Outcome) (old middle new : PlacedCalls) → most + rest ≤ 4 → got ≡ Ok value
+    (got : Result A Outcome) (value : A) (outcome : Option Outcome) (old middle new : PlacedShown) → most + rest ≤ 4 → got ≡ Ok value
     → MadePart (came first) second between before_left most steps got old middle → Made (came second) third left between rest (next value) outcome middle new
     → Made (came first) third left before_left 4 (steps next) outcome old new
 part_goes_on came by_more first second third left between before_left most rest steps next got value outcome old middle new low is part more =
@@ -44,7 +45,7 @@ part_goes_on came by_more first second third left between before_left most rest 
       came_by = by_more first second third part.made more.made part.came_by more.came_by;
       follows = subst (λ es. Reaches (steps next) es (Done outcome)) (sym (entries_of-append part.made more.made))
           (Reaches-on (steps next) (next value) (Done outcome) (entries_of part.made) (entries_of more.made) reached more.follows);
-      grown = more.grown ∙ ap (λ l. l ++ more.made) part.grown ∙ append_assoc old part.made more.made;
+      grown = grown_twice old middle new part.made more.made part.grown more.grown;
       few = omega (arith, few, few', sum, low);
       counted = omega (arith, counted, counted', sum);
     }
@@ -52,13 +53,13 @@ part_goes_on came by_more first second third left between before_left most rest 
 -- calls after a part are calls
 pub part_fails : {P A : Type 0} (came : P → PlacedCalls → P → Type 0)
     (by_more : (first second third : P) (e f : PlacedCalls) → came first e second → came second f third → came first (e ++ f) third)
-    (first second third : P) (left before_left most : ℕ) (steps : (A → CommandSteps) → CommandSteps) (got : Result A Outcome) (old new : PlacedCalls)
+    (first second third : P) (left before_left most : ℕ) (steps : (A → CommandSteps) → CommandSteps) (got : Result A Outcome) (old new : PlacedShown)
     → MadePart (came first) second left before_left most steps got old new → CameBySome (came second) third → CameBySome (came first) third
 part_fails came by_more first second third left before_left most steps got old new part some =
     (part.made ++ some.0, by_more first second third part.made some.0 part.came_by some.1)
 
 -- what few calls made is made by no more than four
-pub made_by_four : {P : Type 0} (came : PlacedCalls → P → Type 0) (port : P) (left before_left most : ℕ) (steps : CommandSteps) (outcome : Option Outcome) (old new : PlacedCalls)
+pub made_by_four : {P : Type 0} (came : PlacedCalls → P → Type 0) (port : P) (left before_left most : ℕ) (steps : CommandSteps) (outcome : Option Outcome) (old new : PlacedShown)
     → most ≤ 4 → Made came port left before_left most steps outcome old new → Made came port left before_left 4 steps outcome old new
 made_by_four came port left before_left most steps outcome old new low made =
     let few = made.few in

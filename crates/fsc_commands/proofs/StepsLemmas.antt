@@ -1,8 +1,12 @@
 -- Steps after steps, and what entries make of them.
-use Rattle.std.proofs.Common.{◌≡◌, ℕ, List, [], ◌∷◌, ◌++◌, Some, refl, ap, sym, subst, ◌∙◌}
+use Rattle.std.proofs.Common.{◌≡◌, ℕ, List, [], ◌∷◌, ◌++◌, Some, refl, ap, sym, subst, ◌∙◌, append_assoc}
 use Rattle.std.proofs.lemmas.List.{map-append}
 use Rattle.mount_model.specs.History.{History, MountEntry}
+use Rattle.mount_model.specs.declared.reply.Reply.{Reply}
 use Rattle.mount_model.specs.Port.{PlacedCalls}
+use Rattle.reply_text.specs.Shown.{PlacedShown, shown_entry, shown_calls}
+use Rattle.call_history.specs.Entries as entries
+use Rattle.call_history.specs.declared.entry.Entry.{Entry}
 use Rattle.call_history.specs.Placed.{entries_of}
 use Rattle.fsc_commands.specs.Steps.{Steps, Reaches, value_after, names_after, names_from, names_in, and_then}
 use Rattle.fsc_commands.specs.Steps.Steps.{Done, Ask}
@@ -10,13 +14,34 @@ use Rattle.fsc_commands.specs.Steps.Steps.{Done, Ask}
 pub entries_of-append : (es fs : PlacedCalls) → entries_of (es ++ fs) ≡ entries_of es ++ entries_of fs
 entries_of-append es fs = map-append (λ (x : ℕ × MountEntry). x.1) es fs
 
-pub names_from-append : (names : List (List ℕ)) (es fs : History) → names_from names (es ++ fs) ≡ names_from (names_from names es) fs
+pub names_from-append : {C : Type 0} (names : List (List ℕ)) (es fs : entries.History C Reply) → names_from names (es ++ fs) ≡ names_from (names_from names es) fs
 names_from-append names [] fs = refl
 names_from-append names (e ∷ es) fs = names_from-append (names_after names e.reply) es fs
 
 -- the last names of a run that went on
-pub names_in-append : (placed made : PlacedCalls) → names_in (placed ++ made) ≡ names_from (names_in placed) (entries_of made)
-names_in-append placed made = ap (names_from []) (entries_of-append placed made) ∙ names_from-append [] (entries_of placed) (entries_of made)
+pub names_in-append : {C : Type 0} (placed made : entries.PlacedList C Reply) → names_in (placed ++ made) ≡ names_from (names_in placed) (entries_of made)
+names_in-append {C} placed made =
+    ap (names_from []) (map-append (λ (x : ℕ × Entry C Reply). x.1) placed made) ∙ names_from-append [] (entries_of placed) (entries_of made)
+
+-- ---- what is shown of calls
+
+pub shown_calls-append : (es fs : PlacedCalls) → shown_calls (es ++ fs) ≡ shown_calls es ++ shown_calls fs
+shown_calls-append es fs = map-append (λ (x : ℕ × MountEntry). (x.0, shown_entry x.1)) es fs
+
+-- what grew twice grew by what is shown of all
+pub grown_twice : (old middle new : PlacedShown) (made more : PlacedCalls) → middle ≡ old ++ shown_calls made → new ≡ middle ++ shown_calls more
+    → new ≡ old ++ shown_calls (made ++ more)
+grown_twice old middle new made more first second =
+    second ∙ ap (λ l. l ++ shown_calls more) first ∙ append_assoc old (shown_calls made) (shown_calls more)
+    ∙ ap (λ l. old ++ l) (sym (shown_calls-append made more))
+
+-- it tells the same last names
+pub names_from-shown : (names : List (List ℕ)) (placed : PlacedCalls) → names_from names (entries_of (shown_calls placed)) ≡ names_from names (entries_of placed)
+names_from-shown names [] = refl
+names_from-shown names (x ∷ xs) = names_from-shown (names_after names x.1.reply) xs
+
+pub names_in-shown : (placed : PlacedCalls) → names_in (shown_calls placed) ≡ names_in placed
+names_in-shown placed = names_from-shown [] placed
 
 -- two runs, one after the other
 pub Reaches-on : {A : Type 0} (steps rest last : Steps A) (es fs : History) → Reaches steps es rest → Reaches rest fs last → Reaches steps (es ++ fs) last

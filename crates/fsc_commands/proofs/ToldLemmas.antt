@@ -3,13 +3,12 @@ use Rattle.std.proofs.Common.{◌≡◌, ℕ, ◌+◌, ◌-◌, ◌<◌, List, [
 use Rattle.std.proofs.lemmas.List.{take_more}
 use Rattle.mount_model.specs.declared.reply.Reply.{Reply}
 use Rattle.mount_model.specs.declared.reply.Reply.TheVariants as reply
-use Rattle.mount_model.specs.History.{MountEntry}
-use Rattle.mount_model.specs.Port.{PlacedCalls}
+use Rattle.reply_text.specs.Shown.{ShownEntry, PlacedShown}
 use Rattle.fsc_commands.specs.Steps.{names_after, names_told, names_in}
 use Rattle.fsc_commands.proofs.StepsLemmas.{names_in-append}
 
 -- one entry more
-at_entry : (told : PlacedCalls) (k i : ℕ) (x : ℕ × MountEntry) → k < length told → i ≡ length told - 1 - k → x ≡ get_or told i x
+at_entry : (told : PlacedShown) (k i : ℕ) (x : ℕ × ShownEntry) → k < length told → i ≡ length told - 1 - k → x ≡ get_or told i x
     → names_in (take (length told - k) told) ≡ names_after (names_in (take i told)) x.1.reply
 at_entry told k i x below is here =
     let next : i + 1 ≡ length told - k = omega (arith, below, is) in
@@ -48,11 +47,11 @@ other_names names (reply.Stored version) told = refl
 other_names names (reply.Refused refusal) told = refl
 
 -- an entry that tells names tells the last of them
-pub last_is : (told : PlacedCalls) (k i : ℕ) (x : ℕ × MountEntry) (listed : List (List ℕ)) → k < length told → i ≡ length told - 1 - k
+pub last_is : (told : PlacedShown) (k i : ℕ) (x : ℕ × ShownEntry) (listed : List (List ℕ)) → k < length told → i ≡ length told - 1 - k
     → x ≡ get_or told i x → names_told x.1.reply ≡ Some listed → names_in (take (length told - k) told) ≡ listed
 last_is told k i x listed below is here names = at_entry told k i x below is here ∙ told_names (names_in (take i told)) listed x.1.reply names
 
 -- any other leaves the last names
-pub last_before : (told : PlacedCalls) (k i : ℕ) (x : ℕ × MountEntry) → k < length told → i ≡ length told - 1 - k
+pub last_before : (told : PlacedShown) (k i : ℕ) (x : ℕ × ShownEntry) → k < length told → i ≡ length told - 1 - k
     → x ≡ get_or told i x → names_told x.1.reply ≡ None → names_in (take (length told - k) told) ≡ names_in (take i told)
 last_before told k i x below is here none = at_entry told k i x below is here ∙ other_names (names_in (take i told)) x.1.reply none

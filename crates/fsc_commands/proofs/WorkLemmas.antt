@@ -3,15 +3,16 @@ use Rattle.std.proofs.Common.{◌≡◌, ℕ, ◌+◌, ◌≤◌, ◌++◌, Some
 use Rattle.std.specs.Prelude.{Result, IfOk, OnErr}
 use Rattle.call_history.specs.Placed.{entries_of}
 use Rattle.mount_model.specs.Port.{PlacedCalls}
+use Rattle.reply_text.specs.Shown.{PlacedShown}
 use Rattle.reply_text.specs.declared.outcome.Outcome.{Outcome}
 use Rattle.fsc_commands.specs.Steps.{Reaches}
 use Rattle.fsc_commands.specs.Steps.Steps.{Done}
 use Rattle.fsc_commands.specs.CommandSteps.{CommandSteps, when_ok, ended}
 use Rattle.fsc_commands.specs.Made.{Made, MadePart, CameBySome}
-use Rattle.fsc_commands.proofs.StepsLemmas.{entries_of-append, Reaches-on}
+use Rattle.fsc_commands.proofs.StepsLemmas.{entries_of-append, grown_twice, Reaches-on}
 
 -- what a part got ends the work, of which it is at most so much
-pub work_ends : {P A : Type 0} {came : PlacedCalls → P → Type 0} {port : P} {left before_left most : ℕ} {got : Result A Outcome} {old new : PlacedCalls}
+pub work_ends : {P A : Type 0} {came : PlacedCalls → P → Type 0} {port : P} {left before_left most : ℕ} {got : Result A Outcome} {old new : PlacedShown}
     (all : ℕ) (steps : (A → CommandSteps) → CommandSteps) (next : A → CommandSteps) (outcome : Outcome) → most ≤ all → when_ok got next ≡ ended outcome
     → MadePart came port left before_left most steps got old new → Made came port left before_left all (steps next) (Some outcome) old new
 work_ends all steps next outcome low is part =
@@ -29,7 +30,7 @@ work_ends all steps next outcome low is part =
 pub work_goes_on : {P A E : Type 0} (came : P → PlacedCalls → P → Type 0)
     (by_more : (first second third : P) (e f : PlacedCalls) → came first e second → came second f third → came first (e ++ f) third)
     (first second third : P) (left between before_left most rest all : ℕ) (steps : (A → CommandSteps) → CommandSteps) (next : A → CommandSteps)
-    (got : Result A Outcome) (after : CommandSteps) (result : Result Outcome E) (old middle new : PlacedCalls) → most + rest ≤ all → when_ok got next ≡ after
+    (got : Result A Outcome) (after : CommandSteps) (result : Result Outcome E) (old middle new : PlacedShown) → most + rest ≤ all → when_ok got next ≡ after
     → MadePart (came first) second between before_left most steps got old middle
     → IfOk result (λ outcome. Made (came second) third left between rest after (Some outcome) middle new)
     → IfOk result (λ outcome. Made (came first) third left before_left all (steps next) (Some outcome) old new)
@@ -46,7 +47,7 @@ work_goes_on came by_more first second third left between before_left most rest 
       came_by = by_more first second third part.made more.made part.came_by more.came_by;
       follows = subst (λ es. Reaches (steps next) es (Done (Some outcome))) (sym (entries_of-append part.made more.made))
           (Reaches-on (steps next) after (Done (Some outcome)) (entries_of part.made) (entries_of more.made) reached more.follows);
-      grown = more.grown ∙ ap (λ l. l ++ more.made) part.grown ∙ append_assoc old part.made more.made;
+      grown = grown_twice old middle new part.made more.made part.grown more.grown;
       few = omega (arith, few, few', sum, low);
       counted = omega (arith, counted, counted', sum);
     }
@@ -55,7 +56,7 @@ work_goes_on came by_more first second third left between before_left most rest 
 pub work_fails : {P A R E : Type 0} (came : P → PlacedCalls → P → Type 0)
     (by_more : (first second third : P) (e f : PlacedCalls) → came first e second → came second f third → came first (e ++ f) third)
     (first second third : P) (left before_left most : ℕ) (steps : (A → CommandSteps) → CommandSteps) (got : Result A Outcome) (result : Result R E)
-    (old new : PlacedCalls) → MadePart (came first) second left before_left most steps got old new
+    (old new : PlacedShown) → MadePart (came first) second left before_left most steps got old new
     → OnErr result (CameBySome (came second) third) → OnErr result (CameBySome (came first) third)
 work_fails came by_more first second third left before_left most steps got (Ok value) old new part some = tt
 work_fails came by_more first second third left before_left most steps got (Err fault) old new part some =

@@ -1,33 +1,41 @@
 -- What a command, or a part of it, makes of its port.
 use Rattle.std.specs.Prelude.{◌≡◌, ℕ, ◌+◌, ◌≤◌, ◌++◌, length, Result}
+use Rattle.call_history.specs.Entries.{entry}
 use Rattle.call_history.specs.Placed.{entries_of}
 use Rattle.mount_model.specs.Port.{PlacedCalls}
+use Rattle.mount_model.specs.declared.call.Call.{Call}
+use Rattle.mount_model.specs.History.{MountEntry}
+use Rattle.reply_text.specs.Shown.{PlacedShown, ShownEntry, shown_calls}
 use Rattle.reply_text.specs.declared.outcome.Outcome.{Outcome}
 use Rattle.fsc_commands.specs.Steps.{Steps, Reaches}
 use Rattle.fsc_commands.specs.Steps.Steps.{Done}
 use Rattle.fsc_commands.specs.CommandSteps.{CommandSteps, when_ok}
 
--- the port came by at most so many calls, which are these steps and leave this value, and the list has them
--- behind its others
+-- the port came by at most so many calls, which are these steps and leave this value, and the list has what
+-- is shown of them behind its others
 pub record Made {P A : Type 0} (came : PlacedCalls → P → Type 0) (port : P) (left before_left most : ℕ)
-    (steps : Steps A) (value : A) (old new : PlacedCalls) : Type 0 where
+    (steps : Steps A) (value : A) (old new : PlacedShown) : Type 0 where
   pub made : PlacedCalls
   pub came_by : came made port
   pub follows : Reaches steps (entries_of made) (Done value)
-  pub grown : new ≡ old ++ made
+  pub grown : new ≡ old ++ shown_calls made
   pub few : length made ≤ most
   pub counted : left + length made ≡ before_left
 
 -- the same of a part of a session's work: whatever comes after it, it goes on with what was got
 pub record MadePart {P A : Type 0} (came : PlacedCalls → P → Type 0) (port : P) (left before_left most : ℕ)
-    (steps : (A → CommandSteps) → CommandSteps) (got : Result A Outcome) (old new : PlacedCalls)
+    (steps : (A → CommandSteps) → CommandSteps) (got : Result A Outcome) (old new : PlacedShown)
     : Type 0 where
   pub made : PlacedCalls
   pub came_by : came made port
   pub follows : (next : A → CommandSteps) → Reaches (steps next) (entries_of made) (when_ok got next)
-  pub grown : new ≡ old ++ made
+  pub grown : new ≡ old ++ shown_calls made
   pub few : length made ≤ most
   pub counted : left + length made ≡ before_left
+
+-- the entry of the caller's call of which this is shown, with its place
+abbrev pub asked : ℕ → Call → ℕ × ShownEntry → ℕ × MountEntry
+asked caller call placed = (placed.0, entry caller call placed.1.reply)
 
 -- the port came by some calls, of which nothing else is told
 abbrev pub CameBySome : {P : Type 0} → (PlacedCalls → P → Type 0) → P → Type 0

@@ -4,7 +4,8 @@ use Rattle.mount_model.specs.declared.call.Call.{Call}
 use Rattle.mount_model.specs.declared.reply.Reply.{Reply}
 use Rattle.mount_model.specs.declared.reply.Reply.TheVariants.{Names}
 use Rattle.mount_model.specs.History.{History}
-use Rattle.mount_model.specs.Port.{PlacedCalls}
+use Rattle.call_history.specs.Entries as entries
+use Rattle.call_history.specs.Entries.{PlacedList}
 use Rattle.call_history.specs.Placed.{entries_of}
 
 -- it is done, with a value; or a caller asks, and it goes on as the reply tells
@@ -40,13 +41,14 @@ abbrev pub names_told : Reply → Option (List (List ℕ))
 names_told (Names listed more) = Some listed
 names_told other = None
 
--- the names that a caller was last told by these entries, and otherwise those before
-abbrev pub names_from : List (List ℕ) → History → List (List ℕ)
+-- the names that a caller was last told by these entries, and otherwise those before; whether the entries
+-- have the calls or what a log shows of them
+abbrev pub names_from : {C : Type 0} → List (List ℕ) → entries.History C Reply → List (List ℕ)
 names_from names [] = names
 names_from names (e ∷ es) = names_from (names_after names e.reply) es
 
 -- the names that a caller was last told by its entries
-abbrev pub names_in : PlacedCalls → List (List ℕ)
+abbrev pub names_in : {C : Type 0} → PlacedList C Reply → List (List ℕ)
 names_in placed = names_from [] (entries_of placed)
 
 -- first the one, then what comes after its value and the last names

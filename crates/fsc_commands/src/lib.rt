@@ -34,14 +34,16 @@ pub use command::run_command;
 pub use draws::{NONCE_BYTES, Purpose, distinct_draws, draw};
 use item_list::Items;
 pub use meant::id_meant;
-use mount_model::{Call, Reply};
+use mount_model::Reply;
 pub use new_records::made_records_open;
+use reply_text::Shown;
 pub use stars::path_meant;
 pub use stretches::{InThreads, OnOneThread, Stretches};
 pub use turn::Turn;
 
-/// What a caller asked and was replied, each with its place in the history, which counts from 0.
-pub type EntryList = Items<(u64, Entry<Call, Reply>)>;
+/// What a log shows of a caller's calls, and what was replied, each with its place in the history, which
+/// counts from 0. Neither raw keys nor nonces nor written bytes are among it.
+pub type EntryList = Items<(u64, Entry<Shown, Reply>)>;
 
 /// The most calls that a command makes.
 pub const MOST_CALLS: u64 = 4;

@@ -5,7 +5,8 @@ ghost use Rattle.mount_model.specs.declared.call.Call.{Call};
 ghost use Rattle.mount_model.specs.Fits.{OpFits};
 ghost use Rattle.fsc_commands.specs.CommandSteps.{last_call, called};
 ghost use Rattle.fsc_commands.specs.Opening.{loading_policy};
-ghost use Rattle.fsc_commands.specs.Made.{Made, MadePart, CameBySome};
+ghost use Rattle.fsc_commands.specs.Made.{Made, MadePart, CameBySome, asked};
+ghost use Rattle.reply_text.specs.Shown.{shown_entry};
 
 use crate::EntryList;
 use crate::loaded::{LoadedPolicy, policy_loaded};
@@ -14,34 +15,37 @@ use crate::outcomes::{Wanted, outcome_of};
 use crate::turn::Turn;
 use call_history::Entry;
 use mount_model::{Call, MountPort, Op, Reply};
-use reply_text::Outcome;
+use reply_text::{Outcome, Shown, shown_of};
 use script_lang::Record;
 use short_bytes::Label;
 use std::alloc::{AllocError, Global};
 
-// Makes a call of the caller, and gives its entry with its place. Want of memory comes before the call.
+// Makes a call of the caller, and gives what is shown of its entry, with its place. Want of memory comes
+// before the call.
 pub(crate) fn ask<P: MountPort>(
     alloc: Global,
     port: &mut P,
     turn: Turn,
     op: Op,
-) -> Result<(u64, Entry<Call, Reply>), AllocError>
+) -> Result<(u64, Entry<Shown, Reply>), AllocError>
     requires caller { turn.caller ≡ P.who port.old }
     requires left { 0 < P.calls_left port.old }
     requires fits { OpFits op }
-    ensures came { IfOk result (λ placed. P.came port.old (placed ∷ []) port.new) }
-    ensures who { IfOk result (λ placed. placed.1.who ≡ turn.caller) }
-    ensures call { IfOk result (λ placed. placed.1.call ≡ called turn.uid op) }
+    ensures came { IfOk result (λ placed. P.came port.old
+        (asked turn.caller (called turn.uid op) placed ∷ []) port.new) }
+    ensures shown { IfOk result (λ placed. placed
+        ≡ (placed.0, shown_entry (asked turn.caller (called turn.uid op) placed).1)) }
     ensures one_fewer { IfOk result (λ placed. P.calls_left port.new + 1 ≡ P.calls_left port.old) }
     ensures caller { P.who port.new ≡ P.who port.old }
+    ensures unasked { OnErr result (port.new ≡ port.old) }
     ensures failed { OnErr result (CameBySome (P.came port.old) port.new) }
 {
     let call = Call { uid: turn.uid, op };
-    let kept = call.copy(alloc)?;
+    let shown = shown_of(alloc, &call)?;
     let placed = port.call(call);
     let entry = Entry {
         who: turn.caller,
-        call: kept,
+        call: shown,
         reply: placed.reply,
     };
     Ok((placed.place, entry))

@@ -14,7 +14,8 @@ use byte_words::slice_is_bytes;
 use call_history::Entry;
 use item_list::Bytes;
 use mount_limits::MOST_PART_BYTES;
-use mount_model::{Call, Part, Path, Reply};
+use mount_model::{Part, Path, Reply};
+use reply_text::Shown;
 use script_lang::{ScriptPart, ScriptPath};
 use std::alloc::{AllocError, Global};
 use text_words::push_decimal;
@@ -32,7 +33,7 @@ pub fn path_meant(alloc: Global, told: &EntryList, path: &ScriptPath) -> Result<
 // The path of what each part means.
 fn parts_meant(
     alloc: Global,
-    told: &[(u64, Entry<Call, Reply>)],
+    told: &[(u64, Entry<Shown, Reply>)],
     parts: &[ScriptPart],
 ) -> Result<Path, AllocError>
     requires { script.IsPath parts.now }
@@ -50,7 +51,7 @@ fn parts_meant(
 // What a part means.
 fn part_meant(
     alloc: Global,
-    told: &[(u64, Entry<Call, Reply>)],
+    told: &[(u64, Entry<Shown, Reply>)],
     part: &ScriptPart,
 ) -> Result<Bytes, AllocError>
     requires { script.IsPart part.now }

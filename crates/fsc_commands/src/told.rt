@@ -6,11 +6,12 @@ ghost use Rattle.fsc_commands.specs.Steps.{names_told, names_in};
 
 use call_history::Entry;
 use item_list::Bytes;
-use mount_model::{Call, Reply};
+use mount_model::Reply;
+use reply_text::Shown;
 
 // The names of the last listing among the entries; none before the first one. It goes back to that
 // listing entry by entry, so it is called for a star alone.
-pub(crate) fn last_names(told: &[(u64, Entry<Call, Reply>)]) -> &[Bytes]
+pub(crate) fn last_names(told: &[(u64, Entry<Shown, Reply>)]) -> &[Bytes]
     ensures { result.now ≡ names_in told.now }
 {
     'entries: for k in 0..told.len() {

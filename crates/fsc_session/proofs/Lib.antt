@@ -2,3 +2,4 @@ pub mod Asked
 pub mod LawLemmas
 pub mod NoteLemmas
 pub mod RunLemmas
+pub mod ShownRuns

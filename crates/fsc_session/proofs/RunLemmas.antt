@@ -17,10 +17,11 @@ use Rattle.fsc_commands.specs.Commands.{command_steps}
 use Rattle.reply_text.specs.declared.notes.Note.{Note}
 use Rattle.reply_text.specs.declared.outcome.Outcome.{Outcome}
 use Rattle.fsc_session.specs.Session.{steps_from, section_steps, noted, notes_of_section, IsRunOfSection, IsRunSoFar}
-use Rattle.fsc_session.specs.Running.{RunnerView, Stepped, StepMakes}
+use Rattle.reply_text.specs.Shown.{PlacedShown, shown_calls}
+use Rattle.fsc_session.specs.Running.{RunnerView, RanSoFar, Stepped, StepMakes, runner_view}
 use Rattle.fsc_commands.specs.Made.{Made}
 use Rattle.fsc_commands.specs.declared.TheConstants.{MOST_CALLS}
-use Rattle.fsc_commands.proofs.StepsLemmas.{entries_of-append, names_in-append, Reaches-on, Reaches-and_then, value_reached}
+use Rattle.fsc_commands.proofs.StepsLemmas.{entries_of-append, names_in-append, names_in-shown, shown_calls-append, Reaches-on, Reaches-and_then, value_reached}
 
 drop-at : {A : Type 0} (n : ℕ) (xs : List A) (x : A) → slice_get xs n ≡ Some x → drop n xs ≡ x ∷ drop (n + 1) xs
 drop-at {A} n xs x here =
@@ -70,31 +71,28 @@ asked_there section n command asked here =
     (slice_get_within section.commands n command here) asked)
 
 -- a command that was made is a step of its runner
-pub stepped : {P : Type 0} (came : PlacedCalls → P → Type 0) (port : P) (left before_left : ℕ) (seed : List ℕ) (command : Command) (outcome : Option Outcome) (old new : RunnerView)
-    → slice_get old.section.commands old.next ≡ Some command → new.caller ≡ old.caller → new.section ≡ old.section → new.next ≡ old.next + 1
-    → new.notes ≡ old.notes ++ noted old.caller command outcome
-    → Made came port left before_left MOST_CALLS (command_steps seed old.caller old.section.uid old.next (names_in old.entries) command.verb) outcome old.entries new.entries
-    → Stepped came port left before_left seed true old new
-stepped came port left before_left seed command outcome old new here caller section next notes made = record {
+pub stepped : {P : Type 0} (came : PlacedCalls → P → Type 0) (port : P) (left before_left : ℕ) (seed : List ℕ) (command : Command) (outcome : Option Outcome)
+    (caller : ℕ) (section : Section) (n : ℕ) (entries entries' : PlacedShown) (notes notes' : List Note) → slice_get section.commands n ≡ Some command
+    → notes' ≡ notes ++ noted caller command outcome
+    → Made came port left before_left MOST_CALLS (command_steps seed caller section.uid n (names_in entries) command.verb) outcome entries entries'
+    → Stepped came port left before_left seed true (runner_view caller section n entries notes) (runner_view caller section (n + 1) entries' notes')
+stepped came port left before_left seed command outcome caller section n entries entries' notes notes' here noting made = record {
   made = made.made;
   came_by = made.came_by;
   grown = made.grown;
   few = made.few;
   counted = made.counted;
-  caller = caller;
-  section = section;
-  step = (command, here, next, (outcome, made.follows, notes));
+  caller = refl;
+  section = refl;
+  step = (command, here, refl, (outcome, made.follows, noting));
+  run = λ placed so. record {
+    shown = made.grown ∙ ap (λ (l : PlacedShown). l ++ shown_calls made.made) so.shown ∙ sym (shown_calls-append placed made.made);
+    run = subst (λ (ns : List Note). IsRunSoFar seed caller section (n + 1) (placed ++ made.made) ns) (sym noting)
+        (run_goes_on seed caller section n command placed made.made notes outcome so.run here
+        (subst (λ (names : List (List ℕ)). Reaches (command_steps seed caller section.uid n names command.verb) (entries_of made.made) (Done outcome))
+        (ap (λ (l : PlacedShown). names_in l) so.shown ∙ names_in-shown placed) made.follows));
+  };
 }
-
-pub made_goes_on : {P : Type 0} (came : PlacedCalls → P → Type 0) (port : P) (left before_left : ℕ) (seed : List ℕ) (caller : ℕ) (section : Section) (n : ℕ) (command : Command)
-    (outcome : Option Outcome) (placed after : PlacedCalls) (notes new_notes : List Note) → slice_get section.commands n ≡ Some command
-    → new_notes ≡ notes ++ noted caller command outcome
-    → Made came port left before_left MOST_CALLS (command_steps seed caller section.uid n (names_in placed) command.verb) outcome placed after
-    → IsRunSoFar seed caller section n placed notes → IsRunSoFar seed caller section (n + 1) after new_notes
-made_goes_on came port left before_left seed caller section n command outcome placed after notes new_notes here noting made so =
-    subst (λ (es : PlacedCalls). IsRunSoFar seed caller section (n + 1) es new_notes) (sym made.grown)
-    (subst (λ (ns : List Note). IsRunSoFar seed caller section (n + 1) (placed ++ made.made) ns) (sym noting)
-    (run_goes_on seed caller section n command placed made.made notes outcome so here made.follows))
 
 -- a run of all commands is a run of the section
 pub run_is_whole : (seed : List ℕ) (caller : ℕ) (section : Section) (n : ℕ) (placed : PlacedCalls) (notes : List Note) → length section.commands ≤ n
@@ -114,14 +112,22 @@ notes_are_whole seed caller section n placed notes all so =
 
 -- ---- what a caller's steps add up to
 
-pub few_after : (n : ℕ) (old made new : PlacedCalls) → new ≡ old ++ made → length made ≤ 4 → length old ≤ 4 * n → length new ≤ 4 * (n + 1)
-few_after n old made new grown few before =
-    let sum = ap length grown ∙ length-append old made in omega (arith, sum, few, before)
-
-pub counted_after : (first between left : ℕ) (old made new : PlacedCalls) → new ≡ old ++ made → left + length made ≡ between → between + length old ≡ first
-    → left + length new ≡ first
-counted_after first between left old made new grown last before =
-    let sum = ap length grown ∙ length-append old made in omega (arith, sum, last, before)
+-- by one step more
+pub so_far_goes_on : {P : Type 0} (came : P → PlacedCalls → P → Type 0)
+    (by_more : (first second third : P) (e f : PlacedCalls) → came first e second → came second f third → came first (e ++ f) third)
+    (first second third : P) (left between before_left : ℕ) (seed : List ℕ) (more : Bool) (old new : RunnerView)
+    → RanSoFar (came first) second between before_left seed old → Stepped (came second) third left between seed more old new
+    → RanSoFar (came first) third left before_left seed new
+so_far_goes_on came by_more first second third left between before_left seed more old new so made =
+    let counted = so.counted in
+    let counted' = made.counted in
+    let sum = length-append so.placed made.made in
+    record {
+      placed = so.placed ++ made.made;
+      came_by = by_more first second third so.placed made.made so.came_by made.came_by;
+      has_run = made.run so.placed so.has_run;
+      counted = omega (arith, counted, counted', sum);
+    }
 
 -- where a command is left, a step makes it
 pub next_after : (seed : List ℕ) (more : Bool) (old new : RunnerView) (made : PlacedCalls) → StepMakes seed more old new made

@@ -2,7 +2,7 @@
 
 ghost use Rattle.std.specs.Prelude.{◌≡◌, ◌≤◌, [], ◌++◌, IfOk, OnOk, OnErr};
 ghost use Rattle.fsc_session.specs.Asking.{AsksRightly};
-ghost use Rattle.fsc_session.specs.Running.{RunnerView, runner_view, next_command, HasRun, Stepped};
+ghost use Rattle.fsc_session.specs.Running.{RunnerView, runner_view, next_command, Stepped};
 ghost use Rattle.fsc_commands.specs.Made.{CameBySome};
 ghost use Rattle.fsc_session.specs.Session.{noted};
 ghost use Rattle.fsc_commands.specs.declared.TheConstants.{MOST_CALLS};
@@ -15,15 +15,16 @@ use script_lang::{Command, Section};
 use std::alloc::{AllocError, Global};
 use std::marker::Model;
 
-/// What a caller's section made: what it asked and was replied, and how its session commands ended.
+/// What a caller's section made: what a log shows of its calls, with the replies, and how its session
+/// commands ended.
 #[derive(Drop)]
 pub struct Ran {
     pub entries: EntryList,
     pub notes: NoteList,
 }
 
-/// A caller between two commands of its section, with what it asked and was replied so far. In clauses it
-/// is a `RunnerView`.
+/// A caller between two commands of its section, with what a log shows of its calls so far, and the replies.
+/// In clauses it is a `RunnerView`.
 #[derive(Drop)]
 pub struct Runner<'a> {
     caller: u32,
@@ -75,7 +76,6 @@ impl<'a> Runner<'a> {
         requires asked { AsksRightly self.old.section }
         ensures stepped { IfOk result (λ more. Stepped (P.came port.old) port.new
             (P.calls_left port.new) (P.calls_left port.old) seed.now more self.old self.new) }
-        ensures run { OnOk result (HasRun seed.now self.old → HasRun seed.now self.new) }
         ensures caller { P.who port.new ≡ P.who port.old }
         ensures failed { OnErr result (CameBySome (P.came port.old) port.new) }
     {
@@ -121,7 +121,7 @@ impl<'a> Runner<'a> {
         }
     }
 
-    /// What was asked and replied, and the notes.
+    /// What is shown of its calls, with the replies, and the notes.
     pub fn ran(self) -> Ran
         ensures entries { result.entries ≡ self.entry.entries }
         ensures notes { result.notes ≡ self.entry.notes }

@@ -1,8 +1,8 @@
 //! A caller's whole section, run on its port.
 
-ghost use Rattle.std.specs.Prelude.{◌≡◌, ◌≤◌, ◌+◌, ◌*◌, length, IfOk, OnErr};
+ghost use Rattle.std.specs.Prelude.{◌≤◌, ◌*◌, length, IfOk, OnErr};
 ghost use Rattle.fsc_session.specs.Asking.{AsksRightly};
-ghost use Rattle.fsc_session.specs.Session.{IsRunOfSection, notes_of_section};
+ghost use Rattle.fsc_session.specs.Running.{SectionRan};
 ghost use Rattle.fsc_commands.specs.Made.{CameBySome};
 ghost use Rattle.fsc_commands.specs.declared.TheConstants.{MOST_CALLS};
 
@@ -27,12 +27,8 @@ pub fn run_caller<P: MountPort, G: Gate, S: Stretches>(
     requires ready { S.ready stretches.now }
     requires left { MOST_CALLS * length section.now.commands ≤ P.calls_left port.old }
     requires asked { AsksRightly section.now }
-    ensures came { IfOk result (λ ran. P.came port.old ran.entries port.new) }
-    ensures run { IfOk result (λ ran. IsRunOfSection seed.now (P.who port.old) section.now ran.entries) }
-    ensures notes { IfOk result (λ ran. ran.notes
-        ≡ notes_of_section seed.now (P.who port.old) section.now ran.entries) }
-    ensures counted { IfOk result (λ ran.
-        P.calls_left port.new + length ran.entries ≡ P.calls_left port.old) }
+    ensures ran { IfOk result (λ ran. SectionRan (P.came port.old) port.new (P.calls_left port.new)
+        (P.calls_left port.old) seed.now (P.who port.old) section.now ran.entries ran.notes) }
     ensures failed { OnErr result (CameBySome (P.came port.old) port.new) }
 {
     let caller = port.caller();

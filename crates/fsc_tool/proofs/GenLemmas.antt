@@ -1,6 +1,7 @@
 -- What a run in a form that generates says of the tool, and what a summary is of.
 use Rattle.std.proofs.Common.{◌≡◌, ◌≢◌, ℕ, inl, inr, Bool, true, false, ◌||◌, List, [], ◌∷◌, ◌++◌, codes, Option, Some, None, refl, sym, ap, ap₂, ◌∙◌, subst}
-use Rattle.std.specs.Prelude.{IsSome, is_some}
+use Rattle.std.specs.Prelude.{IsSome, is_some, count_by, length, suc, if◌then◌else◌}
+use Rattle.std.proofs.lemmas.List.{length-map}
 use Rattle.std.specs.List.{All, list_any}
 use Rattle.std.specs.Str.{bytes_eq}
 use Rattle.std.proofs.lemmas.List.Elements.{All-nil, All-cons}
@@ -8,14 +9,18 @@ use Rattle.std.proofs.lemmas.Slice.Eq.{bytes_eq-Decides}
 use Rattle.call_history.specs.Placed.{entries_of}
 use Rattle.call_history.proofs.Placing.{map-numbered}
 use Rattle.mount_model.specs.History.{History, MountEntry, NeverWantsMemory, is_want_of_memory}
-use Rattle.mount_model.specs.Port.{PlacedCalls}
+use Rattle.mount_model.specs.declared.reply.Reply.{Reply}
 use Rattle.mount_model.specs.declared.reply.Reply.TheVariants.{Refused}
 use Rattle.mount_model.specs.declared.reply.Refusal.TheVariants as refusal
 use Rattle.script_lang.specs.declared.commands.Section.{Section}
 use Rattle.load_gen.specs.Generated.{generated_script}
 use Rattle.fsc_outside.specs.Causes.{Rose}
 use Rattle.fsc_outside.specs.States.{SinkState}
-use Rattle.reply_text.specs.Log.{log_text}
+use Rattle.hex.specs.Hex.{encode_lower}
+use Rattle.sha2.specs.Sha256.{sha256}
+use Rattle.reply_text.specs.Shown.{PlacedShown, ShownEntry, ShownHistory, shown_entry, shown_history, shown_log}
+use Rattle.reply_text.proofs.LogLemmas.{log_shown}
+use Rattle.fsc_session.specs.Session.{notes_of}
 use Rattle.reply_text.specs.Notes.{notes_text}
 use Rattle.reply_text.specs.declared.notes.Note.{Note}
 use Rattle.reply_text.specs.declared.status.Status.{Status}
@@ -28,7 +33,7 @@ use Rattle.fsc_tool.specs.GenForms.{gen_form_of}
 use Rattle.fsc_tool.specs.Outside.{Outside}
 use Rattle.fsc_tool.specs.Replay.{IsOrNoMemory, IsReplay}
 use Rattle.fsc_tool.specs.Runs.{IsLawfulRun, IsSerialRun, TellsRun}
-use Rattle.fsc_tool.specs.Summary.{summary_text}
+use Rattle.fsc_tool.specs.Summary.{count_line, is_busy_removal, is_refusal, summary_text}
 use Rattle.fsc_tool.specs.Tool.{IsSerialToolRun, IsToolRun}
 
 -- ---- words
@@ -155,25 +160,45 @@ or_false : (a b : Bool) → (a || b) ≡ false → (a ≡ false) × (b ≡ false
 or_false true b h = absurd (cc h)
 or_false false b h = (refl, h)
 
-never_wants : (history : History) → list_any (λ (e : MountEntry). is_want_of_memory e.reply) history ≡ false → All (λ (e : MountEntry). e.reply ≢ Refused refusal.NoMemory) history
+-- where what is shown tells no want of memory, none was
+never_wants : (history : History) → list_any (λ (e : ShownEntry). is_want_of_memory e.reply) (shown_history history) ≡ false
+    → All (λ (e : MountEntry). e.reply ≢ Refused refusal.NoMemory) history
 never_wants [] h = All-nil (λ (e : MountEntry). e.reply ≢ Refused refusal.NoMemory)
 never_wants (e ∷ es) h =
-    let parts = or_false (is_want_of_memory e.reply) (list_any (λ (e : MountEntry). is_want_of_memory e.reply) es) h in
+    let parts = or_false (is_want_of_memory e.reply) (list_any (λ (e : ShownEntry). is_want_of_memory e.reply) (shown_history es)) h in
     All-cons (λ (e : MountEntry). e.reply ≢ Refused refusal.NoMemory) e es
     (λ is. let both = sym parts.0 ∙ ap is_want_of_memory is in cc both) (never_wants es parts.1)
 
+counts_shown : (p : Reply → Bool) (history : History)
+    → count_by (λ (e : ShownEntry). p e.reply) (shown_history history) ≡ count_by (λ (e : MountEntry). p e.reply) history
+counts_shown p [] = refl
+counts_shown p (e ∷ es) = ap (λ (n : ℕ). if p e.reply then suc n else n) (counts_shown p es)
+
+-- what is shown of a history has its summary
+summary_shown : (history : History) (log : List ℕ) → summary_text (shown_history history) log ≡ summary_text history log
+unfolding summary_text
+summary_shown history log =
+    ap₂ (λ (n m : ℕ). count_line (codes "entries") n ++ (count_line (codes "refused") m
+    ++ (count_line (codes "busy") (count_by (λ (e : ShownEntry). is_busy_removal e.reply) (shown_history history)) ++ (codes "sha256 " ++ (encode_lower (sha256 log) ++ codes "\n")))))
+    (length-map history shown_entry) (counts_shown is_refusal history)
+    ∙ ap (λ (n : ℕ). count_line (codes "entries") (length history) ++ (count_line (codes "refused") (count_by (λ (e : MountEntry). is_refusal e.reply) history)
+    ++ (count_line (codes "busy") n ++ (codes "sha256 " ++ (encode_lower (sha256 log) ++ codes "\n"))))) (counts_shown is_busy_removal history)
+
 -- the summary of what a run of the generated script told
-pub summary_is : (lawful : History → Type 0) (number : ℕ) (script : List Section) (seed : List ℕ) (told : PlacedCalls) (notes : List Note) (history : History) (text : List ℕ)
+pub summary_is : (lawful : History → Type 0) (number : ℕ) (script : List Section) (seed : List ℕ) (told : PlacedShown) (notes : List Note) (history : ShownHistory) (text : List ℕ)
     → script ≡ generated_script number → seed ≡ zero_seed → TellsRun (IsSerialRun lawful) seed script told notes → history ≡ entries_of told
-    → list_any (λ (e : MountEntry). is_want_of_memory e.reply) history ≡ false → text ≡ summary_text history (log_text history ++ notes_text notes)
+    → list_any (λ (e : ShownEntry). is_want_of_memory e.reply) history ≡ false → text ≡ summary_text history (shown_log history ++ notes_text notes)
     → SummaryOfRun lawful number text
 summary_is lawful number script seed told notes history text made zeros run listed none summed =
     let ran : TellsRun (IsSerialRun lawful) zero_seed (generated_script number) told notes =
     subst (λ s. TellsRun (IsSerialRun lawful) zero_seed s told notes) made (subst (λ z. TellsRun (IsSerialRun lawful) z script told notes) zeros run) in
-    let is : history ≡ ran.history = listed ∙ ap entries_of ran.in_place ∙ map-numbered 0 ran.history in
-    let no_want : NeverWantsMemory ran.history = subst NeverWantsMemory is (never_wants history none) in
+    let is : history ≡ shown_history ran.history = listed ∙ ap entries_of ran.in_place ∙ map-numbered 0 (shown_history ran.history) in
+    let no_want : NeverWantsMemory ran.history =
+    never_wants ran.history (subst (λ (h : ShownHistory). list_any (λ (e : ShownEntry). is_want_of_memory e.reply) h ≡ false) is none) in
     let summary : text ≡ run_summary zero_seed (generated_script number) ran.history =
-    summed ∙ ap₂ (λ (h : History) (ns : List Note). summary_text h (log_text h ++ notes_text ns)) is ran.noted in
+    summed ∙ ap₂ (λ (h : ShownHistory) (ns : List Note). summary_text h (shown_log h ++ notes_text ns)) is ran.noted
+    ∙ ap (λ (lines : List ℕ). summary_text (shown_history ran.history) (lines ++ notes_text (notes_of zero_seed (generated_script number) ran.history))) (log_shown ran.history)
+    ∙ summary_shown ran.history _ in
     record {
       history = ran.history;
       run = ran.run;

@@ -5,6 +5,8 @@ use Rattle.std.specs.List.{fold}
 use Rattle.std.proofs.Math.Seq.{drop-cons}
 use Rattle.std.proofs.lemmas.Option.{slice_get_past, slice_get_within, slice_get_cases, get_or_from_slice_get}
 use Rattle.call_history.specs.Entries.{by, entries_by}
+use Rattle.reply_text.specs.Shown.{PlacedShown, shown_calls, shown_history}
+use Rattle.fsc_session.proofs.ShownRuns.{by-shown, numbered-shown}
 use Rattle.call_history.specs.Placed.{entries_of}
 use Rattle.call_history.proofs.Placing.{by-append, by-by, by-by_other}
 use Rattle.mount_model.specs.PlainMount.{empty_mount}
@@ -70,8 +72,7 @@ fresh_turn seed j script section asked here = record {
   section = here;
   asked = asked;
   next = omega arith;
-  own = refl;
-  run = refl;
+  run = record { shown = refl; run = refl };
 }
 
 fresh_at : (seed : List ℕ) (j : ℕ) (script : List Section) (runner : RunnerView) → All AsksRightly script → slice_get (fresh_runners 0 script) j ≡ Some runner
@@ -109,32 +110,32 @@ before_all leads seed whole script runners machine places is none asked led =
 pub told_by-more : (runners : List RunnerView) (runner : RunnerView) → told_by (runners ++ runner ∷ []) ≡ told_by runners ++ runner.entries
 told_by-more [] runner = append-nil runner.entries
 told_by-more (first ∷ more) runner =
-    ap (λ (l : PlacedCalls). first.entries ++ l) (told_by-more more runner) ∙ sym (append_assoc first.entries (told_by more) runner.entries)
+    ap (λ (l : PlacedShown). first.entries ++ l) (told_by-more more runner) ∙ sym (append_assoc first.entries (told_by more) runner.entries)
 
 -- where no runner is this caller
-told_none : (told : PlacedCalls) (k c : ℕ) (runners : List RunnerView) → ((j : ℕ) (r : RunnerView) → slice_get runners j ≡ Some r → (r.entries ≡ by (k + j) told) × (c ≢ k + j))
+told_none : (told : PlacedShown) (k c : ℕ) (runners : List RunnerView) → ((j : ℕ) (r : RunnerView) → slice_get runners j ≡ Some r → (r.entries ≡ by (k + j) told) × (c ≢ k + j))
     → by c (told_by runners) ≡ []
 told_none told k c [] each = refl
 told_none told k c (r ∷ rs) each =
     let first = each 0 r refl in
     by-append c r.entries (told_by rs)
-    ∙ ap₂ (λ (a b : PlacedCalls). a ++ b) (ap (by c) first.0 ∙ by-by_other c (k + 0) told first.1)
+    ∙ ap₂ (λ (a b : PlacedShown). a ++ b) (ap (by c) first.0 ∙ by-by_other c (k + 0) told first.1)
     (told_none told (k + 1) c rs (λ j s here. let rest = each (suc j) s here in let next : k + suc j ≡ k + 1 + j = omega arith in
     (rest.0 ∙ ap (λ w. by w told) next, λ same. rest.1 (same ∙ sym next))))
 
-told_own : (told : PlacedCalls) (k i : ℕ) (runners : List RunnerView) (runner : RunnerView) → slice_get runners i ≡ Some runner
+told_own : (told : PlacedShown) (k i : ℕ) (runners : List RunnerView) (runner : RunnerView) → slice_get runners i ≡ Some runner
     → ((j : ℕ) (r : RunnerView) → slice_get runners j ≡ Some r → r.entries ≡ by (k + j) told) → by (k + i) (told_by runners) ≡ by (k + i) told
 told_own told k i [] runner here each = absurd (cc here)
 told_own told k zero (r ∷ rs) runner here each =
     by-append (k + 0) r.entries (told_by rs)
-    ∙ ap₂ (λ (a b : PlacedCalls). a ++ b) (ap (by (k + 0)) (each 0 r refl) ∙ by-by (k + 0) told)
+    ∙ ap₂ (λ (a b : PlacedShown). a ++ b) (ap (by (k + 0)) (each 0 r refl) ∙ by-by (k + 0) told)
     (told_none told (k + 1) (k + 0) rs (λ j s at. let next : k + suc j ≡ k + 1 + j = omega arith in
     (each (suc j) s at ∙ ap (λ w. by w told) next, λ same. omega (arith, same))))
     ∙ append-nil (by (k + 0) told)
 told_own told k (suc i) (r ∷ rs) runner here each =
     let next : k + suc i ≡ k + 1 + i = omega arith in
     by-append (k + suc i) r.entries (told_by rs)
-    ∙ ap₂ (λ (a b : PlacedCalls). a ++ b) (ap (by (k + suc i)) (each 0 r refl) ∙ by-by_other (k + suc i) (k + 0) told (λ same. omega (arith, same)))
+    ∙ ap₂ (λ (a b : PlacedShown). a ++ b) (ap (by (k + suc i)) (each 0 r refl) ∙ by-by_other (k + suc i) (k + 0) told (λ same. omega (arith, same)))
     (ap (λ w. by w (told_by rs)) next
     ∙ told_own told (k + 1) i rs runner here (λ j s at. let on : k + suc j ≡ k + 1 + j = omega arith in each (suc j) s at ∙ ap (λ w. by w told) on)
     ∙ ap (λ w. by w told) (sym next))
@@ -181,15 +182,22 @@ longest-le most (first ∷ more) (suc j) section here = longest-le (max most (le
 module _ {M : Type 0} (leads : History → M → Type 0) (lawful : History → Type 0) (law : (h : History) (m : M) → leads h m → lawful h)
     (seed : List ℕ) (script : List Section) (whole : Steps (List Waiting)) (runners : List RunnerView) (machine : M) (places : ℕ)
     (rounds : ℕ) (all : rounds ≡ longest script) (ended : Rotating leads seed script whole (Done (map state_of runners)) (λ j. rounds) runners machine places) where
-  told_alike : (c : ℕ) → by c (told_by runners) ≡ by c ended.told
+  -- what is shown of all calls so far
+  abbrev all_shown : PlacedShown
+  all_shown = shown_calls ended.told
+
+  own_shown : (j : ℕ) (r : RunnerView) → slice_get runners j ≡ Some r → r.entries ≡ by (0 + j) all_shown
+  own_shown j r at =
+      let own : j ≡ 0 + j = omega arith in
+      (ended.each j r at).run.shown ∙ sym (by-shown j ended.told) ∙ ap (λ w. by w all_shown) own
+
+  told_alike : (c : ℕ) → by c (told_by runners) ≡ by c all_shown
   told_alike c = ⊎_elim
       (λ there. let here : 0 + c ≡ c = omega arith in
-      subst (λ w. by w (told_by runners) ≡ by w ended.told) here
-      (told_own ended.told 0 c runners there.0 there.2 (λ j r at. let own : j ≡ 0 + j = omega arith in
-      (ended.each j r at).own ∙ ap (λ w. by w ended.told) own)))
-      (λ past. told_none ended.told 0 c runners (λ j r at. let own : j ≡ 0 + j = omega arith in
-      ((ended.each j r at).own ∙ ap (λ w. by w ended.told) own, λ same. let within = slice_get_within runners j r at in let over = past.0 in omega (arith, same, within, over)))
-      ∙ sym (ended.others c past.1))
+      subst (λ w. by w (told_by runners) ≡ by w all_shown) here (told_own all_shown 0 c runners there.0 there.2 own_shown))
+      (λ past. told_none all_shown 0 c runners (λ j r at.
+      (own_shown j r at, λ same. let within = slice_get_within runners j r at in let over = past.0 in omega (arith, same, within, over)))
+      ∙ sym (by-shown c ended.told ∙ ap shown_calls (ended.others c past.1)))
       (slice_get_cases runners c).1
 
   -- each runner ran all commands of its section
@@ -206,8 +214,8 @@ module _ {M : Type 0} (leads : History → M → Type 0) (lawful : History → T
       (⊎_elim
       (λ there. let r = there.0 in let turn = ended.each c r there.2 in
       subst (λ s. IsRunOfCaller seed c s (by c ended.told)) (sym turn.section)
-      (subst (IsRunOfSection seed c r.section) turn.own
-      (subst (λ w. IsRunOfSection seed w r.section r.entries) turn.caller (run_is_whole seed r.caller r.section r.next r.entries r.notes (done_all c r there.2) turn.run))))
+      (subst (λ w. IsRunOfSection seed w r.section (by c ended.told)) turn.caller
+      (run_is_whole seed r.caller r.section r.next (by c ended.told) r.notes (done_all c r there.2) turn.run.run)))
       (λ past. let over = past.0 in let count = ended.count in
       subst (λ s. IsRunOfCaller seed c s (by c ended.told)) (sym (slice_get_past script c (omega (arith, over, count)))) (ended.others c past.1))
       (slice_get_cases runners c).1)
@@ -222,8 +230,8 @@ module _ {M : Type 0} (leads : History → M → Type 0) (lawful : History → T
         serial = λ legal never. played_from empty_mount (rotation_steps seed script) (entries_of ended.told) (map state_of runners) order legal never;
       }
 
-  pub told_history : (c : ℕ) → by c (told_by runners) ≡ entries_by c (entries_of ended.told)
-  told_history c = told_alike c ∙ ap (by c) ended.placed
+  pub told_history : (c : ℕ) → by c (told_by runners) ≡ entries_by c (shown_history (entries_of ended.told))
+  told_history c = told_alike c ∙ ap (by c) (ap shown_calls ended.placed ∙ sym (numbered-shown 0 (entries_of ended.told)))
 
   -- and noted what its run's notes are
   pub noted_history : noted_by runners ≡ notes_of seed script (entries_of ended.told)
@@ -231,8 +239,8 @@ module _ {M : Type 0} (leads : History → M → Type 0) (lawful : History → T
       noted_from seed ended.told 0 script runners ended.count
       (λ j r at. let turn = ended.each j r at in let own : j ≡ 0 + j = omega arith in (
         turn.section,
-        notes_are_whole seed r.caller r.section r.next r.entries r.notes (done_all j r at) turn.run
-            ∙ ap₂ (λ (w : ℕ) (es : PlacedCalls). notes_of_section seed w r.section es) turn.caller turn.own
+        notes_are_whole seed r.caller r.section r.next (by j ended.told) r.notes (done_all j r at) turn.run.run
+            ∙ ap (λ (w : ℕ). notes_of_section seed w r.section (by j ended.told)) turn.caller
             ∙ ap (λ (w : ℕ). notes_of_section seed w r.section (by w ended.told)) own,
       ))
       ∙ ap (notes_by seed 0 script) ended.placed

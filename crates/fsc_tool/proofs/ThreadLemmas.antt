@@ -8,6 +8,8 @@ use Rattle.std.proofs.lemmas.List.Sums.{sum_by-append}
 use Rattle.std.proofs.lemmas.Option.{slice_get_past}
 use Rattle.turn_lock.specs.Passes.{SharedView, under, over, lower_part, upper_part, with_other, first_pass}
 use Rattle.call_history.specs.Entries.{by, entries_by, numbered}
+use Rattle.reply_text.specs.Shown.{PlacedShown, shown_calls, shown_history}
+use Rattle.fsc_session.proofs.ShownRuns.{by-shown, entries_by-shown}
 use Rattle.call_history.proofs.Placing.{by-append, by-by_other}
 use Rattle.mount_model.specs.History.{History}
 use Rattle.mount_model.specs.Port.{PlacedCalls}
@@ -102,10 +104,10 @@ one_from seed who section xs own ran = record {
     each (suc i) = others_none who (who + suc i) xs own (λ same. omega (arith, same))
 
 pub one_runs : (lawful : History → Type 0) (seed : List ℕ) (shared : SharedView) (old new : MountPass) (sections : List Section) (section : Section)
-    (entries : PlacedCalls) (notes : List Note) → CanRun shared old sections → length sections ≡ 1 → slice_get sections 0 ≡ Some section
-    → PassCame lawful old entries new → IsRunOfSection seed old.who section entries → notes ≡ notes_of_section seed old.who section entries
-    → by new.who new.mine ≡ new.mine → HaveRun seed old sections new entries notes
-one_runs lawful seed shared old new sections section entries notes can one here came ran are own =
+    (shown : PlacedShown) (entries : PlacedCalls) (notes : List Note) → CanRun shared old sections → length sections ≡ 1 → slice_get sections 0 ≡ Some section
+    → PassCame lawful old entries new → shown ≡ shown_calls entries → IsRunOfSection seed old.who section entries
+    → notes ≡ notes_of_section seed old.who section entries → by new.who new.mine ≡ new.mine → HaveRun seed old sections new shown notes
+one_runs lawful seed shared old new sections section shown entries notes can one here came is ran are own =
     let mine : new.mine ≡ entries = came.made ∙ ap (λ (l : PlacedCalls). l ++ entries) can.no_own in
     let past : new.past ≡ [] = came.same_past ∙ can.no_past in
     let all : new.past ++ new.mine ≡ entries = ap₂ (λ (a b : PlacedCalls). a ++ b) past mine in
@@ -116,7 +118,7 @@ one_runs lawful seed shared old new sections section entries notes can one here 
       same_high = came.same_high;
       run = subst (λ (s : List Section). RunFrom seed old.who s (new.past ++ new.mine)) (sym (one_section sections section one here))
           (subst (RunFrom seed old.who (section ∷ [])) (sym all) (one_from seed old.who section entries own' ran));
-      alike = λ c. ap (by c) (sym all);
+      alike = λ c. ap (by c) is ∙ by-shown c entries ∙ ap (λ (l : PlacedCalls). shown_calls (by c l)) (sym all);
       noted = are
           ∙ ap (notes_of_section seed old.who section) (sym own' ∙ ap (by old.who) (sym all))
           ∙ sym (append-nil (notes_of_section seed old.who section (by old.who (new.past ++ new.mine))))
@@ -149,7 +151,7 @@ joined_high c past mine other none =
     (none_second (by c past) (by c mine) parts)
     ∙ append-nil (by c other)
 
-module _ (seed : List ℕ) (shared : SharedView) (old lower upper lower' upper' : MountPass) (sections first others : List Section) (told more : PlacedCalls)
+module _ (seed : List ℕ) (shared : SharedView) (old lower upper lower' upper' : MountPass) (sections first others : List Section) (told more : PlacedShown)
     (notes more_notes : List Note) (cut : AreHalves shared old sections lower upper first others)
     (one : HaveRun seed lower first lower' told notes) (two : HaveRun seed upper others upper' more more_notes) where
   -- what both passes have together
@@ -172,15 +174,15 @@ module _ (seed : List ℕ) (shared : SharedView) (old lower upper lower' upper' 
       subst (λ (n : ℕ). by n (lower'.past ++ lower'.mine) ≡ []) is
       (subst (λ s. IsRunOfCaller seed (lower.who + i) s (by (lower.who + i) (lower'.past ++ lower'.mine))) past (one.run.each i))
 
-  alike_both : (c : ℕ) → by c (told ++ more) ≡ by c own_of
-  alike_both c = below_or_above c upper.who (by c (told ++ more) ≡ by c own_of)
+  alike_both : (c : ℕ) → by c (told ++ more) ≡ shown_calls (by c own_of)
+  alike_both c = below_or_above c upper.who (by c (told ++ more) ≡ shown_calls (by c own_of))
       (λ below. by-append c told more
-      ∙ ap₂ (λ (a b : PlacedCalls). a ++ b) (one.alike c) (two.alike c ∙ low_none c below)
-      ∙ append-nil (by c (lower'.past ++ lower'.mine))
-      ∙ sym (joined_low c lower'.past lower'.mine (upper'.past ++ upper'.mine) (low_none c below)))
+      ∙ ap₂ (λ (a b : PlacedShown). a ++ b) (one.alike c) (two.alike c ∙ ap shown_calls (low_none c below))
+      ∙ append-nil (shown_calls (by c (lower'.past ++ lower'.mine)))
+      ∙ ap shown_calls (sym (joined_low c lower'.past lower'.mine (upper'.past ++ upper'.mine) (low_none c below))))
       (λ above. by-append c told more
-      ∙ ap₂ (λ (a b : PlacedCalls). a ++ b) (one.alike c ∙ high_none c above) (two.alike c)
-      ∙ sym (joined_high c lower'.past lower'.mine (upper'.past ++ upper'.mine) (high_none c above)))
+      ∙ ap₂ (λ (a b : PlacedShown). a ++ b) (one.alike c ∙ ap shown_calls (high_none c above)) (two.alike c)
+      ∙ ap shown_calls (sym (joined_high c lower'.past lower'.mine (upper'.past ++ upper'.mine) (high_none c above))))
 
   each_low : (i : ℕ) → i < length first → IsRunOfCaller seed (old.who + i) (slice_get (first ++ others) i) (by (old.who + i) own_of)
   each_low i below =
@@ -257,7 +259,7 @@ first_runs shared script pass numbers calls is count needed some asked = subst (
   asked = asked;
 })
 
-module _ (lawful : History → Type 0) (seed : List ℕ) (script : List Section) (old new : MountPass) (told : PlacedCalls) (notes : List Note) (history : History)
+module _ (lawful : History → Type 0) (seed : List ℕ) (script : List Section) (old new : MountPass) (told : PlacedShown) (notes : List Note) (history : History)
     (ran : HaveRun seed old script new told notes) (first : old.who ≡ 0)
     (callers : (c : ℕ) → entries_by c history ≡ by c (new.past ++ new.mine)) where
   is_lawful : lawful history → IsLawfulRun lawful seed script history
@@ -268,8 +270,8 @@ module _ (lawful : History → Type 0) (seed : List ℕ) (script : List Section)
         (subst (λ (n : ℕ). IsRunOfCaller seed n (slice_get script c) (by n (new.past ++ new.mine))) (ap (λ (w : ℕ). w + c) first ∙ is) (ran.run.each c));
   }
 
-  pub told_history : (c : ℕ) → by c told ≡ entries_by c history
-  told_history c = ran.alike c ∙ sym (callers c)
+  pub told_history : (c : ℕ) → by c told ≡ entries_by c (shown_history history)
+  told_history c = ran.alike c ∙ ap shown_calls (sym (callers c)) ∙ entries_by-shown c history
 
   told_notes : notes ≡ notes_of seed script history
   told_notes =
@@ -277,11 +279,11 @@ module _ (lawful : History → Type 0) (seed : List ℕ) (script : List Section)
       ∙ ap (λ (w : ℕ). notes_by seed w script (new.past ++ new.mine)) first
       ∙ notes_by-alike seed 0 script (new.past ++ new.mine) (numbered 0 history) (λ i below. sym (callers (0 + i)))
 
-  pub tells_lawful : (placed : PlacedCalls) → placed ≡ numbered 0 history → lawful history → TellsRun (IsLawfulRun lawful) seed script placed notes
+  pub tells_lawful : (placed : PlacedShown) → placed ≡ numbered 0 (shown_history history) → lawful history → TellsRun (IsLawfulRun lawful) seed script placed notes
   tells_lawful placed in_place right = record { history = history; run = is_lawful right; in_place = in_place; noted = told_notes }
 
 -- a script that nobody calls
-pub nobody_runs : (lawful : History → Type 0) (seed : List ℕ) (script : List Section) (placed : PlacedCalls) (notes : List Note) → length script ≡ 0
+pub nobody_runs : (lawful : History → Type 0) (seed : List ℕ) (script : List Section) (placed : PlacedShown) (notes : List Note) → length script ≡ 0
     → placed ≡ [] → notes ≡ [] → lawful [] → TellsRun (IsLawfulRun lawful) seed script placed notes
 nobody_runs lawful seed [] placed notes none empty silent right = record {
   history = [];

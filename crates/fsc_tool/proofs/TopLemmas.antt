@@ -21,9 +21,8 @@ use Rattle.fsc_tool.specs.Prepared.{IsPrepared, NoRun}
 use Rattle.fsc_tool.specs.LogOfRun.{HasLog}
 use Rattle.fsc_tool.specs.Written.{EndsLog}
 use Rattle.call_history.specs.Placed.{entries_of}
-use Rattle.call_history.proofs.Placing.{map-numbered}
-use Rattle.mount_model.specs.Port.{PlacedCalls}
-use Rattle.reply_text.specs.Log.{log_text}
+use Rattle.reply_text.specs.Shown.{PlacedShown, shown_log}
+use Rattle.fsc_session.proofs.ShownRuns.{told_log}
 use Rattle.reply_text.specs.Notes.{notes_text}
 use Rattle.reply_text.specs.declared.notes.Note.{Note}
 use Rattle.fsc_tool.specs.Runs.{TellsRun}
@@ -204,12 +203,12 @@ want_ends IsRun form a b script seed prepared unwritten = replay_is IsRun form a
 
 -- a run that told these entries and notes
 pub run_ends : (IsRun : List ℕ → List Section → History → Type 0) (form : Option Form) (a b : Outside) (script : List Section) (seed : List ℕ)
-    (told : PlacedCalls) (notes : List Note) (status : Status) → IsPrepared form a.source b.source a.seeds b.seeds script seed
+    (told : PlacedShown) (notes : List Note) (status : Status) → IsPrepared form a.source b.source a.seeds b.seeds script seed
     → TellsRun IsRun seed script told notes
-    → EndsLog (log_text (entries_of told) ++ notes_text notes) a.sink b.sink status → IsReplay IsRun form a b status
+    → EndsLog (shown_log (entries_of told) ++ notes_text notes) a.sink b.sink status → IsReplay IsRun form a b status
 run_ends IsRun form a b script seed told notes status prepared ran h = ended status h
   where
-    log : HasLog IsRun form a b (log_text (entries_of told) ++ notes_text notes)
+    log : HasLog IsRun form a b (shown_log (entries_of told) ++ notes_text notes)
     log = record {
       script = script;
       seed = seed;
@@ -217,11 +216,11 @@ run_ends IsRun form a b script seed told notes status prepared ran h = ended sta
       run = record {
         history = ran.history;
         run = ran.run;
-        log = ap₂ (λ (es : History) (ns : List Note). log_text es ++ notes_text ns) (ap entries_of ran.in_place ∙ map-numbered 0 ran.history) ran.noted;
+        log = ap₂ (λ (lines : List ℕ) (ns : List Note). lines ++ notes_text ns) (told_log told ran.history ran.in_place) ran.noted;
       };
     }
 
-    ended : (status : Status) → EndsLog (log_text (entries_of told) ++ notes_text notes) a.sink b.sink status → IsReplay IsRun form a b status
+    ended : (status : Status) → EndsLog (shown_log (entries_of told) ++ notes_text notes) a.sink b.sink status → IsReplay IsRun form a b status
     ended Done h = replay_is IsRun form a b Done (record { text = _; log = log; written = h })
     ended WriteFault h = replay_is IsRun form a b WriteFault (record { text = _; log = log; written = h })
     ended NoMemory h = want_ends IsRun form a b script seed prepared h

@@ -16,9 +16,10 @@ use Rattle.fsc_commands.specs.Steps.{Steps, Reaches, names_from, names_in}
 use Rattle.fsc_commands.specs.Steps.Steps.{Done}
 use Rattle.fsc_commands.specs.Commands.{command_steps}
 use Rattle.fsc_session.specs.Asking.{AsksRightly}
-use Rattle.fsc_session.specs.Running.{RunnerView, StepMakes, state_of}
+use Rattle.reply_text.specs.Shown.{PlacedShown, shown_calls}
+use Rattle.fsc_session.specs.Running.{HasRun, RunnerView, StepMakes, state_of}
 use Rattle.fsc_session.specs.Rotation.{Waiting, waiting, turn_of, turn_steps, round_steps, rounds_steps}
-use Rattle.fsc_commands.proofs.StepsLemmas.{entries_of-append, Reaches-on, Reaches-and_then, names_in-append}
+use Rattle.fsc_commands.proofs.StepsLemmas.{entries_of-append, Reaches-on, Reaches-and_then, names_in-append, names_from-shown}
 use Rattle.fsc_tool.specs.Rotating.{InTurn, Rotating, TurnMade}
 
 -- ---- lists with one element changed
@@ -49,7 +50,7 @@ min_below n m k is below = omega (arith, is, below)
 
 -- where the caller has a command n, its steps were made; and where it has none, nothing was
 pub turn_made : (seed : List ℕ) (n caller : ℕ) (more : Bool) (old new : RunnerView) (made : PlacedCalls) (next : Waiting → Steps (List Waiting))
-    → old.caller ≡ caller → old.next ≡ min n (length old.section.commands) → new.section ≡ old.section → new.entries ≡ old.entries ++ made
+    → old.caller ≡ caller → old.next ≡ min n (length old.section.commands) → new.section ≡ old.section → new.entries ≡ old.entries ++ shown_calls made
     → StepMakes seed more old new made
     → Reaches (turn_steps seed n caller (state_of old) next) (entries_of made) (next (state_of new))
 turn_made seed n caller false old new made next who at section grown so =
@@ -76,7 +77,7 @@ turn_made seed n caller true old new made next who at section grown so =
     (subst (λ (k : ℕ). Reaches (command_steps seed old.caller uid k names command.verb) (entries_of made) (Done outcome)) same so.3.1) in
     let state : waiting old.section (names_from names (entries_of made)) ≡ state_of new =
     ap₂ (λ (s : Section) (told : List (List ℕ)). waiting s told) (sym section)
-    (sym (names_in-append old.entries made) ∙ ap names_in (sym grown)) in
+    (sym (names_from-shown names made) ∙ sym (names_in-append old.entries (shown_calls made)) ∙ ap (λ (l : PlacedShown). names_in l) (sym grown)) in
     subst (λ (o : Option Command). Reaches (turn_of seed n caller (state_of old) o next) (entries_of made) (next (state_of new))) (sym here)
     (subst (λ (w : Waiting). Reaches (turn_of seed n caller (state_of old) (Some command) next) (entries_of made) (next w)) state
     (Reaches-and_then names (command_steps seed caller uid n names command.verb) (λ told outcome. next (waiting old.section told)) (entries_of made) outcome follows))
@@ -133,8 +134,8 @@ unmoved seed script told made caller turns j runner own differ before = record {
   section = before.section;
   asked = before.asked;
   next = before.next;
-  own = before.own ∙ sym (append-nil (by j told)) ∙ ap (λ (l : PlacedCalls). by j told ++ l) (sym (none_by caller j made own differ)) ∙ sym (by-append j told made);
-  run = before.run;
+  run = subst (HasRun seed runner)
+      (sym (append-nil (by j told)) ∙ ap (λ (l : PlacedCalls). by j told ++ l) (sym (none_by caller j made own differ)) ∙ sym (by-append j told made)) before.run;
 }
 
 moved : {M : Type 0} (leads : History → M → Type 0) (seed : List ℕ) (script : List Section) (told : PlacedCalls) (n i : ℕ) (old new : RunnerView)
@@ -145,10 +146,9 @@ moved leads seed script told n i old new machine machine' places places' turn be
   section = before.section ∙ ap Some (sym turn.section);
   asked = subst AsksRightly (sym turn.section) before.asked;
   next = next_turn seed n turn.more old new turn.made turn.step turn.section before.next;
-  own = turn.grown
-      ∙ ap₂ (λ (l r : PlacedCalls). l ++ r) before.own (sym (subst (λ c. by c turn.made ≡ turn.made) before.caller turn.own))
-      ∙ sym (by-append i told turn.made);
-  run = turn.run before.run;
+  run = subst (HasRun seed new)
+      (ap (λ (l : PlacedCalls). by i told ++ l) (sym (subst (λ c. by c turn.made ≡ turn.made) before.caller turn.own)) ∙ sym (by-append i told turn.made))
+      (turn.run (by i told) before.run);
 }
 
 still_there : (runners : List RunnerView) (new : RunnerView) (i c : ℕ) → i < length runners → i ≡ c → slice_get (set runners i new) c ≡ None → ⊥

@@ -5,22 +5,22 @@ use Rattle.call_history.specs.Placed.{entries_of}
 use Rattle.mount_model.specs.History.{History}
 use Rattle.mount_model.specs.Port.{PlacedCalls}
 use Rattle.script_lang.specs.declared.commands.Section.{Section}
+use Rattle.reply_text.specs.Shown.{PlacedShown, shown_calls}
 use Rattle.reply_text.specs.declared.notes.Note.{Note}
 use Rattle.fsc_commands.specs.Steps.{Steps, Reaches}
 use Rattle.fsc_session.specs.Asking.{AsksRightly}
 use Rattle.fsc_session.specs.Running.{RunnerView, runner_view, HasRun, StepMakes}
 use Rattle.fsc_session.specs.Rotation.{Waiting}
 
--- runner j is caller j of the script and had so many turns: its entries are those among all that it made,
--- and they are a run of the commands before its next
+-- runner j is caller j of the script and had so many turns: the calls that it made are a run of the commands
+-- before its next, and it has what is shown of them
 pub record InTurn (seed : List ℕ) (script : List Section) (told : PlacedCalls)
     (turns j : ℕ) (runner : RunnerView) : Type 0 where
   pub caller : runner.caller ≡ j
   pub section : slice_get script j ≡ Some runner.section
   pub asked : AsksRightly runner.section
   pub next : runner.next ≡ min turns (length runner.section.commands)
-  pub own : runner.entries ≡ by j told
-  pub run : HasRun seed runner
+  pub run : HasRun seed runner (by j told)
 
 -- the machine stands after all entries so far, whose places count from 0, and so many are given; they are
 -- the runners' alone; and after them the steps of the whole script have these left
@@ -47,11 +47,11 @@ pub record TurnMade {M : Type 0} (leads : History → M → Type 0) (seed : List
   pub given : places' ≡ places + length made
   pub own : by old.caller made ≡ made
   pub led : (history : History) → leads history machine → leads (history ++ entries_of made) machine'
-  pub grown : new.entries ≡ old.entries ++ made
+  pub grown : new.entries ≡ old.entries ++ shown_calls made
   pub caller : new.caller ≡ old.caller
   pub section : new.section ≡ old.section
   pub step : StepMakes seed more old new made
-  pub run : HasRun seed old → HasRun seed new
+  pub run : (before : PlacedCalls) → HasRun seed old before → HasRun seed new (before ++ made)
 
 -- the callers of sections before their first commands, of which the first has the number k
 abbrev pub fresh_runners : ℕ → List Section → List RunnerView
@@ -63,7 +63,7 @@ abbrev pub sections_of : List RunnerView → List Section
 sections_of runners = map (λ runner. runner.section) runners
 
 -- all that the runners were told, runner after runner
-abbrev pub told_by : List RunnerView → PlacedCalls
+abbrev pub told_by : List RunnerView → PlacedShown
 told_by [] = []
 told_by (runner ∷ more) = runner.entries ++ told_by more
 

@@ -2,8 +2,8 @@
 use Rattle.std.specs.Prelude.{◌≡◌, ℕ, List}
 use Rattle.call_history.specs.Entries.{numbered}
 use Rattle.mount_model.specs.History.{History, IsLegal, NeverWantsMemory}
-use Rattle.mount_model.specs.Port.{PlacedCalls}
 use Rattle.script_lang.specs.declared.commands.Section.{Section}
+use Rattle.reply_text.specs.Shown.{PlacedShown, shown_history}
 use Rattle.reply_text.specs.declared.notes.Note.{Note}
 use Rattle.fsc_commands.specs.Steps.{Reaches}
 use Rattle.fsc_commands.specs.Steps.Steps.{Done}
@@ -26,10 +26,11 @@ pub record IsSerialRun (lawful : History → Type 0)
   pub order : (after : List Waiting) × Reaches (rotation_steps seed script) history (Done after)
   pub serial : IsLegal history → NeverWantsMemory history → history ≡ serial_history seed script
 
--- the entries are those of one history, which is such a run, in order of place; and these are its notes
+-- the entries are what is shown of one history, which is such a run, in order of place; and these are its
+-- notes
 pub record TellsRun (IsRun : List ℕ → List Section → History → Type 0)
-    (seed : List ℕ) (script : List Section) (placed : PlacedCalls) (notes : List Note) : Type 0 where
+    (seed : List ℕ) (script : List Section) (placed : PlacedShown) (notes : List Note) : Type 0 where
   pub history : History
   pub run : IsRun seed script history
-  pub in_place : placed ≡ numbered 0 history
+  pub in_place : placed ≡ numbered 0 (shown_history history)
   pub noted : notes ≡ notes_of seed script history

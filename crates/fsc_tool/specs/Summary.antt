@@ -4,7 +4,7 @@ use Rattle.std.specs.Prelude.{ℕ, Bool, true, false, List, ◌++◌, length, co
 use Rattle.hex.specs.Hex.{encode_lower}
 use Rattle.sha2.specs.Sha256.{sha256}
 use Rattle.text_words.specs.Numbers.{decimal_of}
-use Rattle.mount_model.specs.History.{History}
+use Rattle.call_history.specs.Entries.{History}
 use Rattle.mount_model.specs.declared.reply.Reply.{Reply}
 use Rattle.mount_model.specs.declared.reply.Reply.TheVariants.{Refused, Removed}
 
@@ -22,8 +22,8 @@ is_busy_removal other = false
 abbrev pub count_line : List ℕ → ℕ → List ℕ
 count_line word count = word ++ (codes " " ++ (decimal_of count ++ codes "\n"))
 
--- the summary of a history with this log
-unfoldable pub summary_text : History → List ℕ → List ℕ
+-- the summary of a history with this log, whether it has the calls or what a log shows of them
+unfoldable pub summary_text : {C : Type 0} → History C Reply → List ℕ → List ℕ
 summary_text history log =
     count_line (codes "entries") (length history)
     ++ (count_line (codes "refused") (count_by (λ e. is_refusal e.reply) history)

@@ -5,6 +5,7 @@ use Rattle.mount_model.specs.Port.{PlacedCalls}
 use Rattle.turn_lock.specs.Passes.{SharedView}
 use Rattle.mount_shared.specs.SharedCalls.{MountPass}
 use Rattle.script_lang.specs.declared.commands.Section.{Section}
+use Rattle.reply_text.specs.Shown.{PlacedShown, shown_calls}
 use Rattle.reply_text.specs.declared.notes.Note.{Note}
 use Rattle.fsc_commands.specs.declared.TheConstants.{MOST_CALLS}
 use Rattle.fsc_session.specs.Asking.{AsksRightly}
@@ -31,15 +32,15 @@ pub record RunFrom (seed : List ℕ) (who : ℕ) (sections : List Section) (plac
   pub each : (i : ℕ) → IsRunOfCaller seed (who + i) (slice_get sections i) (by (who + i) placed)
   pub none : (caller : ℕ) → caller < who → by caller placed ≡ []
 
--- the callers of a pass ran their sections: what they were told is, caller by caller, what the pass has now,
--- which has the numbers that it had; and these are their notes
+-- the callers of a pass ran their sections: what they were told is, caller by caller, what is shown of the
+-- calls that the pass has now, which has the numbers that it had; and these are their notes
 pub record HaveRun (seed : List ℕ) (old : MountPass) (sections : List Section)
-    (new : MountPass) (told : PlacedCalls) (notes : List Note) : Type 0 where
+    (new : MountPass) (told : PlacedShown) (notes : List Note) : Type 0 where
   pub same_table : new.table ≡ old.table
   pub same_caller : new.who ≡ old.who
   pub same_high : new.high ≡ old.high
   pub run : RunFrom seed old.who sections (new.past ++ new.mine)
-  pub alike : (caller : ℕ) → by caller told ≡ by caller (new.past ++ new.mine)
+  pub alike : (caller : ℕ) → by caller told ≡ shown_calls (by caller (new.past ++ new.mine))
   pub noted : notes ≡ notes_by seed old.who sections (new.past ++ new.mine)
 
 -- a pass was cut in two, one for the first of its sections and one for the others

@@ -15,8 +15,9 @@ mod top;
 
 use call_history::Entry;
 pub use limits::{MOST_INPUT_BYTES, MOST_INPUT_LINES};
-use mount_model::{Call, Reply};
+use mount_model::Reply;
+use reply_text::Shown;
 pub use top::{tool, tool_serial};
 
-// Entries with their places.
-pub(crate) type PlacedVec = Vec<(u64, Entry<Call, Reply>)>;
+// What is shown of entries, with their places.
+pub(crate) type PlacedVec = Vec<(u64, Entry<Shown, Reply>)>;

@@ -4,8 +4,8 @@
 ghost use Rattle.std.specs.Prelude.{◌≡◌, ◌++◌, IfOk, IfErr};
 ghost use Rattle.call_history.specs.Placed.{entries_of};
 ghost use Rattle.fsc_outside.specs.States.{SinkState};
-ghost use Rattle.reply_text.specs.Log.{log_text};
 ghost use Rattle.reply_text.specs.Notes.{notes_text};
+ghost use Rattle.reply_text.specs.Shown.{shown_log};
 ghost use Rattle.script_lang.specs.Spelled.{IsSpelled};
 ghost use Rattle.fsc_tool.specs.Ends.{Ends};
 ghost use Rattle.fsc_tool.specs.Faults.{input_status, script_status};
@@ -21,8 +21,8 @@ use crate::told::Told;
 use call_history::Entry;
 use fsc_outside::{InputFault, SeedSource, Sink, Source, read_all, write_all};
 use item_list::Bytes;
-use mount_model::{Call, Reply};
-use reply_text::{Note, Status, write_log, write_notes};
+use mount_model::Reply;
+use reply_text::{Note, Shown, Status, write_log, write_notes};
 use script_lang::{Script, ScriptFault, read_script};
 use std::alloc::{AllocError, Global};
 
@@ -90,7 +90,7 @@ fn script_status(fault: ScriptFault) -> Status
 
 // Writes the log of a run into the sink, once it stands whole, and tells how the run ends.
 pub(crate) fn finish<K: Sink>(alloc: Global, told: Told, sink: &mut K) -> Status
-    ensures { EndsLog (log_text (entries_of told.entries.items) ++ notes_text told.notes.items)
+    ensures { EndsLog (shown_log (entries_of told.entries.items) ++ notes_text told.notes.items)
         (K.state sink.old) (K.state sink.new) result }
 {
     let log = match log_of(alloc, told) {
@@ -106,7 +106,7 @@ pub(crate) fn finish<K: Sink>(alloc: Global, told: Told, sink: &mut K) -> Status
 // The log of the entries, whose places are their numbers, and behind it the notes.
 fn log_of(alloc: Global, told: Told) -> Result<Bytes, AllocError>
     ensures { IfOk result (λ log.
-        log ≡ log_text (entries_of told.entries.items) ++ notes_text told.notes.items) }
+        log ≡ shown_log (entries_of told.entries.items) ++ notes_text told.notes.items) }
 {
     let history = history_of(alloc, told.entries)?;
     let log = whole_log(alloc, history.as_slice(), told.notes.as_slice())?;
@@ -116,10 +116,10 @@ fn log_of(alloc: Global, told: Told) -> Result<Bytes, AllocError>
 // The log of a history, and behind it the notes.
 pub(crate) fn whole_log(
     alloc: Global,
-    history: &[Entry<Call, Reply>],
+    history: &[Entry<Shown, Reply>],
     notes: &[Note],
 ) -> Result<Bytes, AllocError>
-    ensures { IfOk result (λ log. log ≡ log_text history.now ++ notes_text notes.now) }
+    ensures { IfOk result (λ log. log ≡ shown_log history.now ++ notes_text notes.now) }
 {
     let mut log = write_log(alloc, history)?.into_vec();
     let mut notes = write_notes(alloc, notes)?.into_vec();
@@ -131,7 +131,7 @@ pub(crate) fn whole_log(
 pub(crate) fn history_of(
     alloc: Global,
     entries: PlacedVec,
-) -> Result<Vec<Entry<Call, Reply>>, AllocError>
+) -> Result<Vec<Entry<Shown, Reply>>, AllocError>
     ensures { IfOk result (λ history. history.items ≡ entries_of entries.items) }
 {
     let mut history = Vec::new(alloc);

@@ -7,7 +7,8 @@ ghost use Rattle.fsc_tool.specs.Summary as spec;
 
 use call_history::Entry;
 use item_list::Bytes;
-use mount_model::{Call, Refusal, Reply};
+use mount_model::{Refusal, Reply};
+use reply_text::Shown;
 use sha2::{Digest, Sha256};
 use std::alloc::{AllocError, Global};
 use text_words::{push_decimal, push_lower_hex};
@@ -16,7 +17,7 @@ use text_words::{push_decimal, push_lower_hex};
 #[tactic(auto, unfolding(crate::specs::Summary::summary_text))]
 pub(crate) fn summary_text(
     alloc: Global,
-    history: &[Entry<Call, Reply>],
+    history: &[Entry<Shown, Reply>],
     log: &[u8],
 ) -> Result<Bytes, AllocError>
     ensures { IfOk result (λ text. text ≡ spec.summary_text history.now log.now) }
@@ -43,7 +44,7 @@ fn put_count(text: &mut Vec<u8>, word: &[u8], count: usize) -> Result<(), AllocE
 }
 
 // How many calls were refused.
-fn refused(history: &[Entry<Call, Reply>]) -> usize
+fn refused(history: &[Entry<Shown, Reply>]) -> usize
     ensures { result ≡ count_by (λ e. spec.is_refusal e.reply) history.now }
 {
     history
@@ -53,7 +54,7 @@ fn refused(history: &[Entry<Call, Reply>]) -> usize
 }
 
 // How many removals found a key in use.
-fn busy(history: &[Entry<Call, Reply>]) -> usize
+fn busy(history: &[Entry<Shown, Reply>]) -> usize
     ensures { result ≡ count_by (λ e. spec.is_busy_removal e.reply) history.now }
 {
     history
@@ -80,7 +81,7 @@ fn is_busy_removal(reply: &Reply) -> bool
 }
 
 // Whether a call found no memory.
-pub(crate) fn wants_memory(history: &[Entry<Call, Reply>]) -> bool
+pub(crate) fn wants_memory(history: &[Entry<Shown, Reply>]) -> bool
     ensures { result ≡ list_any (λ e. is_want_of_memory e.reply) history.now }
 {
     history.iter().any(|entry| matches!(entry.reply, Reply::Refused(Refusal::NoMemory)))

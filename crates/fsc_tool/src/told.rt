@@ -7,7 +7,7 @@ use fsc_session::Ran;
 use reply_text::Note;
 use std::alloc::{AllocError, Global};
 
-// What callers asked and were replied, and how their session commands ended.
+// What is shown of callers' calls, with the replies, and how their session commands ended.
 #[derive(Drop)]
 pub(crate) struct Told {
     pub(crate) entries: PlacedVec,

@@ -1,28 +1,45 @@
--- A log goes on by one line.
-use Rattle.std.proofs.Common.{◌≡◌, ℕ, suc, ◌+◌, ◌<◌, [], ◌∷◌, ◌++◌, length, take, get_or, refl, ap, sym, ◌∙◌, add-zero, append-nil, append_assoc, arith}
+-- A log goes on by one line, and what is shown of a history has the history's log.
+use Rattle.std.proofs.Common.{◌≡◌, ℕ, suc, ◌+◌, ◌<◌, [], ◌∷◌, ◌++◌, length, take, get_or, refl, ap, ap₂, sym, ◌∙◌, add-zero, append-nil, append_assoc, arith}
 use Rattle.std.proofs.lemmas.List.{take_more, length-take-le}
+use Rattle.std.specs.Prelude.{List}
 use Rattle.mount_model.specs.History.{MountEntry, History}
-use Rattle.reply_text.specs.Log.{entry_text, log_from}
+use Rattle.reply_text.specs.Log.{entry_text, log_from, log_text}
+use Rattle.reply_text.specs.Shown.{ShownEntry, ShownHistory, shown_entry, shown_history, shown_text, shown_from, shown_log}
 
 -- by the line of the entry behind the others
-log_from-append : (place : ℕ) (h : History) (e : MountEntry) → log_from place (h ++ e ∷ []) ≡ log_from place h ++ entry_text (place + length h) e
-unfolding log_from
-log_from-append place [] e = append-nil (entry_text place e) ∙ ap (λ n. entry_text n e) (sym (add-zero place))
-log_from-append place (x ∷ h) e =
+shown_from-append : (place : ℕ) (h : ShownHistory) (e : ShownEntry) → shown_from place (h ++ e ∷ []) ≡ shown_from place h ++ shown_text (place + length h) e
+unfolding shown_from
+shown_from-append place [] e = append-nil (shown_text place e) ∙ ap (λ n. shown_text n e) (sym (add-zero place))
+shown_from-append place (x ∷ h) e =
     let on : place + 1 + length h ≡ place + suc (length h) = omega arith in
-    ap (λ rest. entry_text place x ++ rest) (log_from-append (place + 1) h e ∙ ap (λ n. log_from (place + 1) h ++ entry_text n e) on)
-    ∙ sym (append_assoc (entry_text place x) (log_from (place + 1) h) (entry_text (place + suc (length h)) e))
+    ap (λ rest. shown_text place x ++ rest) (shown_from-append (place + 1) h e ∙ ap (λ n. shown_from (place + 1) h ++ shown_text n e) on)
+    ∙ sym (append_assoc (shown_text place x) (shown_from (place + 1) h) (shown_text (place + suc (length h)) e))
 
 -- by the line of the entry at a place
-pub log_from-more : (h : History) (place : ℕ) (e : MountEntry) → place < length h → e ≡ get_or h place e
-    → log_from 0 (take (place + 1) h) ≡ log_from 0 (take place h) ++ entry_text place e
-log_from-more h place e below here =
+pub shown_from-more : (h : ShownHistory) (place : ℕ) (e : ShownEntry) → place < length h → e ≡ get_or h place e
+    → shown_from 0 (take (place + 1) h) ≡ shown_from 0 (take place h) ++ shown_text place e
+shown_from-more h place e below here =
     let counted : 0 + length (take place h) ≡ place = let n : length (take place h) ≡ place = length-take-le place h (omega arith) in omega arith in
-    ap (log_from 0) (take_more h place e below ∙ ap (λ x. take place h ++ x ∷ []) (sym here))
-    ∙ log_from-append 0 (take place h) e
-    ∙ ap (λ n. log_from 0 (take place h) ++ entry_text n e) counted
+    ap (shown_from 0) (take_more h place e below ∙ ap (λ x. take place h ++ x ∷ []) (sym here))
+    ∙ shown_from-append 0 (take place h) e
+    ∙ ap (λ n. shown_from 0 (take place h) ++ shown_text n e) counted
 
 -- before the first line
-pub log_from-none : log_from 0 [] ≡ []
-unfolding log_from
-log_from-none = refl
+pub shown_from-none : shown_from 0 [] ≡ []
+unfolding shown_from
+shown_from-none = refl
+
+-- ---- what is shown of a history
+
+line_shown : (place : ℕ) (e : MountEntry) → shown_text place (shown_entry e) ≡ entry_text place e
+unfolding shown_text entry_text
+line_shown place e = refl
+
+lines_shown : (place : ℕ) (h : History) → shown_from place (shown_history h) ≡ log_from place h
+unfolding shown_from log_from
+lines_shown place [] = refl
+lines_shown place (e ∷ h) = ap₂ (λ (a b : List ℕ). a ++ b) (line_shown place e) (lines_shown (place + 1) h)
+
+-- the log of what is shown of a history is the history's
+pub log_shown : (h : History) → shown_log (shown_history h) ≡ log_text h
+log_shown h = lines_shown 0 h

@@ -6,4 +6,5 @@ pub mod Log
 pub mod Notes
 pub mod Ranges
 pub mod LogLaws
+pub mod Shown
 pub mod Status

@@ -10,6 +10,7 @@ mod names;
 mod notes;
 mod outcome;
 mod replies;
+mod shown;
 mod status;
 
 pub use laws::{
@@ -19,4 +20,5 @@ pub use laws::{
 pub use log::{entry_line, write_log};
 pub use notes::{Note, note_line, write_notes};
 pub use outcome::Outcome;
+pub use shown::{Shown, shown_of};
 pub use status::Status;

@@ -1,10 +1,13 @@
 //! The text of a log: a line for each call, with who made it and what it was answered.
 
-ghost use Rattle.std.specs.Prelude.{◌≡◌, ◌++◌, IfOk, OnOk};
-ghost use Rattle.reply_text.specs.Log.{head_text, entry_text, log_text};
+ghost use Rattle.std.specs.Prelude.{◌≡◌, ◌++◌, codes, IfOk, OnOk};
+ghost use Rattle.reply_text.specs.Log.{entry_text};
+ghost use Rattle.reply_text.specs.Replies.{reply_text};
+ghost use Rattle.reply_text.specs.Shown.{line_head, shown_text, shown_log};
 
 use crate::calls::put_call;
 use crate::replies::put_reply;
+use crate::shown::Shown;
 use call_history::Entry;
 use item_list::Bytes;
 use mount_model::{Call, Reply};
@@ -12,6 +15,7 @@ use std::alloc::{AllocError, Global};
 use text_words::push_decimal;
 
 /// The line of an entry at a place of the history: `PLACE CALLER UID CALL = REPLY` and a line feed.
+#[tactic(auto, unfolding(crate::specs::Log::entry_text))]
 pub fn entry_line(
     alloc: Global,
     place: u64,
@@ -20,42 +24,55 @@ pub fn entry_line(
     ensures { IfOk result (λ text. text ≡ entry_text place entry.now) }
 {
     let mut text = Vec::new(alloc);
-    put_entry(&mut text, place, entry)?;
+    put_head(&mut text, place, entry.who, entry.call.uid)?;
+    text.push(b' ')?;
+    put_call(&mut text, &entry.call.op)?;
+    put_end(&mut text, &entry.reply)?;
     Ok(Bytes::from_vec(text))
 }
 
-/// The bytes of a history's log: a line for each entry, in order of place. Places count from 0.
-pub fn write_log(alloc: Global, history: &[Entry<Call, Reply>]) -> Result<Bytes, AllocError>
-    ensures { IfOk result (λ text. text ≡ log_text history.now) }
+/// The bytes of a history's log, of what is shown of its entries: a line for each, in order of place. Places
+/// count from 0.
+pub fn write_log(alloc: Global, history: &[Entry<Shown, Reply>]) -> Result<Bytes, AllocError>
+    ensures { IfOk result (λ text. text ≡ shown_log history.now) }
 {
     let mut text = Vec::new(alloc);
     'entries: for (place, entry) in history.iter().enumerate() {
-        put_entry(&mut text, place as u64, entry)?;
+        put_shown(&mut text, place as u64, entry)?;
     }
     Ok(Bytes::from_vec(text))
 }
 
-// Puts the line of the entry at a place behind the text.
-#[tactic(auto, unfolding(crate::specs::Log::entry_text))]
-fn put_entry(text: &mut Vec<u8>, place: u64, entry: &Entry<Call, Reply>) -> Result<(), AllocError>
-    ensures { OnOk result (text.new.items ≡ text.old.items ++ entry_text place entry.now) }
+// Puts the line of what is shown of an entry at a place behind the text.
+#[tactic(auto, unfolding(crate::specs::Shown::shown_text))]
+fn put_shown(text: &mut Vec<u8>, place: u64, entry: &Entry<Shown, Reply>) -> Result<(), AllocError>
+    ensures { OnOk result (text.new.items ≡ text.old.items ++ shown_text place entry.now) }
 {
-    put_head(text, place, entry)?;
+    put_head(text, place, entry.who, entry.call.uid)?;
     text.push(b' ')?;
-    put_call(text, &entry.call.op)?;
-    text.extend_from_slice(b" = ")?;
-    put_reply(text, &entry.reply)?;
-    text.push(b'\n')?;
+    text.extend_from_slice(entry.call.words.as_slice())?;
+    put_end(text, &entry.reply)?;
     Ok(())
 }
 
 // Puts place, caller and user of an entry behind the text.
-fn put_head(text: &mut Vec<u8>, place: u64, entry: &Entry<Call, Reply>) -> Result<(), AllocError>
-    ensures { OnOk result (text.new.items ≡ text.old.items ++ head_text place entry.now) }
+fn put_head(text: &mut Vec<u8>, place: u64, who: u32, uid: u32) -> Result<(), AllocError>
+    ensures { OnOk result (text.new.items ≡ text.old.items ++ line_head place who uid) }
 {
     push_decimal(text, place)?;
     text.push(b' ')?;
-    push_decimal(text, u64::from(entry.who))?;
+    push_decimal(text, u64::from(who))?;
     text.push(b' ')?;
-    push_decimal(text, u64::from(entry.call.uid))
+    push_decimal(text, u64::from(uid))
+}
+
+// Puts what was replied, and the line's end, behind the text.
+fn put_end(text: &mut Vec<u8>, reply: &Reply) -> Result<(), AllocError>
+    ensures { OnOk result (text.new.items
+        ≡ text.old.items ++ (codes " = " ++ (reply_text reply.now ++ codes "\n"))) }
+{
+    text.extend_from_slice(b" = ")?;
+    put_reply(text, reply)?;
+    text.push(b'\n')?;
+    Ok(())
 }

@@ -3,7 +3,8 @@
 use call_history::Entry;
 use fsc_commands::{EntryList, Purpose, draw, path_meant};
 use item_list::Bytes;
-use mount_model::{Call, NameList, Op, Refusal, Reply};
+use mount_model::{NameList, Refusal, Reply};
+use reply_text::Shown;
 use script_lang::read_path;
 use std::alloc::{AllocError, Global};
 use std::test::Fail;
@@ -100,11 +101,14 @@ fn drawn(
 fn stars_mean_listed_names(rt: HostRuntime) -> Result<(), Fail> {
     let alloc = rt.alloc();
     let mut told = EntryList::new(alloc);
-    told.push(listing(vec![in alloc;
-        Bytes::from_vec(Vec::from_slice(alloc, b"a b")?),
-        Bytes::from_vec(Vec::from_slice(alloc, b"..")?),
-    ]?))?;
-    told.push(entry(Reply::Refused(Refusal::NotFound)))?;
+    told.push(listing(
+        alloc,
+        vec![in alloc;
+            Bytes::from_vec(Vec::from_slice(alloc, b"a b")?),
+            Bytes::from_vec(Vec::from_slice(alloc, b"..")?),
+        ]?,
+    ))?;
+    told.push(entry(alloc, Reply::Refused(Refusal::NotFound)))?;
     let Some(path) = read_path(alloc, b"/e/*0/*1/*2/%2A0")? else {
         assert!(rt; false);
         return Ok(());
@@ -122,18 +126,21 @@ fn stars_mean_listed_names(rt: HostRuntime) -> Result<(), Fail> {
 }
 
 // A listing that told these names.
-fn listing(names: Vec<Bytes>) -> (u64, Entry<Call, Reply>) {
-    entry(Reply::Names {
-        names: NameList::from_vec(names),
-        more: false,
-    })
+fn listing(alloc: Global, names: Vec<Bytes>) -> (u64, Entry<Shown, Reply>) {
+    entry(
+        alloc,
+        Reply::Names {
+            names: NameList::from_vec(names),
+            more: false,
+        },
+    )
 }
 
 // A call with this reply.
-fn entry(reply: Reply) -> (u64, Entry<Call, Reply>) {
-    let call = Call {
+fn entry(alloc: Global, reply: Reply) -> (u64, Entry<Shown, Reply>) {
+    let call = Shown {
         uid: 0,
-        op: Op::DropCaches,
+        words: Bytes::new(alloc),
     };
     (
         0,

@@ -1,14 +1,15 @@
-use Rattle.std.proofs.Common.{◌+◌, ◌++◌, length, sym, ap, ◌∙◌, subst, arith}
+use Rattle.std.proofs.Common.{◌≤◌, ◌+◌, ◌++◌, length, sym, ap, ◌∙◌, subst, arith}
 use Rattle.std.proofs.lemmas.Result.{err_from_is_err_and}
-use Rattle.fsc_session.proofs.RunLemmas.{few_after, counted_after, next_after, notes_are_whole}
-use Rattle.fsc_session.specs.Session.{notes_of_section}
+use Rattle.fsc_session.proofs.RunLemmas.{so_far_goes_on, next_after, run_is_whole, notes_are_whole}
+use Rattle.fsc_session.specs.Session.{IsRunOfSection, notes_of_section}
 use Rattle.fsc_session.proofs.session.run_caller.Goals as goal
 
 pub returns-in_err-step-clause-failed : goal.returns-in_err-step-clause-failed
 returns-in_err-step-clause-failed g c =
     let p = err_from_is_err_and c.from_residual.result c.from_residual.ensures.1 in
     let more = c.in_err-step.ensures.failed in
-    rw p.1 (c.commands.runner.entries ++ more.0, g.met.P.MountPort.by_more c.args.port.now c.commands.port c.step.new.port c.commands.runner.entries more.0 c.commands.invariant.came more.1)
+    let so = c.commands.invariant.ran in
+    rw p.1 (so.placed ++ more.0, g.met.P.MountPort.by_more c.args.port.now c.commands.port c.step.new.port so.placed more.0 so.came_by more.1)
 
 pub commands-preserved : goal.commands-preserved
 commands-preserved g c =
@@ -17,28 +18,39 @@ commands-preserved g c =
     let at = i.next in
     let below = c.commands-test.true in
     let all = c.len-number-end.ensures ∙ ap (λ section. length section.commands) (sym i.section) in
+    let few : length made.made ≤ 4 = made.few in
+    let counted = made.counted in
+    let room = i.room in
     record {
       caller = made.caller ∙ i.caller;
       port = c.in_ok-step.ensures.caller ∙ i.port;
       section = made.section ∙ i.section;
       next = next_after c.args.seed.now _ c.commands.runner c.step.new.self made.made made.step (omega (arith, at, below, all)) ∙ ap (λ n. n + 1) at;
-      run = c.in_ok-step.ensures.run i.run;
-      came = subst (λ entries. g.P.MountPort.came c.args.port.now entries c.step.new.port) (sym made.grown)
-          (g.met.P.MountPort.by_more c.args.port.now c.commands.port c.step.new.port c.commands.runner.entries made.made i.came made.came_by);
-      few = few_after c.commands.number c.commands.runner.entries made.made c.step.new.self.entries made.grown made.few i.few;
-      counted = counted_after _ _ _ c.commands.runner.entries made.made c.step.new.self.entries made.grown made.counted i.counted;
+      room = omega (arith, few, counted, room);
+      ran = so_far_goes_on g.P.MountPort.came g.met.P.MountPort.by_more c.args.port.now c.commands.port c.step.new.port
+          (g.P.MountPort.calls_left c.step.new.port) (g.P.MountPort.calls_left c.commands.port) (g.P.MountPort.calls_left c.args.port.now)
+          c.args.seed.now _ c.commands.runner c.step.new.self i.ran made;
     }
 
-pub returns-clause-notes : goal.returns-clause-notes
-returns-clause-notes g c =
+pub returns-clause-ran : goal.returns-clause-ran
+returns-clause-ran g c =
     let i = c.commands.invariant in
     let runner = c.commands.runner in
     let at = i.next in
     let past = c.commands-test.false in
     let all = c.len-number-end.ensures ∙ ap (λ section. length section.commands) (sym i.section) in
     let seed = c.args.seed.now in
-    c.ran.ensures.notes
-    ∙ notes_are_whole seed runner.caller runner.section runner.next runner.entries runner.notes (omega (arith, at, past, all)) i.run
-    ∙ ap (λ caller. notes_of_section seed caller runner.section runner.entries) i.caller
-    ∙ ap (λ section. notes_of_section seed (g.P.MountPort.who c.args.port.now) section runner.entries) i.section
-    ∙ ap (λ entries. notes_of_section seed (g.P.MountPort.who c.args.port.now) c.args.section.now entries) (sym c.ran.ensures.entries)
+    let so = i.ran in
+    record {
+      placed = so.placed;
+      came_by = so.came_by;
+      shown = c.ran.ensures.entries ∙ so.has_run.shown;
+      run = subst (λ section. IsRunOfSection seed (g.P.MountPort.who c.args.port.now) section so.placed) i.section
+          (subst (λ caller. IsRunOfSection seed caller runner.section so.placed) i.caller
+          (run_is_whole seed runner.caller runner.section runner.next so.placed runner.notes (omega (arith, at, past, all)) so.has_run.run));
+      noted = c.ran.ensures.notes
+          ∙ notes_are_whole seed runner.caller runner.section runner.next so.placed runner.notes (omega (arith, at, past, all)) so.has_run.run
+          ∙ ap (λ caller. notes_of_section seed caller runner.section so.placed) i.caller
+          ∙ ap (λ section. notes_of_section seed (g.P.MountPort.who c.args.port.now) section so.placed) i.section;
+      counted = so.counted;
+    }

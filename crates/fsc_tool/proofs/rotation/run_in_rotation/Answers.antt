@@ -1,6 +1,7 @@
 use Rattle.std.proofs.Common.{◌≤◌, [], length, map, ap, ap₂, sym, ◌∙◌, subst}
 use Rattle.call_history.specs.Entries.{by}
 use Rattle.call_history.specs.Placed.{entries_of}
+use Rattle.reply_text.specs.Shown.{shown_history}
 use Rattle.fsc_session.specs.Running.{state_of}
 use Rattle.fsc_session.specs.Session.{notes_of}
 use Rattle.fsc_session.specs.Rotation.{fresh, longest, rounds_steps}
@@ -35,7 +36,7 @@ returns g c =
           (is_serial g.M.Machine.leads g.M.Machine.lawful g.met.M.Machine.leads_lawful c.args.seed.now (sections_of runners)
           (rounds_steps c.args.seed.now c.longest.result 0 (map state_of runners)) c.in_ok-_mount.runners.items c.in_ok-_mount._mount.machine
           c.in_ok-_mount._mount.places c.longest.result all ended whole);
-      in_place = c.in_ok-sort_by_place.ensures (entries_of ended.told)
+      in_place = c.in_ok-sort_by_place.ensures (shown_history (entries_of ended.told))
           (λ caller. ap (λ told. by caller told) c.in_ok-told.ensures.entries
           ∙ told_history g.M.Machine.leads g.M.Machine.lawful g.met.M.Machine.leads_lawful c.args.seed.now (sections_of runners)
           (rounds_steps c.args.seed.now c.longest.result 0 (map state_of runners)) c.in_ok-_mount.runners.items c.in_ok-_mount._mount.machine

@@ -2,6 +2,7 @@ use Rattle.std.proofs.Common.{◌≡◌, ℕ, zero, suc, ◌≤◌, ◌<◌, fal
 use Rattle.std.specs.Prelude.{All, ◌==◌}
 use Rattle.fsc_session.specs.Asking.{AsksRightly}
 use Rattle.fsc_session.proofs.Asked.{spelled-few, spelled-asked}
+use Rattle.reply_text.specs.Shown.{shown_history}
 use Rattle.turn_lock.specs.Passes.{merged_entries}
 use Rattle.mount_shared.specs.SharedCalls.{MountPass}
 use Rattle.fsc_tool.specs.Threaded.{HaveRun}
@@ -34,6 +35,6 @@ returns g c =
     let first : old.who ≡ 0 = ap (λ (pass : MountPass). pass.who) c.in_ok-shared.ensures.pass in
     tells_lawful g.M.Machine.lawful c.args.seed.now c.args.script.now old new told.entries.items told.notes.items history ran first c.end.ensures.callers
     c.sort_by_place.new.entries.items
-    (c.in_ok-sort_by_place.ensures history
+    (c.in_ok-sort_by_place.ensures (shown_history history)
     (told_history g.M.Machine.lawful c.args.seed.now c.args.script.now old new told.entries.items told.notes.items history ran first c.end.ensures.callers))
     c.end.ensures.lawful

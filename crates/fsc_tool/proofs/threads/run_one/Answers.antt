@@ -9,17 +9,18 @@ use Rattle.fsc_tool.proofs.threads.run_one.Goals as goal
 pub returns : goal.returns
 returns g c =
     let entries = c.in_ok-ran.ran.entries in
-    let came = c.in_ok-ran.ensures.came in
-    let ran = c.in_ok-ran.ensures.run in
+    let ran = c.in_ok-ran.ensures.ran in
+    let placed = ran.placed in
     let notes = c.in_ok-ran.ran.notes in
     let told = c.of_caller.result in
     subst (λ es. HaveRun c.args.seed.now c.args.pass c.args.sections.now c.back-pass.result es told.notes.items) (sym c.of_caller.ensures.entries)
     (subst (λ ns. HaveRun c.args.seed.now c.args.pass c.args.sections.now c.back-pass.result entries ns) (sym c.of_caller.ensures.notes)
     (one_runs g.M.Machine.lawful c.args.seed.now c.args.shared.now c.args.pass c.back-pass.result c.args.sections.now
-    c.index-sections-0.result entries notes c.requires.can_run c.requires.one
+    c.index-sections-0.result entries placed notes c.requires.can_run c.requires.one
     (slice_get_read c.args.sections.now 1 0 c.index-sections-0.result (sym c.requires.one) (omega arith) c.index-sections-0.is)
-    (subst (λ new. PassCame g.M.Machine.lawful c.args.pass entries new) (sym c.back-pass.ensures)
-    (subst (λ old. PassCame g.M.Machine.lawful old entries c.run_caller.new.port) c.new-port.ensures came))
-    (subst (λ pass. IsRunOfSection c.args.seed.now pass.who c.index-sections-0.result entries) c.new-port.ensures ran)
-    (subst (λ pass. notes ≡ notes_of_section c.args.seed.now pass.who c.index-sections-0.result entries) c.new-port.ensures c.in_ok-ran.ensures.notes)
+    (subst (λ new. PassCame g.M.Machine.lawful c.args.pass placed new) (sym c.back-pass.ensures)
+    (subst (λ old. PassCame g.M.Machine.lawful old placed c.run_caller.new.port) c.new-port.ensures ran.came_by))
+    ran.shown
+    (subst (λ pass. IsRunOfSection c.args.seed.now pass.who c.index-sections-0.result placed) c.new-port.ensures ran.run)
+    (subst (λ pass. notes ≡ notes_of_section c.args.seed.now pass.who c.index-sections-0.result placed) c.new-port.ensures ran.noted)
     c.who-caller.ensures.own))

@@ -2,9 +2,9 @@ use Rattle.std.proofs.Common.{◌≡◌, ◌+◌, true, [], length, refl, ap, su
 use Rattle.std.specs.Prelude.{slice_get}
 use Rattle.std.proofs.lemmas.Option.{slice_get_past}
 use Rattle.fsc_session.specs.Asking.{AsksRightly}
-use Rattle.fsc_session.specs.Session.{IsRunSoFar}
+use Rattle.mount_model.specs.Port.{PlacedCalls}
 use Rattle.fsc_session.specs.Running.{HasRun, Stepped, runner_view}
-use Rattle.fsc_session.proofs.RunLemmas.{stepped, made_goes_on, there, asked_there}
+use Rattle.fsc_session.proofs.RunLemmas.{stepped, there, asked_there}
 use Rattle.fsc_session.proofs.runner.Runner.step.Goals as goal
 
 pub returns-then-self-commands-clause-stepped : goal.returns-then-self-commands-clause-stepped
@@ -24,6 +24,7 @@ returns-then-self-commands-clause-stepped g c =
         subst (λ old. slice_get old.section.commands old.next ≡ None) c.self.view_is
             (slice_get_past c.self.inside.section.now.commands c.self.inside.next (omega (arith, all))),
       );
+      run = λ placed so. subst (λ (p : PlacedCalls). HasRun c.args.seed.now c.args.self.now p) (sym (append-nil placed)) so;
     }
 
 pub returns-clause-stepped : goal.returns-clause-stepped
@@ -33,18 +34,7 @@ returns-clause-stepped g c =
     (runner_view c.self.inside.caller c.self.inside.section.now (c.self.inside.next + 1) c.run_command.new.entries c.note.new.notes)) c.self.view_is
     (stepped (g.P.MountPort.came c.args.port.now) c.run_command.new.port (g.P.MountPort.calls_left c.run_command.new.port)
     (g.P.MountPort.calls_left c.args.port.now) c.args.seed.now c.index-commands-self.result c.in_ok-outcome.outcome
-    (runner_view c.self.inside.caller c.self.inside.section.now c.self.inside.next c.self.inside.entries c.self.inside.notes)
-    (runner_view c.self.inside.caller c.self.inside.section.now (c.self.inside.next + 1) c.run_command.new.entries c.note.new.notes)
-    (there _ _ _ _ c.as_slice-commands.ensures c.self.invariant c.if-self-commands.false c.index-commands-self.is)
-    refl refl refl c.in_ok-note.ensures c.in_ok-outcome.ensures.made)
-
-pub returns-clause-run : goal.returns-clause-run
-returns-clause-run g c =
-    subst (λ old. HasRun c.args.seed.now old
-    → IsRunSoFar c.args.seed.now c.self.inside.caller c.self.inside.section.now (c.self.inside.next + 1) c.run_command.new.entries c.note.new.notes) c.self.view_is
-    (made_goes_on (g.P.MountPort.came c.args.port.now) c.run_command.new.port (g.P.MountPort.calls_left c.run_command.new.port)
-    (g.P.MountPort.calls_left c.args.port.now) c.args.seed.now c.self.inside.caller c.self.inside.section.now c.self.inside.next c.index-commands-self.result
-    c.in_ok-outcome.outcome c.self.inside.entries c.run_command.new.entries c.self.inside.notes c.note.new.notes
+    c.self.inside.caller c.self.inside.section.now c.self.inside.next c.self.inside.entries c.run_command.new.entries c.self.inside.notes c.note.new.notes
     (there _ _ _ _ c.as_slice-commands.ensures c.self.invariant c.if-self-commands.false c.index-commands-self.is)
     c.in_ok-note.ensures c.in_ok-outcome.ensures.made)
 

@@ -1,0 +1,29 @@
+//! What is kept of a call for its line in the log.
+
+ghost use Rattle.std.specs.Prelude.{◌≡◌, IfOk};
+ghost use Rattle.reply_text.specs.Shown.{shown_call};
+
+use crate::calls::put_call;
+use item_list::Bytes;
+use mount_model::Call;
+use std::alloc::{AllocError, Global};
+
+/// What a log shows of a call: for which user it was made, and the words of what was asked. Of a raw key
+/// and of written bytes they have the number alone, of a nonce nothing.
+#[derive(Drop)]
+pub struct Shown {
+    pub uid: u32,
+    pub words: Bytes,
+}
+
+/// What a log shows of the call.
+pub fn shown_of(alloc: Global, call: &Call) -> Result<Shown, AllocError>
+    ensures { IfOk result (λ shown. shown ≡ shown_call call.now) }
+{
+    let mut words = Vec::new(alloc);
+    put_call(&mut words, &call.op)?;
+    Ok(Shown {
+        uid: call.uid,
+        words: Bytes::from_vec(words),
+    })
+}
