@@ -11,7 +11,7 @@ pub(crate) const GROUPS: [Group; 6] = [
     Group {
         title: "Keys",
         lines: &[
-            "add-key HEX                        claim the key of these 1 to 128 bytes",
+            "add-key HEX                        claim the key of these 32 to 64 bytes",
             "remove-key KEYREF                  give up the claim on the key",
             "remove-key-all KEYREF              take away every user's claim on it",
             "key-status KEYREF                  whether the key is there",
@@ -35,7 +35,7 @@ pub(crate) const GROUPS: [Group; 6] = [
             "unlink PATH                        take away the name of a file or symlink",
             "rmdir PATH                         take away an empty directory's name",
             "rename PATH PATH                   move a node to another name",
-            "list PATH [NUMBER]                 names of a directory, from this one on",
+            "list PATH [START]                  at most 128 names, from this number on",
             "stat PATH                          what a node is",
         ],
     },
@@ -43,10 +43,10 @@ pub(crate) const GROUPS: [Group; 6] = [
         title: "Contents",
         lines: &[
             "open PATH                          a handle",
-            "close NUMBER                       the end of a handle",
-            "read NUMBER NUMBER NUMBER          handle, offset, at most so many bytes",
-            "write NUMBER NUMBER HEX            handle, offset, bytes",
-            "fill NUMBER NUMBER NUMBER NUMBER   handle, offset, so many times one byte",
+            "close HANDLE                       the end of a handle",
+            "read HANDLE OFFSET LENGTH          at most so many bytes, up to 4096",
+            "write HANDLE OFFSET HEX            these bytes, or none for -",
+            "fill HANDLE OFFSET LENGTH BYTE     so many times one byte, 0 to 255",
             "drop-caches                        let go of what is kept for speed",
         ],
     },
@@ -54,7 +54,7 @@ pub(crate) const GROUPS: [Group; 6] = [
         title: "Records",
         lines: &[
             "meta-get RECORD                    a record and its version",
-            "meta-put RECORD NUMBER HEX         store one in place of this version",
+            "meta-put RECORD VERSION HEX        store one in place of this version",
         ],
     },
     Group {

@@ -1,14 +1,14 @@
 //! What the program tells of itself, and behind a status what to do.
 
+use crate::bad_line::{first_word, show_line};
 use crate::commands::GROUPS;
 use reply_text::Status;
-use script_faults::{is_usable, line_fault};
+use script_faults::is_usable;
 use std::alloc::{AllocError, Global};
-use text_words::next_line;
 
 /// The version of the product, and the kit that it is proved with.
 pub(crate) const VERSION: &str = "\
-fsc 0.1.0
+fsc 0.2.0
 proved with rattle-kit-13f, logic dac8208d650f15bf
 ";
 
@@ -28,12 +28,22 @@ gen writes the script that a number gives, from 0 to 4294967295. With --summary
 it runs that script in turns and writes entries, refused, busy and sha256.
 
 A script has a section for each of up to eight callers, which begins with
-`caller UID`, and in it a command a line. Words are parted by one space.
+`caller UID`, and in it a command a line. Words are parted by one space. A line
+that begins with # says nothing.
 ";
 
 const BEHIND_COMMANDS: &str = "
-HEX is two hexadecimal digits a byte. KEYREF is `id:` and 32 digits, or `raw:`
-and 64 to 128 of them, an even number.
+HANDLE, OFFSET, LENGTH, BYTE, START and VERSION are decimal numbers. HEX is two
+hexadecimal digits a byte. KEYREF is `id:` and 32 digits, or `raw:` and 64 to
+128 of them, an even number. A key has 32 to 64 bytes; add-key takes a word of 1
+to 128, and the mount refuses the other lengths.
+PATH is `/`, or `/` before each part; a part `*k` is name k, from 0, of the
+caller's last listing. In a path, a target and a passphrase %XX is a byte by two
+hexadecimal digits, as %20 for a space and %25 for %.
+LABEL, by which POLICY, PROTECTOR and ADDED are named, is 1 to 32 of a-z, 0-9, _
+and -. RECORD is `policy/LABEL` or `protector/LABEL`.
+PAD is what names are padded to: 4, 8, 16 or 32 bytes. UNIT is how contents are
+cut: 0 for a block, or 9, 10, 11 or 12 for 512, 1024, 2048 or 4096 bytes.
 SECRET is `raw:` and 64 digits, or `pass:` and a passphrase; a NEWSECRET has the
 costs of stretching before its passphrase: `pass:PASSES:KIB:LANES:`.
 
@@ -53,12 +63,6 @@ Example, where SEED is 64 hexadecimal digits:
 
     fsc replay --serial --seed SEED < examples/two-callers.fsc
 ";
-
-// The most characters that are shown of a line.
-const MOST_SHOWN: usize = 60;
-
-// More bytes than any input that is read, and so few that each line has a number.
-const MOST_INPUT_BYTES: usize = 4_294_967_295;
 
 /// What `--help` prints: the forms, each command, and where to read on.
 pub(crate) fn help_text(alloc: Global) -> Result<String, AllocError> {
@@ -95,55 +99,13 @@ pub(crate) fn advise(rt: &HostRuntime, status: Status, input: &[u8]) {
     let advice = match status {
         Status::Done => return,
         Status::BadLine { .. } => return show_line(rt, input),
-        Status::Usage =>
-            "the forms are: fsc replay [--serial] [--seed HEX64]; fsc gen NUMBER [--summary]; fsc --help tells more",
+        Status::Usage => "a word of the command line is no text",
         Status::ReadFault => "standard input failed: give the script by < FILE",
-        Status::WriteFault => "what was written is a beginning; make room and run it again",
+        Status::WriteFault =>
+            "what was written is a beginning of the log; make room and run it again",
         Status::SeedFault => "the machine gave no seed: give one by --seed HEX64",
         Status::TooLong => "a script has at most 1048576 bytes and 20000 lines",
         Status::NoMemory => "run it again where more memory is free",
     };
     let _ = eprintln!(rt; "fsc: {advice}");
-}
-
-// Shows the line at fault by its first word, and why it is. What stands behind may be a secret.
-fn show_line(rt: &HostRuntime, input: &[u8]) {
-    if input.len() > MOST_INPUT_BYTES {
-        return;
-    }
-    if let Ok(Some(found)) = line_fault(rt.alloc(), input) {
-        if let Ok(word) = shown(rt.alloc(), line_at(input, found.line)) {
-            let line = found.line;
-            let fault = found.fault;
-            let _ = eprintln!(rt;
-                "fsc: line {line}: \"{word}\" {fault}; fsc --help lists the commands"
-            );
-        }
-    }
-}
-
-// The line of this number, which counts from 1.
-fn line_at(text: &[u8], number: u32) -> &[u8] {
-    let mut rest = text;
-    for _ in 1..number {
-        rest = next_line(rest).rest;
-    }
-    next_line(rest).bytes
-}
-
-// What stands before the first character that is none from `!` to `~`.
-fn first_word(line: &[u8]) -> &[u8] {
-    match line.split(|byte| !byte.is_ascii_graphic()).next() {
-        Some(word) => word,
-        None => line,
-    }
-}
-
-// The line's first word, cut to 60 characters.
-fn shown(alloc: Global, line: &[u8]) -> Result<String, AllocError> {
-    let mut text = String::new(alloc);
-    for byte in first_word(line).iter().take(MOST_SHOWN) {
-        text.push(char::from(*byte))?;
-    }
-    Ok(text)
 }

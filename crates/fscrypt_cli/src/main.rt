@@ -1,11 +1,16 @@
 //! fsc: replays a script over an encrypted directory tree in memory, and prints a log.
 #![tactic(auto)]
 
+mod advice;
+mod bad_line;
+mod caused;
 mod commands;
 mod help;
 mod kept;
 mod telling;
 
+use advice::{advise_words, tell_of_closed, tell_of_waiting};
+use caused::CausedSink;
 use fsc_outside::{RuntimeSeed, StdSink, StdSource, write_all};
 use fsc_tool::tool;
 use help::{VERSION, advise, help_text};
@@ -33,8 +38,9 @@ fn main(rt: HostRuntime) -> ExitCode {
         return end(rt, Status::NoMemory, &[]);
     };
     let mut source = KeptSource::new(rt.alloc(), StdSource::new(&rt));
-    let mut sink = StdSink::new(&rt);
+    let mut sink = CausedSink::over(rt.stdout());
     let mut seeds = RuntimeSeed::new(&rt);
+    tell_of_waiting(&rt, &words);
     let status = tool(
         &rt,
         rt.alloc(),
@@ -45,7 +51,12 @@ fn main(rt: HostRuntime) -> ExitCode {
         &TellingGate::new(&rt),
         mount,
     );
-    end(rt, status, source.given())
+    match status {
+        Status::Usage => advise_words(&rt, &words),
+        Status::WriteFault if sink.is_closed() => tell_of_closed(&rt),
+        _ => return end(rt, status, source.given()),
+    }
+    ExitCode::from(status.number())
 }
 
 // The words of the command line without the program's own name. One that isn't text is Usage.

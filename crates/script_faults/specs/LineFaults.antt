@@ -37,20 +37,20 @@ spelling_fault line =
 abbrev pub word_fault : LineFault → List ℕ → LineFault
 word_fault otherwise word = if length word == 0 then fault.SpareSpace else otherwise
 
--- what is amiss with words that have to be of these kinds: the first that is none of its kind, and where
--- each is, that they are too few or too many
-abbrev pub words_fault : List WordKind → List (List ℕ) → LineFault
-words_fault [] [] = fault.TooManyWords
-words_fault [] (word ∷ words) = word_fault fault.TooManyWords word
-words_fault (wanted ∷ kinds) [] = fault.TooFewWords
-words_fault (wanted ∷ kinds) (word ∷ words) =
-    if is_one wanted word then words_fault kinds words else word_fault (fault.NoSuchWord wanted) word
+-- what is amiss with words that have to be of these kinds, the first of them word n behind the name: the first
+-- that is none of its kind, and where each is, that they are too few or too many
+abbrev pub words_fault : ℕ → List WordKind → List (List ℕ) → LineFault
+words_fault n [] [] = fault.TooManyWords
+words_fault n [] (word ∷ words) = word_fault fault.TooManyWords word
+words_fault n (wanted ∷ kinds) [] = fault.TooFewWords
+words_fault n (wanted ∷ kinds) (word ∷ words) =
+    if is_one wanted word then words_fault (n + 1) kinds words else word_fault (fault.NoSuchWord n wanted) word
 
 -- what is amiss with a name and the words behind it
 abbrev pub named_fault : List ℕ → List (List ℕ) → LineFault
 named_fault name words =
-    if bytes_eq name (codes "caller") then words_fault (kind.Number ∷ []) words
-    else option_map_or (λ known. words_fault (kinds_of known) words) (name_of name)
+    if bytes_eq name (codes "caller") then words_fault 1 (kind.Number ∷ []) words
+    else option_map_or (λ known. words_fault 1 (kinds_of known) words) (name_of name)
     (word_fault fault.NoCommand name)
 
 -- what is amiss with the words of a line, of which the first is the name

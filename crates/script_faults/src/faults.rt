@@ -27,9 +27,9 @@ pub enum LineFault {
     TooFewWords,
     #[error("has too many words")]
     TooManyWords,
-    /// The first word that isn't what it has to be.
-    #[error("has a word that is no {0}")]
-    NoSuchWord(WordKind),
+    /// The first word that isn't what it has to be, by its number among those behind the name, from 1.
+    #[error("has a word, number {number} behind it, that is no {kind}")]
+    NoSuchWord { number: usize, kind: WordKind },
     /// It is a command, and stands before the first caller.
     #[error("stands before the first caller")]
     NoCallerYet,

@@ -155,15 +155,21 @@ fn words_fault(
     kinds: &[WordKind],
     words: &mut Words<'_>,
 ) -> Result<LineFault, AllocError>
-    ensures { IfOk result (λ fault. fault ≡ spec.words_fault kinds.now words.old) }
+    ensures { IfOk result (λ fault. fault ≡ spec.words_fault 1 kinds.now words.old) }
 {
     let mut left = kinds;
+    let mut place: usize = 0;
     'kinds: while let [wanted, more @ ..] = left {
+        place += 1;
         let Some(word) = words.next() else {
             return Ok(LineFault::TooFewWords);
         };
         if !wanted.is_met(alloc, word)? {
-            return Ok(word_fault(LineFault::NoSuchWord(*wanted), word));
+            let fault = LineFault::NoSuchWord {
+                number: place,
+                kind: *wanted,
+            };
+            return Ok(word_fault(fault, word));
         }
         left = more;
     }

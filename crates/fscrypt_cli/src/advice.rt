@@ -1,0 +1,180 @@
+//! What is told of a command line that is no form: its first word at fault, and the remedy.
+
+use crate::bad_line::shown;
+use reply_text::Status;
+use std::io::IsTerminal;
+use text_words::decimal_value;
+
+// A word of a command line that is at fault, by its place from 0, and what to do. Behind the last a word is
+// missing.
+#[derive(Clone, Copy)]
+struct WordFault {
+    place: usize,
+    remedy: &'static str,
+}
+
+const NO_WORDS: &str = "give a form: fsc replay < SCRIPT runs a script; fsc --help lists the forms";
+
+const SCRIPT_BY_INPUT: &str = "the script comes from standard input: fsc replay < FILE";
+
+const SEED_DIGITS: &str = "a seed is 64 hexadecimal digits";
+
+const NUMBER_OF_GEN: &str = "gen takes a number from 0 to 4294967295, without leading zeros";
+
+/// Tells on standard error that a script is waited for, where it comes from a terminal.
+pub(crate) fn tell_of_waiting(rt: &HostRuntime, words: &Vec<String>) {
+    let is_replay = words.len() > 0 && words[0].as_str() == "replay";
+    if is_replay && fault_of(words.as_slice()).is_none() && rt.stdin().is_terminal() {
+        let _ = eprintln!(rt;
+            "fsc: waiting for a script, a command a line, ended by Ctrl-D; or give it by < FILE"
+        );
+    }
+}
+
+/// Tells on standard error that the output is read by nobody.
+pub(crate) fn tell_of_closed(rt: &HostRuntime) {
+    let _ = eprintln!(rt; "{}", Status::WriteFault);
+    let _ = eprintln!(rt;
+        "fsc: nobody reads the output any more; what was read is a beginning of the log"
+    );
+}
+
+/// Tells on standard error that the words of the command line are no form: the first at fault, but for a seed, and
+/// what to do.
+pub(crate) fn advise_words(rt: &HostRuntime, words: &Vec<String>) {
+    let _ = eprintln!(rt; "{}", Status::Usage);
+    let Some(fault) = fault_of(words.as_slice()) else {
+        return;
+    };
+    let remedy = fault.remedy;
+    if fault.place >= words.len() {
+        let _ = eprintln!(rt; "fsc: {remedy}");
+        return;
+    }
+    let number = fault.place + 1;
+    if fault.place > 0 && words[fault.place - 1].as_str() == "--seed" {
+        let _ = eprintln!(rt; "fsc: word {number}: {remedy}");
+        return;
+    }
+    if let Ok(word) = shown(rt.alloc(), words[fault.place].as_bytes()) {
+        let _ = eprintln!(rt; "fsc: word {number}, \"{word}\": {remedy}");
+    }
+}
+
+// The first word at fault; none where the words are a form.
+fn fault_of(words: &[String]) -> Option<WordFault> {
+    let [first, behind @ ..] = words else {
+        return at(0, NO_WORDS);
+    };
+    match first.as_str() {
+        "replay" => fault_of_replay(behind),
+        "gen" => fault_of_gen(behind),
+        "--help" | "--version" if behind.is_empty() => None,
+        "--help" | "--version" => at(1, "nothing stands behind --help and --version"),
+        "-h" | "-?" | "help" => at(0, "--help tells of the forms and commands"),
+        "-V" | "-v" | "version" => at(0, "--version tells the version"),
+        "--serial" | "--seed" => at(0, "replay stands first: fsc replay --serial --seed HEX64"),
+        "--summary" => at(0, "gen NUMBER stands first: fsc gen NUMBER --summary"),
+        word => at(0, remedy_of_first(word)),
+    }
+}
+
+fn at(place: usize, remedy: &'static str) -> Option<WordFault> {
+    Some(WordFault { place, remedy })
+}
+
+// What to give in place of a first word that is none.
+fn remedy_of_first(word: &str) -> &'static str {
+    if is_path(word) {
+        return SCRIPT_BY_INPUT;
+    }
+    "a form begins with replay, gen, --help or --version"
+}
+
+// Whether the word looks like the name of a file.
+fn is_path(word: &str) -> bool {
+    word.as_bytes()
+        .iter()
+        .any(|byte| *byte == b'.' || *byte == b'/')
+}
+
+// The first word at fault behind `replay`.
+fn fault_of_replay(words: &[String]) -> Option<WordFault> {
+    let mut rest = words;
+    let mut place: usize = 1;
+    if let [first, more @ ..] = rest {
+        if first.as_str() == "--serial" {
+            rest = more;
+            place = 2;
+        }
+    }
+    match rest {
+        [] => None,
+        [option] if option.as_str() == "--seed" => at(
+            place + 1,
+            "64 hexadecimal digits stand behind --seed",
+        ),
+        [option, seed, behind @ ..] if option.as_str() == "--seed" => {
+            if !is_seed(seed.as_str()) {
+                return at(place + 1, remedy_of_seed(seed.as_str()));
+            }
+            if behind.is_empty() {
+                return None;
+            }
+            at(place + 2, remedy_behind_seed(behind))
+        }
+        [word, ..] => at(place, remedy_of_option(word.as_str())),
+    }
+}
+
+fn is_seed(word: &str) -> bool {
+    word.len() == 64 && word.as_bytes().iter().all(|byte| byte.is_ascii_hexdigit())
+}
+
+fn remedy_of_seed(word: &str) -> &'static str {
+    if word.starts_with("0x") {
+        return "a seed is 64 hexadecimal digits, without 0x";
+    }
+    SEED_DIGITS
+}
+
+// What to do about a word behind the seed.
+fn remedy_behind_seed(words: &[String]) -> &'static str {
+    match words {
+        [first, ..] if first.as_str() == "--serial" => "--serial stands before --seed",
+        [first, ..] if first.as_str() == "--seed" => "one seed is enough",
+        [first, ..] if first.starts_with("-") => "nothing stands behind the seed",
+        _ => SCRIPT_BY_INPUT,
+    }
+}
+
+// What to do about a word in the place of an option.
+fn remedy_of_option(word: &str) -> &'static str {
+    if word == "--serial" {
+        return "one --serial is enough";
+    }
+    if word == "--summary" {
+        return "--summary stands behind gen NUMBER";
+    }
+    if word.starts_with("--seed=") {
+        return "the seed is a word of its own: --seed HEX64";
+    }
+    if word.starts_with("-") {
+        return "replay has the options --serial and --seed HEX64, in this order";
+    }
+    SCRIPT_BY_INPUT
+}
+
+// The first word at fault behind `gen`.
+fn fault_of_gen(words: &[String]) -> Option<WordFault> {
+    match words {
+        [] => at(1, "a number from 0 to 4294967295 stands behind gen"),
+        [number, ..] if decimal_value(number.as_bytes()).is_none() => at(1, NUMBER_OF_GEN),
+        [_, option, ..] if option.as_str() != "--summary" => at(
+            2,
+            "behind the number of gen stands --summary alone",
+        ),
+        [_] | [_, _] => None,
+        _ => at(3, "nothing stands behind --summary"),
+    }
+}

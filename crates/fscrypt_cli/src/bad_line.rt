@@ -1,0 +1,136 @@
+//! What is told of a line at fault: its first word alone, since the words behind may be secrets, why it is at
+//! fault, and what to write in its place.
+
+use script_faults::{LineFault, WordKind, line_fault};
+use std::alloc::{AllocError, Global};
+use text_words::{next_line, nth_word};
+
+// The most characters that are shown of a word.
+const MOST_SHOWN: usize = 60;
+
+// More bytes than any input that is read, and so few that each line has a number.
+const MOST_INPUT_BYTES: usize = 4_294_967_295;
+
+const LISTED: &str = "fsc --help lists the commands";
+
+/// Tells on standard error of the first line at fault of an input.
+pub(crate) fn show_line(rt: &HostRuntime, input: &[u8]) {
+    if input.len() > MOST_INPUT_BYTES {
+        return;
+    }
+    if let Ok(Some(found)) = line_fault(rt.alloc(), input) {
+        let text = line_at(input, found.line);
+        if let Ok(word) = shown(rt.alloc(), text) {
+            let line = found.line;
+            let fault = found.fault;
+            let remedy = remedy(text, found.fault);
+            let _ = eprintln!(rt; "fsc: line {line}: \"{word}\" {fault}; {remedy}");
+        }
+    }
+}
+
+// The line of this number, which counts from 1.
+fn line_at(text: &[u8], number: u32) -> &[u8] {
+    let mut rest = text;
+    for _ in 1..number {
+        rest = next_line(rest).rest;
+    }
+    next_line(rest).bytes
+}
+
+/// What stands before the first character that is none from `!` to `~`.
+pub(crate) fn first_word(line: &[u8]) -> &[u8] {
+    match line.split(|byte| !byte.is_ascii_graphic()).next() {
+        Some(word) => word,
+        None => line,
+    }
+}
+
+/// The first word of a text, cut to 60 characters.
+pub(crate) fn shown(alloc: Global, text: &[u8]) -> Result<String, AllocError> {
+    let mut word = String::new(alloc);
+    for byte in first_word(text).iter().take(MOST_SHOWN) {
+        word.push(char::from(*byte))?;
+    }
+    Ok(word)
+}
+
+// What to do about a line that is at fault.
+fn remedy(line: &[u8], fault: LineFault) -> &'static str {
+    match fault {
+        LineFault::NotEnded => "end the last line by a line feed",
+        LineFault::ByteOrderMark => "save the script without it",
+        LineFault::CarriageReturn => "save the script with line feeds alone",
+        LineFault::NoSuchWord { number, kind } => match nth_word(line, number) {
+            Some(word) => remedy_of_word(word, kind),
+            None => LISTED,
+        },
+        LineFault::TooManyWords => remedy_of_words(line),
+        LineFault::NoCallerYet => "begin with caller UID",
+        LineFault::NinthCaller => "a script has at most eight callers",
+        _ => LISTED,
+    }
+}
+
+// What to write in place of a word that isn't of this kind.
+fn remedy_of_word(word: &[u8], kind: WordKind) -> &'static str {
+    if word.starts_with(b"#") {
+        return "a comment is a line of its own";
+    }
+    if word.iter().any(|byte| !byte.is_ascii_graphic()) {
+        return "write a byte outside of ! to ~ as %XX";
+    }
+    match kind {
+        WordKind::AddedBytes
+        | WordKind::WrittenBytes
+        | WordKind::PutBytes
+        | WordKind::PolicyBytes => { remedy_of_digits(word) }
+        WordKind::Key | WordKind::Secret | WordKind::NewSecret if word.starts_with(b"raw:") => {
+            remedy_of_digits(&word[4..])
+        }
+        WordKind::Key | WordKind::Secret | WordKind::NewSecret if word.starts_with(b"id:") => {
+            remedy_of_digits(&word[3..])
+        }
+        WordKind::Path | WordKind::Target | WordKind::Secret | WordKind::NewSecret
+            if word.contains(&b'%') => {
+            "behind each % stand two hexadecimal digits, and % itself is %25"
+        }
+        WordKind::Number | WordKind::FilledLength | WordKind::Byte =>
+            "write it without leading zeros or a sign",
+        _ => LISTED,
+    }
+}
+
+// What to write in place of digits that spell no bytes.
+fn remedy_of_digits(digits: &[u8]) -> &'static str {
+    if digits.starts_with(b"0x") {
+        return "write the digits without 0x";
+    }
+    if digits.iter().all(|byte| byte.is_ascii_hexdigit()) && digits.len() % 2 == 1 {
+        return "their number is odd: a byte is two digits";
+    }
+    LISTED
+}
+
+// What to do about a line of more words than its command takes.
+fn remedy_of_words(line: &[u8]) -> &'static str {
+    if line
+        .split(|byte| *byte == b' ')
+        .any(|word| word.starts_with(b"#"))
+    {
+        return "a comment is a line of its own";
+    }
+    if line
+        .split(|byte| *byte == b' ')
+        .any(|word| word.starts_with(b"pass:"))
+    {
+        return "write a space in a passphrase as %20";
+    }
+    if line
+        .split(|byte| *byte == b' ')
+        .any(|word| word.starts_with(b"/"))
+    {
+        return "write a space in a path as %20";
+    }
+    LISTED
+}

@@ -1,0 +1,12 @@
+# Completion of the words of fsc for bash.
+_fsc() {
+    local word="${COMP_WORDS[COMP_CWORD]}" words=()
+    case "${COMP_WORDS[*]:1:COMP_CWORD-1}" in
+        "") words=(replay gen --help --version) ;;
+        replay) words=(--serial --seed) ;;
+        "replay --serial") words=(--seed) ;;
+        "gen "*[0-9]) words=(--summary) ;;
+    esac
+    mapfile -t COMPREPLY < <(compgen -W "${words[*]}" -- "$word")
+}
+complete -F _fsc fsc
