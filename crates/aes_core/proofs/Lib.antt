@@ -15,3 +15,4 @@ pub mod PlaneLemmas
 pub mod PlaneSteps
 pub mod SquareLemmas
 pub mod UndoneLemmas
+pub mod ZeroKey

@@ -3,7 +3,7 @@
 //! before it, and that one is changed only where a group begins: so a group is the group two before it,
 //! summed up from column to column, with one changed word added to each column.
 
-ghost use Rattle.std.specs.Prelude.{◌≡◌, ◌*◌, ◌+◌, ◌-◌, ◌<◌, ◌≤◌, ◌++◌, List, drop, ℕ};
+ghost use Rattle.std.specs.Prelude.{◌≡◌, ◌*◌, ◌+◌, ◌-◌, ◌<◌, ◌≤◌, ◌++◌, List, drop, length, ℕ};
 ghost use Rattle.aes_core.specs.Groups.{HoldsGroups, column_sums, in_each_column, last_column};
 ghost use Rattle.aes_core.specs.RoundKeys.{changed_word, power_of_x, round_constant, round_keys};
 ghost use Rattle.aes_core.specs.Steps.{state_of};
@@ -16,23 +16,23 @@ use std::simd::prelude::*;
 // As many as rounds and one more.
 const GROUPS: usize = 15;
 
-// The round keys of a key. The loop makes an odd group and an even one at a time, so that which of
-// them is which is known when this is compiled.
-pub(crate) fn round_keys(key: &[u8; 32]) -> RoundKeys
-    ensures { result ≡ round_keys key.now }
+// Writes the round keys of a key of 32 bytes. The loop makes an odd group and an even one at a time, so
+// that which of them is which is known when this is compiled.
+pub(crate) fn write_round_keys(keys: &mut RoundKeys, key: &[u8])
+    requires { length key.now ≡ 32 }
+    ensures { keys.new ≡ round_keys key.now }
 {
-    let mut keys = [0; 240];
-    begin_with(&mut keys, key);
-    append_group(&mut keys, 2);
+    begin_with(keys, key);
+    append_group(keys, 2);
     'pairs: for pair in 1..GROUPS / 2 {
-        append_group(&mut keys, 2 * pair + 1);
-        append_group(&mut keys, 2 * pair + 2);
+        append_group(keys, 2 * pair + 1);
+        append_group(keys, 2 * pair + 2);
     }
-    keys
 }
 
 // The key itself is the first two groups.
-fn begin_with(keys: &mut RoundKeys, key: &[u8; 32])
+fn begin_with(keys: &mut RoundKeys, key: &[u8])
+    requires { length key.now ≡ 32 }
     ensures { keys.new ≡ key.now ++ drop 32 keys.old }
 {
     keys[..32].copy_from_slice(key);

@@ -12,8 +12,9 @@ mod shuffles;
 mod substitution_circuit;
 mod transposition;
 mod vectors;
+mod zero_key;
 
-ghost use Rattle.std.specs.Prelude.{◌≡◌, ◌<◌, List, [], ℕ, slice_index_or, take};
+ghost use Rattle.std.specs.Prelude.{◌≡◌, ◌<◌, List, [], ℕ, length, replicate, slice_index_or, take};
 ghost use Rattle.aes_core.specs.Aes.{decrypted_block, encrypted_block};
 ghost use Rattle.aes_core.specs.Laws.{DecryptionUndoes, DecryptsToBlocks, EncryptionUndoes};
 ghost use Rattle.aes_core.specs.Laws.{EncryptsToBlocks, InverseIsOne, MakesSixteen};
@@ -23,10 +24,15 @@ use crate::rounds::{
     RoundKeys, add_round_key, inverse_mix_columns, inverse_shift_rows, inverse_substitute_bytes,
     mix_columns, shift_rows, substitute_bytes,
 };
+use crate::zero_key::round_keys_of_zeros;
+use byte_words::wipe;
 use std::marker::Model;
 use std::simd::prelude::*;
 
 /// A key of 32 bytes with its round keys, which are made once. In contracts it is the key.
+///
+/// A move copies all of them, and what it leaves behind is not overwritten. Who has to see a key gone
+/// makes room for it (`zeros`), has it made there (`set`), lends it, and wipes it there.
 #[derive(Drop)]
 pub struct Aes256 {
     // The key itself is the first 32 bytes.
@@ -46,9 +52,34 @@ impl Aes256 {
     pub fn new(key: &[u8; 32]) -> Aes256
         ensures { result ≡ key.now }
     {
+        let mut schedule = [0; 240];
+        key_schedule::write_round_keys(&mut schedule, key);
+        Aes256 { schedule }
+    }
+
+    /// The key of 32 zeros: room for another.
+    pub fn zeros() -> Aes256
+        ensures { result ≡ replicate 32 0 }
+    {
         Aes256 {
-            schedule: key_schedule::round_keys(key),
+            schedule: round_keys_of_zeros(),
         }
+    }
+
+    /// Makes the round keys of `key`, which has 32 bytes, where those of the key before stand.
+    pub fn set(&mut self, key: &[u8])
+        requires { length key.now ≡ 32 }
+        ensures { self.new ≡ key.now }
+    {
+        key_schedule::write_round_keys(&mut self.schedule, key);
+    }
+
+    /// Overwrites the key and its round keys where they stand. It is then the key of 32 zeros.
+    pub fn wipe(&mut self)
+        ensures { self.new ≡ replicate 32 0 }
+    {
+        wipe(&mut self.schedule);
+        self.schedule = round_keys_of_zeros();
     }
 
     /// The block encrypted (FIPS 197, 5.1).

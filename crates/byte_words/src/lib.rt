@@ -3,6 +3,7 @@
 //! is known of them in proofs/.
 #![tactic(auto)]
 
+mod wiping;
 mod words;
 
 ghost use Rattle.std.specs.Prelude.{◌≡◌, length};
@@ -10,6 +11,7 @@ ghost use Rattle.byte_words.specs.Bytes.{AreBytes};
 ghost use Rattle.byte_words.specs.Laws.{ContentsGrow, OtherBytesStay, WrittenBytesAreRead};
 ghost use Rattle.byte_words.specs.Xor.{xor_bytes};
 
+pub use wiping::wipe;
 pub use words::{read_word, write_words};
 
 /// Xors `other` into `target`, byte by byte. Both have the same length, in bytes.

@@ -40,7 +40,17 @@ abbrev pub key_bytes : FileKey → List ℕ
 key_bytes (key.Contents bytes) = bytes
 key_bytes (key.Names bytes) = bytes
 
--- the key of its kind whose bytes are all zeros
+-- what the key enciphers
+abbrev pub kind_of : FileKey → KeyKind
+kind_of (key.Contents bytes) = Contents
+kind_of (key.Names bytes) = Names
+
+-- the key of a kind whose bytes are all zeros
+abbrev pub zero_key : KeyKind → FileKey
+zero_key Contents = key.Contents (replicate 64 0)
+zero_key Names = key.Names (replicate 32 0)
+
+-- the same of another key's kind
 abbrev pub zeros_for : FileKey → FileKey
 zeros_for (key.Contents bytes) = key.Contents (replicate 64 0)
 zeros_for (key.Names bytes) = key.Names (replicate 32 0)

@@ -5,9 +5,9 @@ ghost use Rattle.byte_words.specs.Bytes.{AreBytes};
 ghost use Rattle.hmac_kdf.specs.Hmac.{hash_sha512};
 ghost use Rattle.hmac_kdf.specs.Hkdf.{extracted};
 ghost use Rattle.fsc_keys.specs.Draws.{expanded_key};
-ghost use Rattle.fsc_keys.specs.Keys.{file_key_of, key_bytes, key_id_of, mode_key_of};
+ghost use Rattle.fsc_keys.specs.Keys.{file_key_of, key_bytes, key_id_of, kind_of, mode_key_of};
 
-use crate::file_keys::{FileKey, KeyKind};
+use crate::file_keys::FileKey;
 use crate::raw_key::RawKey;
 use byte_words::slice_is_bytes;
 use hmac_kdf::Prk512;
@@ -43,48 +43,45 @@ pub(crate) fn draw_id(prk: &Prk512) -> KeyId
     KeyId(id)
 }
 
-// The key of the file with this nonce.
+// Writes the key of the file with this nonce over another of its kind.
 #[tactic(auto, unfolding(crate::specs::Keys::derived, hmac_kdf::specs::Hkdf::hkdf_with))]
-pub(crate) fn draw_file_key(prk: &Prk512, kind: KeyKind, nonce: &[u8; 16]) -> FileKey
+pub(crate) fn draw_file_key(prk: &Prk512, nonce: &[u8; 16], key: &mut FileKey)
     ensures key { (raw : List ℕ) → prk.now ≡ extracted hash_sha512 [] raw
-        → result ≡ file_key_of raw kind nonce.now }
-    ensures ranged { AreBytes (key_bytes result) }
+        → key.new ≡ file_key_of raw (kind_of key.old) nonce.now }
+    ensures ranged { AreBytes (key_bytes key.new) }
 {
     let mut info = [0; 25];
     info[..9].copy_from_slice(&FILE_KEY_INFO);
     info[9..].copy_from_slice(nonce);
-    draw(prk, kind, &info)
+    draw(prk, &info, key);
 }
 
-// The key that all nodes of the kind share.
+// Writes the key that all nodes of its kind share over another.
 #[tactic(auto, unfolding(crate::specs::Keys::derived, hmac_kdf::specs::Hkdf::hkdf_with))]
-pub(crate) fn draw_mode_key(prk: &Prk512, kind: KeyKind) -> FileKey
-    ensures key { (raw : List ℕ) → prk.now ≡ extracted hash_sha512 [] raw → result ≡ mode_key_of raw kind }
-    ensures ranged { AreBytes (key_bytes result) }
+pub(crate) fn draw_mode_key(prk: &Prk512, key: &mut FileKey)
+    ensures key { (raw : List ℕ) → prk.now ≡ extracted hash_sha512 [] raw
+        → key.new ≡ mode_key_of raw (kind_of key.old) }
+    ensures ranged { AreBytes (key_bytes key.new) }
 {
-    match kind {
-        KeyKind::Contents => draw(prk, kind, &CONTENTS_MODE_INFO),
-        KeyKind::Names => draw(prk, kind, &NAMES_MODE_INFO),
+    match key {
+        FileKey::Contents(_) => draw(prk, &CONTENTS_MODE_INFO, key),
+        FileKey::Names(_) => draw(prk, &NAMES_MODE_INFO, key),
     }
 }
 
-// As many bytes as a key of the kind has, expanded under this info.
-fn draw(prk: &Prk512, kind: KeyKind, info: &[u8]) -> FileKey
-    ensures key { result ≡ expanded_key prk.now kind info.now }
-    ensures ranged { AreBytes (key_bytes result) }
+// Writes as many bytes as the key has, expanded under this info, over it where it stands.
+fn draw(prk: &Prk512, info: &[u8], key: &mut FileKey)
+    ensures key { key.new ≡ expanded_key prk.now (kind_of key.old) info.now }
+    ensures ranged { AreBytes (key_bytes key.new) }
 {
-    match kind {
-        KeyKind::Contents => {
-            let mut key = [0; 64];
-            prk.expand(info, &mut key);
-            slice_is_bytes(&key);
-            FileKey::Contents(key)
+    match key {
+        FileKey::Contents(bytes) => {
+            prk.expand(info, bytes);
+            slice_is_bytes(bytes);
         }
-        KeyKind::Names => {
-            let mut key = [0; 32];
-            prk.expand(info, &mut key);
-            slice_is_bytes(&key);
-            FileKey::Names(key)
+        FileKey::Names(bytes) => {
+            prk.expand(info, bytes);
+            slice_is_bytes(bytes);
         }
     }
 }

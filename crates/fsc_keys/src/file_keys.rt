@@ -2,10 +2,11 @@
 
 ghost use Rattle.std.specs.Prelude.{◌≡◌};
 ghost use Rattle.byte_words.specs.Bytes.{AreBytes};
-ghost use Rattle.fsc_keys.specs.Keys.{file_key_of, key_bytes, key_id_of, mode_key_of, zeros_for};
+ghost use Rattle.fsc_keys.specs.Keys.{file_key_of, key_bytes, key_id_of, mode_key_of, zero_key, zeros_for};
 
 use crate::draws::{draw_file_key, draw_id, draw_mode_key, extract};
 use crate::raw_key::RawKey;
+use byte_words::wipe;
 use policy_ctx::KeyId;
 
 /// What a file key enciphers.
@@ -27,13 +28,23 @@ pub enum FileKey {
 }
 
 impl FileKey {
+    /// The key of this kind whose bytes are zeros: room for another.
+    pub fn zeros(kind: KeyKind) -> FileKey
+        ensures { result ≡ zero_key kind }
+    {
+        match kind {
+            KeyKind::Contents => FileKey::Contents([0; 64]),
+            KeyKind::Names => FileKey::Names([0; 32]),
+        }
+    }
+
     /// Writes zeros over the key, where it stands: 64 for contents, 32 for names.
     pub fn wipe(&mut self)
         ensures { self.new ≡ zeros_for self.old }
     {
         match self {
-            FileKey::Contents(bytes) => *bytes = [0; 64],
-            FileKey::Names(bytes) => *bytes = [0; 32],
+            FileKey::Contents(bytes) => wipe(bytes),
+            FileKey::Names(bytes) => wipe(bytes),
         }
     }
 }
@@ -51,7 +62,9 @@ pub fn file_key(raw: &RawKey, kind: KeyKind, nonce: &[u8; 16]) -> FileKey
     ensures key { result ≡ file_key_of raw.now kind nonce.now }
     ensures ranged { AreBytes (key_bytes result) }
 {
-    draw_file_key(&extract(raw), kind, nonce)
+    let mut key = FileKey::zeros(kind);
+    draw_file_key(&extract(raw), nonce, &mut key);
+    key
 }
 
 /// The key that all nodes of this kind share under a policy with a key for each mode.
@@ -59,5 +72,7 @@ pub fn mode_key(raw: &RawKey, kind: KeyKind) -> FileKey
     ensures key { result ≡ mode_key_of raw.now kind }
     ensures ranged { AreBytes (key_bytes result) }
 {
-    draw_mode_key(&extract(raw), kind)
+    let mut key = FileKey::zeros(kind);
+    draw_mode_key(&extract(raw), &mut key);
+    key
 }

@@ -29,7 +29,7 @@ impl Model for PreparedKey {
 }
 
 impl PreparedKey {
-    ghost use Rattle.fsc_keys.specs.Keys.{file_key_of, key_bytes, key_id_of, mode_key_of};
+    ghost use Rattle.fsc_keys.specs.Keys.{file_key_of, key_bytes, key_id_of, kind_of, mode_key_of};
 
     /// Prepares the key.
     pub fn new(raw: RawKey) -> PreparedKey
@@ -61,7 +61,18 @@ impl PreparedKey {
         ensures key { result ≡ file_key_of self.now kind nonce.now }
         ensures ranged { AreBytes (key_bytes result) }
     {
-        draw_file_key(&self.prk, kind, nonce)
+        let mut key = FileKey::zeros(kind);
+        draw_file_key(&self.prk, nonce, &mut key);
+        key
+    }
+
+    /// Writes the key of the file with this nonce over another of the kind that is wanted, so that it is
+    /// nowhere else.
+    pub fn write_file_key(&self, nonce: &[u8; 16], key: &mut FileKey)
+        ensures key { key.new ≡ file_key_of self.now (kind_of key.old) nonce.now }
+        ensures ranged { AreBytes (key_bytes key.new) }
+    {
+        draw_file_key(&self.prk, nonce, key);
     }
 
     /// The key that all nodes of this kind share under a policy with a key for each mode.
@@ -69,7 +80,17 @@ impl PreparedKey {
         ensures key { result ≡ mode_key_of self.now kind }
         ensures ranged { AreBytes (key_bytes result) }
     {
-        draw_mode_key(&self.prk, kind)
+        let mut key = FileKey::zeros(kind);
+        draw_mode_key(&self.prk, &mut key);
+        key
+    }
+
+    /// Writes the key that all nodes of a kind share over another of that kind.
+    pub fn write_mode_key(&self, key: &mut FileKey)
+        ensures key { key.new ≡ mode_key_of self.now (kind_of key.old) }
+        ensures ranged { AreBytes (key_bytes key.new) }
+    {
+        draw_mode_key(&self.prk, key);
     }
 
     /// Writes zeros over the key, and what comes of them over what was prepared. It is then the key of
@@ -78,6 +99,6 @@ impl PreparedKey {
         ensures { self.new ≡ replicate (length self.old) 0 }
     {
         self.raw.wipe();
-        self.prk = extract(&self.raw);
+        self.prk.replace(&[], self.raw.bytes());
     }
 }

@@ -1,6 +1,6 @@
 //! A raw master key as it was handed in: 32 to 64 bytes.
 
-ghost use Rattle.std.specs.Prelude.{◌≡◌, ◌↔◌, ◌≤◌, ℕ, List, length, replicate, IsOk, IfOk, IfErr};
+ghost use Rattle.std.specs.Prelude.{◌≡◌, ◌↔◌, ◌≤◌, ℕ, List, length, replicate, IsOk, IfOk, IfErr, OnOk, OnErr};
 ghost use Rattle.byte_words.specs.Bytes.{AreBytes};
 
 use short_bytes::Filled;
@@ -45,12 +45,33 @@ impl RawKey {
             ↔ ((LEAST_RAW_KEY_BYTES ≤ length bytes.now) × (length bytes.now ≤ MOST_RAW_KEY_BYTES)) }
         ensures refused { IfErr result (λ fault. fault.len ≡ length bytes.now) }
     {
-        if bytes.len() < LEAST_RAW_KEY_BYTES || bytes.len() > MOST_RAW_KEY_BYTES {
-            return Err(KeySize { len: bytes.len() });
-        }
+        check_size(bytes)?;
         Ok(RawKey {
             bytes: Filled::of(bytes),
         })
+    }
+
+    /// The key of 32 zeros: room for another.
+    pub fn zeros() -> RawKey
+        ensures { result ≡ replicate LEAST_RAW_KEY_BYTES 0 }
+    {
+        RawKey {
+            bytes: Filled::of(&[0; LEAST_RAW_KEY_BYTES]),
+        }
+    }
+
+    /// The key of these bytes in place of the one before, which is overwritten where it stands. Any others
+    /// than 32 to 64 are refused, and then the key is as before.
+    pub fn set(&mut self, bytes: &[u8]) -> Result<(), KeySize>
+        ensures value { OnOk result (self.new ≡ bytes.now) }
+        ensures ok_in_range { IsOk result
+            ↔ ((LEAST_RAW_KEY_BYTES ≤ length bytes.now) × (length bytes.now ≤ MOST_RAW_KEY_BYTES)) }
+        ensures refused { IfErr result (λ fault. fault.len ≡ length bytes.now) }
+        ensures kept { OnErr result (self.new ≡ self.old) }
+    {
+        check_size(bytes)?;
+        self.bytes.set(bytes);
+        Ok(())
     }
 
     /// The bytes of the key.
@@ -69,4 +90,16 @@ impl RawKey {
     {
         self.bytes.wipe();
     }
+}
+
+// Refuses what is no raw key by its length.
+fn check_size(bytes: &[u8]) -> Result<(), KeySize>
+    ensures ok_in_range { IsOk result
+        ↔ ((LEAST_RAW_KEY_BYTES ≤ length bytes.now) × (length bytes.now ≤ MOST_RAW_KEY_BYTES)) }
+    ensures refused { IfErr result (λ fault. fault.len ≡ length bytes.now) }
+{
+    if bytes.len() < LEAST_RAW_KEY_BYTES || bytes.len() > MOST_RAW_KEY_BYTES {
+        return Err(KeySize { len: bytes.len() });
+    }
+    Ok(())
 }

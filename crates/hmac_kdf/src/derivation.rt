@@ -7,6 +7,7 @@ ghost use lib.Seq.{paste};
 
 use crate::hash::BlockHash;
 use crate::keyed::{Keyed, mac};
+use byte_words::wipe;
 
 // HKDF: extract, then expand, into the whole of `out`.
 #[tactic(auto, unfolding(crate::specs::Hkdf::hkdf_with))]
@@ -24,8 +25,9 @@ where
     requires fits { length out.old ≤ 255 * N }
     ensures { out.new ≡ hkdf_with (hash_of H.digest_bytes B N) salt.now ikm.now info.now (length out.old) }
 {
-    let key: [u8; N] = extract::<H, B, N>(salt, ikm);
+    let mut key: [u8; N] = extract::<H, B, N>(salt, ikm);
     let keyed: Keyed<H> = Keyed::new::<B, N>(&key);
+    wipe(&mut key);
     expand::<H, B, N>(&keyed, info, out);
 }
 
@@ -61,10 +63,13 @@ where
     let mut block = [0; N];
     let mut filled = 0;
     'pieces: for i in 0..out.len().div_ceil(N) {
-        block = next_block::<H, B, N>(keyed, &block[..filled], info, i as u8 + 1);
+        let mut next = next_block::<H, B, N>(keyed, &block[..filled], info, i as u8 + 1);
+        write_at(out, i * N, &next);
+        block = next;
         filled = N;
-        write_at(out, i * N, &block);
+        wipe(&mut next);
     }
+    wipe(&mut block);
 }
 
 // T(i), from T(i-1) and the number i.

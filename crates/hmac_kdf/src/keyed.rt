@@ -5,6 +5,7 @@ ghost use Rattle.hmac_kdf.specs.Hmac.{hash_of, hmac_with, xor_each, block_key};
 ghost use Rattle.byte_words.specs.Xor.{zero_filled};
 
 use crate::hash::BlockHash;
+use byte_words::wipe;
 use sha2::Digest;
 
 const INNER_PAD: u8 = 0x36;
@@ -42,6 +43,21 @@ fn padded_key<const B: usize>(key: &[u8], byte: u8) -> [u8; B]
     pad
 }
 
+// A hasher that has taken the key's block under this padding, which is overwritten. The key has at most
+// `B` bytes.
+fn padded_hasher<H, const B: usize, const N: usize>(key: &[u8], byte: u8) -> H
+where
+    H: BlockHash<B, N>,
+    requires fits { length key.now ≤ B }
+    requires small { B < 2 ^ 63 }
+    ensures { H.holds result (xor_each byte (zero_filled B key.now)) }
+{
+    let mut pad: [u8; B] = padded_key::<B>(key, byte);
+    let hasher = H::new_with_prefix(&pad[..]);
+    wipe(&mut pad);
+    hasher
+}
+
 /// The two hashers of an HMAC.
 #[derive(Drop)]
 pub(crate) struct Keyed<H> {
@@ -62,8 +78,10 @@ impl<H> Keyed<H> {
             (xor_each 0x5c (block_key (hash_of H.digest_bytes B N) key.now)) }
     {
         if key.len() > B {
-            let digest: [u8; N] = H::digest(key);
-            Keyed::with_block_key::<B, N>(&digest)
+            let mut digest: [u8; N] = H::digest(key);
+            let keyed = Keyed::with_block_key::<B, N>(&digest);
+            wipe(&mut digest);
+            keyed
         } else {
             Keyed::with_block_key::<B, N>(key)
         }
@@ -79,8 +97,8 @@ impl<H> Keyed<H> {
         ensures outer { H.holds result.outer (xor_each 0x5c (zero_filled B key.now)) }
     {
         Keyed {
-            inner: H::new_with_prefix(padded_key::<B>(key, INNER_PAD)),
-            outer: H::new_with_prefix(padded_key::<B>(key, OUTER_PAD)),
+            inner: padded_hasher::<H, B, N>(key, INNER_PAD),
+            outer: padded_hasher::<H, B, N>(key, OUTER_PAD),
         }
     }
 

@@ -7,6 +7,7 @@ ghost use Rattle.hmac_kdf.specs.Pads.{HavePads};
 
 use crate::derivation::{expand, extract};
 use crate::keyed::Keyed;
+use byte_words::wipe;
 use sha2::Sha512;
 use std::marker::Model;
 
@@ -32,9 +33,22 @@ impl Prk512 {
     pub fn extract(salt: &[u8], ikm: &[u8]) -> Prk512
         ensures { result ≡ extracted hash_sha512 salt.now ikm.now }
     {
-        let key = extract::<Sha512, 128, 64>(salt, ikm);
+        let mut key = extract::<Sha512, 128, 64>(salt, ikm);
         let keyed = Keyed::new::<128, 64>(&key);
-        Prk512 { key, keyed }
+        let prk = Prk512 { key, keyed };
+        wipe(&mut key);
+        prk
+    }
+
+    /// The same in place: the key before is overwritten where it stands.
+    pub fn replace(&mut self, salt: &[u8], ikm: &[u8])
+        ensures { self.new ≡ extracted hash_sha512 salt.now ikm.now }
+    {
+        wipe(&mut self.key);
+        let mut key = extract::<Sha512, 128, 64>(salt, ikm);
+        self.key = key;
+        self.keyed = Keyed::new::<128, 64>(&key);
+        wipe(&mut key);
     }
 
     /// HKDF-Expand (RFC 5869, 2.3): fills `out`, of at most 255 times 64 bytes, with output keying

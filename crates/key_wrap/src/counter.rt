@@ -7,7 +7,7 @@ ghost use Rattle.aes_core.specs.Aes.{encrypted_block};
 ghost use Rattle.key_wrap.specs.CounterMode.{counter_mode};
 
 use aes_core::Aes256;
-use byte_words::xor_into;
+use byte_words::{wipe, xor_into};
 
 // Enciphers the text, or deciphers it, which is the same.
 pub(crate) fn xor_keystream(cipher: &Aes256, iv: &[u8; 16], text: &mut [u8])
@@ -18,7 +18,7 @@ pub(crate) fn xor_keystream(cipher: &Aes256, iv: &[u8; 16], text: &mut [u8])
     let first = u128::from_be_bytes(*iv);
     fill_keystream(cipher, first, &mut stream, text.len().div_ceil(16));
     xor_into(text, &stream[..text.len()]);
-    stream = [0; 64];
+    wipe(&mut stream);
 }
 
 // Writes the enciphered counters, from the first one on, over the first blocks of the stream.

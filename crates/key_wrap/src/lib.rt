@@ -30,11 +30,13 @@ pub fn wrap(key: &[u8; 32], iv: &[u8; 16], secret: &[u8], out: &mut [u8]) -> [u8
     ensures ciphertext { out.new ≡ (wrapped_secret key.now iv.now secret.now).0 }
     ensures tag { result ≡ (wrapped_secret key.now iv.now secret.now).1 }
 {
-    let mut keys = StretchedKey::new(key);
+    let mut keys = StretchedKey::zeros();
+    keys.set(key);
     out.copy_from_slice(secret);
     xor_keystream(&keys.cipher, iv, out);
     let tag = hmac256(&keys.tag_key, iv, out);
     keys.wipe();
+    keys.end();
     tag
 }
 
@@ -54,14 +56,17 @@ pub fn unwrap(
     ensures refused { IfErr result (λ _. opened_secret key.now iv.now wrapped.now tag.now ≡ None) }
     ensures unchanged { IfErr result (λ _. out.new ≡ out.old) }
 {
-    let mut keys = StretchedKey::new(key);
+    let mut keys = StretchedKey::zeros();
+    keys.set(key);
     if !is_same_tag(tag, &hmac256(&keys.tag_key, iv, wrapped)) {
         keys.wipe();
+        keys.end();
         return Err(TagDiffers);
     }
     out.copy_from_slice(wrapped);
     xor_keystream(&keys.cipher, iv, out);
     keys.wipe();
+    keys.end();
     Ok(())
 }
 

@@ -1,6 +1,6 @@
 //! What the names of one node are enciphered with: made once, for as many names as there are.
 
-ghost use Rattle.std.specs.Prelude.{◌≡◌, ◌+◌, ◌↔◌, [], IsErr, IfOk};
+ghost use Rattle.std.specs.Prelude.{◌≡◌, ◌+◌, ◌↔◌, [], IsErr, IfOk, replicate};
 ghost use Rattle.aes_core.specs.Laws.{IsBlock};
 ghost use Rattle.name_crypt.specs.StoredName as spec;
 ghost use Rattle.name_crypt.specs.StoredName.{plain_name, stored_name};
@@ -44,6 +44,14 @@ impl NameCipher {
             key: Aes256::new(key),
             start,
         }
+    }
+
+    /// Overwrites the key and its round keys where they stand. It is then the cipher of 32 zeros.
+    pub fn wipe(&mut self)
+        ensures key { self.new.key ≡ replicate 32 0 }
+        ensures start { self.new.start ≡ self.old.start }
+    {
+        self.key.wipe();
     }
 
     /// The stored name of a name or target. `steps` counts one more.

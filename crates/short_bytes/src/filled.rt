@@ -1,6 +1,6 @@
 //! At most `N` bytes in the value: no memory is taken, and a copy is a copy of the bytes.
 
-ghost use Rattle.std.specs.Prelude.{◌≡◌, ℕ, ◌+◌, ◌≤◌, [], ◌++◌, length, replicate};
+ghost use Rattle.std.specs.Prelude.{◌≡◌, ℕ, ◌+◌, ◌≤◌, [], ◌++◌, length, drop, replicate};
 ghost use Rattle.std.specs.Prelude.{nat_eq, IsSome, IfSome, IsTrue, ◌↔◌};
 ghost use Rattle.std.specs.Cmp.{on_equiv, on_per, partial_equiv_from_equiv};
 ghost use Rattle.std.specs.Cmp.Lexicographic.{pointwise, nat_list_eq_equiv};
@@ -9,6 +9,7 @@ ghost use Rattle.std.specs.Hash as fed;
 ghost use Rattle.std.proofs.Common.{rules};
 ghost use Rattle.byte_words.specs.Bytes.{AreBytes};
 
+use byte_words::wipe;
 use std::fmt;
 use std::hash::{Hash, Hasher};
 use std::marker::Model;
@@ -90,12 +91,20 @@ impl<const N: usize> Filled<N> {
         self.len = end;
     }
 
-    /// Writes a zero over each byte. There are as many as before.
+    /// These bytes in place of the others, which are overwritten where they stand. They are at most `N`.
+    pub fn set(&mut self, bytes: &[u8])
+        requires fits { length bytes.now ≤ N }
+        ensures { self.new ≡ bytes.now }
+    {
+        write_over(&mut self.places, bytes);
+        self.len = bytes.len();
+    }
+
+    /// Writes a zero over each byte where it stands. There are as many as before.
     pub fn wipe(&mut self)
         ensures { self.new ≡ replicate (length self.old) 0 }
     {
-        let zeros = [0; N];
-        self.places = zeros;
+        wipe(&mut self.places);
     }
 
     /// How many bytes there are.
@@ -121,6 +130,15 @@ impl<const N: usize> Filled<N> {
     {
         &self.places[..self.len]
     }
+}
+
+// Overwrites the places with the bytes, and with zeros behind them.
+fn write_over<const N: usize>(places: &mut [u8; N], bytes: &[u8])
+    requires fits { length bytes.now ≤ N }
+    ensures { places.new ≡ bytes.now ++ drop (length bytes.now) (replicate N 0) }
+{
+    wipe(places);
+    places[..bytes.len()].copy_from_slice(bytes);
 }
 
 impl<const N: usize> PartialEq for Filled<N> {

@@ -1,22 +1,12 @@
 //! One block of a data unit, and the tweaks of blocks.
 
-ghost use Rattle.std.specs.Prelude.{◌≡◌, ◌*◌, ◌+◌, ◌≤◌, length, take, drop};
+ghost use Rattle.std.specs.Prelude.{◌≡◌, ◌*◌, ◌+◌, ◌≤◌, length};
 ghost use Rattle.byte_words.specs.Blocks.{block_at};
 ghost use Rattle.aes_core.specs.Aes.{decrypted_block, encrypted_block};
 ghost use Rattle.xts_mode.specs.Xts.{times_alpha, tweaked};
 
 use aes_core::Aes256;
 use byte_words::xor_into;
-
-// Half of a key, from byte `at` on.
-pub(crate) fn half_of(key: &[u8; 64], at: usize) -> [u8; 32]
-    requires { at ≤ 32 }
-    ensures { result ≡ take 32 (drop at key.now) }
-{
-    let mut half = [0; 32];
-    half.copy_from_slice(&key[at..at + 32]);
-    half
-}
 
 // Block `j` of a unit.
 pub(crate) fn block_at(unit: &[u8], j: usize) -> [u8; 16]

@@ -4,11 +4,11 @@
 mod block;
 mod group;
 
-ghost use Rattle.std.specs.Prelude.{◌≡◌, ◌%◌, ◌++◌, List, ℕ, length};
+ghost use Rattle.std.specs.Prelude.{◌≡◌, ◌%◌, ◌++◌, List, ℕ, length, replicate};
 ghost use Rattle.xts_mode.specs.Laws.{DecryptionUndoes, EncryptionUndoes, KeepsLength, MakesUnits};
 ghost use Rattle.xts_mode.specs.Xts.{first_tweak, xts_decrypted, xts_encrypted};
 
-use crate::block::{block_at, decrypt_tweaked, encrypt_tweaked, half_of, times_alpha};
+use crate::block::{block_at, decrypt_tweaked, encrypt_tweaked, times_alpha};
 use crate::group::{GROUP_BYTES, decrypt_group, encrypt_group};
 use aes_core::Aes256;
 use std::marker::Model;
@@ -36,10 +36,35 @@ impl XtsKey {
     pub fn new(key: &[u8; 64]) -> XtsKey
         ensures { result ≡ key.now }
     {
+        let mut made = XtsKey::zeros();
+        made.set(key);
+        made
+    }
+
+    /// The key of 64 zeros: room for another.
+    pub fn zeros() -> XtsKey
+        ensures { result ≡ replicate 64 0 }
+    {
         XtsKey {
-            cipher: Aes256::new(&half_of(key, 0)),
-            tweaker: Aes256::new(&half_of(key, 32)),
+            cipher: Aes256::zeros(),
+            tweaker: Aes256::zeros(),
         }
+    }
+
+    /// Makes the round keys of both halves of `key`, where those of the key before stand.
+    pub fn set(&mut self, key: &[u8; 64])
+        ensures { self.new ≡ key.now }
+    {
+        self.cipher.set(&key[..32]);
+        self.tweaker.set(&key[32..]);
+    }
+
+    /// Overwrites the key and its round keys where they stand. It is then the key of 64 zeros.
+    pub fn wipe(&mut self)
+        ensures { self.new ≡ replicate 64 0 }
+    {
+        self.cipher.wipe();
+        self.tweaker.wipe();
     }
 
     /// Encrypts the unit with this index, in place. Its length is a multiple of 16 bytes.

@@ -6,7 +6,7 @@ use Rattle.aes_core.proofs.Aes256.new.Goals as goal
 
 pub invariant_of-result : goal.invariant_of-result
 invariant_of-result c =
-    c.round_keys.ensures ∙ ap round_keys (sym (ap (λ w. take 32 w) c.round_keys.ensures ∙ take-round_keys c.args.key.now (omega arith)))
+    c.write_round_keys.ensures ∙ ap round_keys (sym (ap (λ w. take 32 w) c.write_round_keys.ensures ∙ take-round_keys c.args.key.now (omega arith)))
 
 pub returns : goal.returns
-returns c = ap (λ w. take 32 w) c.round_keys.ensures ∙ take-round_keys c.args.key.now (omega arith)
+returns c = ap (λ w. take 32 w) c.write_round_keys.ensures ∙ take-round_keys c.args.key.now (omega arith)

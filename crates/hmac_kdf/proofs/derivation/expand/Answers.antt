@@ -24,13 +24,13 @@ pieces-preserved g c = record {
       let info = c.args.info.now in
       let i = c.pieces.i in
       let n = g.row.N in
-      let t = c.next_block-block.result in
+      let t = c.next_block-next.result in
       let s = okm_blocks h key info i in
-      let size : length t ≡ n = c.next_block-block.ensures.size in
+      let size : length t ≡ n = c.next_block-next.ensures.size in
       let begins : i * n < length c.args.out.now =
       block_begins _ n i _ c.requires.digest c.div_ceil-i-end.ensures c.pieces-test.true in
       let block : t ≡ okm_block h key info (i + 1) =
-      okm_block-next h key info _ t i before.last (c.next_block-block.ensures.value _ _ inner outer) in
+      okm_block-next h key info _ t i before.last (c.next_block-next.ensures.value _ _ inner outer) in
       let grown : s ++ t ≡ okm_blocks h key info (i + 1) = ap (λ b. s ++ b) block ∙ sym (okm_blocks-next h key info i) in
       record {
         last = take_all n t (omega arith) ∙ block;

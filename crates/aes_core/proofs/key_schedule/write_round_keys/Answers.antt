@@ -4,7 +4,7 @@ use Rattle.std.proofs.lemmas.List.{take_at}
 use Rattle.aes_core.specs.Groups.{HoldsGroups}
 use Rattle.aes_core.specs.RoundKeys.{key_schedule}
 use Rattle.aes_core.proofs.GroupLemmas.{groups_counted, groups_whole}
-use Rattle.aes_core.proofs.key_schedule.round_keys.Goals as goal
+use Rattle.aes_core.proofs.key_schedule.write_round_keys.Goals as goal
 
 pub pairs-init : goal.pairs-init
 unfolding key_schedule
