@@ -11,3 +11,4 @@ pub mod SegmentLemmas
 pub mod AloneLemmas
 pub mod SliceLemmas
 pub mod ReadingLemmas
+pub mod CopyLemmas

@@ -11,6 +11,8 @@ use crate::lanes::later_passes;
 use crate::layout::Layout;
 use crate::limits::{LEAST_SALT_BYTES, MOST_TEXT_BYTES};
 use crate::slices::{last_column, reserved_slices};
+use crate::wiping::{wipe_block, wipe_slices};
+use byte_words::wipe;
 use std::alloc::{AllocError, Global};
 use std::thread::Threads;
 
@@ -40,9 +42,14 @@ pub fn argon2id_lanes<R: Threads + Sync>(
 {
     let layout = Layout::new(costs);
     let mut rooms = reserved_slices(alloc, layout)?;
-    let h0 = first_digest(costs, password, salt, secret, extra);
-    let mut memory = first_pass(threads, alloc, layout, &h0, &mut rooms)?;
+    let mut h0 = first_digest(costs, password, salt, secret, extra);
+    let made = first_pass(threads, alloc, layout, &h0, &mut rooms);
+    wipe(&mut h0);
+    let mut memory = made?;
     later_passes(threads, alloc, layout, &mut memory);
-    write_tag(&last_column(layout, &memory), tag);
+    let mut last = last_column(layout, &memory);
+    wipe_slices(&mut memory);
+    write_tag(&last, tag);
+    wipe_block(&mut last);
     Ok(())
 }

@@ -8,6 +8,7 @@ ghost use Rattle.argon_kdf.specs.CostLimits.{checked_costs};
 ghost use Rattle.argon_kdf.specs.Argon2id.{argon2id_tag};
 
 use block::{Block, ZERO_BLOCK};
+use byte_words::wipe;
 pub use by_lanes::argon2id_lanes;
 pub use costs::{CostFault, Costs};
 use digest::{first_digest, write_tag};
@@ -19,6 +20,7 @@ pub use limits::{
 };
 use std::alloc::{AllocError, Global};
 pub use stretch::{LaneStretch, PlainStretch, Stretch};
+use wiping::{wipe_block, wipe_blocks};
 
 mod block;
 mod block_bytes;
@@ -35,6 +37,7 @@ mod reference;
 mod segment;
 mod slices;
 mod stretch;
+mod wiping;
 
 // Memory full of zeros.
 fn zero_blocks(alloc: Global, count: usize) -> Result<Vec<Block>, AllocError>
@@ -71,8 +74,12 @@ pub fn argon2id(
 {
     let layout = Layout::new(costs);
     let mut memory = zero_blocks(alloc, layout.block_count())?;
-    let h0 = first_digest(costs, password, salt, secret, extra);
+    let mut h0 = first_digest(costs, password, salt, secret, extra);
     fill(layout, &h0, &mut memory);
-    write_tag(&last_column(layout, &memory), tag);
+    wipe(&mut h0);
+    let mut last = last_column(layout, &memory);
+    wipe_blocks(&mut memory);
+    write_tag(&last, tag);
+    wipe_block(&mut last);
     Ok(())
 }

@@ -16,7 +16,7 @@ returns-clause-tag c =
     omega (arith, c.fill.ensures.whole, c.in_ok-memory.ensures.whole) in
     let same : c.deref.result.now ≡ memory = c.deref.ensures.value
     ∙ take_at memory (drop (length memory) c.in_ok-memory.memory.items) c.in_ok-memory.memory.len long in
-    let sum = c.last_column.ensures table (rw same c.fill.ensures) in
+    let sum = c.last_column-last.ensures table (rw same c.fill.ensures) in
     let tag : c.write_tag.new.tag ≡ tag_of x c.first_digest-h0.result =
     tag_from x c.first_digest-h0.result _ _ c.write_tag.ensures sum in
     tag ∙ (λ i. tag_of (c.new-layout.ensures i) (c.first_digest-h0.ensures i))

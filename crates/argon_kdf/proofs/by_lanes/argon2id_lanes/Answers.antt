@@ -25,6 +25,6 @@ returns-clause-tag g c =
     let same : c.deref.result.now ≡ made =
     c.deref.ensures.value ∙ take_at made (drop (length made) first.items) first.len long in
     let filled = c.later_passes.ensures.filled h0 (rw c.deref_mut-2.ensures.value c.in_ok-memory.ensures.filled) in
-    let sum = c.last_column.ensures table (rw same filled) in
+    let sum = c.last_column-last.ensures table (rw same filled) in
     let tag : c.write_tag.new.tag ≡ tag_of x h0 = tag_from x h0 _ _ c.write_tag.ensures sum in
     tag ∙ (λ i. tag_of (c.new-layout.ensures i) (c.first_digest-h0.ensures i))

@@ -1,0 +1,39 @@
+//! What a password was stretched in is overwritten, before its memory is given back.
+
+ghost use Rattle.std.specs.Prelude.{◌≡◌, length, replicate};
+ghost use Rattle.argon_kdf.specs.Blocks.{zero_block};
+
+use crate::block::{Block, ZERO_BLOCK};
+use crate::slices::Segments;
+
+// Writes zeros over the block. It may be an array that is about to go, of which a compiler would take the
+// stores out: so the call is never inlined, and leads through a search of which LLVM doesn't know that it
+// ends, as `wipe` of bytes does.
+#[inline(never)]
+pub(crate) fn wipe_block(block: &mut Block)
+    ensures { block.new ≡ zero_block }
+{
+    'zeros: for i in 0..128 {
+        if block[i] != 0 {
+            *block = ZERO_BLOCK;
+            return;
+        }
+    }
+}
+
+// Writes zeros over every block. They stand in a vector, whose memory is given back by a call that the
+// compiler doesn't see through: so the stores stay.
+pub(crate) fn wipe_blocks(memory: &mut [Block])
+    ensures { memory.new ≡ replicate (length memory.old) zero_block }
+{
+    memory.fill(ZERO_BLOCK);
+}
+
+// The same of memory by slices and lanes.
+pub(crate) fn wipe_slices(memory: &mut [Segments]) {
+    for segments in memory.iter_mut() {
+        for segment in segments.iter_mut() {
+            wipe_blocks(segment.as_mut_slice());
+        }
+    }
+}
