@@ -1,5 +1,7 @@
 -- What a file's contents are sealed with, from what the calls are given.
 use Rattle.std.specs.Prelude.{Option, None, Some}
+use Rattle.std.specs.declared.boxed.Box.{Box}
+use Rattle.std.specs.Global.{Global}
 use Rattle.data_crypt.specs.Blocks.{Seal}
 use Rattle.file_disk.specs.declared.key.ContentsKey.{ContentsKey}
 use Rattle.file_disk.specs.declared.key.FileCipher.{FileCipher}
@@ -11,6 +13,11 @@ key_seal key = record { key = key.bytes; start = key.start; unit = key.unit }
 abbrev pub seal_of : Option ContentsKey → Option Seal
 seal_of None = None
 seal_of (Some key) = Some (key_seal key)
+
+-- the same of a key that is lent, in a box
+abbrev pub lent_seal : Option (Box ContentsKey Global) → Option Seal
+lent_seal None = None
+lent_seal (Some key) = Some (key_seal key.value)
 
 -- the same of a key with its round keys
 abbrev pub cipher_seal : FileCipher → Seal

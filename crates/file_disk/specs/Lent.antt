@@ -9,7 +9,7 @@ use Rattle.data_crypt.specs.Blocks.{Seal}
 use Rattle.data_crypt.specs.Parts.{blocks_joined, content_of}
 use Rattle.disk_tree.specs.DiskTree.{Disk, file_blocks, file_size}
 use Rattle.file_disk.specs.Bodies.{file_body}
-use Rattle.file_disk.specs.Keys.{seal_of}
+use Rattle.file_disk.specs.Keys.{lent_seal}
 use Rattle.file_disk.specs.declared.lent.LentRead.{LentRead}
 
 -- the file holds these contents, under this seal
@@ -20,7 +20,7 @@ pub record IsStored (disk : Disk) (file : ℕ) (seal : Option Seal) (contents : 
 -- the content that a read will have: none, where there is nothing to decipher
 abbrev pub lent_content : Option LentRead → List ℕ
 lent_content None = []
-lent_content (Some read) = content_of (seal_of read.key) read.block read.text.items read.skip read.len
+lent_content (Some read) = content_of (lent_seal read.key) read.block read.text.items read.skip read.len
 
 -- the size of a file that has a block for each of its bytes, else 0
 abbrev pub whole_size : Disk → ℕ → ℕ

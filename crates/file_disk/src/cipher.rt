@@ -2,26 +2,11 @@
 ghost use Rattle.std.specs.Prelude.{◌≡◌, ◌-◌, ◌<◌, ◌≤◌, ◌^◌, ◌+◌, length};
 ghost use Rattle.data_crypt.specs.Blocks.{first_index, read_block, stored_block};
 ghost use Rattle.data_crypt.specs.Units.{unit_count};
-ghost use Rattle.file_disk.specs.Keys.{cipher_seal, seal_by, seal_of};
+ghost use Rattle.file_disk.specs.Keys.{cipher_seal, seal_by};
 
-use crate::key::{ContentsKey, FileCipher};
+use crate::key::FileCipher;
 use data_crypt::{BLOCK_SIZE, open_block, seal_block};
 use policy_ctx::Unit;
-use xts_mode::XtsKey;
-
-// Makes the round keys, where there is a key.
-pub(crate) fn cipher_of(key: &Option<ContentsKey>) -> Option<FileCipher>
-    ensures { seal_by result ≡ seal_of key.now }
-{
-    match key {
-        Some(key) => Some(FileCipher {
-            key: XtsKey::new(&key.bytes),
-            start: key.start,
-            unit: key.unit,
-        }),
-        None => None,
-    }
-}
 
 // Stores a plain block as block `index` of the file.
 #[tactic(auto, unfolding(data_crypt::specs::Blocks::stored_block))]

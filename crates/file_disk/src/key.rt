@@ -1,11 +1,13 @@
 //! What the contents of a file are sealed with.
 ghost use Rattle.std.specs.Prelude.{◌≡◌, ◌%◌, ◌^◌, replicate};
 
+use byte_words::wipe;
 use policy_ctx::Unit;
 use xts_mode::XtsKey;
 
 /// A key for the contents of files: its 64 bytes, the index at which the units of a file start, and
-/// their size. The bytes are overwritten when the key is dropped.
+/// their size.
+#[derive(Drop)]
 pub struct ContentsKey {
     /// Two keys of AES-256, as XTS takes them.
     pub bytes: [u8; 64],
@@ -16,21 +18,13 @@ pub struct ContentsKey {
     pub ghost apart: { start % 2 ^ 32 ≡ 0 },
 }
 
-impl Drop for ContentsKey {
-    fn drop(self) {
-        let ContentsKey {
-            mut bytes,
-            start: _,
-            unit: _,
-        } = self;
-        wipe(&mut bytes);
+impl ContentsKey {
+    /// Overwrites the bytes where they stand.
+    pub fn wipe(&mut self)
+        ensures bytes { self.new.bytes ≡ replicate 64 0 }
+    {
+        wipe(&mut self.bytes);
     }
-}
-
-fn wipe(bytes: &mut [u8; 64])
-    ensures { bytes.new ≡ replicate 64 0 }
-{
-    *bytes = [0; 64];
 }
 
 // A key with its round keys.

@@ -8,8 +8,9 @@ use crate::key::ContentsKey;
 /// the `len` bytes from byte `skip` of the deciphered text on.
 #[derive(Drop)]
 pub struct LentRead {
-    /// What the blocks are sealed with; `None` where they are plain.
-    pub key: Option<ContentsKey>,
+    /// What the blocks are sealed with, in a box, so that no move leaves a copy behind; `None` where they
+    /// are plain.
+    pub key: Option<Box<ContentsKey>>,
     /// The number of the first block.
     pub block: u32,
     /// The blocks as they are stored.

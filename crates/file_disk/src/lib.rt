@@ -7,6 +7,7 @@ mod key;
 mod laws;
 mod lent;
 mod read;
+mod rooms;
 mod write;
 
 pub use disk_tree::{DiskFault, DiskTree};

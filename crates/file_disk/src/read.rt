@@ -1,26 +1,51 @@
 //! A part of a file's contents is read in two halves: stored blocks are copied, and then deciphered.
 ghost use Rattle.std.specs.Prelude.{◌≡◌, ◌+◌, ◌*◌, ◌/◌, ◌%◌, ◌<◌, ◌≤◌, ◌^◌};
-ghost use Rattle.std.specs.Prelude.{take, drop, length, IfOk, IfSome, OnOk};
+ghost use Rattle.std.specs.Prelude.{take, drop, length, replicate, IfOk, IfSome, OnOk};
 ghost use Rattle.byte_words.specs.Bytes.{AreBytes};
 ghost use Rattle.data_crypt.specs.Laws.{IsKeyOfBytes};
 ghost use Rattle.data_crypt.specs.Parts.{blocks_joined, content_of, opened_text};
 ghost use Rattle.disk_tree.specs.DiskTree.{file_blocks, file_size};
-ghost use Rattle.file_disk.specs.Keys.{seal_by, seal_of};
+ghost use Rattle.file_disk.specs.Keys.{lent_seal, seal_by, seal_of};
 ghost use Rattle.file_disk.specs.Lent.{IsAt, IsCopied, IsPart, whole_size};
 
-use crate::cipher::{cipher_of, read};
+use crate::cipher::read;
 use crate::key::{ContentsKey, FileCipher};
 use crate::lent::LentRead;
+use crate::rooms::{fill_lent, room_for_lent, wipe_cipher, wipe_key, wipe_lent};
 use data_crypt::BLOCK_SIZE;
 use disk_tree::DiskTree;
 use mount_limits::MOST_READ_BYTES;
 use std::alloc::{AllocError, Global};
 
 /// Copies the stored blocks of the part that is asked for, and the key that they are sealed with;
-/// `None` where the part is empty, which takes no memory. It deciphers nothing.
+/// `None` where the part is empty, which takes no memory. It deciphers nothing. The key that is handed in
+/// is overwritten.
 ///
 /// `len` is at most 4,096. The part ends with the file.
 pub fn begin_read(
+    disk: &DiskTree,
+    alloc: Global,
+    file: u32,
+    key: &mut Option<ContentsKey>,
+    offset: u32,
+    len: u32,
+) -> Result<Option<LentRead>, AllocError>
+    requires { len ≤ MOST_READ_BYTES }
+    ensures past { whole_size disk.now file ≤ offset → result ≡ Ok None }
+    ensures none { len ≡ 0 → result ≡ Ok None }
+    ensures place { IfOk result (λ lent. IfSome lent (IsAt offset)) }
+    ensures text { IfOk result (λ lent. IfSome lent (IsCopied disk.now file)) }
+    ensures key { IfOk result (λ lent. IfSome lent (λ read. lent_seal read.key ≡ seal_of key.old)) }
+    ensures content { IfOk result (IsPart disk.now file (seal_of key.old) offset len) }
+    ensures wiped { IfSome key.new (λ key. key.bytes ≡ replicate 64 0) }
+{
+    let begun = copy_part(disk, alloc, file, key, offset, len);
+    wipe_key(key);
+    begun
+}
+
+// Copies the part and the key.
+fn copy_part(
     disk: &DiskTree,
     alloc: Global,
     file: u32,
@@ -33,7 +58,7 @@ pub fn begin_read(
     ensures none { len ≡ 0 → result ≡ Ok None }
     ensures place { IfOk result (λ lent. IfSome lent (IsAt offset)) }
     ensures text { IfOk result (λ lent. IfSome lent (IsCopied disk.now file)) }
-    ensures key { IfOk result (λ lent. IfSome lent (λ read. seal_of read.key ≡ seal_of key.now)) }
+    ensures key { IfOk result (λ lent. IfSome lent (λ read. lent_seal read.key ≡ seal_of key.now)) }
     ensures content { IfOk result (IsPart disk.now file (seal_of key.now) offset len) }
 {
     let size = whole_size(disk, file);
@@ -45,7 +70,7 @@ pub fn begin_read(
     let len = len.min(size - offset);
     let count = (skip + len).div_ceil(BLOCK_SIZE as u32);
     let text = copy_blocks(disk, alloc, file, block, count)?;
-    let key = copy_key(key);
+    let key = copy_key(alloc, key)?;
     Ok(Some(LentRead {
         key,
         block,
@@ -55,19 +80,23 @@ pub fn begin_read(
     }))
 }
 
-/// Deciphers the text in place and cuts it to the content. It takes no memory; the key is
-/// overwritten.
+/// Deciphers the text in place and cuts it to the content. It takes no memory; the key is overwritten in
+/// its box, and its round keys where they stand.
 pub fn finish_read(lent: LentRead) -> Vec<u8>
-    ensures { result.items ≡ content_of (seal_of lent.key) lent.block lent.text.items lent.skip lent.len }
+    ensures { result.items ≡ content_of (lent_seal lent.key) lent.block lent.text.items lent.skip lent.len }
 {
     let LentRead {
-        key,
+        mut key,
         block,
         mut text,
         skip,
         len,
     } = lent;
-    open_text(&cipher_of(&key), block, text.as_mut_slice());
+    let mut cipher = room_for_lent(&key);
+    fill_lent(&mut cipher, &key);
+    wipe_lent(&mut key);
+    open_text(&cipher, block, text.as_mut_slice());
+    wipe_cipher(&mut cipher);
     cut(&mut text, skip as usize, len as usize);
     text
 }
@@ -104,20 +133,38 @@ fn copy_blocks(
     Ok(text)
 }
 
-fn copy_key(key: &Option<ContentsKey>) -> Option<ContentsKey>
-    ensures same { seal_of result ≡ seal_of key.now }
+// A copy of the key in a box, which stands before the bytes come.
+fn copy_key(
+    alloc: Global,
+    key: &Option<ContentsKey>,
+) -> Result<Option<Box<ContentsKey>>, AllocError>
+    ensures same { IfOk result (λ copy. lent_seal copy ≡ seal_of key.now) }
     ensures ranged { IsKeyOfBytes (seal_of key.now) }
 {
     match key {
         Some(key) => {
             are_bytes(key.bytes.as_slice());
-            Some(ContentsKey {
-                bytes: key.bytes,
-                start: key.start,
-                unit: key.unit,
-            })
+            let mut copy = boxed_zeros(alloc, key)?;
+            copy.bytes = key.bytes;
+            Ok(Some(copy))
         }
-        None => None,
+        None => Ok(None),
+    }
+}
+
+// Zeros in place of the key, with its start and unit.
+fn boxed_zeros(alloc: Global, key: &ContentsKey) -> Result<Box<ContentsKey>, AllocError>
+    ensures start { IfOk result (λ boxed. boxed.value.start ≡ key.now.start) }
+    ensures unit { IfOk result (λ boxed. boxed.value.unit ≡ key.now.unit) }
+{
+    let zeros = ContentsKey {
+        bytes: [0; 64],
+        start: key.start,
+        unit: key.unit,
+    };
+    match Box::new(alloc, zeros) {
+        Ok(boxed) => Ok(boxed),
+        Err(_) => Err(AllocError),
     }
 }
 

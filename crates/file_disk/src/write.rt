@@ -1,12 +1,13 @@
 //! A piece is written into a file's stored blocks.
-ghost use Rattle.std.specs.Prelude.{◌≡◌, ◌+◌, ◌<◌, ◌≤◌, ◌^◌, length, IfErr, IsOk, OnErr, OnOk};
+ghost use Rattle.std.specs.Prelude.{◌≡◌, ◌+◌, ◌<◌, ◌≤◌, ◌^◌, length, replicate, IfErr, IfSome, IsOk, OnErr, OnOk};
 ghost use Rattle.disk_tree.specs.DiskTree.{IsFileAt, file_blocks};
 ghost use Rattle.file_disk.specs.Bodies.{ExceedsDisk, blocks_rewritten, covers_block, disk_written, end_block};
 ghost use Rattle.file_disk.specs.Bodies.{stored_anew};
 ghost use Rattle.file_disk.specs.Keys.{seal_by, seal_of};
 
-use crate::cipher::{cipher_of, read, store};
+use crate::cipher::{read, store};
 use crate::key::{ContentsKey, FileCipher};
+use crate::rooms::{fill, room_for, wipe_cipher, wipe_key};
 use data_crypt::{BLOCK_SIZE, put_part};
 use disk_tree::{DiskFault, DiskTree};
 use mount_limits::MOST_FILE_BYTES;
@@ -17,8 +18,35 @@ use std::alloc::Global;
 /// written.
 ///
 /// NoSpace where more than 16,384 blocks would stand in all. After a fault the disk is as before. A
-/// write that needs no new block takes no memory.
+/// write that needs no new block takes no memory. The key that is handed in is overwritten, and its round
+/// keys where they were made.
 pub fn write_file(
+    disk: &mut DiskTree,
+    alloc: Global,
+    file: u32,
+    key: &mut Option<ContentsKey>,
+    offset: u32,
+    bytes: &[u8],
+) -> Result<(), DiskFault>
+    requires file { IsFileAt disk.old file }
+    requires fits { offset + length bytes.now ≤ MOST_FILE_BYTES }
+    ensures written { OnOk result (disk.new ≡ disk_written disk.old file (seal_of key.old) offset bytes.now) }
+    ensures kept { OnErr result (disk.new ≡ disk.old) }
+    ensures empty { length bytes.now ≡ 0 → IsOk result }
+    ensures inside { end_block offset bytes.now ≤ length (file_blocks disk.old file) → IsOk result }
+    ensures full { 0 < length bytes.now → ExceedsDisk disk.old file offset bytes.now
+        → result ≡ Err DiskFault.NoSpace }
+    ensures no_space { IfErr result (λ fault. fault ≡ DiskFault.NoSpace
+        → ExceedsDisk disk.old file offset bytes.now) }
+    ensures wiped { IfSome key.new (λ key. key.bytes ≡ replicate 64 0) }
+{
+    let written = write_under(disk, alloc, file, key, offset, bytes);
+    wipe_key(key);
+    written
+}
+
+// Writes the bytes under the key.
+fn write_under(
     disk: &mut DiskTree,
     alloc: Global,
     file: u32,
@@ -46,8 +74,10 @@ pub fn write_file(
     match disk.grow(alloc, file, end) {
         Ok(()) => {
             let first = had.min(offset as usize / BLOCK_SIZE) as u32;
-            let cipher = cipher_of(key);
+            let mut cipher = room_for(key);
+            fill(&mut cipher, key);
             rewrite_blocks(disk, file, &cipher, had, first, end, offset, bytes);
+            wipe_cipher(&mut cipher);
             let size = disk.file_size(file).max(size);
             disk.set_size(file, size);
             Ok(())

@@ -1,6 +1,6 @@
 -- What a read lends out of the turn, and the reply that it comes to.
 use Rattle.std.specs.Prelude.{◌≡◌, ℕ, Bool, true, false, [], Option, Some, None}
-use Rattle.file_disk.specs.Keys.{seal_of}
+use Rattle.file_disk.specs.Keys.{lent_seal}
 use Rattle.file_disk.specs.Lent.{IsAt, IsCopied, lent_content}
 use Rattle.file_disk.specs.declared.lent.LentRead.{LentRead}
 use Rattle.mount_model.specs.declared.reply.Reply.{Reply}
@@ -31,7 +31,7 @@ tells_nothing other = false
 pub record IsLentOf (s : MountState) (file offset : ℕ) (read : LentRead) : Type 0 where
   pub place : IsAt offset read
   pub text : IsCopied s.disk file read
-  pub key : IsSealOf s file (seal_of read.key)
+  pub key : IsSealOf s file (lent_seal read.key)
 
 -- a reply that is ready tells nothing of the file; all else is lent of it
 abbrev pub IsLentOn : MountState → ℕ → ℕ → Lent → Type 0

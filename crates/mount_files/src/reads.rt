@@ -51,11 +51,11 @@ fn lend(alloc: Global, state: &MountState, file: u32, offset: u32, len: u32) -> 
     ensures read { IsReadAs state.now file offset len (reply_of result) }
     ensures lent { IsLentOn state.now file offset result }
 {
-    let key = match key_of(state, file) {
+    let mut key = match key_of(state, file) {
         Ok(key) => key,
         Err(refusal) => return Lent::Ready(Reply::Refused(refusal)),
     };
-    match begin_read(&state.disk, alloc, file, &key, offset, len) {
+    match begin_read(&state.disk, alloc, file, &mut key, offset, len) {
         Ok(Some(read)) => Lent::Read(read),
         Ok(None) => Lent::Ready(Reply::Content(Bytes::new(alloc))),
         Err(_) => Lent::Ready(Reply::Refused(Refusal::NoMemory)),

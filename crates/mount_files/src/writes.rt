@@ -50,12 +50,12 @@ pub fn write(
     if u64::from(offset) + piece.len() as u64 > MOST_FILE_BYTES as u64 {
         return Reply::Refused(Refusal::TooBig);
     }
-    let key = match key_of(state, file) {
+    let mut key = match key_of(state, file) {
         Ok(key) => key,
         Err(refusal) => return Reply::Refused(refusal),
     };
     slice_is_bytes(piece);
-    match write_file(&mut state.disk, alloc, file, &key, offset, piece) {
+    match write_file(&mut state.disk, alloc, file, &mut key, offset, piece) {
         Ok(()) => Reply::Done,
         Err(DiskFault::NoSpace) => Reply::Refused(Refusal::NoSpace),
         Err(DiskFault::NoMemory) => Reply::Refused(Refusal::NoMemory),

@@ -6,9 +6,9 @@ use Rattle.data_crypt.specs.Parts.{content_of}
 use Rattle.file_disk.specs.Keys.{seal_of}
 use Rattle.file_disk.specs.Lent.{whole_size}
 use Rattle.file_disk.proofs.ReadLemmas.{read_nothing, read_part}
-use Rattle.file_disk.proofs.read.begin_read.Goals.{then-offset-size-via-then-offset-size}
-use Rattle.file_disk.proofs.read.begin_read.Goals.{then-offset-size-via-else-offset-size+then-len-eq0}
-use Rattle.file_disk.proofs.read.begin_read.Goals as goal
+use Rattle.file_disk.proofs.read.copy_part.Goals.{then-offset-size-via-then-offset-size}
+use Rattle.file_disk.proofs.read.copy_part.Goals.{then-offset-size-via-else-offset-size+then-len-eq0}
+use Rattle.file_disk.proofs.read.copy_part.Goals as goal
 
 pub returns-then-offset-size-clause-content : goal.returns-then-offset-size-clause-content
 returns-then-offset-size-clause-content c = λ contents stored.
@@ -25,8 +25,8 @@ returns-clause-content c = λ contents stored.
     let size : c.whole_size-size.result ≡ whole_size c.args.disk.now c.args.file =
     c.whole_size-size.ensures in
     ap (λ (s : Option Seal). content_of s (c.args.offset / 4096) c.in_ok-text.text.items
-    (c.args.offset % 4096) c.min-len.result) c.copy_key-key.ensures.same
+    (c.args.offset % 4096) c.min-len.result) c.in_ok-key.ensures.same
     ∙ read_part c.args.disk.now c.args.file (seal_of c.args.key.now) contents stored c.args.offset c.args.len c.min-len.result c.div_ceil-count.result c.in_ok-text.text.items
-    c.copy_key-key.ensures.ranged (omega arith)
+    c.copy_key.ensures.ranged (omega arith)
     (c.min-len.ensures ∙ ap (λ n. min c.args.len
     (n - c.args.offset)) size) c.div_ceil-count.ensures c.in_ok-text.ensures.copied

@@ -10,7 +10,7 @@ use Rattle.disk_tree.specs.DiskTree.{Disk, file_blocks}
 use Rattle.file_disk.specs.Keys.{seal_of}
 use Rattle.file_disk.proofs.DiskLemmas.{grown_there}
 use Rattle.file_disk.proofs.WholeLemmas.{nothing_written, write_done}
-use Rattle.file_disk.proofs.write.write_file.Goals as goal
+use Rattle.file_disk.proofs.write.write_under.Goals as goal
 
 pub returns-then-is_empty-clause-written : goal.returns-then-is_empty-clause-written
 returns-then-is_empty-clause-written c =
@@ -31,6 +31,6 @@ returns-in-Ok-clause-written c =
     write_done (seal_of c.args.key.now) c.args.offset c.args.bytes.now c.args.disk.now c.grow.new.self c.rewrite_blocks.new.disk c.set_size.new.self c.args.file had c.min-first.result c.div_ceil-end.result c.max-size.result
     some c.block_count-had.ensures c.min-first.ensures c.div_ceil-end.ensures c.in-Ok.ensures.grown
     (c.rewrite_blocks.ensures
-    ∙ ap (λ s. changed c.grow.new.self c.args.file (on_body (with_blocks (edited (rewritten (stored_block s) (read_block s) had c.args.offset c.args.bytes.now) c.min-first.result c.div_ceil-end.result)))) c.cipher_of-cipher.ensures)
+    ∙ ap (λ s. changed c.grow.new.self c.args.file (on_body (with_blocks (edited (rewritten (stored_block s) (read_block s) had c.args.offset c.args.bytes.now) c.min-first.result c.div_ceil-end.result)))) c.fill.ensures)
     (c.max-size.ensures ∙ ap (λ n. max n (c.args.offset + length c.args.bytes.now)) c.file_size.ensures)
     c.set_size.ensures
