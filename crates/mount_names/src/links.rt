@@ -51,7 +51,9 @@ fn link_told(alloc: Global, state: &MountState, number: u32) -> Reply
     };
     match &node.body {
         Body::Link(target) => {
-            let shown = reading_of(state, number).shown(target.as_slice());
+            let mut reading = reading_of(state, number);
+            let shown = reading.shown(target.as_slice());
+            reading.wipe();
             copied(alloc, shown.bytes())
         }
         _ => Reply::Refused(Refusal::Inval),

@@ -60,7 +60,10 @@ fn page_told(alloc: Global, state: &MountState, dir: u32, start: u32) -> Reply
     let Body::Dir(entries) = &node.body else {
         return Reply::Refused(Refusal::NotDir);
     };
-    match names_in_order(alloc, &reading_of(state, dir), entries) {
+    let mut reading = reading_of(state, dir);
+    let listed = names_in_order(alloc, &reading, entries);
+    reading.wipe();
+    match listed {
         Ok(names) => page_of(alloc, &names, start),
         Err(_) => Reply::Refused(Refusal::NoMemory),
     }

@@ -113,7 +113,12 @@ fn size_of(state: &MountState, number: u32, body: &Body) -> u32
     match body {
         Body::Dir(entries) => told(entries.len()),
         Body::File { size, .. } => *size,
-        Body::Link(target) => told(reading_of(state, number).shown(target.as_slice()).len()),
+        Body::Link(target) => {
+            let mut reading = reading_of(state, number);
+            let len = reading.shown(target.as_slice()).len();
+            reading.wipe();
+            told(len)
+        }
     }
 }
 

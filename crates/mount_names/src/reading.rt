@@ -39,6 +39,13 @@ pub(crate) fn reading_of(state: &MountState, number: u32) -> Reading
 }
 
 impl Reading {
+    // Overwrites the key and its round keys, where there is one.
+    pub(crate) fn wipe(&mut self) {
+        if let Reading::Keyed(cipher) = self {
+            cipher.wipe();
+        }
+    }
+
     // The name as which stored bytes are shown, which some name is stored as. Of bytes that are no
     // stored name none is left.
     pub(crate) fn shown(&self, stored: &[u8]) -> Filled<MOST_NAME_BYTES>

@@ -93,8 +93,10 @@ fn sealed_anew<'a, L: Ledger>(
     ensures ranged { SealsByBytes state.now number context.now }
     ensures ticks { steps.new ≤ steps.old + 1 }
 {
-    let made = cipher_of(state, number, context)?;
-    Some(sealed(&made.key, number, context, name, room, steps))
+    let mut made = cipher_of(state, number, context)?;
+    let stored = sealed(&made.key, number, context, name, room, steps);
+    made.wipe();
+    Some(stored)
 }
 
 // The name of the node under the cipher of its names. `steps` counts one more.

@@ -106,7 +106,11 @@ fn target_stored<L: Ledger>(
 {
     match context {
         Some(context) => match drawn_cipher(state, state.next_node, context) {
-            Some(cipher) => Some(enciphered(&cipher, context.policy.pad, target, steps)),
+            Some(mut cipher) => {
+                let stored = enciphered(&cipher, context.policy.pad, target, steps);
+                cipher.wipe();
+                Some(stored)
+            }
             None => None,
         },
         None => Some(Filled::of(target.bytes())),

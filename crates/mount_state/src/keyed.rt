@@ -1,10 +1,10 @@
 //! What a name leads to in a directory whose key is at hand.
 
-ghost use Rattle.std.specs.Prelude.{◌≡◌, ◌+◌, ◌≤◌, true, Some, IfSome, option_copied};
+ghost use Rattle.std.specs.Prelude.{◌≡◌, ◌+◌, ◌≤◌, true, false, None, Some, IfSome, is_some, option_copied};
 ghost use Rattle.byte_words.specs.Bytes.{AreBytes};
 ghost use Rattle.disk_tree.specs.Entries.{number_under};
 ghost use Rattle.disk_tree.specs.Nodes.{entries_of};
-ghost use Rattle.fsc_keys.specs.Keys.{key_bytes};
+ghost use Rattle.fsc_keys.specs.Keys.{key_bytes, kind_of};
 ghost use Rattle.fsc_keys.specs.declared.file_keys.KeyKind.TheVariants.{Names};
 ghost use Rattle.key_ring.specs.Holding.{HoldsClaimedSecrets};
 ghost use Rattle.name_crypt.specs.Plain.{IsPlain};
@@ -81,8 +81,16 @@ impl MountState {
         ensures ticks { steps.new ≤ steps.old + 1 }
     {
         let _claims = self.ring.claims();
-        let cipher = self.other_cipher(context)?;
-        entry_under(node, dir, context, &cipher, name, steps)
+        let mut room = Some(Aes256::zeros());
+        self.set_other_cipher(context, &mut room);
+        let found = match &room {
+            Some(cipher) => entry_under(node, dir, context, cipher, name, steps),
+            None => None,
+        };
+        if let Some(cipher) = &mut room {
+            cipher.wipe();
+        }
+        found
     }
 
     /// The cipher that is cached for the names of the directory, or for the symlink's target; none under
@@ -97,21 +105,25 @@ impl MountState {
         self.inodes.cipher_of(node)
     }
 
-    // The cipher where none is cached for the directory itself: under the key of the mode, where that is in
-    // use, else under a key that is drawn from the secret; none where no user has a claim.
-    fn other_cipher(&self, context: &Context) -> Option<Aes256>
-        ensures value { IsCipherUnder (other_key self.now.ring self.now.modes context.now) result }
-        ensures ranged { IfSome result AreBytes }
-        ensures claimed { HoldsClaimedSecrets self.now.ring }
+    // Makes the cipher where none is cached for the directory itself, in this room: under the key of the
+    // mode, where that is in use, else under a key that is drawn from the secret; none where no user has a
+    // claim.
+    fn set_other_cipher(&self, context: &Context, room: &mut Option<Aes256>)
+        requires { is_some room.old ≡ true }
+        ensures value { IsCipherUnder (other_key self.now.ring self.now.modes context.now) room.new }
+        ensures ranged { IfSome room.new AreBytes }
     {
-        let _claims = self.ring.claims();
         if let Some(key) = self.used_mode_key(context) {
-            return cipher_of(key);
+            set_cipher(room, key);
+            return;
         }
-        let mut key = self.drawn_key(context)?;
-        let cipher = cipher_of(&key);
+        let mut key = FileKey::zeros(KeyKind::Names);
+        if self.draw_key(context, &mut key) {
+            set_cipher(room, &key);
+        } else {
+            *room = None;
+        }
         key.wipe();
-        cipher
     }
 
     // The key of the mode, where the policy has one for each mode and it is in use.
@@ -124,14 +136,22 @@ impl MountState {
         self.modes.key_of(&context.policy.id, KeyKind::Names)
     }
 
-    // The key of the names, drawn from the secret; none where no user has a claim.
-    fn drawn_key(&self, context: &Context) -> Option<FileKey>
-        ensures { result ≡ drawn_key self.now.ring context.now }
+    // Draws the key of the names from the secret, over another one of names; not where no user has a claim.
+    fn draw_key(&self, context: &Context, key: &mut FileKey) -> bool
+        requires { kind_of key.old ≡ Names }
+        ensures drawn { result ≡ true → drawn_key self.now.ring context.now ≡ Some key.new }
+        ensures none { result ≡ false → drawn_key self.now.ring context.now ≡ None }
     {
         match self.ring.secret_of(&context.policy.id) {
-            Some(secret) if context.policy.by_mode => Some(secret.mode_key(KeyKind::Names)),
-            Some(secret) => Some(secret.file_key(KeyKind::Names, &context.nonce)),
-            None => None,
+            Some(secret) if context.policy.by_mode => {
+                secret.write_mode_key(key);
+                true
+            }
+            Some(secret) => {
+                secret.write_file_key(&context.nonce, key);
+                true
+            }
+            None => false,
         }
     }
 }
@@ -146,18 +166,20 @@ fn context_of(node: &StoredNode) -> Option<Context>
     }
 }
 
-// The cipher under a key of names. A contents key enciphers no name.
-fn cipher_of(key: &FileKey) -> Option<Aes256>
-    ensures value { is_of_kind Names key.now ≡ true → result ≡ Some (key_bytes key.now) }
-    ensures ranged { IfSome result AreBytes }
+// Makes the cipher under a key of names in this room. A contents key enciphers no name.
+fn set_cipher(room: &mut Option<Aes256>, key: &FileKey)
+    requires { is_some room.old ≡ true }
+    ensures value { is_of_kind Names key.now ≡ true → room.new ≡ Some (key_bytes key.now) }
+    ensures ranged { IfSome room.new AreBytes }
 {
-    match key {
-        FileKey::Names(bytes) => {
-            are_bytes(&bytes[..]);
-            Some(Aes256::new(bytes))
+    if let FileKey::Names(bytes) = key {
+        are_bytes(&bytes[..]);
+        if let Some(cipher) = room {
+            cipher.set(bytes);
         }
-        FileKey::Contents(_) => None,
+        return;
     }
+    *room = None;
 }
 
 // The node under the name's stored form.

@@ -19,8 +19,8 @@ returns-in-Ok-clause-told c = λ m st.
     let is_dir = dir_read s.disk s.next_node m st.tree c.args.dir (dir_there s.disk c.args.dir c.in-Some.node.now c.in-Dir.entries c.in-Some.ensures c.in-Dir.is) in
     let names = dir_names s.disk s.next_node m st.well st.tree c.args.dir is_dir in
     let all : c.in-Ok.names.items ≡ listed m c.args.dir
-    = listed_is s.disk s.next_node m st.well st.tree c.args.dir c.reading_of.result (λ name plain bytes. c.reading_of.ensures m name st names plain bytes) c.in-Ok.names.items
-    (subst (λ (es : Entries). ShowsAll c.reading_of.result es c.in-Ok.names.items) (entries_there s.disk c.args.dir c.in-Some.node.now c.in-Dir.entries c.in-Some.ensures c.in-Dir.is)
+    = listed_is s.disk s.next_node m st.well st.tree c.args.dir c.reading_of-reading.result (λ name plain bytes. c.reading_of-reading.ensures m name st names plain bytes) c.in-Ok.names.items
+    (subst (λ (es : Entries). ShowsAll c.reading_of-reading.result es c.in-Ok.names.items) (entries_there s.disk c.args.dir c.in-Some.node.now c.in-Dir.entries c.in-Some.ensures c.in-Dir.is)
     c.in-Ok.ensures) in
     subst (λ (r : Reply). IsToldOrNoMemory r c.page_of.result)
     (ap (λ (xs : List Name). Names (take MOST_LISTED (drop c.args.start xs)) (nat_lt (c.args.start + MOST_LISTED) (length xs))) (c.deref.ensures.value ∙ all)
