@@ -4,3 +4,4 @@ pub use Rattle.sha2.specs.Sha512
 pub mod Hmac
 pub mod Hkdf
 pub mod Pads
+pub mod DerivedBytes

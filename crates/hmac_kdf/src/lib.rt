@@ -7,12 +7,14 @@ ghost use Rattle.hmac_kdf.specs.Hkdf.{hkdf_sha256, hkdf_sha512};
 
 use derivation::derive;
 use keyed::mac;
+pub use laws::derived_keys_are_bytes;
 pub use prepared::Prk512;
 use sha2::{Sha256, Sha512};
 
 mod derivation;
 mod hash;
 mod keyed;
+mod laws;
 mod prepared;
 
 /// HMAC-SHA-256 of the message `first ++ second` (RFC 2104). The key may have any length.
