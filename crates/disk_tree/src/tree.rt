@@ -9,7 +9,7 @@ ghost use Rattle.disk_tree.specs.Entries.{number_under};
 use crate::entries::DirEntries;
 use crate::node::{Body, StoredNode};
 use mount_limits::BLOCK_SIZE;
-use number_map::NumberMap;
+use number_map::{Iter, NumberMap};
 use std::alloc::{AllocError, Global};
 use std::marker::Model;
 
@@ -62,6 +62,13 @@ impl DiskTree {
         ensures { option_copied result ≡ map.get self.now number }
     {
         self.nodes.get(number)
+    }
+
+    /// The nodes with their numbers, by rising number.
+    pub fn iter(&self) -> Iter<'_, StoredNode>
+        ensures { result ≡ map.entries self.now }
+    {
+        self.nodes.iter()
     }
 
     /// How many nodes there are.
