@@ -2,3 +2,4 @@ pub mod Holding
 pub mod Kept
 pub mod Modes
 pub mod KeptModes
+pub mod Whole
