@@ -26,3 +26,4 @@ pub mod ShownLemmas
 pub mod RemovalLemmas
 pub mod OrderLemmas
 pub mod PolicyLemmas
+pub mod LimitLemmas

@@ -21,6 +21,7 @@ pub mod NameLaws
 pub mod KeyLaws
 pub mod PolicyLaws
 pub mod OrderLaws
+pub mod LimitLaws
 pub mod Fits
 pub mod Numbers
 pub mod Port

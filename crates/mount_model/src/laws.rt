@@ -13,6 +13,7 @@ ghost use Rattle.mount_model.specs.NameLaws.{ShownNamesLead, OnlyShownNamesLead}
 ghost use Rattle.mount_model.specs.PolicyLaws.{PoliciesAreReadBack};
 ghost use Rattle.mount_model.specs.OrderLaws.{HandlesKeepNodesKeyed, CreationsNeedTheKey};
 ghost use Rattle.mount_model.specs.OrderLaws.{OnlyEmptyOnesAreEncrypted};
+ghost use Rattle.mount_model.specs.LimitLaws.{LimitsAreExact, FurtherNamesFollow};
 ghost use Rattle.mount_model.specs.KeyLaws.{OtherClaimsStay, OpenHandlesKeepKeys, OpenHandlesAreTold};
 
 use super::{Call, Refusal, Reply};
@@ -94,4 +95,14 @@ pub fn refusals_come_in_their_order()
 /// The policy that a call's bytes spell is the one whose bytes they are: what `policy_ctx` decodes.
 pub fn policies_are_read_back()
     ensures { PoliciesAreReadBack }
+{}
+
+/// The last handle, target and name of a record that pass, and the first ones that don't.
+pub fn limits_are_exact()
+    ensures { LimitsAreExact }
+{}
+
+/// A page of names tells that further ones follow exactly where the next page is not empty.
+pub fn further_names_follow()
+    ensures { FurtherNamesFollow }
 {}
