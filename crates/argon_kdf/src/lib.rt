@@ -8,8 +8,8 @@ ghost use Rattle.argon_kdf.specs.CostLimits.{checked_costs};
 ghost use Rattle.argon_kdf.specs.Argon2id.{argon2id_tag};
 
 use block::{Block, ZERO_BLOCK};
-use byte_words::wipe;
 pub use by_lanes::argon2id_lanes;
+use byte_words::wipe;
 pub use costs::{CostFault, Costs};
 use digest::{first_digest, write_tag};
 use fill::{fill, last_column};

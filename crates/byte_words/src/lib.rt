@@ -38,4 +38,3 @@ pub fn written_bytes_are_read()
     ensures others { OtherBytesStay }
     ensures grow { ContentsGrow }
 {}
-

@@ -41,4 +41,3 @@ fn is_listed(calls: &CallList, call: u64) -> bool
 {
     calls.iter().any(|listed| u64::from(*listed) == call)
 }
-

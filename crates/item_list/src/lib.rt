@@ -113,4 +113,3 @@ impl Items<u8> {
         Ok(Items { items })
     }
 }
-

@@ -26,4 +26,3 @@ pub use plain::{Plain, PlainFault, is_plain};
 pub use shown::{is_shown_as, shown_by};
 pub use steps::Steps;
 pub use stored::{StoredLength, StoredName};
-

@@ -26,4 +26,3 @@ pub use protector_text::{decode_protector, encode_protector};
 pub use rewrapping::rewrap;
 pub use short_bytes::Label;
 pub use wraps::{MOST_WRAPS, Wrap, WrapFault, WrapList};
-

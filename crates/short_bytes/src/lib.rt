@@ -6,4 +6,3 @@ mod label;
 
 pub use filled::Filled;
 pub use label::{Label, MOST_LABEL_BYTES};
-

@@ -14,4 +14,3 @@ pub use lines::{Line, line_count, next_line};
 pub use numbers::{DecimalText, decimal_digits, decimal_value, decimal_value_u64};
 pub use words::{nth_word, word_count};
 pub use writing::{push_decimal, push_lower_hex};
-
