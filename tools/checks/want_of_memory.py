@@ -27,6 +27,9 @@ SHAPES = {
     "migrate": ["meta-get policy/{1}", "meta-put policy/{1} "],
 }
 
+# Outcomes that come with a refused call.
+REFUSALS = {"refused", "conflict", "no-memory"}
+
 Command = collections.namedtuple("Command", "caller line words")
 Entry = collections.namedtuple("Entry", "caller user call reply")
 
@@ -81,28 +84,49 @@ def written(entries, notes):
 def grouped(order, log):
     """The entries of a run in turns, each with its command; and the notes."""
     entries, notes = parsed(log)
-    told, at = [], 0
-    for command in order:
-        count = calls_made(command, entries[at:at + 4], notes.get((command.caller, command.line)))
-        told.extend((command, it) for it in entries[at:at + count])
-        at += count
-    if at != len(entries):
-        raise Wrong("there are more entries than the commands ask for")
-    return told, notes
+    owners = owners_of(order, entries, notes)
+    if owners is None:
+        raise Wrong("the entries are not those that the commands ask for")
+    return list(zip(owners, entries)), notes
 
 
-def calls_made(command, entries, outcome):
-    """How many of the entries are the command's, which ended with this outcome."""
-    if command.words[0] not in SHAPES:
-        return 1
+def owners_of(order, entries, notes):
+    """The command of each entry, where the entries are those of the commands in this order; None where they aren't."""
+    owners = []
+    for number, command in enumerate(order):
+        here = entries[len(owners):]
+        counts = counts_of(command, here[:4], notes.get((command.caller, command.line)))
+        for count in counts[1:]:
+            rest = owners_of(order[number + 1:], here[count:], notes)
+            if rest is not None:
+                return owners + [command] * count + rest
+        if not counts:
+            return None
+        owners += [command] * counts[0]
+    return owners if len(owners) == len(entries) else None
+
+
+def counts_of(command, entries, outcome):
+    """How many of the entries may be the command's, which ended with this outcome.
+
+    Where a record ended it, the entries alone may not tell: then the next command's may look like its own.
+    """
+    shape = SHAPES.get(command.words[0], [""])
     count = 0
-    for head in SHAPES[command.words[0]]:
-        if count == len(entries) or not entries[count].call.startswith(head.format(*command.words)):
+    for head, entry in zip(shape, entries):
+        if entry.caller != command.caller or not entry.call.startswith(head.format(*command.words)):
             break
         count += 1
-        if entries[count - 1].reply.startswith("refused ") or outcome == "current":
+        if entry.reply.startswith("refused "):
             break
-    return count
+    if not count or command.words[0] not in SHAPES:
+        return [count] if count else []
+    is_refused = entries[count - 1].reply.startswith("refused ")
+    if outcome in REFUSALS:
+        return [count] if is_refused else []
+    if outcome == "ok":
+        return [count] if count == len(shape) and not is_refused else []
+    return list(range(count - is_refused, 0, -1))
 
 
 class Judge:
@@ -164,15 +188,15 @@ class Judge:
         entries, notes = parsed(log)
         for caller, section in enumerate(self.sections):
             own = [it for it in entries if it.caller == caller]
+            owners = owners_of(section, own, notes)
+            if owners is None:
+                raise Wrong(f"caller {caller}'s entries are not those that its commands ask for")
             for command in section:
                 outcome = notes.get((caller, command.line))
+                mine = [it for owner, it in zip(owners, own) if owner is command]
                 if (outcome is None) == (command.words[0] in SHAPES):
                     raise Wrong(f"the note of line {command.line}")
-                count = calls_made(command, own[:4], outcome)
-                mine, own = own[:count], own[count:]
-                if not mine or any(it.reply == REFUSED and it.call.split(" ")[0] in FREE for it in mine):
+                if any(it.reply == REFUSED and it.call.split(" ")[0] in FREE for it in mine):
                     raise Wrong(f"the calls of line {command.line} are {mine}")
                 if outcome is not None and (outcome == "no-memory") != (mine[-1].reply == REFUSED):
                     raise Wrong(f"the note of line {command.line} is {outcome} behind {mine[-1]}")
-            if own:
-                raise Wrong(f"caller {caller} has entries behind its last command")
