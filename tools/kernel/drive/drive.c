@@ -1,0 +1,280 @@
+/* Makes the calls of fsc's scripts on a real kernel, and prints the lines of fsc's log.
+ *
+ *     drive CALLS TEMPLATE ANSWERS
+ *
+ * CALLS is a text that ends with a line `END`, TEMPLATE an ext4 image; CALLS and ANSWERS may be
+ * disks. drive runs as root in an emulated machine. Each script gets a file system of its own, the
+ * template's blocks in a file in memory; each caller is a process of its own with its own user,
+ * whose root is that file system.
+ *
+ * The lines of CALLS, fields parted by tabs:
+ *     S NAME MODE                       the next script; MODE is `settle` or `raw`
+ *     C CALLER UID                      a caller
+ *     X CALLER UID EXPECTED LOGGED VERB WORDS..   a call; LOGGED is its line up to the `=`
+ *
+ * EXPECTED is `ok`, or `no` where the mount refuses: what this kernel does all the same is taken
+ * back, or where that can't be the script is cut. In a path the part `@N=TEXT` is the mount's
+ * no-key text of node N: the name by which this kernel lists that node stands for it.
+ *
+ * Behind an answer stand, each behind a tab, words `key:value` for the comparison: the error, the
+ * nodes of a listing, and what was taken back or cut. A line `F TEXT` tells a fault of drive's own.
+ */
+#define _GNU_SOURCE
+#include "drive.h"
+
+#include <errno.h>
+#include <fcntl.h>
+#include <grp.h>
+#include <linux/fscrypt.h>
+#include <linux/loop.h>
+#include <stdio.h>
+#include <stdlib.h>
+#include <string.h>
+#include <sys/ioctl.h>
+#include <sys/mman.h>
+#include <sys/mount.h>
+#include <sys/resource.h>
+#include <sys/stat.h>
+#include <sys/wait.h>
+#include <unistd.h>
+
+#define MOST_CALLERS 8
+#define BLOCK 4096
+#define MOUNTED "/m"
+#define LOOP "/dev/loop0"
+
+struct shared *shared;
+
+static struct { pid_t process; int to, from; } callers[MOST_CALLERS];
+
+/* A caller's process: it answers a call for each byte that it reads. */
+static void serve(unsigned user, int from, int to)
+{
+	char byte;
+
+	no_handles();
+	if (chroot(MOUNTED) || chdir("/") || setgroups(0, NULL))
+		_exit(1);
+	if (user && (setgid(user) || setuid(user)))
+		_exit(1);
+	while (read(from, &byte, 1) == 1) {
+		answer(shared->line);
+		if (write(to, "", 1) != 1)
+			break;
+	}
+	_exit(0);
+}
+
+static void start_caller(int caller, unsigned user)
+{
+	int there[2], back[2];
+
+	if (pipe2(there, O_CLOEXEC) || pipe2(back, O_CLOEXEC))
+		exit(1);
+	callers[caller].process = fork();
+	if (!callers[caller].process) {
+		close(there[1]);
+		close(back[0]);
+		for (int i = 0; i < caller; i++) {
+			close(callers[i].to);
+			close(callers[i].from);
+		}
+		serve(user, there[0], back[1]);
+	}
+	close(there[0]);
+	close(back[1]);
+	callers[caller].to = there[1];
+	callers[caller].from = back[0];
+}
+
+static void stop_callers(void)
+{
+	for (int i = 0; i < MOST_CALLERS; i++) {
+		if (!callers[i].process)
+			continue;
+		close(callers[i].to);
+		close(callers[i].from);
+		waitpid(callers[i].process, NULL, 0);
+		callers[i].process = 0;
+	}
+}
+
+static struct { off_t at; unsigned char bytes[BLOCK]; } *blocks;	/* of the template, but for zeros */
+static long block_count;
+static off_t image_size;
+static int image, loop_device, caches;
+
+static int load_template(const char *name)
+{
+	static const unsigned char ZEROS[BLOCK];
+	unsigned char bytes[BLOCK];
+	int file = open(name, O_RDONLY);
+
+	image_size = lseek(file, 0, SEEK_END);
+	for (off_t at = 0; at < image_size; at += BLOCK) {
+		if (pread(file, bytes, BLOCK, at) != BLOCK)
+			return -1;
+		if (!memcmp(bytes, ZEROS, BLOCK))
+			continue;
+		blocks = realloc(blocks, (block_count + 1) * sizeof *blocks);
+		blocks[block_count].at = at;
+		memcpy(blocks[block_count++].bytes, bytes, BLOCK);
+	}
+	return close(file);
+}
+
+static void open_loop(void)
+{
+	if (loop_device > 0)
+		close(loop_device);
+	loop_device = open(LOOP, O_RDWR | O_CLOEXEC);
+}
+
+static int mount_fresh(void)
+{
+	if (ftruncate(image, 0) || ftruncate(image, image_size))
+		return -1;
+	for (long i = 0; i < block_count; i++)
+		if (pwrite(image, blocks[i].bytes, BLOCK, blocks[i].at) != BLOCK)
+			return -1;
+	for (int tries = 0; ioctl(loop_device, LOOP_SET_FD, image); tries++) {
+		if (errno != EBUSY || tries == 200)
+			return -1;
+		usleep(5000);
+		open_loop();
+	}
+	return mount(LOOP, MOUNTED, "ext4", 0, "") ? -1 : chmod(MOUNTED, 0777);
+}
+
+/* From Linux 6.10 on a loop device is free only with its last close. */
+static int unmount(void)
+{
+	int result = umount(MOUNTED);
+
+	for (int tries = 0; tries < 100 && ioctl(loop_device, LOOP_CLR_FD, 0); tries++)
+		usleep(10000);
+	open_loop();
+	return result;
+}
+
+/* What the mount's last close does: a key without claims goes where nothing holds it. */
+static void settle(void)
+{
+	for (int i = 0; i < shared->keys; i++) {
+		struct fscrypt_get_key_status_arg status = { .key_spec.type = FSCRYPT_KEY_SPEC_TYPE_IDENTIFIER };
+		struct fscrypt_remove_key_arg removed = { .key_spec.type = FSCRYPT_KEY_SPEC_TYPE_IDENTIFIER };
+
+		memcpy(status.key_spec.u.identifier, shared->key[i], ID_BYTES);
+		memcpy(removed.key_spec.u.identifier, shared->key[i], ID_BYTES);
+		if (!key_call(MOUNTED, FS_IOC_GET_ENCRYPTION_KEY_STATUS, &status) &&
+		    status.status == FSCRYPT_KEY_STATUS_INCOMPLETELY_REMOVED)
+			key_call(MOUNTED, FS_IOC_REMOVE_ENCRYPTION_KEY, &removed);
+	}
+}
+
+static FILE *answers;
+
+/* Linux asks for an owner, of whom the mount knows nothing. */
+static void give_to_caller(const char *text, unsigned user)
+{
+	static char path[MOST_PATH];
+	struct stat status;
+
+	resolve(MOUNTED, text, path);
+	if (!lstat(path, &status) && !S_ISLNK(status.st_mode) && lchown(path, user, -1))
+		fprintf(answers, "F chown %s\n", strerror(errno));
+}
+
+static void end_script(bool mounted)
+{
+	stop_callers();
+	if (mounted && unmount())
+		fprintf(answers, "F unmount %s\n", strerror(errno));
+	fflush(answers);
+}
+
+static void begin_script(const char *line)
+{
+	shared->nodes = 1;
+	shared->inode[0] = 2;
+	shared->keys = 0;
+	fprintf(answers, "%s\n", line);
+	if (mount_fresh())
+		fprintf(answers, "F mount %s\n", strerror(errno));
+}
+
+/* Has a caller answer, and returns whether the script goes on. */
+static bool make_call(const char *line, bool settles)
+{
+	static char copy[MOST_LINE];
+	char *words[MOST_WORDS], byte;
+	int caller;
+
+	split(strcpy(copy, line), words);
+	caller = atoi(words[1]);
+	if (!strcmp(words[5], "set-policy"))
+		give_to_caller(words[6], strtoul(words[2], NULL, 10));
+	strcpy(shared->line, line);
+	shared->written = 0;
+	shared->cut = shared->closed = shared->drop = false;
+	if (write(callers[caller].to, "", 1) != 1 || read(callers[caller].from, &byte, 1) != 1) {
+		fprintf(answers, "F caller %d died\n", caller);
+		return false;
+	}
+	if (shared->drop) {
+		sync();
+		if (write(caches, "3", 1) != 1)
+			fprintf(answers, "F caches stayed\n");
+	}
+	if (shared->closed && settles)
+		settle();
+	fwrite(shared->out, 1, shared->written, answers);
+	return !shared->cut;
+}
+
+static int set_up(char **names)
+{
+	struct rlimit files = { MOST_HANDLES + 100, MOST_HANDLES + 100 };
+
+	shared = mmap(NULL, sizeof *shared, PROT_READ | PROT_WRITE, MAP_SHARED | MAP_ANONYMOUS, -1, 0);
+	answers = fopen(names[3], "r+");
+	image = open("/t/image", O_RDWR | O_CREAT | O_CLOEXEC, 0600);
+	caches = open("/proc/sys/vm/drop_caches", O_WRONLY | O_CLOEXEC);
+	open_loop();
+	umask(0);
+	return shared == MAP_FAILED || !answers || image < 0 || caches < 0 || loop_device < 0 ||
+	       setrlimit(RLIMIT_NOFILE, &files) || load_template(names[2]);
+}
+
+int main(int count, char **names)
+{
+	static char line[MOST_LINE];
+	bool mounted = false, settles = true, goes_on = true;
+	long scripts = 0;
+	int caller;
+	unsigned user;
+	FILE *calls = count == 4 ? fopen(names[1], "r") : NULL;
+
+	if (!calls || set_up(names)) {
+		perror("drive");
+		return 1;
+	}
+	while (fgets(line, sizeof line, calls) && strcmp(line, "END\n")) {
+		line[strcspn(line, "\n")] = 0;
+		if (*line == 'S') {
+			end_script(mounted);
+			begin_script(line);
+			mounted = goes_on = true;
+			settles = !strstr(line, "\traw");
+			if (++scripts % 50 == 0)
+				fprintf(stderr, "drive: %ld scripts\n", scripts);
+		} else if (sscanf(line, "C\t%d\t%u", &caller, &user) == 2) {
+			start_caller(caller, user);
+		} else if (*line == 'X' && goes_on) {
+			goes_on = make_call(line, settles);
+		}
+	}
+	end_script(mounted);
+	fprintf(answers, "END\n");
+	return fflush(answers) || fsync(fileno(answers));
+}

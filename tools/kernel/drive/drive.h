@@ -1,0 +1,69 @@
+/* What the parts of drive share. */
+#pragma once
+
+#include <stdbool.h>
+#include <stddef.h>
+#include <sys/types.h>
+
+#define MOST_LINE (1 << 20)
+#define MOST_PATH 70000
+#define MOST_NODES 70000
+#define MOST_HANDLES 8192
+#define MOST_KEYS 256
+#define MOST_WORDS 16
+#define ID_BYTES 16
+
+/* What the callers' processes and their parent share. */
+struct shared {
+	char line[MOST_LINE];              /* the call, as it was read */
+	char out[2 * MOST_LINE];           /* its answer */
+	int written;
+	bool cut, closed, drop;            /* the script ends; a file was closed; caches are to go */
+	ino_t inode[MOST_NODES];           /* of a node, by the mount's number */
+	char name[MOST_NODES][256];        /* the plain name that it had last */
+	int nodes;
+	unsigned char key[MOST_KEYS][ID_BYTES];
+	int keys;
+};
+extern struct shared *shared;
+
+struct call {
+	bool expected;
+	const char *verb;
+	char **words;
+};
+
+/* words.c: the log's texts, and answers. */
+void put(const char *format, ...);
+void put_word(const char *bytes, size_t length);
+void put_bytes(const void *bytes, size_t length);
+int read_bytes(const char *text, unsigned char *bytes);
+int read_word(const char *text, int characters, char *word);
+void split(char *line, char **words);
+void refuse(int error);
+void cut(const char *why);
+bool done(const struct call *call, int result, int error);
+void taken_back(int result);
+
+/* names.c: what a directory lists, and which node is which. */
+struct entry {
+	char *name;
+	ino_t inode;
+};
+
+int read_entries(int descriptor, struct entry **entries);
+void drop_entries(struct entry *entries, int count);
+int open_directory(const char *path);
+int node_of(ino_t inode);
+void name_node(int node, const char *path);
+void learn(int node, const char *path);
+void resolve(const char *prefix, const char *text, char *path);
+bool through_link(const char *path);
+
+/* calls.c: the calls on names and on open files. keys.c: those on keys. */
+int key_call(const char *root, unsigned long request, void *argument);
+void add_key(const struct call *call);
+void remove_key(const struct call *call);
+void key_status(const struct call *call);
+void no_handles(void);
+void answer(char *line);
