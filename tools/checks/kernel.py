@@ -1,4 +1,4 @@
-"""What Linux 6.1 answered to stored logs: the comparison finds nothing but what docs/LINUX.md tells, and finds a changed refusal."""
+"""What Linux 6.1 answered, beside stored logs: no difference but those of docs/LINUX.md, and a changed refusal is found."""
 import os
 import re
 import subprocess

@@ -88,6 +88,12 @@ class Bookkeeping:
                 return passed, None, "not-found"
         return passed, at, ""
 
+    def through_link(self, path):
+        """Whether a link stands on the way of a path."""
+        parts = parts_of(path)
+        nodes = (self.walk(parts[:at])[1] for at in range(1, len(parts)))
+        return any(it is not None and it.kind == "link" for it in nodes)
+
     def parent(self, path):
         """The directory of a path's last part, or none and why; the root has none."""
         parts = parts_of(path)

@@ -54,7 +54,8 @@ class Step:
 def same_listing(step):
     """Texts are compared as the nodes that they name, with their lengths; of a page only how many there are."""
     node, ours, theirs = step.node(), names_of(step.ours), names_of(step.theirs)
-    if node is None or not any(it.startswith(NO_KEY) for it in ours) or step.ours.split(" ")[:3] != step.theirs.split(" ")[:3]:
+    counted = step.ours.split(" ")[:3] == step.theirs.split(" ")[:3]
+    if node is None or not counted or not any(it.startswith(NO_KEY) for it in ours):
         return False
     numbers = step.listed()
     names = {it.number: it.name for it in node.entries.values()}

@@ -118,15 +118,17 @@ class Generator:
         line = getattr(self, "draw_" + verb.replace("-", "_"), lambda: f"{verb} {self.path()}")()
         if verb == "open":
             self.opened += 1
-        lines = [line]
-        if verb == "list":
-            path = line.split(" ")[1].rstrip("/")
-            for _ in range(self.random.randint(0, 3)):
-                star = f"{path}/*{self.random.randint(0, 2)}"
-                lines.append(self.random.choice((f"stat {star}", f"unlink {star}", f"open {star}", f"rename {star} {path}/x",
-                                                 f"rmdir {star}", f"list {star}", f"get-policy {star}", f"readlink {star}",
-                                                 f"rename {star} /f", f"create {star}", f"mkdir {star}/x")))
-                self.opened += lines[-1].startswith("open")
+        return [line, *(self.on_listed(line.split(" ")[1].rstrip("/")) if verb == "list" else ())]
+
+    def on_listed(self, path):
+        """Up to three commands on what a listing has shown."""
+        lines = []
+        for _ in range(self.random.randint(0, 3)):
+            star = f"{path}/*{self.random.randint(0, 2)}"
+            lines.append(self.random.choice((
+                f"stat {star}", f"unlink {star}", f"open {star}", f"rename {star} {path}/x", f"rmdir {star}", f"list {star}",
+                f"get-policy {star}", f"readlink {star}", f"rename {star} /f", f"create {star}", f"mkdir {star}/x")))
+            self.opened += lines[-1].startswith("open")
         return lines
 
     def draw_symlink(self):
@@ -147,14 +149,18 @@ class Generator:
         return f"close {self.handle()}"
 
     def draw_read(self):
-        return f"read {self.handle()} {self.random.choice((0, 0, 3, 4_090, 9_000))} {self.random.choice((0, 10, 100, 4_096, 4_097))}"
+        handle = self.handle()
+        offset = self.random.choice((0, 0, 3, 4_090, 9_000))
+        return f"read {handle} {offset} {self.random.choice((0, 10, 100, 4_096, 4_097))}"
 
     def draw_write(self):
         offset = self.random.choice((0, 0, 5, 4_094, 8_192, 1_048_575))
         return f"write {self.handle()} {offset} {self.random.choice(('-', '61', '616263646566'))}"
 
     def draw_fill(self):
-        return f"fill {self.handle()} {self.random.choice((0, 1_000, 4_096))} {self.random.choice((1, 5_000))} {self.random.randint(0, 255)}"
+        handle = self.handle()
+        offset, length = self.random.choice((0, 1_000, 4_096)), self.random.choice((1, 5_000))
+        return f"fill {handle} {offset} {length} {self.random.randint(0, 255)}"
 
     def draw_add_key(self):
         if self.random.random() < 0.05:
@@ -176,7 +182,8 @@ class Generator:
 
     def draw_set_policy_bytes(self):
         """A policy with a key for each mode, or mostly none for the mount."""
-        return f"set-policy-bytes {self.path()} {self.random.choice(POLICIES)}00000000{identifier(self.random.choice(KEYS))}"
+        path, head = self.path(), self.random.choice(POLICIES)
+        return f"set-policy-bytes {path} {head}00000000{identifier(self.random.choice(KEYS))}"
 
     def draw_drop_caches(self):
         return "drop-caches"

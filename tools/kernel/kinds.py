@@ -8,7 +8,7 @@ import itertools
 import os
 
 from bookkeeping import CREATIONS, MOST_NAME, length_of, parts_of
-from refusals import causes, is_policy, of_parent, of_policy, own_causes
+from refusals import causes, is_policy, names_root, own_causes
 from scripts import names_of
 
 TOP = os.path.dirname(os.path.dirname(os.path.dirname(os.path.abspath(__file__))))
@@ -36,14 +36,10 @@ def told_held(reply):
     return None
 
 
-def held_here_alone(step):
-    """The mount tells that a key is held, where Linux tells it gone."""
-    return is_key_call(step) and told_held(step.ours) is True and told_held(step.theirs) is False
-
-
-def held_there_alone(step):
-    """Linux tells that a key is held, where the mount tells it gone."""
-    return is_key_call(step) and told_held(step.ours) is False and told_held(step.theirs) is True
+def held_otherwise(step, here):
+    """Whether of the mount and Linux just the one tells that a key is held, and all else that they tell is the same."""
+    rest = [it.split(" ")[2:] for it in (step.ours, step.theirs) if it.startswith("status")]
+    return is_key_call(step) and (told_held(step.ours), told_held(step.theirs)) == (here, not here) and rest[:1] == rest[1:]
 
 
 def fits(step):
@@ -86,9 +82,10 @@ def other_order(step):
 
 def open_directory(step):
     """A directory's handle keeps it readable here; Linux gives it its key only by a look-up or a listing."""
-    if held_here_alone(step):
+    if held_otherwise(step, True):
         return all(it.kind == "dir" for it in step.books.users_of(step.words[0]))
-    kept = [it for it in step.directories() if it.kind == "dir" and it in step.books.open_nodes() and step.books.keyless(it)]
+    books = step.books
+    kept = [it for it in step.directories() if it.kind == "dir" and it in books.open_nodes() and books.keyless(it)]
     return fits_some(step, kept, True)
 
 
@@ -105,7 +102,7 @@ def open_below(step):
 
 def open_unlinked(step):
     """Linux's dead entry of an open node holds the directory in which it stood."""
-    if held_there_alone(step):
+    if held_otherwise(step, False):
         key = step.words[0]
         return not step.books.users_of(key) and any(
             it.key == key for node in step.books.open_nodes() for it in node.above())
@@ -117,25 +114,14 @@ def lingering(step):
     """With its last close a key without claims goes here; in Linux it lingers, which drive lets it only if it is told."""
     if not step.raw:
         return False
-    if held_there_alone(step):
+    if held_otherwise(step, False):
         return step.words[0] in step.books.lingering
     return fits_some(step, kept_plain(step, lambda it: it.key in step.books.lingering), False)
 
 
 def of_root(step):
     """The calls that name the root, which Linux refuses otherwise."""
-    paths = step.paths()
-    if "/" not in paths or step.refused != "inval":
-        return False
-    if step.verb == "rmdir":
-        return step.denied == "EBUSY"
-    if step.verb == "set-policy":
-        return step.denied in {"EPERM"} | of_policy(step.books, step.books.root, step.user, step.words[1])
-    if step.verb != "rename":
-        return False
-    old, new = paths
-    causes = {"EBUSY"} if old == "/" else of_parent(step.books, old)
-    return step.denied in causes | ({"exists"} if new == "/" else of_parent(step.books, new))
+    return names_root(step) and step.refused in own_causes(step) and step.denied in causes(step)
 
 
 def kind_of_node(step):
@@ -159,12 +145,7 @@ def policy_by_root(step):
 
 def through_link(step):
     """Linux follows a link on the way, which drive tells as ELOOP."""
-    for path in step.paths():
-        parts = parts_of(path)
-        nodes = (step.books.walk(parts[:at])[1] for at in range(1, len(parts)))
-        if any(it is not None and it.kind == "link" for it in nodes):
-            return step.told.get("link") == "1" and step.refused in causes(step)
-    return False
+    return step.told.get("link") == "1" and step.refused in own_causes(step) and step.denied in causes(step)
 
 
 def policy_of_link(step):

@@ -15,9 +15,9 @@ def is_policy(policy):
 
 
 def of_walk(books, path):
-    """The node at the end of a path, and why there is none."""
+    """The node at the end of a path, and why there is none; drive asks Linux not to follow links on the way."""
     _, node, why = books.walk(parts_of(path))
-    return node, {why} - {""}
+    return node, {why, "ELOOP" if books.through_link(path) else ""} - {""}
 
 
 def of_policy(books, node, user, policy):
@@ -49,12 +49,12 @@ def of_node(step):
         return causes
     if step.verb == "set-policy":
         return of_policy(books, node, step.user, step.words[1])
-    locked_file = node.kind == "file" and books.locked(node)
+    opened = {"ELOOP"} if node.kind == "link" else {"no-key"} if node.kind == "file" and books.locked(node) else set()
     return {
         "list": {"not-dir"} if node.kind != "dir" else set(),
         "readlink": {"inval"} if node.kind != "link" else set(),
-        "open": {"ELOOP", "inval"} if node.kind == "link" else {"no-key"} if locked_file else set(),
-        "get-policy": {"ELOOP"} if node.kind == "link" else {"no-key"} if locked_file else {"no-data"} if not node.policy else set(),
+        "open": opened | ({"inval"} if node.kind == "link" else set()),
+        "get-policy": opened or ({"no-data"} if not node.policy else set()),
     }.get(step.verb, set())
 
 
@@ -62,7 +62,7 @@ def of_entry(books, path):
     """The directory of a path's last part, the node there, and why there is none of them."""
     home, why = books.parent(path)
     node = books.entry(home, parts_of(path)[-1]) if home is not None and not why else None
-    return home, node, {why} - {""}
+    return home, node, {why, "ELOOP" if books.through_link(path) else ""} - {""}
 
 
 def of_parent(books, path):
@@ -108,10 +108,26 @@ def of_rename(step):
     return causes
 
 
+def of_root(step):
+    """The calls that name the root, which Linux takes for the caller's own."""
+    books, paths = step.books, step.paths()
+    if step.verb == "rename":
+        ends = zip(paths, ({"EBUSY"}, {"exists"}))
+        return set().union(*(at_root if path == "/" else of_parent(books, path) for path, at_root in ends))
+    if step.verb == "set-policy":
+        return {"EPERM"} | of_policy(books, books.root, step.user, step.words[1])
+    return {"rmdir": {"EBUSY"}, "unlink": {"is-dir"}}.get(step.verb, {"exists"})
+
+
+def names_root(step):
+    """Whether a call that changes the tree or a policy names the root."""
+    return "/" in step.paths() and step.verb in (*CREATIONS, "unlink", "rmdir", "rename", "set-policy")
+
+
 def causes(step):
-    """All refusals for which there is a cause; of a call that names the root none is told."""
-    if "/" in step.paths() and step.verb in (*CREATIONS, "unlink", "rmdir", "rename", "set-policy"):
-        return set()
+    """All refusals for which there is a cause."""
+    if names_root(step):
+        return of_root(step)
     if step.verb in CREATIONS:
         return of_creation(step)
     if step.verb in ("unlink", "rmdir"):
@@ -122,7 +138,9 @@ def causes(step):
 
 
 def own_causes(step):
-    """The same as this mount names them: a file takes no policy, a locked directory isn't opened."""
+    """The same as this mount names them: a file takes no policy, a locked directory isn't opened, the root stays."""
+    if names_root(step):
+        return {"inval"} if step.verb in ("rmdir", "rename", "set-policy") else of_root(step)
     found, node = causes(step), step.node()
     if step.verb == "set-policy" and node is not None and node.kind != "dir":
         found = found | {"not-dir"}
