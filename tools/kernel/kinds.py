@@ -208,9 +208,10 @@ def long_target(step):
 
 def writes_directory(step):
     """Linux opens a directory for reading alone."""
+    if step.verb != "write" or (step.refused, step.denied) != ("is-dir", "bad-handle"):
+        return False
     node = step.books.handles.get((step.caller, step.words[0]))
-    return (step.verb == "write" and node is not None and node.kind == "dir"
-            and (step.refused, step.denied) == ("is-dir", "bad-handle"))
+    return node is not None and node.kind == "dir"
 
 
 def units(step):

@@ -12,6 +12,7 @@ PATHS = {"set-policy": 1, "get-policy": 1, "mkdir": 1, "create": 1, "symlink": 1
          "rename": 2, "list": 1, "stat": 1, "open": 1}
 NOT_IN_LINUX = ("meta-get", "meta-put")
 MOST_STATS = 10_000
+NO_USER, STANDS_FOR_IT = 4_294_967_295, 4_294_967_293
 MOST_SHOWN = 128
 
 
@@ -181,11 +182,17 @@ def learn_texts(books, behind, caller, path):
             books.feed_text(words[0], int(reply.split(" ")[2]))
 
 
+def in_linux(user):
+    """The user that stands for one of the mount: Linux has none of the last number."""
+    return str(user if user != NO_USER else STANDS_FOR_IT)
+
+
 class Calls:
     """The lines for drive of a script and its log, and the log without what no kernel has."""
 
     def __init__(self, script, log, mode):
-        self.lines = [f"S\t{script.name}\t{mode}"] + [f"C\t{at}\t{user}" for at, user in enumerate(script.users)]
+        self.lines = [f"S\t{script.name}\t{mode}"]
+        self.lines += [f"C\t{at}\t{in_linux(user)}" for at, user in enumerate(script.users)]
         self.log = [f"S {script.name} {mode}"]
         self.keys = {}
         self.books = Bookkeeping()
@@ -218,7 +225,7 @@ class Calls:
             words.append(str(self.books.made + 1))
         if verb == "open":
             words.append(reply.split(" ")[1] if expected == "ok" else "0")
-        return "\t".join(["X", str(caller), str(user), expected, line.partition(" = ")[0], verb, *words])
+        return "\t".join(["X", str(caller), in_linux(user), expected, line.partition(" = ")[0], verb, *words])
 
     def shown(self, path):
         """The path with `@N=` before each part that is the no-key text of a node N."""
