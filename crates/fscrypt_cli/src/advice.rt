@@ -35,7 +35,7 @@ pub(crate) fn tell_of_waiting(rt: &HostRuntime, words: &Vec<String>) {
 pub(crate) fn tell_of_closed(rt: &HostRuntime) {
     let _ = eprintln!(rt; "{}", Status::WriteFault);
     let _ = eprintln!(rt;
-        "fsc: nobody reads the output any more; what was read is a beginning of the log"
+        "fsc: nobody reads the output any more; what was read is a beginning of it"
     );
 }
 

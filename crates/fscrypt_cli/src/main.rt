@@ -11,7 +11,7 @@ mod telling;
 
 use advice::{advise_words, tell_of_closed, tell_of_waiting};
 use caused::CausedSink;
-use fsc_outside::{RuntimeSeed, StdSink, StdSource, write_all};
+use fsc_outside::{RuntimeSeed, StdSource, write_all};
 use fsc_tool::tool;
 use help::{VERSION, advise, help_text};
 use kept::KeptSource;
@@ -82,10 +82,15 @@ fn tell_help(rt: HostRuntime) -> ExitCode {
 
 // Prints a text on standard output.
 fn tell(rt: HostRuntime, text: &str) -> ExitCode {
-    match write_all(&mut StdSink::new(&rt), text.as_bytes()) {
-        Ok(()) => ExitCode::from(Status::Done.number()),
-        Err(_) => end(rt, Status::WriteFault, &[]),
+    let mut sink = CausedSink::over(rt.stdout());
+    if write_all(&mut sink, text.as_bytes()).is_ok() {
+        return ExitCode::from(Status::Done.number());
     }
+    if !sink.is_closed() {
+        return end(rt, Status::WriteFault, &[]);
+    }
+    tell_of_closed(&rt);
+    ExitCode::from(Status::WriteFault.number())
 }
 
 // Prints the status and what to do on standard error, unless the run is done, and ends with its number.
