@@ -111,8 +111,8 @@ returns-in-Err-NoSpace-clause-refused c = λ m st _.
     (ap (answer_to_write m c.args.caller c.args.handle c.args.offset) (sym c.as_slice-piece.ensures)
     ∙ write_full s m st c.args.caller c.args.handle c.args.offset xs file c.in-Ok.ensures.held c.in-Ok.ensures.file small lacks)
 
-pub returns-clause-refused : goal.returns-clause-refused
-returns-clause-refused c = λ m st bad.
+pub returns-in-Err-NoMemory-clause-refused : goal.returns-in-Err-NoMemory-clause-refused
+returns-in-Err-NoMemory-clause-refused c = λ m st bad.
     let s = c.args.state.now in
     let xs = c.as_slice-piece.result.now in
     let file = c.in-Ok.file in

@@ -13,4 +13,4 @@ returns-clause-value g c = λ m st names here keyed.
     let is = same_cipher c.in_ok-made.made (names_cipher m.raws c.args.number c.args.context.now)
     (subst (λ o. o ≡ Some (names_cipher m.raws c.args.number c.args.context.now)) made (c.cipher_of.ensures.keyed m st names here keyed)) in
     ap (λ (x : List ℕ). Some x)
-    (c.sealed.ensures.value ∙ sealed_under m c.args.number c.args.context.now c.in_ok-made.made.key (ap (λ (x : NameCipher). x.key) is) c.args.name.now)
+    (c.sealed-stored.ensures.value ∙ sealed_under m c.args.number c.args.context.now c.in_ok-made.made.key (ap (λ (x : NameCipher). x.key) is) c.args.name.now)

@@ -19,7 +19,7 @@ returns-in-Some-drawn_cipher-clause-value g c = λ m st holds.
     (coming_cipher m s.next_node c.in-Some.context s.ring st.keys c.in-Some-drawn_cipher.ensures.claimed (ap (lacks_key m) (sym was) ∙ holds)
     (Some c.in-Some-drawn_cipher.cipher) c.in-Some-drawn_cipher.ensures.value) in
     ap (λ (x : List ℕ). Some x)
-    (c.enciphered.ensures.value
+    (c.enciphered-stored.ensures.value
     ∙ sealed_by m s.next_node c.in-Some.context c.in-Some-drawn_cipher.cipher is c.args.target.now
     ∙ ap (λ (o : Option Context). stored_form m.raws s.next_node o c.args.target.now) (sym was))
 
