@@ -1,8 +1,8 @@
 -- What a run in a form that generates says of the tool, and what a summary is of.
-use Rattle.std.proofs.Common.{◌≡◌, ◌≢◌, ℕ, inl, inr, Bool, true, false, ◌||◌, List, [], ◌∷◌, ◌++◌, codes, Option, Some, None, refl, sym, ap, ap₂, ◌∙◌, subst}
-use Rattle.std.specs.Prelude.{IsSome, is_some, count_by, length, suc, if◌then◌else◌}
+use Rattle.std.proofs.Common.{◌≡◌, ◌≢◌, ℕ, ◌+◌, inl, inr, Bool, true, false, ◌||◌, List, [], ◌∷◌, ◌++◌, codes, Option, Some, None, refl, sym, ap, ap₂, ◌∙◌, subst}
+use Rattle.std.specs.Prelude.{IsSome, is_some, count_by, length, if◌then◌else◌}
 use Rattle.std.proofs.lemmas.List.{length-map}
-use Rattle.std.specs.List.{All, list_any}
+use Rattle.std.specs.List.{All, fold, list_any}
 use Rattle.std.specs.Str.{bytes_eq}
 use Rattle.std.proofs.lemmas.List.Elements.{All-nil, All-cons}
 use Rattle.std.proofs.lemmas.Slice.Eq.{bytes_eq-Decides}
@@ -171,8 +171,13 @@ never_wants (e ∷ es) h =
 
 counts_shown : (p : Reply → Bool) (history : History)
     → count_by (λ (e : ShownEntry). p e.reply) (shown_history history) ≡ count_by (λ (e : MountEntry). p e.reply) history
-counts_shown p [] = refl
-counts_shown p (e ∷ es) = ap (λ (n : ℕ). if p e.reply then suc n else n) (counts_shown p es)
+counts_shown p history = counts_from 0 history
+  where
+    counts_from : (n : ℕ) (history : History)
+        → fold (λ (a : ℕ) (e : ShownEntry). a + (if p e.reply then 1 else 0)) n (shown_history history)
+        ≡ fold (λ (a : ℕ) (e : MountEntry). a + (if p e.reply then 1 else 0)) n history
+    counts_from n [] = refl
+    counts_from n (e ∷ es) = counts_from (n + (if p e.reply then 1 else 0)) es
 
 -- what is shown of a history has its summary
 summary_shown : (history : History) (log : List ℕ) → summary_text (shown_history history) log ≡ summary_text history log
