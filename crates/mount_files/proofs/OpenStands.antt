@@ -181,6 +181,10 @@ opened_after old walked new caller reply same told = record {
       next_node = told.one.same.next_node ∙ same.next_node;
       ring = told.one.same.ring ∙ same.ring;
       meta = told.one.same.meta ∙ same.meta;
+      keys = tt;
+      pins = tt;
+      handles = tt;
+      modes = tt;
     };
     handles = told.one.handles ∙ ap (λ (hs : Handles). with_new hs caller told.node) same.handles;
   };

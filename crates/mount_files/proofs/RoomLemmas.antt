@@ -1,18 +1,14 @@
 -- The blocks of the disk are those of the mount's files, before and after a write.
-use Rattle.std.proofs.Common.{◌≡◌, ℕ, ◌+◌, ◌<◌, Bool, true, false, cond, ◌&&◌, T, List, [], ◌∷◌, map, length, Option, Some, None, option_map, inl, inr, refl, sym, ap, subst, ◌∙◌, arith}
+use Rattle.std.proofs.Common.{◌≡◌, ℕ, ◌+◌, ◌<◌, true, false, List, [], ◌∷◌, length, Option, Some, None, option_map, inl, inr, refl, sym, ap, ◌∙◌, arith}
 use Rattle.std.specs.Prelude.{max}
 use Rattle.std.specs.List.{sum_by}
 use Rattle.std.specs.Option.{option_map_or}
-use Rattle.std.specs.Ordering.{nat_cmp, eq_by_cmp, is_lt}
-use Rattle.std.specs.FinMap.{get-entries, entries_sorted, from_sorted, get-from_sorted, entries-from_sorted}
-use Rattle.std.specs.FinMap.Entries.{find, is_sorted, below_all}
 use Rattle.std.proofs.lemmas.Bool.{cases_Bool, cases_lt, lt-ltb, le-ltb, ltb-true}
 use Rattle.std.proofs.lemmas.Grind.{div_ceil_times}
 use Rattle.std.proofs.lemmas.List.Sums.{sum_by-cons}
 use Rattle.byte_words.specs.Contents.{with_bytes}
-use Rattle.number_map.specs.Numbered.{Numbered, get, entries}
-use Rattle.number_map.proofs.NumberedLemmas.{same_numbered}
-use Rattle.number_map.proofs.NumberTests.{same_of_tied}
+use Rattle.number_map.specs.Numbered.{get, entries}
+use Rattle.number_map.proofs.AgreementLemmas.{mapped, agree_entries_by}
 use Rattle.data_crypt.specs.Blocks.{block_count, stored_block}
 use Rattle.data_crypt.proofs.ContentsLemmas.{length-blocks_by}
 use Rattle.data_crypt.proofs.ChainLemmas.{count-with_bytes}
@@ -30,41 +26,6 @@ use Rattle.mount_model.specs.FileAnswers.{block_count as plain_count}
 use Rattle.mount_state.specs.Stored.{stored_node, stored_body, seal_of}
 use Rattle.mount_state.specs.StandsFor.{StandsFor}
 use Rattle.mount_state.specs.declared.state.MountState.{MountState}
-
--- ---- entries of maps that agree, where the values may depend on the number
-
-module _ {V W : Type 0} (f : ℕ → V → W) where
-  abbrev mapped : List (ℕ × V) → List (ℕ × W)
-  mapped es = map (λ e. (e.0, f e.0 e.1)) es
-
-  below_mapped : (x : ℕ) (es : List (ℕ × V)) → below_all nat_cmp x (mapped es) ≡ below_all nat_cmp x es
-  below_mapped x [] = refl
-  below_mapped x (e ∷ es) = ap (λ b. is_lt (nat_cmp x e.0) && b) (below_mapped x es)
-
-  sorted_mapped : (es : List (ℕ × V)) → is_sorted nat_cmp (mapped es) ≡ is_sorted nat_cmp es
-  sorted_mapped [] = refl
-  sorted_mapped (e ∷ es) = λ i. below_mapped e.0 es i && sorted_mapped es i
-
-  by_test : (q : ℕ) (e : ℕ × V) (rest : Option V) (b : Bool) → eq_by_cmp nat_cmp q e.0 ≡ b
-      → cond b (Some (f e.0 e.1)) (option_map (f q) rest) ≡ option_map (f q) (cond b (Some e.1) rest)
-  by_test q e rest true here = ap (λ k. Some (f k e.1)) (sym (same_of_tied q e.0 here))
-  by_test q e rest false apart = refl
-
-  find_mapped : (q : ℕ) (es : List (ℕ × V)) → find nat_cmp q (mapped es) ≡ option_map (f q) (find nat_cmp q es)
-  find_mapped q [] = refl
-  find_mapped q (e ∷ es) =
-      ap (cond (eq_by_cmp nat_cmp q e.0) (Some (f e.0 e.1))) (find_mapped q es)
-      ∙ by_test q e (find nat_cmp q es) (eq_by_cmp nat_cmp q e.0) refl
-
-  entries_agree : (plain : Numbered V) (stored : Numbered W) → AgreesBy f plain stored → entries stored ≡ mapped (entries plain)
-  entries_agree plain stored agree =
-      let sorted : T (is_sorted nat_cmp (mapped (entries plain))) = subst T (sym (sorted_mapped (entries plain))) (entries_sorted plain) in
-      let made : Numbered W = from_sorted (mapped (entries plain)) in
-      let same : stored ≡ made
-      = same_numbered stored made
-      (λ q. agree q ∙ ap (option_map (f q)) (get-entries plain q)
-      ∙ sym (get-from_sorted nat_cmp (mapped (entries plain)) q sorted ∙ find_mapped q (entries plain))) in
-      ap entries same ∙ entries-from_sorted nat_cmp (mapped (entries plain)) sorted
 
 -- ---- blocks
 
@@ -95,7 +56,7 @@ sums_alike raws (e ∷ es) =
 
 totals_alike : (raws : Raws) (nodes : Nodes) (disk : Disk) → AgreesBy (stored_node raws) nodes disk → disk_total disk ≡ block_total nodes
 unfolding disk_total block_total
-totals_alike raws nodes disk agree = ap (sum_by disk_value) (entries_agree (stored_node raws) nodes disk agree) ∙ sums_alike raws (entries nodes)
+totals_alike raws nodes disk agree = ap (sum_by disk_value) (agree_entries_by (stored_node raws) nodes disk agree) ∙ sums_alike raws (entries nodes)
 
 -- ---- whether there is room for a write
 

@@ -41,6 +41,7 @@ use Rattle.mount_state.specs.Stored.{stored_body, stored_node, seal_of}
 use Rattle.mount_state.specs.StandsFor.{StandsFor, CachesStand, kind_in}
 use Rattle.mount_state.specs.StandsFor as plain
 use Rattle.mount_state.specs.declared.state.MountState.{MountState}
+use Rattle.mount_state.proofs.WalkLemmas.{same_cache}
 use Rattle.mount_files.specs.Written.{SameButDisk}
 
 -- what a change of one value leaves of each
@@ -183,7 +184,7 @@ module _ (old : MountState) (m : PlainMount) (st : StandsFor old m) (file offset
         live = ap (λ (h : Handles). h.live) same.handles ∙ st.handles.live;
         opened = ap (λ (h : Handles). h.opened) same.handles ∙ st.handles.opened;
       };
-      caches = subst (λ (x : Cache). CachesStand x new.modes after) (sym same.inodes)
+      caches = subst (λ (x : Cache). CachesStand x new.modes after) (sym (same_cache old.inodes new.inodes same.keys same.pins))
           (subst (λ (x : Modes). CachesStand old.inodes x after) (sym same.modes) caches_after);
       records = same.meta ∙ st.records;
     }
@@ -205,7 +206,7 @@ unwritten_stands old m st new is same = record {
     live = ap (λ (h : Handles). h.live) same.handles ∙ st.handles.live;
     opened = ap (λ (h : Handles). h.opened) same.handles ∙ st.handles.opened;
   };
-  caches = subst (λ (x : Cache). CachesStand x new.modes m) (sym same.inodes)
+  caches = subst (λ (x : Cache). CachesStand x new.modes m) (sym (same_cache old.inodes new.inodes same.keys same.pins))
       (subst (λ (x : Modes). CachesStand old.inodes x m) (sym same.modes) st.caches);
   records = same.meta ∙ st.records;
 }

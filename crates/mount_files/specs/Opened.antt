@@ -1,5 +1,5 @@
 -- What a call on handles leaves of a state.
-use Rattle.std.specs.Prelude.{◌≡◌, ℕ, Bool, true, false, not, if◌then◌else◌}
+use Rattle.std.specs.Prelude.{◌≡◌, ℕ, Bool, true, false, [], ◌∷◌, not, if◌then◌else◌}
 use Rattle.disk_tree.specs.declared.node.Body.{Body}
 use Rattle.disk_tree.specs.declared.node.Body.TheVariants.{Dir, File, Link}
 use Rattle.mount_model.specs.PlainMount.{PlainMount, has_handle, opens_of}
@@ -10,6 +10,7 @@ use Rattle.mount_model.specs.declared.reply.Reply.{Reply}
 use Rattle.mount_model.specs.declared.reply.Reply.TheVariants.{Opened}
 use Rattle.mount_model.specs.FileAnswers.{is_link_at, is_out_of_handles, opened_on}
 use Rattle.mount_state.specs.Handles.{with_handle, without}
+use Rattle.mount_state.specs.SameBut.{SameBut, Disk, CachedKeys, Pins, OpenHandles, ModeKeys}
 use Rattle.mount_state.specs.declared.state.MountState.{MountState}
 use Rattle.mount_files.specs.Closed.{disk_left, keys_left, modes_left}
 
@@ -30,11 +31,8 @@ open_told m caller n =
     opened_on m caller n
 
 -- nothing differs but what is open, and which keys are cached for it
-pub record SameButOpen (old new : MountState) : Type 0 where
-  pub disk : new.disk ≡ old.disk
-  pub next_node : new.next_node ≡ old.next_node
-  pub ring : new.ring ≡ old.ring
-  pub meta : new.meta ≡ old.meta
+abbrev pub SameButOpen : MountState → MountState → Type 0
+SameButOpen old new = SameBut (CachedKeys ∷ Pins ∷ OpenHandles ∷ ModeKeys ∷ []) old new
 
 -- the caller has a new handle on the node
 pub record OpensOne (old new : MountState) (caller node : ℕ) : Type 0 where
@@ -50,10 +48,8 @@ pub record OpensAsTold (old new : MountState) (caller : ℕ) (reply : Reply) : T
 -- ---- Close
 
 -- nothing differs but what is open, which keys are cached for it, and the nodes
-pub record SameButClosed (old new : MountState) : Type 0 where
-  pub next_node : new.next_node ≡ old.next_node
-  pub ring : new.ring ≡ old.ring
-  pub meta : new.meta ≡ old.meta
+abbrev pub SameButClosed : MountState → MountState → Type 0
+SameButClosed old new = SameBut (Disk ∷ CachedKeys ∷ Pins ∷ OpenHandles ∷ ModeKeys ∷ []) old new
 
 -- the caller's handle of this number, which is on the node, is closed, and with it goes what it needed
 pub record ClosesOne (old new : MountState) (caller number node : ℕ) : Type 0 where

@@ -1,8 +1,10 @@
 -- What a write changes of a state: the contents of the one file, and nothing else.
-use Rattle.std.specs.Prelude.{◌≡◌, ℕ, List, Option, Some, None}
+use Rattle.std.specs.Prelude.{◌≡◌, ℕ, List, [], ◌∷◌, Option, Some, None}
 use Rattle.data_crypt.specs.Blocks.{Seal}
 use Rattle.disk_tree.specs.DiskTree.{Disk}
 use Rattle.file_disk.specs.Bodies.{disk_written}
+use Rattle.mount_state.specs.SameBut.{SameBut}
+use Rattle.mount_state.specs.SameBut as part
 use Rattle.mount_state.specs.declared.state.MountState.{MountState}
 use Rattle.mount_files.specs.Seals.{IsSealOf}
 
@@ -19,10 +21,5 @@ IsWrittenTo s disk None offset bytes = ⊥
 IsWrittenTo s disk (Some file) offset bytes = IsWrittenOn s disk file offset bytes
 
 -- nothing differs but what lies on the disk
-pub record SameButDisk (old new : MountState) : Type 0 where
-  pub next_node : new.next_node ≡ old.next_node
-  pub ring : new.ring ≡ old.ring
-  pub meta : new.meta ≡ old.meta
-  pub inodes : new.inodes ≡ old.inodes
-  pub handles : new.handles ≡ old.handles
-  pub modes : new.modes ≡ old.modes
+abbrev pub SameButDisk : MountState → MountState → Type 0
+SameButDisk old new = SameBut (part.Disk ∷ []) old new

@@ -5,6 +5,7 @@ ghost use Rattle.mount_model.specs.ClaimHistory.{is_refused};
 ghost use Rattle.mount_model.specs.FileAnswers.{answer_to_write};
 ghost use Rattle.mount_model.specs.PlainMount.{PlainMount, node_of};
 ghost use Rattle.mount_state.specs.Given.{IsGivenOrNoMemory};
+ghost use Rattle.mount_state.specs.SameBut.{IsSame};
 ghost use Rattle.mount_state.specs.StandsFor.{StandsFor};
 ghost use Rattle.mount_files.specs.Written.{IsWrittenTo, SameButDisk};
 
@@ -37,7 +38,7 @@ pub fn write(
     ensures refused { (m : PlainMount) → StandsFor state.old m
         → is_refused (answer_to_write m caller handle offset bytes.now).reply ≡ true
         → result ≡ (answer_to_write m caller handle offset bytes.now).reply }
-    ensures kept { is_refused result ≡ true → state.new.disk ≡ state.old.disk }
+    ensures kept { is_refused result ≡ true → IsSame state.old state.new }
     ensures written { is_refused result ≡ false → IsWrittenTo state.old state.new.disk
         (node_of state.old.handles.live caller handle) offset bytes.now }
     ensures same { SameButDisk state.old state.new }

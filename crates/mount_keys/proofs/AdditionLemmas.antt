@@ -42,6 +42,7 @@ use Rattle.mount_state.proofs.RuleLemmas.{no_mode_key}
 use Rattle.mount_state.proofs.StandLemmas.{busy_stands}
 use Rattle.mount_state.proofs.UserLemmas.{one_on}
 use Rattle.mount_state.specs.Given.{IsGiven}
+use Rattle.mount_state.proofs.WalkLemmas.{same_cache}
 use Rattle.mount_keys.specs.Taken.{SameButRing, GainsClaim}
 use Rattle.mount_keys.proofs.AlikeLemmas.{node_key_alike, kept_raw, raw_there, still_stored}
 
@@ -173,7 +174,7 @@ module _ (s : MountState) (m : PlainMount) (st : StandsFor s m) (used : AreUsed 
       live = ap (λ (h : Handles). h.live) same.handles ∙ st.handles.live;
       opened = ap (λ (h : Handles). h.opened) same.handles ∙ st.handles.opened;
     };
-    caches = subst (λ (cache : Cache). CachesStand cache new.modes (with_key m uid raw)) (sym same.inodes)
+    caches = subst (λ (cache : Cache). CachesStand cache new.modes (with_key m uid raw)) (sym (same_cache s.inodes new.inodes same.keys same.pins))
         (subst (λ (modes : Modes). CachesStand s.inodes modes (with_key m uid raw)) (sym same.modes)
         (added_caches raw agrees uid));
     records = same.meta ∙ st.records;

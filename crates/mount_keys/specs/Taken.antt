@@ -1,37 +1,23 @@
 -- What the calls on keys change of a state, and what stays.
-use Rattle.std.specs.Prelude.{◌≡◌, ℕ, List, if◌then◌else◌}
+use Rattle.std.specs.Prelude.{◌≡◌, ℕ, List, [], ◌∷◌, if◌then◌else◌}
 use Rattle.std.specs.FinMap as map
 use Rattle.policy_ctx.specs.declared.policy.KeyId.{KeyId}
 use Rattle.fsc_keys.specs.Keys.{key_id_of}
 use Rattle.user_claims.specs.Claims.{ClaimSet, is_present, with_claim, without_claim, without_id}
 use Rattle.key_ring.specs.Holding.{secrets_left}
 use Rattle.inode_refs.specs.Cached.{Cache, KeyMap, evicted}
+use Rattle.mount_state.specs.SameBut.{SameBut, Ring, CachedKeys}
 use Rattle.mount_state.specs.declared.state.MountState.{MountState}
 
 -- ---- what stays
 
 -- nothing differs but claims with their secrets
-pub record SameButRing (old new : MountState) : Type 0 where
-  pub disk : new.disk ≡ old.disk
-  pub next_node : new.next_node ≡ old.next_node
-  pub meta : new.meta ≡ old.meta
-  pub inodes : new.inodes ≡ old.inodes
-  pub handles : new.handles ≡ old.handles
-  pub modes : new.modes ≡ old.modes
+abbrev pub SameButRing : MountState → MountState → Type 0
+SameButRing old new = SameBut (Ring ∷ []) old new
 
 -- nothing differs but claims with their secrets, and which keys of nodes are cached
-pub record SameButKeyed (old new : MountState) : Type 0 where
-  pub disk : new.disk ≡ old.disk
-  pub next_node : new.next_node ≡ old.next_node
-  pub meta : new.meta ≡ old.meta
-  pub pins : new.inodes.pins ≡ old.inodes.pins
-  pub handles : new.handles ≡ old.handles
-  pub modes : new.modes ≡ old.modes
-
--- and of those nothing differs either
-pub record KeepsKeys (old new : MountState) : Type 0 where
-  pub ring : new.ring ≡ old.ring
-  pub cached : new.inodes.keys ≡ old.inodes.keys
+abbrev pub SameButKeyed : MountState → MountState → Type 0
+SameButKeyed old new = SameBut (Ring ∷ CachedKeys ∷ []) old new
 
 -- ---- what comes and goes
 

@@ -13,6 +13,7 @@ ghost use Rattle.mount_state.specs.Given.{IsToldOrNoMemory, IsGivenOrNoMemory};
 ghost use Rattle.mount_keys.specs.Told.{add_fault};
 ghost use Rattle.mount_keys.specs.Taken.{GainsClaim, SameButRing};
 ghost use Rattle.mount_state.specs.Held.{key_state};
+ghost use Rattle.mount_state.specs.SameBut.{IsSame};
 ghost use Rattle.mount_state.specs.StandsFor.{StandsFor};
 
 use fsc_keys::RawKey;
@@ -32,7 +33,7 @@ pub fn add_key(alloc: Global, state: &mut MountState, uid: u32, raw: &Bytes) -> 
         (λ refusal. result ≡ Reply.Refused refusal) }
     ensures accepted { IfNone (add_fault state.old.ring.claims uid raw.now)
         (IsToldOrNoMemory (Reply.Added (key_id_of raw.now)) result) }
-    ensures kept { is_refused result ≡ true → state.new.ring ≡ state.old.ring }
+    ensures kept { is_refused result ≡ true → IsSame state.old state.new }
     ensures gained { is_refused result ≡ false → GainsClaim state.old state.new uid raw.now }
     ensures present { is_refused result ≡ false
         → key_state state.new.disk state.new.ring.claims state.new.handles.live (key_id_of raw.now)

@@ -6,8 +6,9 @@ ghost use Rattle.mount_model.specs.ClaimHistory.{is_refused};
 ghost use Rattle.mount_model.specs.KeyAnswers.{answer_to_remove_key_all};
 ghost use Rattle.mount_state.specs.Given.{IsGiven};
 ghost use Rattle.mount_keys.specs.Told.{told_of_clearing};
-ghost use Rattle.mount_keys.specs.Taken.{KeepsKeys, LosesAllClaims, SameButKeyed};
+ghost use Rattle.mount_keys.specs.Taken.{LosesAllClaims, SameButKeyed};
 ghost use Rattle.mount_state.specs.Held.{HoldsNothing};
+ghost use Rattle.mount_state.specs.SameBut.{IsSame};
 ghost use Rattle.mount_state.specs.StandsFor.{StandsFor};
 
 use mount_model::{KeyId, Refusal, Reply};
@@ -20,7 +21,7 @@ use mount_state::MountState;
 /// key. Where none does, nothing of it is held. It takes no memory.
 pub fn remove_key_all(state: &mut MountState, uid: u32, id: &KeyId) -> Reply
     ensures told { result ≡ told_of_clearing state.old uid id.now }
-    ensures kept { is_refused result ≡ true → KeepsKeys state.old state.new }
+    ensures kept { is_refused result ≡ true → IsSame state.old state.new }
     ensures taken { is_refused result ≡ false → LosesAllClaims state.old state.new id.now }
     ensures same { SameButKeyed state.old state.new }
     ensures gone { result ≡ Reply.Removed false false

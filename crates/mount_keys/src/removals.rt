@@ -7,8 +7,9 @@ ghost use Rattle.mount_model.specs.ClaimHistory.{is_refused};
 ghost use Rattle.mount_model.specs.KeyAnswers.{answer_to_remove_key};
 ghost use Rattle.mount_state.specs.Given.{IsGiven};
 ghost use Rattle.mount_keys.specs.Told.{told_of_removal};
-ghost use Rattle.mount_keys.specs.Taken.{KeepsKeys, LosesClaim, SameButKeyed};
+ghost use Rattle.mount_keys.specs.Taken.{LosesClaim, SameButKeyed};
 ghost use Rattle.mount_state.specs.Held.{HoldsNothing};
+ghost use Rattle.mount_state.specs.SameBut.{IsSame};
 ghost use Rattle.mount_state.specs.StandsFor.{StandsFor};
 
 use mount_model::{KeyId, Refusal, Reply};
@@ -22,7 +23,7 @@ use mount_state::MountState;
 /// is told, nothing of the key is held. It takes no memory.
 pub fn remove_key(state: &mut MountState, uid: u32, id: &KeyId) -> Reply
     ensures told { result ≡ told_of_removal state.old uid id.now }
-    ensures kept { is_refused result ≡ true → KeepsKeys state.old state.new }
+    ensures kept { is_refused result ≡ true → IsSame state.old state.new }
     ensures taken { is_refused result ≡ false → LosesClaim state.old state.new uid id.now }
     ensures same { SameButKeyed state.old state.new }
     ensures gone { result ≡ Reply.Removed false false

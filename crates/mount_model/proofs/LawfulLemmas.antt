@@ -1,48 +1,107 @@
 -- Legal histories are lawful, and so are beginnings of lawful histories whose raw keys agree.
-use Rattle.std.proofs.Common.{ℕ, cond, [], ◌∷◌, ◌++◌, sym, refl, subst, ⊎_elim}
-use Rattle.user_claims.specs.Claims.{ClaimSet, no_claims}
-use Rattle.user_claims.proofs.PresentLemmas.{is_present-without_id}
+use Rattle.std.proofs.Common.{◌≡◌, ℕ, Bool, true, false, cond, not, ◌&&◌, ◌==◌, nat_lt, IsTrue, List, [], ◌∷◌, ◌++◌, length, Option, Some, None, inl, inr, sym, refl, ap, ◌∙◌, subst, ⊎_elim}
+use Rattle.std.proofs.lemmas.Bool.{true≢false}
+use Rattle.policy_ctx.specs.declared.policy.KeyId.{KeyId}
+use Rattle.fsc_keys.specs.Keys.{key_id_of}
+use Rattle.meta_files.specs.Records.{record_of, version_of}
+use Rattle.meta_files.specs.declared.files.TheConstants.{MOST_RECORD_BYTES}
+use Rattle.user_claims.specs.Claims.{ClaimSet, no_claims, has_claim, is_present}
 use Rattle.mount_model.specs.declared.call.Op.{Op}
 use Rattle.mount_model.specs.declared.call.Op.TheVariants as op
 use Rattle.mount_model.specs.declared.reply.Reply.{Reply}
 use Rattle.mount_model.specs.declared.reply.Reply.TheVariants.{Refused}
 use Rattle.mount_model.specs.declared.reply.Refusal.{Refusal}
-use Rattle.mount_model.specs.declared.reply.Refusal.TheVariants.{NoMemory}
-use Rattle.mount_model.specs.PlainMount.{PlainMount, empty_mount}
-use Rattle.mount_model.specs.Answered.{Answer}
+use Rattle.mount_model.specs.declared.reply.Refusal.TheVariants.{NoKey, Access, Quota, Inval, TooBig, Changed, NoSpace, NoMemory}
+use Rattle.mount_model.specs.PlainMount.{PlainMount, empty_mount, node_of}
+use Rattle.mount_model.specs.Answered.{Answer, refused, done}
 use Rattle.mount_model.specs.Answer.{answer_to}
-use Rattle.mount_model.specs.Step.{IsMountStep}
+use Rattle.mount_model.specs.States.{is_busy}
+use Rattle.mount_model.specs.KeyAnswers.{is_raw_key, is_over_quota, is_absent, added, removed, all_removed, answer_to_add_key, answer_to_remove_key, answer_to_remove_key_all}
+use Rattle.mount_model.specs.KeyReplies.{added_unless, addition_by, removal_by, clearing_by}
+use Rattle.mount_model.specs.FileAnswers.{at_handle, with_closed}
+use Rattle.mount_model.specs.RecordAnswers.{record_told, is_out_of_records, stored}
+use Rattle.mount_model.specs.Step.{takes_memory, IsMountStep}
 use Rattle.mount_model.specs.History.{MountEntry, History, mount_left, IsLegalFrom, IsLegal}
-use Rattle.mount_model.specs.ClaimHistory.{is_refused, claims_made, claims_left}
-use Rattle.mount_model.specs.Lawful.{KeysAgree, TellsBy, TellsClaim, TellsClaimsFrom, IsLawful}
-use Rattle.mount_model.proofs.CaseLemmas.{at_add_key, at_remove_key, at_remove_key_all}
+use Rattle.mount_model.specs.ClaimHistory.{claims_left}
+use Rattle.mount_model.specs.Lawful.{KeysAgree, is_load_told, TellsStore, TellsBy, TellsClaim, TellsClaimsFrom, IsLawful}
 use Rattle.mount_model.proofs.StepLemmas.{claims_left-step}
 
 -- ---- legal histories tell the claims
 
--- what a reply tells, where the claims after it are those that it leaves
-abbrev Tells : ClaimSet → ℕ → Op → Reply → Type 0
-Tells claims uid o reply = TellsBy claims (cond (is_refused reply) claims (claims_made claims uid o)) uid o reply
+reply_of : (b : Bool) (x y : Answer) → (cond b x y).reply ≡ cond b x.reply y.reply
+reply_of true x y = refl
+reply_of false x y = refl
 
-tells_refused : (before after : ClaimSet) (uid : ℕ) (o : Op) (r : Refusal) → TellsBy before after uid o (Refused r)
-tells_refused before after uid (op.AddKey raw) r = tt
-tells_refused before after uid (op.RemoveKey id) r = tt
-tells_refused before after uid (op.RemoveKeyAll id) r = tt
-tells_refused before after uid (op.KeyStatus id) r = tt
-tells_refused before after uid other r = tt
+-- the answers to the calls on keys are those that are told by the claims
+pub addition_reply : (m : PlainMount) (uid : ℕ) (raw : List ℕ) → (answer_to_add_key m uid raw).reply ≡ addition_by m.claims uid raw
+addition_reply m uid raw = by (not (is_raw_key raw)) (is_over_quota m uid raw)
+  where
+    by : (a b : Bool) → (cond a (refused m Inval) (cond b (refused m Quota) (added m uid raw))).reply
+        ≡ added_unless (cond a (Some Inval) (cond b (Some Quota) None)) (key_id_of raw)
+    by true b = refl
+    by false true = refl
+    by false false = refl
 
-answer_tells : (m : PlainMount) (caller uid : ℕ) (o : Op) → Tells m.claims uid o (answer_to m caller uid o).reply
-answer_tells m caller uid (op.AddKey raw) = at_add_key (λ (a : Answer). Tells m.claims uid (op.AddKey raw) a.reply) m uid raw (λ _ _. tt) (λ _ _. refl)
-answer_tells m caller uid (op.RemoveKey id) = at_remove_key (λ (a : Answer). Tells m.claims uid (op.RemoveKey id) a.reply) m uid id (λ _ _. tt) refl
-answer_tells m caller uid (op.RemoveKeyAll id) =
-    at_remove_key_all (λ (a : Answer). Tells m.claims uid (op.RemoveKeyAll id) a.reply) m uid id (λ _ _. tt) (refl, is_present-without_id m.claims id)
-answer_tells m caller uid (op.KeyStatus id) = (refl, refl)
+pub removal_reply : (m : PlainMount) (uid : ℕ) (id : KeyId) → (answer_to_remove_key m uid id).reply ≡ removal_by m.claims (is_busy m id) uid id
+removal_reply m uid id =
+    let held : Bool = is_present m.claims id && not (has_claim m.claims id uid) in
+    reply_of (is_absent m id) (refused m NoKey) (cond held (refused m NoKey) (removed m uid id))
+    ∙ ap (cond (is_absent m id) (Refused NoKey)) (reply_of held (refused m NoKey) (removed m uid id))
+
+pub clearing_reply : (m : PlainMount) (uid : ℕ) (id : KeyId) → (answer_to_remove_key_all m uid id).reply ≡ clearing_by m.claims (is_busy m id) uid id
+clearing_reply m uid id =
+    reply_of (not (uid == 0)) (refused m Access) (cond (is_absent m id) (refused m NoKey) (all_removed m id))
+    ∙ ap (cond (not (uid == 0)) (Refused Access)) (reply_of (is_absent m id) (refused m NoKey) (all_removed m id))
+
+close_tells : (m : PlainMount) (caller handle : ℕ) (o : Option ℕ)
+    → TellsBy m.claims 0 (op.Close handle) (at_handle m (λ n. done (with_closed m caller handle n)) o).reply
+close_tells m caller handle None = inr refl
+close_tells m caller handle (Some n) = inl refl
+
+load_tells : (m : PlainMount) (o : Option (ℕ × List ℕ)) → is_load_told (record_told m o).reply ≡ true
+load_tells m None = refl
+load_tells m (Some kept) = refl
+
+store_tells : (m : PlainMount) (name bytes : List ℕ) (big other full : Bool)
+    → TellsStore big (cond big (refused m TooBig) (cond other (refused m (Changed (version_of m.records name)))
+    (cond full (refused m NoSpace) (stored m name bytes)))).reply
+store_tells m name bytes true other full = inl refl
+store_tells m name bytes false true full = refl
+store_tells m name bytes false false true = refl
+store_tells m name bytes false false false = refl
+
+answer_tells : (m : PlainMount) (caller uid : ℕ) (o : Op) → TellsBy m.claims uid o (answer_to m caller uid o).reply
+answer_tells m caller uid (op.AddKey raw) = inl (addition_reply m uid raw)
+answer_tells m caller uid (op.RemoveKey id) = (is_busy m id, removal_reply m uid id)
+answer_tells m caller uid (op.RemoveKeyAll id) = (is_busy m id, clearing_reply m uid id)
+answer_tells m caller uid (op.KeyStatus id) = (is_busy m id, refl)
+answer_tells m caller uid (op.Close handle) = close_tells m caller handle (node_of m.handles caller handle)
+answer_tells m caller uid op.DropCaches = refl
+answer_tells m caller uid (op.MetaLoad name) = load_tells m (record_of m.records name)
+answer_tells m caller uid (op.MetaStore name expected bytes) =
+    store_tells m name bytes (nat_lt MOST_RECORD_BYTES (length bytes)) (not (version_of m.records name == expected)) (is_out_of_records m name)
 answer_tells m caller uid other = tt
+
+-- want of memory may be told wherever memory may be taken
+store_wants : (big : Bool) → TellsStore big (Refused NoMemory)
+store_wants true = inr refl
+store_wants false = refl
+
+pub want_tells : (claims : ClaimSet) (uid : ℕ) (o : Op) → IsTrue (takes_memory o) → TellsBy claims uid o (Refused NoMemory)
+want_tells claims uid (op.AddKey raw) takes = inr refl
+want_tells claims uid (op.RemoveKey id) takes = absurd (true≢false (sym takes))
+want_tells claims uid (op.RemoveKeyAll id) takes = absurd (true≢false (sym takes))
+want_tells claims uid (op.KeyStatus id) takes = absurd (true≢false (sym takes))
+want_tells claims uid (op.Close handle) takes = absurd (true≢false (sym takes))
+want_tells claims uid op.DropCaches takes = absurd (true≢false (sym takes))
+want_tells claims uid (op.MetaLoad name) takes = refl
+want_tells claims uid (op.MetaStore name expected bytes) takes = store_wants (nat_lt MOST_RECORD_BYTES (length bytes))
+want_tells claims uid other takes = tt
 
 entry_tells : (m : PlainMount) (e : MountEntry) (after : PlainMount) → IsMountStep m e.who e.call e.reply after → TellsClaim m.claims e
 entry_tells m e after step = ⊎_elim
-    (λ a. subst (Tells m.claims e.call.uid e.call.op) (sym a.0) (answer_tells m e.who e.call.uid e.call.op))
-    (λ w. subst (Tells m.claims e.call.uid e.call.op) (sym w.1) (tells_refused m.claims m.claims e.call.uid e.call.op NoMemory))
+    (λ a. subst (TellsBy m.claims e.call.uid e.call.op) (sym a.0) (answer_tells m e.who e.call.uid e.call.op))
+    (λ w. subst (TellsBy m.claims e.call.uid e.call.op) (sym w.1) (want_tells m.claims e.call.uid e.call.op w.0))
     step
 
 tells_from : (m : PlainMount) (h : History) → IsLegalFrom m h → TellsClaimsFrom m.claims h

@@ -4,6 +4,7 @@ pub mod States
 pub mod Walk
 pub mod Answered
 pub mod KeyAnswers
+pub mod KeyReplies
 pub mod PolicyAnswers
 pub mod NameAnswers
 pub mod RenameAnswer

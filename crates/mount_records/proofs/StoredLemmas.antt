@@ -26,6 +26,7 @@ use Rattle.mount_state.specs.Stored.{stored_node}
 use Rattle.mount_state.specs.StandsFor.{StandsFor, KeysStand, HandlesStand, CachesStand}
 use Rattle.mount_state.specs.declared.state.MountState.{MountState}
 use Rattle.mount_state.specs.Given.{IsGiven}
+use Rattle.mount_state.proofs.WalkLemmas.{same_cache}
 use Rattle.mount_records.specs.SameButRecords.{SameButRecords}
 
 -- ---- what stood against it
@@ -109,7 +110,7 @@ module _ (old new : MountState) (m : PlainMount) (st : StandsFor old m) (same : 
         (sym same.handles)
         (record { live = st.handles.live; opened = st.handles.opened });
     caches = subst (λ (cache : Cache). CachesStand cache new.modes (record m { records = records }))
-        (sym same.inodes)
+        (sym (same_cache old.inodes new.inodes same.keys same.pins))
         (subst (λ (modes : Modes). CachesStand old.inodes modes (record m { records = records }))
         (sym same.modes)
         (record { file_keys = st.caches.file_keys; mode_keys = st.caches.mode_keys }));

@@ -9,6 +9,7 @@ ghost use Rattle.mount_model.specs.RecordAnswers.{answer_to_meta_store};
 ghost use Rattle.mount_state.specs.Given.{IsToldOrNoMemory, IsGivenOrNoMemory};
 ghost use Rattle.mount_records.specs.Refusals.{refusal_of};
 ghost use Rattle.mount_records.specs.SameButRecords.{SameButRecords};
+ghost use Rattle.mount_state.specs.SameBut.{IsSame};
 ghost use Rattle.mount_state.specs.StandsFor.{StandsFor};
 
 use meta_files::StoreFault;
@@ -33,7 +34,7 @@ pub fn meta_store(
         (λ fault. result ≡ Reply.Refused (refusal_of fault)) }
     ensures accepted { IfNone (store_fault state.old.meta name.now expected bytes.now)
         (IsToldOrNoMemory (Reply.Stored (version_of state.old.meta name.now + 1)) result) }
-    ensures kept { is_refused result ≡ true → state.new.meta ≡ state.old.meta }
+    ensures kept { is_refused result ≡ true → IsSame state.old state.new }
     ensures stored { is_refused result ≡ false → state.new.meta
         ≡ with_record state.old.meta name.now (version_of state.old.meta name.now + 1) bytes.now }
     ensures same { SameButRecords state.old state.new }

@@ -1,6 +1,9 @@
 -- How the contract of a read makes its entry.
-use Rattle.std.proofs.Common.{◌≡◌, ℕ, inl, inr, refl, sym, subst, ⊎_elim}
+use Rattle.std.proofs.Common.{◌≡◌, ◌≢◌, ◌⊎◌, ℕ, Option, Some, None, inl, inr, refl, sym, subst, ◌∙◌, ⊎_elim}
+use Rattle.std.specs.Prelude.{IfSome}
 use Rattle.mount_model.specs.declared.reply.Reply.{Reply}
+use Rattle.mount_model.specs.declared.reply.Reply.TheVariants.{Done, Refused}
+use Rattle.mount_model.specs.declared.reply.Refusal.TheVariants.{BadHandle, NoMemory}
 use Rattle.mount_model.specs.PlainMount.{PlainMount}
 use Rattle.mount_model.specs.Answered.{Answer}
 use Rattle.mount_model.specs.FileAnswers.{answer_to_read}
@@ -25,4 +28,16 @@ pub read_given : (s : MountState) (m : PlainMount) (caller handle offset len : �
 read_given s m caller handle offset len reply st told = ⊎_elim
     (λ is. inl (is, subst (StandsFor s) (sym (read_keeps m caller handle offset len)) st))
     (λ none. inr (none, st))
+    told
+
+-- a close is done or tells a bad handle, and so it never wants memory
+pub close_told : (o : Option ℕ) (reply : Reply) (P : ℕ → Type 0) → (o ≡ None → reply ≡ Refused BadHandle)
+    → IfSome o (λ node. (reply ≡ Done) × P node) → (reply ≡ Done) ⊎ (reply ≡ Refused BadHandle)
+close_told None reply P bad closed = inr (bad refl)
+close_told (Some node) reply P bad closed = inl closed.0
+
+pub close_sure : (reply : Reply) → (reply ≡ Done) ⊎ (reply ≡ Refused BadHandle) → reply ≢ Refused NoMemory
+close_sure reply told wants = ⊎_elim
+    (λ is. let both : Done ≡ Refused NoMemory = sym is ∙ wants in absurd (cc))
+    (λ is. let both : Refused BadHandle ≡ Refused NoMemory = sym is ∙ wants in absurd (cc))
     told

@@ -1,30 +1,34 @@
 -- How the contracts of the calls on keys make their entries, and what these tell.
-use Rattle.std.proofs.Common.{◌≡◌, ℕ, Bool, true, false, cond, not, ◌&&◌, ◌==◌, List, Option, Some, None, refl, sym, ap, subst, ◌∙◌, ⊎_elim}
+use Rattle.std.proofs.Common.{◌≡◌, ◌≢◌, ℕ, Bool, true, false, cond, not, ◌&&◌, ◌==◌, List, Option, Some, None, inl, refl, sym, ap, subst, ◌∙◌}
 use Rattle.std.specs.Prelude.{IfSome, IfNone}
+use Rattle.std.proofs.lemmas.Bool.{true≢false}
 use Rattle.call_history.specs.Entries.{entry}
 use Rattle.policy_ctx.specs.declared.policy.KeyId.{KeyId}
 use Rattle.fsc_keys.specs.Keys.{key_id_of}
 use Rattle.user_claims.specs.Claims.{ClaimSet, has_claim, is_present, with_claim, without_claim, without_id}
-use Rattle.user_claims.proofs.PresentLemmas.{is_present-without_id}
 use Rattle.mount_model.specs.declared.call.Call.{Call}
 use Rattle.mount_model.specs.declared.call.Op.{Op}
 use Rattle.mount_model.specs.declared.call.Op.TheVariants.{AddKey, RemoveKey, RemoveKeyAll, KeyStatus}
 use Rattle.mount_model.specs.declared.reply.Reply.{Reply}
 use Rattle.mount_model.specs.declared.reply.Reply.TheVariants.{Added, Removed, Refused}
 use Rattle.mount_model.specs.declared.reply.Refusal.{Refusal}
-use Rattle.mount_model.specs.declared.reply.Refusal.TheVariants.{NoKey, Access}
+use Rattle.mount_model.specs.declared.reply.Refusal.TheVariants.{NoKey, Access, Inval, Quota, NoMemory}
 use Rattle.mount_model.specs.PlainMount.{PlainMount}
-use Rattle.mount_model.specs.KeyAnswers.{removal_told, answer_to_add_key, answer_to_remove_key, answer_to_remove_key_all, answer_to_key_status}
+use Rattle.mount_model.specs.Answered.{refused}
+use Rattle.mount_model.specs.KeyAnswers.{removal_told, is_raw_key, added, answer_to_add_key, answer_to_remove_key, answer_to_remove_key_all, answer_to_key_status}
 use Rattle.mount_model.specs.ClaimHistory.{is_refused}
-use Rattle.mount_model.specs.Lawful.{AgreesWith, TellsBy}
-use Rattle.mount_state.specs.Given.{IsGiven, IsGivenOrNoMemory, IsToldOrNoMemory}
+use Rattle.mount_model.specs.Lawful.{AgreesWith}
+use Rattle.mount_state.specs.Given.{IsGiven, IsGivenOrNoMemory, IsToldOrNoMemory, IsRefusedAsDue}
 use Rattle.mount_state.specs.Held.{is_busy}
 use Rattle.mount_state.specs.StandsFor.{StandsFor}
 use Rattle.mount_state.specs.declared.state.MountState.{MountState}
-use Rattle.mount_keys.specs.Told.{add_fault, removal_by, clearing_by, told_of_removal, told_of_clearing, told_of_status}
-use Rattle.mount_keys.specs.Taken.{GainsClaim, LosesClaim, LosesAllClaims, KeepsKeys, SameButKeyed}
+use Rattle.mount_model.specs.KeyReplies.{added_unless}
+use Rattle.mount_keys.specs.Told.{is_over_quota, add_fault, removal_by, clearing_by, told_of_removal, told_of_clearing, told_of_status}
+use Rattle.mount_state.specs.SameBut.{IsSame}
+use Rattle.mount_state.specs.SameButKeys.{SameButKeys}
+use Rattle.mount_keys.specs.Taken.{GainsClaim, LosesClaim, LosesAllClaims, SameButKeyed}
 use Rattle.mount_shared.specs.Made.{IsMade}
-use Rattle.mount_shared.proofs.MadeLemmas.{call_with, step_given, step_given_or_none, made_given}
+use Rattle.mount_shared.proofs.MadeLemmas.{call_with, all_kept, takes_some, step_given, step_given_or_none, made_given}
 
 claims_by : (b : Bool) (x y z : ClaimSet) → (b ≡ true → z ≡ x) → (b ≡ false → z ≡ y) → z ≡ cond b x y
 claims_by true x y z kept made = kept refl
@@ -36,33 +40,47 @@ module _ (old new : MountState) (caller : ℕ) (call : Call) (reply : Reply) whe
 
   -- ---- AddKey
 
-  added_tells : (fault : Option Refusal) (before after : ClaimSet) (raw : List ℕ)
-      → IfSome fault (λ refusal. reply ≡ Refused refusal)
-      → IfNone fault (IsToldOrNoMemory (Added (key_id_of raw)) reply) → TellsBy before after call.uid (AddKey raw) reply
-  added_tells (Some refusal) before after raw refused accepted =
-      subst (TellsBy before after call.uid (AddKey raw)) (sym refused) tt
-  added_tells None before after raw refused accepted = ⊎_elim
-      (λ told. subst (TellsBy before after call.uid (AddKey raw)) (sym told) refl)
-      (λ none. subst (TellsBy before after call.uid (AddKey raw)) (sym none) tt)
-      accepted
+  added_tells : (fault : Option Refusal) (id : KeyId) → IfSome fault (λ refusal. reply ≡ Refused refusal)
+      → IfNone fault (IsToldOrNoMemory (Added id) reply) → IsToldOrNoMemory (added_unless fault id) reply
+  added_tells (Some refusal) id faulted accepted = inl faulted
+  added_tells None id faulted accepted = accepted
+
+  -- a fault that is found is the answer of whichever mount the state stands for
+  addition_due : (raw : List ℕ) → IfSome (add_fault old.ring.claims call.uid raw) (λ refusal. reply ≡ Refused refusal)
+      → (m : PlainMount) → StandsFor old m → IsRefusedAsDue (answer_to_add_key m call.uid raw) reply
+  addition_due raw faulted m st =
+      by (not (is_raw_key raw)) (is_over_quota m.claims (key_id_of raw) call.uid)
+      (subst (λ (cs : ClaimSet). IfSome (add_fault cs call.uid raw) (λ refusal. reply ≡ Refused refusal)) st.keys.claims faulted)
+    where
+      by : (a b : Bool) → IfSome (cond a (Some Inval) (cond b (Some Quota) None)) (λ refusal. reply ≡ Refused refusal)
+          → IsRefusedAsDue (cond a (refused m Inval) (cond b (refused m Quota) (added m call.uid raw))) reply
+      by true b told due = told
+      by false true told due = told
+      by false false told due = absurd (true≢false (sym due))
 
   pub made_add_key : (raw : List ℕ) → call.op ≡ AddKey raw
       → IfSome (add_fault old.ring.claims call.uid raw) (λ refusal. reply ≡ Refused refusal)
       → IfNone (add_fault old.ring.claims call.uid raw) (IsToldOrNoMemory (Added (key_id_of raw)) reply)
-      → (is_refused reply ≡ true → new.ring ≡ old.ring) → (is_refused reply ≡ false → GainsClaim old new call.uid raw)
+      → (is_refused reply ≡ true → IsSame old new) → (is_refused reply ≡ false → GainsClaim old new call.uid raw)
       → ((m : PlainMount) → StandsFor old m → (is_refused reply ≡ false → AgreesWith m.raws raw)
       → IsGivenOrNoMemory m (answer_to_add_key m call.uid raw) reply new)
       → IsMade old (entry caller call reply) new
-  made_add_key raw is refused accepted kept gained stands = subst EntryOf (sym is) record {
+  made_add_key raw is faulted accepted kept gained stands = subst EntryOf (sym is) record {
     stands = λ m st agrees.
         step_given_or_none m (entry caller (call_with call.uid (AddKey raw)) reply) new refl (stands m st agrees);
     claims = claims_by (is_refused reply) old.ring.claims (with_claim old.ring.claims (key_id_of raw) call.uid) new.ring.claims
-        (λ no. ap (λ ring. ring.claims) (kept no)) (λ yes. (gained yes).claims);
-    told = added_tells (add_fault old.ring.claims call.uid raw) old.ring.claims
-        (cond (is_refused reply) old.ring.claims (with_claim old.ring.claims (key_id_of raw) call.uid)) raw refused accepted;
+        (λ no. ap (λ ring. ring.claims) (kept no).ring) (λ yes. (gained yes).claims);
+    told = added_tells (add_fault old.ring.claims call.uid raw) (key_id_of raw) faulted accepted;
+    refused = λ no. all_kept old new (kept no);
+    sure = takes_some (AddKey raw) reply refl;
+    due = addition_due raw faulted;
   }
 
   -- ---- RemoveKey
+
+  -- no memory is told to be wanting
+  abbrev IsNoWant : Reply → Type 0
+  IsNoWant r = r ≢ Refused NoMemory
 
   module _ (id : KeyId) where
     at_removal : (P : Reply → Type 0) (claims : ClaimSet) (busy : Bool) → P (Refused NoKey)
@@ -92,29 +110,30 @@ module _ (old new : MountState) (caller : ℕ) (call : Call) (reply : Reply) whe
         (λ b this. told_busy (is_present (without_claim old.ring.claims id call.uid) id) (is_busy old.disk old.handles.live id) b this
         ∙ busy_stays same))
 
-    pub made_remove_key : call.op ≡ RemoveKey id → reply ≡ told_of_removal old call.uid id → (is_refused reply ≡ true → KeepsKeys old new)
+    pub made_remove_key : call.op ≡ RemoveKey id → reply ≡ told_of_removal old call.uid id → (is_refused reply ≡ true → IsSame old new)
         → (is_refused reply ≡ false → LosesClaim old new call.uid id)
         → ((m : PlainMount) → StandsFor old m → IsGiven (answer_to_remove_key m call.uid id) reply new)
         → IsMade old (entry caller call reply) new
     made_remove_key is told kept taken stands =
-        let Tells : Reply → Type 0 = λ r.
-        TellsBy old.ring.claims (cond (is_refused r) old.ring.claims (without_claim old.ring.claims id call.uid)) call.uid (RemoveKey id) r in
         subst EntryOf (sym is) record {
           stands = λ m st agrees. step_given m (entry caller (call_with call.uid (RemoveKey id)) reply) new (stands m st);
           claims = claims_by (is_refused reply) old.ring.claims (without_claim old.ring.claims id call.uid) new.ring.claims
               (λ no. ap (λ ring. ring.claims) (kept no).ring) (λ yes. (taken yes).claims);
-          told = subst Tells (sym told) (at_removal Tells old.ring.claims (is_busy old.disk old.handles.live id) tt refl);
+          told = (is_busy old.disk old.handles.live id, told);
+          refused = λ no. all_kept old new (kept no);
+          sure = λ _. subst IsNoWant (sym told) (at_removal IsNoWant old.ring.claims (is_busy old.disk old.handles.live id) (λ bad. absurd (cc)) (λ bad. absurd (cc)));
+          due = λ m st _. (stands m st).0;
         }
 
     -- ---- RemoveKeyAll
 
-    at_clearing : (P : Reply → Type 0) (claims : ClaimSet) (busy : Bool) → ((refusal : Refusal) → P (Refused refusal))
+    at_clearing : (P : Reply → Type 0) (claims : ClaimSet) (busy : Bool) → P (Refused Access) → P (Refused NoKey)
         → P (Removed false busy) → P (clearing_by claims busy call.uid id)
-    at_clearing P claims busy refused made = at (not (call.uid == 0)) (not (is_present claims id) && not busy)
+    at_clearing P claims busy denied absent made = at (not (call.uid == 0)) (not (is_present claims id) && not busy)
       where
         at : (a b : Bool) → P (cond a (Refused Access) (cond b (Refused NoKey) (Removed false busy)))
-        at true b = refused Access
-        at false true = refused NoKey
+        at true b = denied
+        at false true = absent
         at false false = made
 
     same_told : (a b : Bool) → Removed false a ≡ Removed false b → b ≡ a
@@ -123,30 +142,31 @@ module _ (old new : MountState) (caller : ℕ) (call : Call) (reply : Reply) whe
     pub clearing_busy : reply ≡ told_of_clearing old call.uid id → SameButKeyed old new → TellsBusy reply
     clearing_busy told same = subst TellsBusy (sym told)
         (at_clearing TellsBusy old.ring.claims (is_busy old.disk old.handles.live id)
-        (λ refusal b none. absurd (cc))
+        (λ b none. absurd (cc)) (λ b none. absurd (cc))
         (λ b this. same_told (is_busy old.disk old.handles.live id) b this ∙ busy_stays same))
 
     pub made_remove_key_all : call.op ≡ RemoveKeyAll id → reply ≡ told_of_clearing old call.uid id
-        → (is_refused reply ≡ true → KeepsKeys old new) → (is_refused reply ≡ false → LosesAllClaims old new id)
+        → (is_refused reply ≡ true → IsSame old new) → (is_refused reply ≡ false → LosesAllClaims old new id)
         → ((m : PlainMount) → StandsFor old m → IsGiven (answer_to_remove_key_all m call.uid id) reply new)
         → IsMade old (entry caller call reply) new
     made_remove_key_all is told kept taken stands =
-        let Tells : Reply → Type 0 = λ r.
-        TellsBy old.ring.claims (cond (is_refused r) old.ring.claims (without_id old.ring.claims id)) call.uid (RemoveKeyAll id) r in
         subst EntryOf (sym is) record {
           stands = λ m st agrees. step_given m (entry caller (call_with call.uid (RemoveKeyAll id)) reply) new (stands m st);
           claims = claims_by (is_refused reply) old.ring.claims (without_id old.ring.claims id) new.ring.claims
               (λ no. ap (λ ring. ring.claims) (kept no).ring) (λ yes. (taken yes).claims);
-          told = subst Tells (sym told)
-              (at_clearing Tells old.ring.claims (is_busy old.disk old.handles.live id) (λ refusal. tt) (refl, is_present-without_id old.ring.claims id));
+          told = (is_busy old.disk old.handles.live id, told);
+          refused = λ no. all_kept old new (kept no);
+          sure = λ _. subst IsNoWant (sym told) (at_clearing IsNoWant old.ring.claims (is_busy old.disk old.handles.live id) (λ bad. absurd (cc)) (λ bad. absurd (cc)) (λ bad. absurd (cc)));
+          due = λ m st _. (stands m st).0;
         }
 
     -- ---- KeyStatus
 
     pub made_key_status : call.op ≡ KeyStatus id → reply ≡ told_of_status old call.uid id → new.ring ≡ old.ring
+        → (is_refused reply ≡ true → SameButKeys old new)
         → ((m : PlainMount) → StandsFor old m → IsGiven (answer_to_key_status m call.uid id) reply new)
         → IsMade old (entry caller call reply) new
-    made_key_status is told same stands =
+    made_key_status is told same keeps stands =
         made_given old new caller call (KeyStatus id) reply is (λ cs. refl)
-        (λ after. subst (TellsBy old.ring.claims after call.uid (KeyStatus id)) (sym told) (refl, refl))
-        same stands
+        (is_busy old.disk old.handles.live id, told)
+        same keeps (λ _. subst IsNoWant (sym told) (λ bad. absurd (cc))) stands

@@ -1,4 +1,5 @@
 pub mod FileLemmas
 pub mod KeyLemmas
 pub mod MadeLemmas
+pub mod RecordLemmas
 pub mod StandsLemmas

@@ -5,4 +5,5 @@ pub mod PortLaws
 pub mod SerialCalls
 pub mod SharedCalls
 pub mod StandsAfter
+pub mod StandsLaws
 pub mod TellsOfKeys

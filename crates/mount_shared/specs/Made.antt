@@ -1,10 +1,15 @@
 -- When a state has answered a call.
-use Rattle.std.specs.Prelude.{◌≡◌, false}
+use Rattle.std.specs.Prelude.{◌≡◌, ◌≢◌, true, false}
+use Rattle.mount_model.specs.declared.reply.Reply.TheVariants.{Refused}
+use Rattle.mount_model.specs.declared.reply.Refusal.TheVariants.{NoMemory}
 use Rattle.mount_model.specs.PlainMount.{PlainMount}
-use Rattle.mount_model.specs.Step.{IsMountStep}
+use Rattle.mount_model.specs.Answer.{answer_of}
+use Rattle.mount_model.specs.Step.{takes_memory, IsMountStep}
 use Rattle.mount_model.specs.History.{MountEntry, mount_left}
 use Rattle.mount_model.specs.ClaimHistory.{is_refused, claims_left}
 use Rattle.mount_model.specs.Lawful.{KeyAgrees, TellsClaim}
+use Rattle.mount_state.specs.Given.{IsRefusedAsDue}
+use Rattle.mount_state.specs.SameButKeys.{SameButKeys}
 use Rattle.mount_state.specs.StandsFor.{StandsFor}
 use Rattle.mount_state.specs.declared.state.MountState.{MountState}
 
@@ -21,3 +26,9 @@ pub record IsMade (old : MountState) (e : MountEntry) (new : MountState) : Type 
   -- in any case the claims change as the entry says, and what it tells of them is so
   pub claims : new.ring.claims ≡ claims_left old.ring.claims e
   pub told : TellsClaim old.ring.claims e
+  -- after a refusal nothing differs but which keys of nodes are cached
+  pub refused : is_refused e.reply ≡ true → SameButKeys old new
+  -- a call that takes no memory never wants any
+  pub sure : takes_memory e.call.op ≡ false → e.reply ≢ Refused NoMemory
+  -- where the answer is a refusal, the reply is that one, also where there is no memory
+  pub due : (m : PlainMount) → StandsFor old m → IsRefusedAsDue (answer_of m e.who e.call) e.reply

@@ -6,6 +6,7 @@ mod answers;
 mod crossing;
 mod file_answers;
 mod key_answers;
+mod laws;
 mod machine;
 mod mount;
 mod name_answers;
@@ -13,6 +14,7 @@ mod record_answers;
 mod serial;
 mod shared_port;
 
+pub use laws::a_mount_is_its_state;
 pub use machine::MountMachine;
 pub use mount::Mount;
 pub use serial::{SerialMount, SerialPort};

@@ -1,6 +1,12 @@
 //! What every machine has that stands for a mount.
+ghost use Rattle.std.specs.Prelude.{ℕ, IsTrue, [], ◌∷◌, ◌++◌};
+ghost use Rattle.call_history.specs.Entries.{entry};
 ghost use Rattle.mount_model.specs.Fits.{Fits};
+ghost use Rattle.mount_model.specs.History.{History};
+ghost use Rattle.mount_model.specs.Step.{takes_memory};
 ghost use Rattle.mount_model.specs.declared.call.Call.{Call};
+ghost use Rattle.mount_model.specs.declared.reply.Reply.TheVariants.{Refused};
+ghost use Rattle.mount_model.specs.declared.reply.Refusal.TheVariants.{NoMemory};
 
 use mount_model::{Call, Reply};
 use turn_lock::Machine;
@@ -8,4 +14,10 @@ use turn_lock::Machine;
 /// A machine of the mount's calls and replies, which may be asked each call that a mount may be asked.
 pub trait MountMachine: Machine<Call = Call, Reply = Reply> {
     ghost takes_fitting: { (call : Call) → Fits call → Self.fits call };
+
+    // After whichever history it may stand, it may stand too where a call that takes memory wanted some
+    // after that: such a call leaves it as it is.
+    ghost leads_without_memory: { (history : History) (machine : Self) (caller : ℕ) (call : Call)
+        → Fits call → IsTrue (takes_memory call.op) → Self.leads history machine
+        → Self.leads (history ++ entry caller call (Refused NoMemory) ∷ []) machine };
 }

@@ -1,18 +1,27 @@
 //! The mount, as a machine.
-ghost use Rattle.std.specs.Prelude.{[], IfOk};
+ghost use Rattle.std.specs.Prelude.{◌≡◌, ◌≢◌, true, false, [], ◌∷◌, ◌++◌, IfOk};
 ghost use Rattle.call_history.specs.Entries.{entry};
 ghost use Rattle.mount_files.specs.Lent.{reply_of};
+ghost use Rattle.mount_model.specs.Answer.{answer_of};
+ghost use Rattle.mount_model.specs.ClaimHistory.{is_refused};
 ghost use Rattle.mount_model.specs.Fits.{Fits};
+ghost use Rattle.mount_model.specs.History.{History};
 ghost use Rattle.mount_model.specs.Lawful.{IsLawful};
+ghost use Rattle.mount_model.specs.PlainMount.{PlainMount};
+ghost use Rattle.mount_model.specs.Step.{takes_memory};
+ghost use Rattle.mount_state.specs.Given.{IsRefusedAsDue};
+ghost use Rattle.mount_state.specs.SameButKeys.{SameButKeys};
+ghost use Rattle.mount_state.specs.StandsFor.{StandsFor};
 ghost use Rattle.mount_shared.specs.Lends.{LendsBlocks};
 ghost use Rattle.mount_shared.specs.Made.{IsMade};
 ghost use Rattle.mount_shared.specs.StandsAfter.{StandsAfter};
+ghost use Rattle.mount_shared.specs.StandsLaws.{StandsAfter-wanting};
 ghost use Rattle.mount_shared.specs.TellsOfKeys.{AbsentIsGone, BusyIsOpen};
 
 use crate::answers::answer;
 use crate::machine::MountMachine;
 use mount_files::Lent;
-use mount_model::{Call, Reply};
+use mount_model::{Call, Refusal, Reply};
 use mount_state::MountState;
 use std::alloc::{AllocError, Global};
 use std::marker::Brand;
@@ -37,18 +46,27 @@ impl Mount {
 
     /// Answers the caller's call. What comes is the reply, or for a Read what is left to be deciphered
     /// once the turn is given back.
+    ///
+    /// Whatever raw keys were added: after a refusal all but cached keys is as before; removing keys, a
+    /// status, closing and dropping caches never want memory; and where the answer is a refusal, the reply is
+    /// that one, also where there is no memory.
     pub fn answer(&mut self, caller: u32, call: &Call) -> Lent
         requires { Fits call.now }
         ensures made { IsMade self.old.state (entry caller call.now (reply_of result)) self.new.state }
         ensures absent { AbsentIsGone self.new.state call.now.op (reply_of result) }
         ensures busy { BusyIsOpen self.new.state call.now.op (reply_of result) }
         ensures lends { LendsBlocks self.old.state caller call.now.op result }
+        ensures refused { is_refused (reply_of result) ≡ true → SameButKeys self.old.state self.new.state }
+        ensures sure { takes_memory call.now.op ≡ false → reply_of result ≢ Reply.Refused Refusal.NoMemory }
+        ensures due { (m : PlainMount) → StandsFor self.old.state m
+            → IsRefusedAsDue (answer_of m caller call.now) (reply_of result) }
     {
         answer::<Brand>(self.alloc, &mut self.state, caller, call, Blank::new(1))
     }
 }
 
-/// Its histories are the lawful ones, and it answers as the one-thread mount does.
+/// Its histories are the lawful ones, and it answers as the one-thread mount does: what `answer` promises of
+/// one call holds of the call that threads make.
 impl Machine for Mount {
     type Call = Call;
 
@@ -64,7 +82,19 @@ impl Machine for Mount {
 
     ghost leads = { λ history mount. StandsAfter history mount.state };
 
-    fn begin(&mut self, who: u32, call: &Call) -> Lent {
+    fn begin(&mut self, who: u32, call: &Call) -> Lent
+        requires { Fits call.now }
+        ensures leads { (history : History) → StandsAfter history self.old.state
+            → StandsAfter (history ++ entry who call.now (reply_of result) ∷ []) self.new.state }
+        ensures made { IsMade self.old.state (entry who call.now (reply_of result)) self.new.state }
+        ensures absent { AbsentIsGone self.new.state call.now.op (reply_of result) }
+        ensures busy { BusyIsOpen self.new.state call.now.op (reply_of result) }
+        ensures lends { LendsBlocks self.old.state who call.now.op result }
+        ensures refused { is_refused (reply_of result) ≡ true → SameButKeys self.old.state self.new.state }
+        ensures sure { takes_memory call.now.op ≡ false → reply_of result ≢ Reply.Refused Refusal.NoMemory }
+        ensures due { (m : PlainMount) → StandsFor self.old.state m
+            → IsRefusedAsDue (answer_of m who call.now) (reply_of result) }
+    {
         self.answer(who, call)
     }
 
@@ -77,4 +107,7 @@ impl Machine for Mount {
 
 impl MountMachine for Mount {
     ghost takes_fitting = { λ call fits. fits };
+
+    ghost leads_without_memory = { λ history mount caller call fits takes led.
+        StandsAfter-wanting history caller call mount.state takes led };
 }

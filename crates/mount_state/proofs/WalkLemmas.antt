@@ -1,13 +1,15 @@
 -- A walk goes on from the node that it has reached.
-use Rattle.std.proofs.Common.{◌≡◌, ◌<◌, ℕ, ◌+◌, ◌-◌, zero, suc, [], ◌∷◌, length, take, drop, Some, Ok, Err, sym, ap, ◌∙◌, arith}
+use Rattle.std.proofs.Common.{◌≡◌, ◌<◌, ℕ, ◌+◌, ◌-◌, zero, suc, [], ◌∷◌, length, take, drop, Some, Ok, Err, refl, sym, ap, ◌∙◌, arith}
 use Rattle.std.specs.List.{slice_get}
 use Rattle.std.specs.Option.{unwrap_or}
 use Rattle.std.proofs.Math.Numerals.{add-one}
 use Rattle.std.proofs.lemmas.Option.{unwrap_or-slice_get}
+use Rattle.inode_refs.specs.Cached.{Cache}
 use Rattle.plain_tree.specs.Nodes.{Name}
 use Rattle.mount_model.specs.declared.reply.Refusal.{Refusal}
 use Rattle.mount_model.specs.PlainMount.{PlainMount}
 use Rattle.mount_state.specs.declared.state.MountState.{MountState}
+use Rattle.mount_state.specs.SameBut.{IsSame}
 use Rattle.mount_state.specs.SameButKeys.{SameButKeys}
 use Rattle.mount_model.specs.Walk.{PathParts, Walked, looked_in, stepped, walked_on, walked_from, walked, parent, parent_parts, last_part}
 
@@ -41,6 +43,14 @@ parent_at m path d leads part is =
     ap (looked_in m d) (is ∙ unwrap_or-slice_get path (length path - 1) [])
     ∙ ap (walked_on (λ x. looked_in m x (last_part path))) leads
 
+-- the same keys and pins are the same cache
+pub same_cache : (old new : Cache) → new.keys ≡ old.keys → new.pins ≡ old.pins → new ≡ old
+same_cache old new keys pins = λ i. record { keys = keys i; pins = pins i }
+
+-- a state differs from itself in nothing
+pub itself : (s : MountState) → IsSame s s
+itself s = record { disk = refl; next_node = refl; ring = refl; meta = refl; keys = refl; pins = refl; handles = refl; modes = refl }
+
 -- what two walks change, one after the other
 pub same_then : {a b c : MountState} → SameButKeys a b → SameButKeys b c → SameButKeys a c
 same_then first second = record {
@@ -48,6 +58,7 @@ same_then first second = record {
   next_node = second.next_node ∙ first.next_node;
   ring = second.ring ∙ first.ring;
   meta = second.meta ∙ first.meta;
+  keys = tt;
   pins = second.pins ∙ first.pins;
   handles = second.handles ∙ first.handles;
   modes = second.modes ∙ first.modes;

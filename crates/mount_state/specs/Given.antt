@@ -6,6 +6,7 @@ use Rattle.mount_model.specs.declared.reply.Refusal.TheVariants.{NoMemory}
 use Rattle.mount_model.specs.PlainMount.{PlainMount}
 use Rattle.mount_model.specs.Answered.{Answer}
 use Rattle.mount_model.specs.ClaimHistory.{is_refused}
+pub use Rattle.mount_model.specs.KeyReplies.{IsToldOrNoMemory}
 use Rattle.mount_state.specs.StandsFor.{StandsFor}
 use Rattle.mount_state.specs.declared.state.MountState.{MountState}
 
@@ -17,10 +18,6 @@ IsGiven answer reply state = (reply ≡ answer.reply) × StandsFor state answer.
 abbrev pub IsGivenOrNoMemory : PlainMount → Answer → Reply → MountState → Type 0
 IsGivenOrNoMemory m answer reply state =
     IsGiven answer reply state ⊎ ((reply ≡ Refused NoMemory) × StandsFor state m)
-
--- this was told, or there was no memory
-abbrev pub IsToldOrNoMemory : Reply → Reply → Type 0
-IsToldOrNoMemory told reply = (reply ≡ told) ⊎ (reply ≡ Refused NoMemory)
 
 -- where the answer is a refusal, the reply is that one, also where there is no memory
 abbrev pub IsRefusedAsDue : Answer → Reply → Type 0

@@ -9,6 +9,7 @@ pub mod StandsFor
 pub mod Led
 pub mod NamesKey
 pub mod NamesCipher
+pub mod SameBut
 pub mod SameButKeys
 pub mod Given
 pub mod Passed

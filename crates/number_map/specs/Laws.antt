@@ -48,3 +48,9 @@ pub record KeepsAgreement {V W : Type 0} (f : V → W) : Type 0 where
 abbrev pub EntriesAgree : {V W : Type 0} → (V → W) → Type 0
 EntriesAgree {V} {W} f = (plain : Numbered V) (stored : Numbered W) → AgreesUnder f plain stored →
     entries stored ≡ map (λ e. (e.0, f e.1)) (entries plain)
+
+-- the same of an f that may look at the number too
+abbrev pub EntriesAgreeBy : {V W : Type 0} → (ℕ → V → W) → Type 0
+EntriesAgreeBy {V} {W} f = (plain : Numbered V) (stored : Numbered W)
+    → ((number : ℕ) → get stored number ≡ option_map (f number) (get plain number))
+    → entries stored ≡ map (λ e. (e.0, f e.0 e.1)) (entries plain)

@@ -45,4 +45,6 @@ impl Machine for Counting {
 
 impl MountMachine for Counting {
     ghost takes_fitting = { λ _ _. tt };
+
+    ghost leads_without_memory = { λ _ _ _ _ _ _ _. tt };
 }

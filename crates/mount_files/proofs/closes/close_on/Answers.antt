@@ -46,7 +46,7 @@ returns-clause-closed c =
     }
 
 pub returns-clause-same : goal.returns-clause-same
-returns-clause-same c = record { next_node = refl; ring = refl; meta = refl }
+returns-clause-same c = record { disk = tt; next_node = refl; ring = refl; meta = refl; keys = tt; pins = tt; handles = tt; modes = tt }
 
 pub returns-clause-stands : goal.returns-clause-stands
 returns-clause-stands c = λ m st.

@@ -63,6 +63,7 @@ returns-in-Err-clause-kept c =
       next_node = refl;
       ring = refl;
       meta = refl;
+      keys = tt;
       pins = ap (λ (x : Cache). x.pins) c.in-Err.ensures.inodes;
       handles = c.in-Err.ensures.handles;
       modes = c.release.ensures ∙ ap (λ (x : Modes). released x c.args.id c.args.kind) hold

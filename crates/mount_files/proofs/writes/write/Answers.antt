@@ -63,7 +63,7 @@ returns-in-Ok-write_file-clause-stands c = λ m st.
     (ap (answer_to_write m c.args.caller c.args.handle c.args.offset) (sym c.as_slice-piece.ensures)
     ∙ write_done s m st c.args.caller c.args.handle c.args.offset xs file c.in-Ok.ensures.held c.in-Ok.ensures.file small room) _
     (written_stands s m st file c.args.offset xs seal (seal_is s m st file is_open seal c.in-Ok-key_of.ensures.sealed) c.in-Ok-key_of.ensures.ranged _
-    c.in-Ok-write_file.ensures.written (record { next_node = refl; ring = refl; meta = refl; inodes = refl; handles = refl; modes = refl })
+    c.in-Ok-write_file.ensures.written (record { disk = tt; next_node = refl; ring = refl; meta = refl; keys = refl; pins = refl; handles = refl; modes = refl })
     c.slice_is_bytes.ensures small room)
 
 pub returns-in-Ok-write_file-clause-refused : goal.returns-in-Ok-write_file-clause-refused
@@ -97,7 +97,7 @@ returns-in-Err-NoSpace-clause-stands c = λ m st.
     given_refusal s m st c.args.caller c.args.handle c.args.offset c.args.bytes.now NoSpace
     (ap (answer_to_write m c.args.caller c.args.handle c.args.offset) (sym c.as_slice-piece.ensures)
     ∙ write_full s m st c.args.caller c.args.handle c.args.offset xs file c.in-Ok.ensures.held c.in-Ok.ensures.file small lacks) _
-    (unwritten_stands s m st _ c.in-Err-NoSpace.ensures.kept (record { next_node = refl; ring = refl; meta = refl; inodes = refl; handles = refl; modes = refl }))
+    (unwritten_stands s m st _ c.in-Err-NoSpace.ensures.kept (record { disk = tt; next_node = refl; ring = refl; meta = refl; keys = refl; pins = refl; handles = refl; modes = refl }))
 
 pub returns-in-Err-NoSpace-clause-refused : goal.returns-in-Err-NoSpace-clause-refused
 returns-in-Err-NoSpace-clause-refused c = λ m st _.

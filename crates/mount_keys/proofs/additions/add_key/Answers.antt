@@ -25,7 +25,7 @@ returns-in-Ok-added-clause-stands c = λ m st agrees.
     c.args.raw.now c.in-Ok-added.id (agrees refl)
     (c.in-Ok.ensures.value ∙ c.as_slice.ensures) range.0 range.1 c.in-Ok-added.ensures.id
     (λ over. let none = sym c.in-Ok-added.is ∙ c.add-added.ensures.quota.1 over in cc none)
-    (record { disk = refl; next_node = refl; meta = refl; inodes = refl; handles = refl; modes = refl })
+    (record { disk = refl; next_node = refl; ring = tt; meta = refl; keys = refl; pins = refl; handles = refl; modes = refl })
     (record { claims = c.in-Ok-added.ensures.claimed; secrets = c.in-Ok-added.ensures.secret }))
 
 pub returns-in-Ok-added-clause-present : goal.returns-in-Ok-added-clause-present

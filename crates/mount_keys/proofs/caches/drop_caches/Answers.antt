@@ -21,7 +21,9 @@ returns-clause-stands c = λ m st.
           (record {
             disk = refl;
             next_node = refl;
+            ring = tt;
             meta = refl;
+            keys = tt;
             pins = ap (λ (x : Cache). x.pins)
                 c.evict_all_unpinned.ensures;
             handles = refl;

@@ -29,4 +29,4 @@ returns-in-Ok-clause-stands c = λ m name new_name st of at well.
     let from = subst (λ (x : Entry). IfSome (number_under x.stored (children s.disk x.dir)) (λ n. left ≡ moved s.disk x.dir x.stored c.place.inside.dir c.place.inside.stored.now n)) c.entry.view_is c.in-Ok.ensures.moved in
     let there = subst (λ (y : Place). IfSome (number_under e.stored (children s.disk e.dir)) (λ n. left ≡ moved s.disk e.dir e.stored y.dir y.stored n)) c.place.view_is from in
     let is = move_seen s.disk left e p e.stored p.stored refl refl c.requires.there there in
-    inl (refl, moved_stands s m st e name of p new_name at _ (record { ring = refl; meta = refl; pins = refl; handles = refl; modes = refl }) refl is refl well)
+    inl (refl, moved_stands s m st e name of p new_name at _ (record { disk = tt; next_node = tt; ring = refl; meta = refl; keys = tt; pins = refl; handles = refl; modes = refl }) refl is refl well)

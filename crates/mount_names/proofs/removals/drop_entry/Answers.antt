@@ -25,7 +25,7 @@ returns-then-pins-gt0-clause-stands c = λ m name st of well.
     let e = c.args.entry.now in
     let left = drop_is s.disk c.drop_entry.new.self e e.stored refl c.requires (subst (λ (x : Entry). IfSome (number_under x.stored (children s.disk x.dir)) (λ n. c.drop_entry.new.self ≡ dropped s.disk x.dir x.stored n)) c.entry.view_is c.drop_entry.ensures.gone) in
     let held = held_told s e.number c.pins.result (c.pins.ensures ∙ ap (λ (x : Entry). pins_of s.inodes x.number) c.entry.view_is) c.if-pins-gt0.true in
-    kept_stands s m st e name of _ (record { ring = refl; meta = refl; pins = refl; handles = refl; modes = refl }) refl well held left refl
+    kept_stands s m st e name of _ (record { disk = tt; next_node = tt; ring = refl; meta = refl; keys = tt; pins = refl; handles = refl; modes = refl }) refl well held left refl
 
 pub invariant_of-state-2 : goal.invariant_of-state-2
 invariant_of-state-2 c =
@@ -45,5 +45,5 @@ returns-clause-stands c = λ m name st of well.
     let e = c.args.entry.now in
     let gone = gone_is s.disk c.drop_named.new.self e e.stored refl c.requires (subst (λ (x : Entry). IfSome (number_under x.stored (children s.disk x.dir)) (λ n. c.drop_named.new.self ≡ remove (dropped s.disk x.dir x.stored n) n)) c.entry.view_is c.drop_named.ensures.gone) in
     let free = free_told s e.number c.pins.result (c.pins.ensures ∙ ap (λ (x : Entry). pins_of s.inodes x.number) c.entry.view_is) c.if-pins-gt0.false in
-    gone_stands s m st e name of _ (record { ring = refl; meta = refl; pins = ap (λ (k : Cache). k.pins) c.drop_key.ensures; handles = refl; modes = refl }) refl well free
+    gone_stands s m st e name of _ (record { disk = tt; next_node = tt; ring = refl; meta = refl; keys = tt; pins = ap (λ (k : Cache). k.pins) c.drop_key.ensures; handles = refl; modes = refl }) refl well free
     gone (c.drop_key.ensures ∙ ap (λ (x : Entry). let fewer : Cache = record s.inodes { keys = remove s.inodes.keys x.number } in fewer) c.entry.view_is)

@@ -1,6 +1,9 @@
 -- A map is made of the entries, and answers as the other does.
-use Rattle.number_map.proofs.AgreementLemmas.{agree_entries}
+use Rattle.number_map.proofs.AgreementLemmas.{agree_entries, agree_entries_by}
 use Rattle.number_map.proofs.laws.entries_agree_where_maps_do.Goals as goal
 
-pub returns : goal.returns
-returns g c f = agree_entries f
+pub returns-clause-values : goal.returns-clause-values
+returns-clause-values g c f = agree_entries f
+
+pub returns-clause-numbered : goal.returns-clause-numbered
+returns-clause-numbered g c f = agree_entries_by f
