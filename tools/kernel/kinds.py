@@ -18,7 +18,7 @@ ORDERS = {
     "set-policy": {("not-dir", "inval"), ("inval", "exists"), ("inval", "not-empty"), ("inval", "no-key")},
     "rename": {(ours, theirs) for ours in ("no-key", "not-found", "name-too-long")
                for theirs in ("not-dir", "not-found", "name-too-long")}
-              | {("no-key", "inval"), ("no-key", "exists"), ("inval", "exists"), ("x-dev", "exists")},
+              | {("no-key", "inval"), ("no-key", "exists")},
 }
 
 

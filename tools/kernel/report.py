@@ -1,10 +1,13 @@
 """What all steps of logs and answers come to, and how it is told."""
 import collections
+import dataclasses
 
 from comparison import same, scripts_of, steps
 from kinds import KINDS, PAGE, kind_of, rows
 
 MOST_SHOWN = 300
+REFUSALS = {"no-key", "access", "quota", "inval", "exists", "not-found", "not-dir", "is-dir", "not-empty", "x-dev", "no-data",
+            "bad-handle", "name-too-long", "too-big", "no-space"}
 
 
 class Result:
@@ -46,6 +49,20 @@ def compared(logs, answers):
     if len(logs) != len(answers):
         result.unexplained.append((f"{len(logs)} scripts", f"{len(answers)} answered"))
     return result
+
+
+def planted(logs, answers):
+    """How many changes of one refusal to another there are where both agree, and how many of them are found."""
+    made = found = 0
+    for log, answer in zip(scripts_of(logs), scripts_of(answers), strict=True):
+        for step in steps(log, answer):
+            if not step.refused or not same(step):
+                continue
+            for name in REFUSALS - {step.refused}:
+                changed = dataclasses.replace(step, ours=f"refused {name}")
+                made += 1
+                found += not same(changed) and kind_of(changed) is None
+    return made, found
 
 
 def show(step):
