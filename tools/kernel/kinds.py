@@ -111,11 +111,15 @@ def open_unlinked(step):
 
 
 def lingering(step):
-    """With its last close a key without claims goes here; in Linux it lingers, which drive lets it only if it is told."""
+    """With its last close a key without claims goes here; in Linux it lingers, which drive lets it only if it is told.
+
+    The next removal takes it there, if nothing holds it any more.
+    """
     if not step.raw:
         return False
-    if held_otherwise(step, False):
-        return step.words[0] in step.books.lingering
+    if is_key_call(step):
+        taken = (step.refused, step.theirs) == ("no-key", "removed others=0 busy=0")
+        return step.words[0] in step.books.lingering and (taken or held_otherwise(step, False))
     return fits_some(step, kept_plain(step, lambda it: it.key in step.books.lingering), False)
 
 
