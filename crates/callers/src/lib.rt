@@ -5,6 +5,7 @@ mod asking;
 mod copying;
 mod erasing;
 mod letting_go;
+mod locking;
 mod showing;
 mod taking_turns;
 
@@ -12,5 +13,6 @@ pub use asking::ask_new_mount;
 pub use copying::copy;
 pub use erasing::erase;
 pub use letting_go::let_go;
+pub use locking::{Locked, write_and_lock};
 pub use showing::shown;
 pub use taking_turns::{ask_twice, begun};

@@ -1,0 +1,127 @@
+//! A caller of `mount_shared` that has a mount of its own.
+
+ghost use Rattle.std.specs.Prelude.{IfSome};
+ghost use Rattle.mount_model.specs.declared.call.Op.TheVariants.{KeyStatus};
+ghost use Rattle.mount_shared.specs.TellsOfKeys.{AbsentIsGone};
+
+use mount_model::{Bytes, Call, KeyId, Op, Part, Path, Reply};
+use mount_shared::Mount;
+use policy_ctx::{Pad, Policy, Unit, encode_policy};
+use std::alloc::Global;
+use turn_lock::Machine;
+
+/// A mount, a key that was given up, and what the mount told of it then.
+#[derive(Drop)]
+pub struct Locked {
+    pub mount: Mount,
+    pub id: KeyId,
+    pub told: Reply,
+}
+
+/// Writes a file into an encrypted directory of a new mount, gives the key up, and asks for its status. None
+/// where there is no memory, or a reply isn't the one that is wanted.
+pub fn write_and_lock(alloc: Global, raw: &[u8], nonces: &[[u8; 16]; 3]) -> Option<Locked>
+    ensures gone { IfSome result (λ locked. AbsentIsGone locked.mount.state (KeyStatus locked.id) locked.told) }
+{
+    let mut mount = Mount::new(alloc).ok()?;
+    let id = add(&mut mount, bytes(alloc, raw)?)?;
+    let dir = below(alloc, Path::root(alloc), b"e")?;
+    encrypt(alloc, &mut mount, id, &dir, nonces)?;
+    write(alloc, &mut mount, below(alloc, dir, b"f")?, nonces[2])?;
+    let Reply::Removed { .. } = ask(&mut mount, Op::RemoveKey { id })? else {
+        return None;
+    };
+    let told = ask(&mut mount, Op::KeyStatus { id })?;
+    Some(Locked { mount, id, told })
+}
+
+// Adds the key, and tells its identifier.
+fn add(mount: &mut Mount, raw: Bytes) -> Option<KeyId> {
+    match ask(mount, Op::AddKey { raw })? {
+        Reply::Added(id) => Some(id),
+        _ => None,
+    }
+}
+
+// Makes the directory, and encrypts it under the key of this identifier.
+fn encrypt(
+    alloc: Global,
+    mount: &mut Mount,
+    id: KeyId,
+    dir: &Path,
+    nonces: &[[u8; 16]; 3],
+) -> Option<()> {
+    let (path, nonce) = (dir.copy(alloc).ok()?, nonces[0]);
+    done(ask(mount, Op::Mkdir { path, nonce })?)?;
+    let (path, nonce) = (dir.copy(alloc).ok()?, nonces[1]);
+    let policy = encode_policy(&policy_of(id));
+    let encrypted = Op::SetPolicy {
+        path,
+        policy,
+        nonce,
+    };
+    done(ask(mount, encrypted)?)
+}
+
+// Makes the file and writes it, through a handle that is closed again.
+fn write(alloc: Global, mount: &mut Mount, file: Path, nonce: [u8; 16]) -> Option<()> {
+    let path = file.copy(alloc).ok()?;
+    done(ask(mount, Op::Create { path, nonce })?)?;
+    let Reply::Opened(handle) = ask(mount, Op::OpenNode { path: file })? else {
+        return None;
+    };
+    let (offset, bytes) = (0, bytes(alloc, b"hi")?);
+    let written = Op::Write {
+        handle,
+        offset,
+        bytes,
+    };
+    done(ask(mount, written)?)?;
+    done(ask(mount, Op::Close { handle })?)
+}
+
+// Names are padded to 32 bytes, and contents are cut into blocks.
+fn policy_of(id: KeyId) -> Policy {
+    Policy {
+        pad: Pad::P32,
+        unit: Unit::Block,
+        by_mode: false,
+        id,
+    }
+}
+
+// What the mount replies to user 1000; none where it may not be asked.
+fn ask(mount: &mut Mount, op: Op) -> Option<Reply>
+    ensures absent { IfSome result (λ reply. AbsentIsGone mount.new.state op reply) }
+{
+    let call = Call { uid: 1000, op };
+    if !call.fits() {
+        return None;
+    }
+    let lent = mount.answer(0, &call);
+    Some(Mount::finish(lent))
+}
+
+// That it is done.
+fn done(reply: Reply) -> Option<()> {
+    match reply {
+        Reply::Done => Some(()),
+        _ => None,
+    }
+}
+
+// The bytes in memory of their own.
+fn bytes(alloc: Global, of: &[u8]) -> Option<Bytes> {
+    let mut copy = Bytes::new(alloc);
+    for byte in of {
+        copy.push(*byte).ok()?;
+    }
+    Some(copy)
+}
+
+// The path with a part more.
+fn below(alloc: Global, path: Path, name: &[u8]) -> Option<Path> {
+    let mut path = path;
+    path.push(Part::new(bytes(alloc, name)?)).ok()?;
+    Some(path)
+}
