@@ -51,14 +51,32 @@ fn file(alloc: Global) -> StoredNode
     }
 }
 
-fn key_of(digits: &str, start: u64) -> Option<ContentsKey>
-    requires { start % 2 ^ 32 ≡ 0 }
-{
+// A key as its digits, and the index at which the units of a file start.
+#[derive(Clone, Copy)]
+struct KeyText {
+    digits: &'static str,
+    start: u64,
+    pub ghost apart: { start % 2 ^ 32 ≡ 0 },
+}
+
+const OWN: KeyText = KeyText {
+    digits: OWN_KEY,
+    start: 0,
+};
+
+const MODE: KeyText = KeyText {
+    digits: MODE_KEY,
+    start: 116 << 32,
+};
+
+// The key; each call that takes one overwrites it.
+fn key_of(text: Option<KeyText>) -> Option<ContentsKey> {
+    let text = text?;
     let mut bytes = [0; 64];
-    hex::decode_to_slice(digits, &mut bytes).ok()?;
+    hex::decode_to_slice(text.digits, &mut bytes).ok()?;
     Some(ContentsKey {
         bytes,
-        start,
+        start: text.start,
         unit: Unit::U512,
     })
 }
@@ -67,13 +85,14 @@ fn write<R: Abort>(
     rt: &R,
     disk: &mut DiskTree,
     alloc: Global,
-    key: &Option<ContentsKey>,
+    key: Option<KeyText>,
     offset: u32,
     bytes: &[u8],
 ) -> Result<(), DiskFault> {
     assert!(rt; disk.is_file(1));
     assert!(rt; offset <= 500_000 && bytes.len() <= 500_000);
-    write_file(disk, alloc, 1, key, offset, bytes)
+    let mut key = key_of(key);
+    write_file(disk, alloc, 1, &mut key, offset, bytes)
 }
 
 // A new file, written in odd pieces: a gap first, then over borders of blocks and units, and other
@@ -81,7 +100,7 @@ fn write<R: Abort>(
 fn written_in_pieces<R: Abort>(
     rt: &R,
     alloc: Global,
-    key: &Option<ContentsKey>,
+    key: Option<KeyText>,
 ) -> Result<DiskTree, Fail> {
     let mut disk = DiskTree::new(alloc)?;
     assert!(rt; disk.node(1).is_none());
@@ -111,13 +130,9 @@ fn written_in_pieces<R: Abort>(
 
 #[test]
 fn a_file_written_in_pieces_is_stored_as_linux_stores_it(rt: HostRuntime) -> Result<(), Fail> {
-    for (digits, start, blocks) in [
-        (OWN_KEY, 0, &OWN_BLOCKS),
-        (MODE_KEY, 116 << 32, &MODE_BLOCKS),
-    ] {
-        let key = key_of(digits, start);
-        assert!(rt; key.is_some());
-        let disk = written_in_pieces(&rt, rt.alloc(), &key)?;
+    for (key, blocks) in [(OWN, &OWN_BLOCKS), (MODE, &MODE_BLOCKS)] {
+        assert!(rt; key_of(Some(key)).is_some());
+        let disk = written_in_pieces(&rt, rt.alloc(), Some(key))?;
         assert_eq!(rt; disk.file_size(1), 9192);
         assert_eq!(rt; disk.block_count(1), 3);
         for (index, sha256) in blocks.iter().enumerate() {
@@ -136,15 +151,16 @@ fn a_file_written_in_pieces_is_stored_as_linux_stores_it(rt: HostRuntime) -> Res
 fn a_read_gives_what_was_written(rt: HostRuntime) -> Result<(), Fail> {
     let alloc = rt.alloc();
     let contents = contents();
-    for key in [key_of(OWN_KEY, 0), key_of(MODE_KEY, 116 << 32), None] {
-        let disk = written_in_pieces(&rt, alloc, &key)?;
+    for key in [Some(OWN), Some(MODE), None] {
+        let disk = written_in_pieces(&rt, alloc, key)?;
         for (offset, len, end) in [
             (0, 4096, 4096),
             (4090, 20, 4110),
             (2048, 4096, 6144),
             (9000, 4096, 9192),
         ] {
-            match begin_read(&disk, alloc, 1, &key, offset, len)? {
+            let mut taken = key_of(key);
+            match begin_read(&disk, alloc, 1, &mut taken, offset, len)? {
                 Some(lent) => assert_eq!(rt;
                     finish_read(lent).as_slice(),
                     &contents[offset as usize..end]
@@ -152,8 +168,9 @@ fn a_read_gives_what_was_written(rt: HostRuntime) -> Result<(), Fail> {
                 None => panic!(rt; "the file has bytes there"),
             }
         }
-        assert!(rt; begin_read(&disk, alloc, 1, &key, 9192, 1)?.is_none());
-        assert!(rt; begin_read(&disk, alloc, 1, &key, 0, 0)?.is_none());
+        let mut taken = key_of(key);
+        assert!(rt; begin_read(&disk, alloc, 1, &mut taken, 9192, 1)?.is_none());
+        assert!(rt; begin_read(&disk, alloc, 1, &mut taken, 0, 0)?.is_none());
     }
     Ok(())
 }
