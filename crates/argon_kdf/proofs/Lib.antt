@@ -5,6 +5,7 @@ pub mod Ranges
 pub mod Standing
 pub mod Chains
 pub mod Steps
+pub mod ZeroLemmas
 pub mod Referring
 pub mod Recursion
 pub mod SegmentLemmas

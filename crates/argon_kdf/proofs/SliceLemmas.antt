@@ -166,6 +166,10 @@ pub slices_set : (m : List (Vec (Vec (List ℕ) Global) Global)) (s : ℕ) (e : 
     → slices_of (slice_set m s e) ≡ slice_set (slices_of m) s (segments_of e.items)
 slices_set m s e = map-set parts_of m s e
 
+pub segments_set : (segs : List (Vec (List ℕ) Global)) (l : ℕ) (e : Vec (List ℕ) Global)
+    → segments_of (slice_set segs l e) ≡ slice_set (segments_of segs) l e.items
+segments_set segs l e = map-set items_of segs l e
+
 pub slices_append : (m : List (Vec (Vec (List ℕ) Global) Global)) (e : Vec (Vec (List ℕ) Global) Global)
     → slices_of (m ++ e ∷ []) ≡ slices_of m ++ segments_of e.items ∷ []
 slices_append m e = map-append parts_of m (e ∷ [])

@@ -1,7 +1,7 @@
 -- Memory that has a vector for each segment, slice by slice and in a slice lane by lane, and how a
 -- segment in the making sees it. These words describe the code and not the standard.
 use Rattle.std.specs.Prelude.{◌≡◌, ◌≢◌, ℕ, ◌+◌, ◌*◌, ◌/◌, ◌%◌, ◌<◌, ◌≤◌, ◌⊎◌, ◌==◌}
-use Rattle.std.specs.Prelude.{List, [], length, map, slice_index_or, if◌then◌else◌}
+use Rattle.std.specs.Prelude.{List, [], length, map, replicate, slice_index_or, if◌then◌else◌}
 use Rattle.std.specs.declared.vec.Vec.{Vec}
 use Rattle.std.specs.declared.alloc.Global.{Global}
 use Rattle.argon_kdf.specs.declared.layout.Place.{Place}
@@ -15,6 +15,14 @@ segments_of slice = map (λ segment. segment.items) slice
 -- the segments of each slice
 abbrev pub slices_of : List (Vec (Vec (List ℕ) Global) Global) → List (List (List (List ℕ)))
 slices_of memory = map (λ slice. segments_of slice.items) memory
+
+-- as many blocks in each segment of a slice, all of them zeros
+abbrev pub zero_segments : List (List (List ℕ)) → List (List (List ℕ))
+zero_segments slice = map (λ segment. replicate (length segment) zero_block) slice
+
+-- the same of each slice
+abbrev pub zero_slices : List (List (List (List ℕ))) → List (List (List (List ℕ)))
+zero_slices memory = map zero_segments memory
 
 -- a slice has a segment for each lane, of as many blocks as a segment has columns
 pub record IsSlice (x : Shape) (slice : List (List (List ℕ))) : Type 0 where

@@ -2,6 +2,7 @@
 
 ghost use Rattle.std.specs.Prelude.{◌≡◌, length, replicate};
 ghost use Rattle.argon_kdf.specs.Blocks.{zero_block};
+ghost use Rattle.argon_kdf.specs.Slices.{segments_of, slices_of, zero_segments, zero_slices};
 
 use crate::block::{Block, ZERO_BLOCK};
 use crate::slices::Segments;
@@ -30,10 +31,19 @@ pub(crate) fn wipe_blocks(memory: &mut [Block])
 }
 
 // The same of memory by slices and lanes.
-pub(crate) fn wipe_slices(memory: &mut [Segments]) {
-    for segments in memory.iter_mut() {
-        for segment in segments.iter_mut() {
-            wipe_blocks(segment.as_mut_slice());
-        }
+pub(crate) fn wipe_slices(memory: &mut [Segments])
+    ensures { slices_of memory.new ≡ zero_slices (slices_of memory.old) }
+{
+    'slices: for segments in memory.iter_mut() {
+        wipe_segments(segments.as_mut_slice());
+    }
+}
+
+// The same of a slice.
+fn wipe_segments(segments: &mut [Vec<Block>])
+    ensures { segments_of segments.new ≡ zero_segments (segments_of segments.old) }
+{
+    'segments: for segment in segments.iter_mut() {
+        wipe_blocks(segment.as_mut_slice());
     }
 }

@@ -8,7 +8,9 @@ use xts_mode::XtsKey;
 
 impl FileCipher {
     // Room for round keys: those of zeros.
-    fn zeros() -> FileCipher {
+    fn zeros() -> FileCipher
+        ensures { cipher_seal result ≡ record { key = replicate 64 0; start = 0; unit = Unit.Block } }
+    {
         FileCipher {
             key: XtsKey::zeros(),
             start: 0,

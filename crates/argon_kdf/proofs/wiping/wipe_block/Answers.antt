@@ -1,5 +1,5 @@
 -- The block was zeros, or is written over.
-use Rattle.std.proofs.Common.{◌≡◌, take, replicate, length, refl, ap, sym, ◌∙◌, arith}
+use Rattle.std.proofs.Common.{◌≡◌, take, replicate, refl, ap, sym, ◌∙◌, arith}
 use Rattle.std.proofs.lemmas.List.{take_all}
 use Rattle.argon_kdf.specs.Blocks.{zero_block}
 use Rattle.argon_kdf.proofs.wiping.wipe_block.Goals as goal
