@@ -19,6 +19,7 @@ use crate::stores::{store_record, stored_protector};
 use crate::stretches::Stretches;
 use crate::turn::Turn;
 use crate::{EntryList, MOST_CALLS};
+use byte_words::wipe;
 use mount_model::MountPort;
 use protector_meta::{Protector, rewrap};
 use reply_text::Outcome;
@@ -55,7 +56,7 @@ pub(crate) fn protector_change<P: MountPort, S: Stretches>(
             let result = store_rewrapped(
                 alloc, port, stretches, seed, turn, protector, &opener, new, entries,
             );
-            opener.key = [0; 32];
+            wipe(&mut opener.key);
             result
         }
         Err(outcome) => Ok(outcome),
@@ -125,6 +126,6 @@ fn rewrapped<S: Stretches>(
         &wrapping,
         &iv_drawn(seed, turn),
     );
-    wrapping = [0; 32];
+    wipe(&mut wrapping);
     Ok(protector)
 }

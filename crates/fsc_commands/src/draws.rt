@@ -7,6 +7,7 @@ ghost use Rattle.fsc_commands.specs.Draws.{purpose_number, caller_byte};
 ghost use Rattle.fsc_commands.specs.PlainCalls.{nonce_drawn};
 
 use crate::turn::Turn;
+use byte_words::wipe;
 use hmac_kdf::hkdf512;
 
 /// What draws are named by, before the caller's byte.
@@ -39,7 +40,7 @@ pub fn draw(seed: &[u8; 32], caller: u8, command: u64, purpose: Purpose, out: &m
     let mut bytes = [0; 64];
     hkdf512(&[], seed, &draw_info(caller, command, purpose), &mut bytes);
     out.copy_from_slice(&bytes[..out.len()]);
-    bytes = [0; 64];
+    wipe(&mut bytes);
 }
 
 // The nonce that a caller's command draws for what it makes.

@@ -9,6 +9,7 @@ ghost use Rattle.fsc_commands.specs.MadeRecords.{ChangedProtectorsOpen, OpenedPo
 ghost use Rattle.fsc_commands.specs.NewRecords as spec;
 
 use crate::stretches::Stretches;
+use byte_words::wipe;
 use key_wrap::{unwrapping_undoes_wrapping, wrap};
 use policy_ctx::{Pad, Unit};
 use protector_meta::{Descriptor, Options, Protector, ProtectorKind, Stretching};
@@ -44,7 +45,7 @@ pub(crate) fn made_protector<S: Stretches>(
     let mut wrapping = new_wrapping_key(alloc, stretches, &parts.salt, new)?;
     let kind = new_kind(&parts.salt, new);
     let protector = wrapped_protector(label, kind, &parts.key, &wrapping, &parts.iv);
-    wrapping = [0; 32];
+    wipe(&mut wrapping);
     Ok(protector)
 }
 

@@ -9,6 +9,7 @@ ghost use Rattle.fsc_commands.specs.Records as spec;
 
 use crate::loaded::{LoadedPolicy, LoadedProtector, policy_loaded, protector_loaded};
 use crate::stretches::Stretches;
+use byte_words::wipe;
 use fsc_keys::{KeyId, RawKey, key_id};
 use key_wrap::unwrap;
 use mount_model::Reply;
@@ -64,7 +65,7 @@ fn protector_by<S: Stretches>(
     match wrapping_key(alloc, stretches, secret, &loaded.protector.kind)? {
         Ok(mut wrapping) => {
             let key = protector_key(&loaded.protector, &wrapping);
-            wrapping = [0; 32];
+            wipe(&mut wrapping);
             match key {
                 Ok(key) => Ok(Ok(OpenedProtector { loaded, key })),
                 Err(outcome) => Ok(Err(outcome)),
@@ -167,7 +168,7 @@ pub(crate) fn protector_key(protector: &Protector, wrapping: &[u8; 32]) -> Resul
         return Err(Outcome::WrongKey);
     }
     if Descriptor::of_key(&key).bytes() != protector.descriptor.bytes() {
-        key = [0; 32];
+        wipe(&mut key);
         return Err(Outcome::BadRecord);
     }
     Ok(key)
@@ -200,7 +201,7 @@ fn key_in_wrap(id: &KeyId, wrap: &Wrap, key: &[u8; 32]) -> Result<RawKey, Outcom
         return Err(Outcome::WrongKey);
     }
     let raw = RawKey::read(&opened);
-    opened = [0; 64];
+    wipe(&mut opened);
     match raw {
         Ok(mut raw) => {
             if key_id(&raw) != *id {

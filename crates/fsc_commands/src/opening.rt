@@ -13,6 +13,7 @@ use crate::opened::{OpenedPolicy, OpenedProtector, policy_opened, protector_open
 use crate::parts::ask;
 use crate::stretches::Stretches;
 use crate::turn::Turn;
+use byte_words::wipe;
 use mount_model::{MountPort, Op};
 use reply_text::Outcome;
 use script_lang::{Record, Secret};
@@ -47,7 +48,7 @@ pub(crate) fn open_protector<P: MountPort, S: Stretches>(
         Ok(()) => Ok(got),
         Err(error) => {
             if let Ok(opened) = &mut got {
-                opened.key = [0; 32];
+                wipe(&mut opened.key);
             }
             Err(error)
         }

@@ -19,6 +19,7 @@ use crate::stretches::Stretches;
 use crate::turn::Turn;
 use crate::wrapping::{made_wrap, policy_with, room_for};
 use crate::{EntryList, MOST_CALLS};
+use byte_words::wipe;
 use fsc_keys::RawKey;
 use mount_model::MountPort;
 use reply_text::Outcome;
@@ -67,7 +68,7 @@ pub(crate) fn policy_add<P: MountPort, S: Stretches>(
                 added_secret,
                 entries,
             );
-            opener.key = [0; 32];
+            wipe(&mut opener.key);
             result
         }
         Err(outcome) => Ok(outcome),
@@ -172,7 +173,7 @@ fn add_to<P: MountPort, S: Stretches>(
                 &adding.key,
                 entries,
             );
-            adding.key = [0; 32];
+            wipe(&mut adding.key);
             result
         }
         Err(outcome) => Ok(outcome),

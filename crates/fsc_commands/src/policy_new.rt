@@ -18,6 +18,7 @@ use crate::stretches::Stretches;
 use crate::turn::Turn;
 use crate::wrapping::made_wrap;
 use crate::{EntryList, MOST_CALLS};
+use byte_words::wipe;
 use fsc_keys::{KeyId, RawKey, key_id};
 use mount_model::MountPort;
 use protector_meta::{Options, PolicyFile, WrapList};
@@ -63,7 +64,7 @@ pub(crate) fn policy_new<P: MountPort, S: Stretches>(
                 &opener.key,
                 entries,
             );
-            opener.key = [0; 32];
+            wipe(&mut opener.key);
             result
         }
         Err(outcome) => Ok(outcome),
@@ -115,7 +116,7 @@ fn drawn_policy(
     let mut policy_key = policy_key_drawn(seed, turn);
     let id = id_of(&policy_key);
     let wrap = made_wrap(protector, key, iv_drawn(seed, turn), &policy_key);
-    policy_key = [0; 64];
+    wipe(&mut policy_key);
     let wraps = WrapList::of(alloc, wrap)?;
     Ok(PolicyFile {
         name: *policy,

@@ -15,6 +15,7 @@ use crate::stores::{store_record, stored_protector};
 use crate::stretches::Stretches;
 use crate::turn::Turn;
 use crate::{EntryList, MOST_CALLS};
+use byte_words::wipe;
 use mount_model::MountPort;
 use protector_meta::Protector;
 use reply_text::Outcome;
@@ -73,6 +74,6 @@ fn drawn_protector<S: Stretches>(
         salt: salt_drawn(seed, turn),
     };
     let protector = made_protector(alloc, stretches, label, new, &parts);
-    parts.key = [0; 32];
+    wipe(&mut parts.key);
     protector
 }

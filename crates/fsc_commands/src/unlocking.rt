@@ -18,6 +18,7 @@ use crate::parts::finish;
 use crate::stretches::Stretches;
 use crate::turn::Turn;
 use crate::{EntryList, MOST_CALLS};
+use byte_words::wipe;
 use item_list::Bytes;
 use mount_model::{MountPort, Op};
 use reply_text::Outcome;
@@ -50,7 +51,7 @@ pub(crate) fn unlock<P: MountPort, S: Stretches>(
     match open_protector(alloc, port, stretches, turn, protector, secret, entries)? {
         Ok(mut opener) => {
             let result = unlock_through(alloc, port, turn, policy, protector, &opener.key, entries);
-            opener.key = [0; 32];
+            wipe(&mut opener.key);
             result
         }
         Err(outcome) => Ok(outcome),
