@@ -5,12 +5,14 @@
 mod laws;
 mod runner;
 mod session;
+mod stack;
 
 use item_list::Items;
 pub use laws::{answers_determine_the_run, runs_are_next_calls};
 use reply_text::Note;
 pub use runner::{Ran, Runner};
 pub use session::run_caller;
+pub use stack::scrub_stack;
 
 /// How session commands ended, in order.
 pub type NoteList = Items<Note>;

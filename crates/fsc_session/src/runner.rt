@@ -3,15 +3,19 @@
 ghost use Rattle.std.specs.Prelude.{◌≡◌, ◌≤◌, [], ◌++◌, IfOk, OnOk, OnErr};
 ghost use Rattle.fsc_session.specs.Asking.{AsksRightly};
 ghost use Rattle.fsc_session.specs.Running.{RunnerView, runner_view, next_command, Stepped};
-ghost use Rattle.fsc_commands.specs.Made.{CameBySome};
+ghost use Rattle.script_lang.specs.Asked.{IsAskable};
+ghost use Rattle.fsc_commands.specs.Commands.{command_steps};
+ghost use Rattle.fsc_commands.specs.Made.{Made, CameBySome};
+ghost use Rattle.fsc_commands.specs.Steps.{names_in};
 ghost use Rattle.fsc_session.specs.Session.{noted};
 ghost use Rattle.fsc_commands.specs.declared.TheConstants.{MOST_CALLS};
 
 use crate::NoteList;
+use crate::stack::{handles_keys, scrub_stack};
 use fsc_commands::{EntryList, MOST_CALLS, Stretches, Turn, run_command};
 use mount_model::MountPort;
 use reply_text::{Note, Outcome};
-use script_lang::{Command, Section};
+use script_lang::{Command, Section, Verb};
 use std::alloc::{AllocError, Global};
 use std::marker::Model;
 
@@ -62,7 +66,8 @@ impl<'a> Runner<'a> {
 
     /// Runs the next command on the caller's port, which makes at most four calls, and stretches its
     /// passphrases in the way that is handed in; false where none is left. After want of memory the runner
-    /// is spent.
+    /// is spent. Behind a command that handles keys, and behind want of memory, `scrub_stack` overwrites what
+    /// it left on the stack.
     pub fn step<P: MountPort, S: Stretches>(
         &mut self,
         alloc: Global,
@@ -89,7 +94,7 @@ impl<'a> Runner<'a> {
             number: self.next,
         };
         let command = &commands[self.next];
-        let outcome = run_command(
+        let outcome = run_scrubbed(
             alloc,
             port,
             stretches,
@@ -131,6 +136,35 @@ impl<'a> Runner<'a> {
             notes: self.notes,
         }
     }
+}
+
+// Runs a command. What one that handles keys left on the stack is overwritten, and so it is after want of
+// memory, which ends a run.
+fn run_scrubbed<P: MountPort, S: Stretches>(
+    alloc: Global,
+    port: &mut P,
+    stretches: &S,
+    seed: &[u8; 32],
+    turn: Turn,
+    verb: &Verb,
+    entries: &mut EntryList,
+) -> Result<Option<Outcome>, AllocError>
+    requires ready { S.ready stretches.now }
+    requires caller { turn.caller ≡ P.who port.old }
+    requires left { MOST_CALLS ≤ P.calls_left port.old }
+    requires asked { IsAskable verb.now }
+    ensures made { IfOk result (λ outcome. Made (P.came port.old) port.new (P.calls_left port.new)
+        (P.calls_left port.old) MOST_CALLS
+        (command_steps seed.now turn.caller turn.uid turn.number (names_in entries.old) verb.now)
+        outcome entries.old entries.new) }
+    ensures caller { P.who port.new ≡ P.who port.old }
+    ensures failed { OnErr result (CameBySome (P.came port.old) port.new) }
+{
+    let ended = run_command(alloc, port, stretches, seed, turn, verb, entries);
+    if ended.is_err() || handles_keys(verb) {
+        scrub_stack();
+    }
+    ended
 }
 
 // Puts the note of a command behind the others, if it has one.

@@ -7,6 +7,7 @@ ghost use Rattle.fsc_commands.specs.Made.{CameBySome};
 ghost use Rattle.fsc_commands.specs.declared.TheConstants.{MOST_CALLS};
 
 use crate::runner::{Ran, Runner};
+use crate::stack::scrub_stack;
 use fsc_commands::Stretches;
 use fsc_outside::Gate;
 use mount_model::MountPort;
@@ -15,7 +16,8 @@ use std::alloc::{AllocError, Global};
 
 /// Runs the section's commands one after another on the caller's port, and stretches their passphrases in
 /// the way that is handed in. The gate is called before each, and behind each that was run: after want of
-/// memory in a command it is not. The port has four calls left for each command.
+/// memory in a command it is not. The port has four calls left for each command. In the end `scrub_stack`
+/// overwrites what they left on the stack.
 pub fn run_caller<P: MountPort, G: Gate, S: Stretches>(
     alloc: Global,
     port: &mut P,
@@ -38,5 +40,6 @@ pub fn run_caller<P: MountPort, G: Gate, S: Stretches>(
         runner.step(alloc, port, stretches, seed)?;
         gate.after(caller, number as u64);
     }
+    scrub_stack();
     Ok(runner.ran())
 }

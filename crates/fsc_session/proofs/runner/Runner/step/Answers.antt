@@ -29,17 +29,17 @@ returns-then-self-commands-clause-stepped g c =
 
 pub returns-clause-stepped : goal.returns-clause-stepped
 returns-clause-stepped g c =
-    subst (λ old. Stepped (g.P.MountPort.came c.args.port.now) c.run_command.new.port (g.P.MountPort.calls_left c.run_command.new.port)
+    subst (λ old. Stepped (g.P.MountPort.came c.args.port.now) c.run_scrubbed.new.port (g.P.MountPort.calls_left c.run_scrubbed.new.port)
     (g.P.MountPort.calls_left c.args.port.now) c.args.seed.now true old
-    (runner_view c.self.inside.caller c.self.inside.section.now (c.self.inside.next + 1) c.run_command.new.entries c.note.new.notes)) c.self.view_is
-    (stepped (g.P.MountPort.came c.args.port.now) c.run_command.new.port (g.P.MountPort.calls_left c.run_command.new.port)
+    (runner_view c.self.inside.caller c.self.inside.section.now (c.self.inside.next + 1) c.run_scrubbed.new.entries c.note.new.notes)) c.self.view_is
+    (stepped (g.P.MountPort.came c.args.port.now) c.run_scrubbed.new.port (g.P.MountPort.calls_left c.run_scrubbed.new.port)
     (g.P.MountPort.calls_left c.args.port.now) c.args.seed.now c.index-commands-self.result c.in_ok-outcome.outcome
-    c.self.inside.caller c.self.inside.section.now c.self.inside.next c.self.inside.entries c.run_command.new.entries c.self.inside.notes c.note.new.notes
+    c.self.inside.caller c.self.inside.section.now c.self.inside.next c.self.inside.entries c.run_scrubbed.new.entries c.self.inside.notes c.note.new.notes
     (there _ _ _ _ c.as_slice-commands.ensures c.self.invariant c.if-self-commands.false c.index-commands-self.is)
     c.in_ok-note.ensures c.in_ok-outcome.ensures.made)
 
-pub run_command-requires-clause-asked : goal.run_command-requires-clause-asked
-run_command-requires-clause-asked g c =
+pub run_scrubbed-requires-clause-asked : goal.run_scrubbed-requires-clause-asked
+run_scrubbed-requires-clause-asked g c =
     asked_there c.self.inside.section.now c.self.inside.next c.index-commands-self.result
     (subst (λ old. AsksRightly old.section) (sym c.self.view_is) c.requires.asked)
     (there _ _ _ _ c.as_slice-commands.ensures c.self.invariant c.if-self-commands.false c.index-commands-self.is)
