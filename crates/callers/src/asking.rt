@@ -10,10 +10,14 @@ use mount_shared::{Mount, SerialMount};
 use std::alloc::{AllocError, Global};
 
 /// Makes two calls on a new mount that nobody else calls, both as caller 0, and gives their replies.
-pub fn ask_new_mount(alloc: Global, first: Call, second: Call) -> Result<(Reply, Reply), AllocError>
-    requires first { Fits first }
-    requires second { Fits second }
-    ensures lawful { IfOk result (λ r. IsLawful (entry 0 first r.0 ∷ entry 0 second r.1 ∷ [])) }
+pub fn ask_new_mount(
+    alloc: Global,
+    first: &Call,
+    second: &Call,
+) -> Result<(Reply, Reply), AllocError>
+    requires first { Fits first.now }
+    requires second { Fits second.now }
+    ensures lawful { IfOk result (λ r. IsLawful (entry 0 first.now r.0 ∷ entry 0 second.now r.1 ∷ [])) }
 {
     let mount = Mount::new(alloc)?;
     let mut port = SerialMount::new(mount).port(0, 2);

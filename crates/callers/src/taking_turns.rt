@@ -20,14 +20,14 @@ pub fn ask_twice<M: Machine, W: Wait>(
     rt: &W,
     shared: &Shared<M>,
     pass: &mut Pass<M>,
-    first: M::Call,
-    second: M::Call,
+    first: &M::Call,
+    second: &M::Call,
 ) -> Result<(M::Reply, M::Reply), Worn>
 where
     M::Reply: Drop,
     requires belongs { pass.old.table ≡ shared.now.table }
-    requires first { M.fits first }
-    requires second { M.fits second }
+    requires first { M.fits first.now }
+    requires second { M.fits second.now }
     ensures lawful { OnOk result (M.lawful pass.new.seen) }
 {
     let answer = shared.call(rt, pass, first)?;

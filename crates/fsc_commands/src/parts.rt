@@ -42,7 +42,7 @@ pub(crate) fn ask<P: MountPort>(
 {
     let call = Call { uid: turn.uid, op };
     let shown = shown_of(alloc, &call)?;
-    let placed = port.call(call);
+    let placed = port.call(&call);
     let entry = Entry {
         who: turn.caller,
         call: shown,

@@ -94,7 +94,7 @@ fn call_one<W: Wait>(rt: &W, shared: &Shared<Sum>, pass: &mut Pass<Sum>, calls: 
     ensures { (pass.new.table ≡ pass.old.table) × (pass.new.who ≡ pass.old.who) × (pass.new.high ≡ pass.old.high) }
 {
     for _ in 0..calls {
-        if shared.call(rt, pass, 7).is_err() {
+        if shared.call(rt, pass, &7).is_err() {
             return;
         }
     }

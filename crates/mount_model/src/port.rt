@@ -30,11 +30,13 @@ pub trait MountPort {
     fn left(&self) -> u64
         ensures { result ≡ calls_left self.now };
 
-    /// Makes a call of the caller, and answers its reply with its place in the history.
-    fn call(&mut self, call: Call) -> Placed
+    /// Makes a call of the caller, and answers its reply with its place in the history. The call is lent:
+    /// who asks can wipe what it carries.
+    fn call(&mut self, call: &Call) -> Placed
         requires left { 0 < calls_left self.old }
-        requires fits { Fits call }
-        ensures came { came self.old ((result.place, entry (who self.old) call result.reply) ∷ []) self.new }
+        requires fits { Fits call.now }
+        ensures came { came self.old
+            ((result.place, entry (who self.old) call.now result.reply) ∷ []) self.new }
         ensures caller { who self.new ≡ who self.old }
         ensures one_fewer { calls_left self.new + 1 ≡ calls_left self.old }
         ensures from { floor self.old ≤ result.place }

@@ -86,9 +86,9 @@ impl<M: MountMachine> MountPort for SerialPort<M> {
         self.left
     }
 
-    fn call(&mut self, call: Call) -> Placed {
+    fn call(&mut self, call: &Call) -> Placed {
         let place = self.mount.places;
-        let lent = self.mount.machine.begin(self.caller, &call);
+        let lent = self.mount.machine.begin(self.caller, call);
         self.mount.places += 1;
         self.left -= 1;
         Placed {

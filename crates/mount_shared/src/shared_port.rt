@@ -66,7 +66,7 @@ impl<'a, M: MountMachine, W: Wait> MountPort for SharedPort<'a, M, W> {
         self.pass.left()
     }
 
-    fn call(&mut self, call: Call) -> Placed {
+    fn call(&mut self, call: &Call) -> Placed {
         match self.shared.call(self.rt, &mut self.pass, call) {
             Ok(at) => Placed {
                 place: at.place,

@@ -130,7 +130,7 @@ fn ask_fitting<W: Wait>(rt: &W, shared: &Shared<Mount>, pass: &mut Pass<Mount>, 
     requires fits { Fits call }
     ensures { pass.new.table ≡ pass.old.table }
 {
-    match shared.call(rt, pass, call) {
+    match shared.call(rt, pass, &call) {
         Ok(at) => at.reply,
         Err(_) => Reply::Refused(Refusal::NoSpace),
     }

@@ -29,7 +29,7 @@ impl MountPort for ScriptedPort {
         self.left
     }
 
-    fn call(&mut self, _call: Call) -> Placed {
+    fn call(&mut self, _call: &Call) -> Placed {
         let place = u64::MAX - self.left;
         self.left -= 1;
         let reply = match self.replies.pop() {

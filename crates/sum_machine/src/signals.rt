@@ -80,7 +80,7 @@ fn call_second<W: Wait>(
     requires { pass.old.table ≡ shared.now.table }
 {
     let began = is_raised(&flags.begun);
-    let answer = shared.call(rt, pass, ());
+    let answer = shared.call(rt, pass, &());
     flags.answered.store(1, Ordering::SeqCst);
     match answer {
         Ok(at) => Some((began, at.place)),
@@ -104,7 +104,7 @@ fn finish_runs_after_release(rt: HostRuntime) -> Result<(), Fail> {
     let mut second = shared.split(&mut first, 1, 1)?;
     let (zero, one) = join(
         &rt,
-        || shared.call(&rt, &mut first, ()).map(|at| at.place),
+        || shared.call(&rt, &mut first, &()).map(|at| at.place),
         || call_second(&rt, &shared, &mut second, told),
     );
     assert_eq!(rt; zero.ok(), Some(0));

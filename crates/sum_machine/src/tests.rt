@@ -21,7 +21,7 @@ fn add<W: Wait>(
     ensures { (pass.new.table ≡ pass.old.table) × (pass.new.who ≡ pass.old.who)
         × (pass.new.high ≡ pass.old.high) }
 {
-    match shared.call(rt, pass, number) {
+    match shared.call(rt, pass, &number) {
         Ok(at) => Ok((at.place, at.reply)),
         Err(worn) => Err(worn.made),
     }
@@ -80,7 +80,7 @@ fn run_one<M: NumberMachine, W: Wait>(
 {
     let mut places = Vec::new(alloc);
     for n in 0..calls {
-        if let Ok(at) = shared.call(rt, pass, n % 1000) {
+        if let Ok(at) = shared.call(rt, pass, &(n % 1000)) {
             places.push(at.place)?;
         }
     }

@@ -72,18 +72,19 @@ impl<M: Machine> Shared<M> {
         Ok((Shared { table }, pass))
     }
 
-    /// Makes a call under the pass's number: it waits for the turn, and the answer has the reply
-    /// and its place in the history. `Worn` comes exactly where the pass has no calls left, and
+    /// Makes a call, which is lent, under the pass's number: it waits for the turn, and the answer has the
+    /// reply and its place in the history. `Worn` comes exactly where the pass has no calls left, and
     /// then nothing has changed.
     pub fn call<W: Wait>(
         &self,
         rt: &W,
         pass: &mut Pass<M>,
-        call: M::Call,
+        call: &M::Call,
     ) -> Result<At<M::Reply>, Worn>
         requires belongs { pass.old.table ≡ self.now.table }
-        requires fits { M.fits call }
-        ensures at { IfOk result (λ r. IsMadeAt pass.old pass.new r.place (entry pass.old.who call r.reply)) }
+        requires fits { M.fits call.now }
+        ensures at { IfOk result (λ r.
+            IsMadeAt pass.old pass.new r.place (entry pass.old.who call.now r.reply)) }
         ensures lawful { OnOk result (M.lawful pass.new.seen) }
         ensures own { OnOk result (
             entries_by pass.old.who pass.new.seen ≡ past_of pass.old pass.old.who ++ pass.new.mine) }
@@ -95,13 +96,13 @@ impl<M: Machine> Shared<M> {
         }
         let top = &self.table.shared;
         let Held { mut both } = take_turn(rt, top, &mut pass.seat);
-        let lent = both.value.begin(pass.who, &call);
+        let lent = both.value.begin(pass.who, call);
         let place = enter::<Brand, M>(
             top,
             &mut pass.seat,
             &mut both.recorder,
             pass.who,
-            &call,
+            call,
             &lent,
         );
         give_back(top, &mut pass.seat, Held { both });
