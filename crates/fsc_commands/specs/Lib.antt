@@ -13,3 +13,4 @@ pub mod Records
 pub mod SessionSteps
 pub mod Stars
 pub mod Steps
+pub mod Wiped

@@ -15,7 +15,7 @@ use crate::session::run_session;
 use crate::stretches::Stretches;
 use crate::turn::Turn;
 use crate::{EntryList, MOST_CALLS};
-use mount_model::{MountPort, Op};
+use mount_model::{Call, MountPort, Op};
 use reply_text::Outcome;
 use script_lang::Verb;
 use std::alloc::{AllocError, Global};
@@ -68,7 +68,8 @@ fn make_call<P: MountPort>(
     ensures caller { P.who port.new ≡ P.who port.old }
     ensures failed { OnErr result (CameBySome (P.came port.old) port.new) }
 {
-    let placed = ask(alloc, port, turn, op)?;
+    let mut call = Call { uid: turn.uid, op };
+    let placed = ask(alloc, port, turn, &mut call)?;
     entries.push(placed)?;
     Ok(None)
 }

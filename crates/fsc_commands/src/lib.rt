@@ -27,6 +27,7 @@ mod stretches;
 mod told;
 mod turn;
 mod unlocking;
+mod wiping;
 mod wrapping;
 
 use call_history::Entry;

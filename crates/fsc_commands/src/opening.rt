@@ -10,11 +10,11 @@ ghost use Rattle.fsc_commands.specs.Made.{MadePart, CameBySome};
 use crate::EntryList;
 use crate::meant::record_name;
 use crate::opened::{OpenedPolicy, OpenedProtector, policy_opened, protector_opened};
-use crate::parts::ask;
+use crate::parts::{ask, meta_load};
 use crate::stretches::Stretches;
 use crate::turn::Turn;
 use byte_words::wipe;
-use mount_model::{MountPort, Op};
+use mount_model::MountPort;
 use reply_text::Outcome;
 use script_lang::{Record, Secret};
 use short_bytes::Label;
@@ -42,7 +42,8 @@ pub(crate) fn open_protector<P: MountPort, S: Stretches>(
     ensures failed { OnErr result (CameBySome (P.came port.old) port.new) }
 {
     let name = record_name(alloc, &Record::Protector(*label))?;
-    let placed = ask(alloc, port, turn, Op::MetaLoad { name })?;
+    let mut call = meta_load(turn, name);
+    let placed = ask(alloc, port, turn, &mut call)?;
     let mut got = protector_opened(alloc, stretches, label, secret, &placed.1.reply)?;
     match entries.push(placed) {
         Ok(()) => Ok(got),
@@ -79,7 +80,8 @@ pub(crate) fn open_policy<P: MountPort>(
     ensures failed { OnErr result (CameBySome (P.came port.old) port.new) }
 {
     let name = record_name(alloc, &Record::Policy(*label))?;
-    let placed = ask(alloc, port, turn, Op::MetaLoad { name })?;
+    let mut call = meta_load(turn, name);
+    let placed = ask(alloc, port, turn, &mut call)?;
     let mut got = policy_opened(alloc, label, protector, key, &placed.1.reply)?;
     match entries.push(placed) {
         Ok(()) => Ok(got),

@@ -2,7 +2,9 @@
 
 ghost use Rattle.std.specs.Prelude.{◌≡◌, ◌≤◌, ◌<◌, ◌+◌, [], ◌∷◌, ◌++◌, Some, IfOk, OnErr};
 ghost use Rattle.mount_model.specs.declared.call.Call.{Call};
-ghost use Rattle.mount_model.specs.Fits.{OpFits};
+ghost use Rattle.mount_model.specs.Fits.{Fits, OpFits};
+ghost use Rattle.fsc_commands.specs.Wiped.{wiped_call};
+ghost use Rattle.mount_model.specs.declared.call.Op.TheVariants.{MetaLoad};
 ghost use Rattle.fsc_commands.specs.CommandSteps.{last_call, called};
 ghost use Rattle.fsc_commands.specs.Opening.{loading_policy};
 ghost use Rattle.fsc_commands.specs.Made.{Made, MadePart, CameBySome, asked};
@@ -13,7 +15,9 @@ use crate::loaded::{LoadedPolicy, policy_loaded};
 use crate::meant::record_name;
 use crate::outcomes::{Wanted, outcome_of};
 use crate::turn::Turn;
+use crate::wiping::wipe_call;
 use call_history::Entry;
+use item_list::Bytes;
 use mount_model::{Call, MountPort, Op, Reply};
 use reply_text::{Outcome, Shown, shown_of};
 use script_lang::Record;
@@ -21,34 +25,68 @@ use short_bytes::Label;
 use std::alloc::{AllocError, Global};
 
 // Makes a call of the caller, and gives what is shown of its entry, with its place. Want of memory comes
-// before the call.
+// before the call. Either way the bytes that the call carries are overwritten.
 pub(crate) fn ask<P: MountPort>(
     alloc: Global,
     port: &mut P,
     turn: Turn,
-    op: Op,
+    call: &mut Call,
 ) -> Result<(u64, Entry<Shown, Reply>), AllocError>
     requires caller { turn.caller ≡ P.who port.old }
     requires left { 0 < P.calls_left port.old }
-    requires fits { OpFits op }
+    requires fits { Fits call.old }
     ensures came { IfOk result (λ placed. P.came port.old
-        (asked turn.caller (called turn.uid op) placed ∷ []) port.new) }
+        (asked turn.caller call.old placed ∷ []) port.new) }
     ensures shown { IfOk result (λ placed. placed
-        ≡ (placed.0, shown_entry (asked turn.caller (called turn.uid op) placed).1)) }
+        ≡ (placed.0, shown_entry (asked turn.caller call.old placed).1)) }
+    ensures wiped { call.new ≡ wiped_call call.old }
     ensures one_fewer { IfOk result (λ placed. P.calls_left port.new + 1 ≡ P.calls_left port.old) }
     ensures caller { P.who port.new ≡ P.who port.old }
     ensures unasked { OnErr result (port.new ≡ port.old) }
     ensures failed { OnErr result (CameBySome (P.came port.old) port.new) }
 {
-    let call = Call { uid: turn.uid, op };
-    let shown = shown_of(alloc, &call)?;
-    let placed = port.call(&call);
+    let answered = ask_lent(alloc, port, turn, call);
+    wipe_call(alloc, call);
+    answered
+}
+
+// The same of a call that is lent, and isn't overwritten.
+fn ask_lent<P: MountPort>(
+    alloc: Global,
+    port: &mut P,
+    turn: Turn,
+    call: &Call,
+) -> Result<(u64, Entry<Shown, Reply>), AllocError>
+    requires caller { turn.caller ≡ P.who port.old }
+    requires left { 0 < P.calls_left port.old }
+    requires fits { Fits call.now }
+    ensures came { IfOk result (λ placed. P.came port.old
+        (asked turn.caller call.now placed ∷ []) port.new) }
+    ensures shown { IfOk result (λ placed. placed
+        ≡ (placed.0, shown_entry (asked turn.caller call.now placed).1)) }
+    ensures one_fewer { IfOk result (λ placed. P.calls_left port.new + 1 ≡ P.calls_left port.old) }
+    ensures caller { P.who port.new ≡ P.who port.old }
+    ensures unasked { OnErr result (port.new ≡ port.old) }
+    ensures failed { OnErr result (CameBySome (P.came port.old) port.new) }
+{
+    let shown = shown_of(alloc, call)?;
+    let placed = port.call(call);
     let entry = Entry {
         who: turn.caller,
         call: shown,
         reply: placed.reply,
     };
     Ok((placed.place, entry))
+}
+
+// The call that loads the record of this name.
+pub(crate) fn meta_load(turn: Turn, name: Bytes) -> Call
+    ensures { result ≡ called turn.uid (MetaLoad name) }
+{
+    Call {
+        uid: turn.uid,
+        op: Op::MetaLoad { name },
+    }
 }
 
 // Makes the last call of a session's work, which ends as the reply to it tells.
@@ -69,7 +107,8 @@ pub(crate) fn finish<P: MountPort>(
     ensures caller { P.who port.new ≡ P.who port.old }
     ensures failed { OnErr result (CameBySome (P.came port.old) port.new) }
 {
-    let placed = ask(alloc, port, turn, op)?;
+    let mut call = Call { uid: turn.uid, op };
+    let placed = ask(alloc, port, turn, &mut call)?;
     let outcome = outcome_of(wanted, &placed.1.reply);
     entries.push(placed)?;
     Ok(outcome)
@@ -92,7 +131,8 @@ pub(crate) fn load_policy<P: MountPort>(
     ensures failed { OnErr result (CameBySome (P.came port.old) port.new) }
 {
     let name = record_name(alloc, &Record::Policy(*label))?;
-    let placed = ask(alloc, port, turn, Op::MetaLoad { name })?;
+    let mut call = meta_load(turn, name);
+    let placed = ask(alloc, port, turn, &mut call)?;
     let loaded = policy_loaded(alloc, label, &placed.1.reply)?;
     entries.push(placed)?;
     Ok(loaded)
