@@ -11,3 +11,4 @@ pub mod Script
 pub mod Reading
 pub mod Writing
 pub mod Spelled
+pub mod Wiped

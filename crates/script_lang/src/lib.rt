@@ -14,6 +14,7 @@ mod statements;
 mod verb;
 mod verb_writer;
 mod verbs;
+mod wiping;
 mod words;
 mod writer;
 
@@ -33,5 +34,6 @@ pub use script_words::{
 };
 pub use statements::{Statement, read_statement};
 pub use verb::{Options, Settings, Verb};
+pub use wiping::wipe_script;
 pub use words::Words;
 pub use writer::write_script;

@@ -15,7 +15,7 @@ use crate::statements::{read_uid, says_nothing};
 use crate::verbs::read_verb;
 use crate::words::Words;
 use std::alloc::{AllocError, Global};
-use text_words::next_line;
+use text_words::{line_count, next_line};
 use thiserror::Error;
 
 /// Why a script wasn't read.
@@ -57,23 +57,24 @@ pub fn read_script(alloc: Global, text: &[u8]) -> Result<Script, ScriptFault>
         if !line.ended {
             return Err(ScriptFault::BadLine { line: number });
         }
-        take_line(alloc, &mut sections, number, line.bytes)?;
+        take_line(alloc, &mut sections, number, line.bytes, line.rest)?;
         rest = line.rest;
     }
     Ok(Script::from_vec(sections))
 }
 
-// Adds what the line with that number says to the sections so far.
+// Adds what the line with that number says to the sections so far. `behind` is the text behind it.
 fn take_line(
     alloc: Global,
     sections: &mut Vec<Section>,
     number: u32,
     line: &[u8],
+    behind: &[u8],
 ) -> Result<(), ScriptFault>
     ensures { TakesLine number
         (after_line number sections.old.items (statement_of line.now)) result sections.new.items }
 {
-    if add_line(alloc, sections, number, line)? {
+    if add_line(alloc, sections, number, line, behind)? {
         Ok(())
     } else {
         Err(ScriptFault::BadLine { line: number })
@@ -87,6 +88,7 @@ fn add_line(
     sections: &mut Vec<Section>,
     number: u32,
     line: &[u8],
+    behind: &[u8],
 ) -> Result<bool, AllocError>
     ensures { IfOk result (AddsStatement
         (after_line number sections.old.items (statement_of line.now)) sections.new.items) }
@@ -94,7 +96,7 @@ fn add_line(
     if says_nothing(line) {
         return Ok(true);
     }
-    add_words(alloc, sections, number, &mut Words::new(line))
+    add_words(alloc, sections, number, &mut Words::new(line), behind)
 }
 
 // Adds what the words of a line say.
@@ -103,12 +105,13 @@ fn add_words(
     sections: &mut Vec<Section>,
     number: u32,
     words: &mut Words<'_>,
+    behind: &[u8],
 ) -> Result<bool, AllocError>
     ensures { IfOk result (AddsStatement
         (after_line number sections.old.items (statement_of_words words.old)) sections.new.items) }
 {
     match words.next() {
-        Some(name) => add_named(alloc, sections, number, name, words),
+        Some(name) => add_named(alloc, sections, number, name, words, behind),
         None => Ok(false),
     }
 }
@@ -120,25 +123,32 @@ fn add_named(
     number: u32,
     name: &[u8],
     words: &mut Words<'_>,
+    behind: &[u8],
 ) -> Result<bool, AllocError>
     ensures { IfOk result (AddsStatement
         (after_line number sections.old.items (statement_named name.now words.old)) sections.new.items) }
 {
     if name == b"caller".as_slice() {
         return match read_uid(words) {
-            Some(uid) => add_section(alloc, sections, uid),
+            Some(uid) => add_section(alloc, sections, uid, line_count(behind)),
             None => Ok(false),
         };
     }
     add_command(alloc, sections, number, name, words)
 }
 
-// Adds a section. False where there are as many as may be.
-fn add_section(alloc: Global, sections: &mut Vec<Section>, uid: u32) -> Result<bool, AllocError>
+// Adds a section with room for so many commands, so that they needn't move when others come: a move would
+// leave their secrets behind. False where there are as many sections as may be.
+fn add_section(
+    alloc: Global,
+    sections: &mut Vec<Section>,
+    uid: u32,
+    room: usize,
+) -> Result<bool, AllocError>
     ensures { IfOk result (AddsStatement (with_section sections.old.items uid) sections.new.items) }
 {
     if sections.len() < MOST_CALLERS {
-        let commands = CommandList::new(alloc);
+        let commands = CommandList::from_vec(Vec::with_capacity(alloc, room)?);
         sections.push(Section { uid, commands })?;
         return Ok(true);
     }
