@@ -8,3 +8,4 @@ pub mod Removed
 pub mod Moved
 pub mod Places
 pub mod Sealing
+pub mod Wiped

@@ -5,6 +5,7 @@ ghost use Rattle.name_crypt.specs.Plain.{IsStored};
 ghost use Rattle.name_crypt.specs.StoredName.{plain_name};
 ghost use Rattle.name_crypt.specs.NoKeyText.{nokey_text_of};
 ghost use Rattle.mount_names.specs.Shown.{ReadsAs, ShowsAs};
+ghost use Rattle.mount_names.specs.Wiped.{wiped};
 
 use crate::ciphers::cipher_of;
 use crate::contexts::context_of;
@@ -40,7 +41,9 @@ pub(crate) fn reading_of(state: &MountState, number: u32) -> Reading
 
 impl Reading {
     // Overwrites the key and its round keys, where there is one.
-    pub(crate) fn wipe(&mut self) {
+    pub(crate) fn wipe(&mut self)
+        ensures { self.new ≡ wiped self.old }
+    {
         if let Reading::Keyed(cipher) = self {
             cipher.wipe();
         }
