@@ -37,14 +37,15 @@ spelling_fault line =
 abbrev pub word_fault : LineFault → List ℕ → LineFault
 word_fault otherwise word = if length word == 0 then fault.SpareSpace else otherwise
 
--- what is amiss with words that have to be of these kinds, the first of them word n behind the name: the first
--- that is none of its kind, and where each is, that they are too few or too many
+-- what is amiss with words that have to be of these kinds, the first of them word n behind the name: the
+-- first that is none of its kind, and where each is, that they are too few or too many
 abbrev pub words_fault : ℕ → List WordKind → List (List ℕ) → LineFault
 words_fault n [] [] = fault.TooManyWords
 words_fault n [] (word ∷ words) = word_fault fault.TooManyWords word
 words_fault n (wanted ∷ kinds) [] = fault.TooFewWords
 words_fault n (wanted ∷ kinds) (word ∷ words) =
-    if is_one wanted word then words_fault (n + 1) kinds words else word_fault (fault.NoSuchWord n wanted) word
+    if is_one wanted word then words_fault (n + 1) kinds words
+    else word_fault (fault.NoSuchWord n wanted) word
 
 -- what is amiss with a name and the words behind it
 abbrev pub named_fault : List ℕ → List (List ℕ) → LineFault
@@ -55,7 +56,8 @@ named_fault name words =
 
 -- what is amiss with the words of a line, of which the first is the name
 abbrev pub fault_of_words : List (List ℕ) → LineFault
-fault_of_words words = option_map_or (λ name. named_fault name (drop 1 words)) (slice_get words 0) fault.NoCommand
+fault_of_words words =
+    option_map_or (λ name. named_fault name (drop 1 words)) (slice_get words 0) fault.NoCommand
 
 -- why a line is outside the grammar that is so
 abbrev pub grammar_fault : List ℕ → LineFault
