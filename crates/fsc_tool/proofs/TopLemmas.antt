@@ -1,6 +1,5 @@
 -- What the meaning of a status says of it, where the source tells its bytes.
 use Rattle.std.proofs.Common.{◌≡◌, ℕ, ◌<◌, ◌≤◌, inl, inr, List, ◌++◌, length, Option, Some, None, Err, refl, sym, ap, ap₂, ◌∙◌, arith, subst, append-nil, length-append}
-use Rattle.std.specs.Prelude.{IsSome, ◌↔◌}
 use Rattle.std.specs.Io.KnownBytes.{Consumes, IsAtEnd}
 use Rattle.text_words.specs.Lines.{line_count}
 use Rattle.mount_model.specs.History.{History}
@@ -10,14 +9,14 @@ use Rattle.fsc_outside.specs.States.{SourceState, SeedState}
 use Rattle.fsc_outside.specs.Input.{GaveWhole, GaveTooMuch, IsWithin}
 use Rattle.reply_text.specs.declared.status.Status.{Status}
 use Rattle.reply_text.specs.declared.status.Status.TheVariants.{Done, Usage, BadLine, ReadFault, WriteFault, SeedFault, TooLong, NoMemory}
-use Rattle.fsc_tool.specs.declared.form.Form.{Form}
-use Rattle.fsc_tool.specs.declared.form.Form.TheVariants.{Seeded, Unseeded}
+use Rattle.fsc_tool.specs.declared.form.Seeding.{Seeding}
+use Rattle.fsc_tool.specs.declared.form.Seeding.TheVariants.{Given}
 use Rattle.fsc_tool.specs.Limits.{input_limits, IsLong}
 use Rattle.fsc_tool.specs.Outside.{Outside}
-use Rattle.fsc_tool.specs.Seed.{IsSeedOfForm, IsSeedOf}
+use Rattle.fsc_tool.specs.Seed.{ComesFrom, IsSeedOf}
 use Rattle.fsc_tool.specs.Ends.{Ends}
 use Rattle.fsc_tool.specs.Replay.{Told, IsReplayable, IsOrNoMemory, IsReplay}
-use Rattle.fsc_tool.specs.Prepared.{IsPrepared, NoRun}
+use Rattle.fsc_tool.specs.Prepared.{IsPrepared, NoText}
 use Rattle.fsc_tool.specs.LogOfRun.{HasLog}
 use Rattle.fsc_tool.specs.Written.{EndsLog}
 use Rattle.call_history.specs.Placed.{entries_of}
@@ -26,15 +25,6 @@ use Rattle.fsc_session.proofs.ShownRuns.{told_log}
 use Rattle.reply_text.specs.Notes.{notes_text}
 use Rattle.reply_text.specs.declared.notes.Note.{Note}
 use Rattle.fsc_tool.specs.Runs.{TellsRun}
-
--- ---- words
-
-no_form : (o : Option Form) → IsSome o → o ≡ None → ⊥
-no_form None some none = cc
-no_form (Some form) some none = cc
-
-other_form : (o : Option Form) (form : Form) → o ≡ Some form → o ≡ None → ⊥
-other_form o form some none = cc
 
 -- ---- what the source gave
 
@@ -77,155 +67,128 @@ same_script : (old new : SourceState) (input bytes : List ℕ) → old.left ≡ 
     → parsed_script bytes ≡ parsed_script input
 same_script old new input bytes told gave = ap parsed_script (gave_told old new input bytes told gave)
 
--- ---- Usage, exactly where the words are no form
-
-usage_exactly : (IsRun : List ℕ → List Section → History → Type 0) (form : Option Form) (a b : Outside) (status : Status) → Ends IsRun form a b status → (status ≡ Usage) ↔ (form ≡ None)
-usage_exactly IsRun form a b Usage h = (λ _. h.no_form, λ _. refl)
-usage_exactly IsRun form a b Done h = (λ e. absurd (cc e), λ none. absurd (other_form _ _ h.log.prepared.seeded.said none))
-usage_exactly IsRun form a b (BadLine line) h = (λ e. absurd (cc e), λ none. absurd (no_form _ h.early.asked none))
-usage_exactly IsRun form a b ReadFault h = (λ e. absurd (cc e), λ none. absurd (no_form _ h.early.asked none))
-usage_exactly IsRun form a b WriteFault h = (λ e. absurd (cc e), λ none. absurd (other_form _ _ h.log.prepared.seeded.said none))
-usage_exactly IsRun form a b SeedFault h = (λ e. absurd (cc e), λ none. absurd (other_form _ _ h.asked none))
-usage_exactly IsRun form a b TooLong h = (λ e. absurd (cc e), λ none. absurd (no_form _ h.early.asked none))
-usage_exactly IsRun form a b NoMemory h = (λ e. absurd (cc e), λ none. absurd (no_form _ h.asked none))
-
 -- ---- a seed of the words' own
 
-own_of_form : (form : Form) (old new : SeedState) (seed own : List ℕ) → form ≡ Seeded own → IsSeedOfForm form old new seed → new ≡ old
-own_of_form (Seeded other) old new seed own is given = given.1
-own_of_form Unseeded old new seed own is given = absurd (cc is)
+own_seed : (seeding : Seeding) (old new : SeedState) (seed own : List ℕ) → seeding ≡ Given own → IsSeedOf seeding old new seed → new ≡ old
+own_seed seeding old new seed own is taken = (subst (λ (s : Seeding). ComesFrom s old new seed) is taken.given).1
 
-own_seed : (form : Option Form) (old new : SeedState) (seed own : List ℕ) → form ≡ Some (Seeded own)
-    → IsSeedOf form old new seed → new ≡ old
-own_seed form old new seed own said given =
-    let is = sym given.said ∙ said in own_of_form given.form old new seed own (cc is) given.given
+module _ (IsRun : List ℕ → List Section → History → Type 0) (seeding : Seeding) (a b : Outside) where
+  abbrev IsText : List ℕ → Type 0
+  IsText = HasLog IsRun seeding a b
 
-unasked : (IsRun : List ℕ → List Section → History → Type 0) (form : Option Form) (a b : Outside) (status : Status) → Ends IsRun form a b status
-    → (own : List ℕ) → form ≡ Some (Seeded own) → b.seeds ≡ a.seeds
-unasked IsRun form a b Done h own said = own_seed form a.seeds b.seeds h.log.seed own said h.log.prepared.seeded
-unasked IsRun form a b WriteFault h own said = own_seed form a.seeds b.seeds h.log.seed own said h.log.prepared.seeded
-unasked IsRun form a b Usage h own said = ap (λ (o : Outside). o.seeds) h.still
-unasked IsRun form a b (BadLine line) h own said = h.early.unasked
-unasked IsRun form a b ReadFault h own said = h.early.unasked
-unasked IsRun form a b TooLong h own said = h.early.unasked
-unasked IsRun form a b SeedFault h own said = let no = sym h.asked ∙ said in absurd (cc no)
-unasked IsRun form a b NoMemory h own said = elim h.seeds [
-  | inl still ↦ still
-  | inr taken ↦ own_seed form a.seeds b.seeds taken.0 own said taken.1
-]
+  unasked : (status : Status) → Ends IsText seeding a b status → (own : List ℕ) → seeding ≡ Given own → b.seeds ≡ a.seeds
+  unasked Done h own said = own_seed seeding a.seeds b.seeds h.right.seed own said h.right.seeded
+  unasked WriteFault h own said = own_seed seeding a.seeds b.seeds h.right.seed own said h.right.seeded
+  unasked Usage h own said = absurd h
+  unasked (BadLine line) h own said = h.early.unasked
+  unasked ReadFault h own said = h.early.unasked
+  unasked TooLong h own said = h.early.unasked
+  unasked SeedFault h own said = let no = sym h.asked ∙ said in absurd (cc no)
+  unasked NoMemory h own said = elim h.seeds [
+    | inl still ↦ still
+    | inr taken ↦ own_seed seeding a.seeds b.seeds taken.0 own said taken.1
+  ]
 
--- ---- a source that tells its bytes
+  -- ---- a source that tells its bytes
 
-long_ends : (IsRun : List ℕ → List Section → History → Type 0) (form : Option Form) (a b : Outside) (status : Status) → Ends IsRun form a b status
-    → (input : List ℕ) → Told form a b input → IsLong input → IsOrNoMemory TooLong status
-long_ends IsRun form a b TooLong h input told long = inl refl
-long_ends IsRun form a b NoMemory h input told long = inr refl
-long_ends IsRun form a b Usage h input told long = absurd (no_form _ told.asked h.no_form)
-long_ends IsRun form a b ReadFault h input told long = absurd (told.read h.cause)
-long_ends IsRun form a b Done h input told long =
-    absurd (not_short a.source b.source input h.log.prepared.input told.left h.log.prepared.read.gave h.log.prepared.read.within long)
-long_ends IsRun form a b WriteFault h input told long =
-    absurd (not_short a.source b.source input h.log.prepared.input told.left h.log.prepared.read.gave h.log.prepared.read.within long)
-long_ends IsRun form a b (BadLine line) h input told long =
-    absurd (not_short a.source b.source input h.input told.left h.read.gave h.read.within long)
-long_ends IsRun form a b SeedFault h input told long =
-    absurd (not_short a.source b.source input h.input told.left h.read.gave h.read.within long)
+  long_ends : (status : Status) → Ends IsText seeding a b status → (input : List ℕ) → Told a b input → IsLong input → IsOrNoMemory TooLong status
+  long_ends TooLong h input told long = inl refl
+  long_ends NoMemory h input told long = inr refl
+  long_ends Usage h input told long = absurd h
+  long_ends ReadFault h input told long = absurd (told.read h.cause)
+  long_ends Done h input told long = absurd (not_short a.source b.source input h.right.input told.left h.right.read.gave h.right.read.within long)
+  long_ends WriteFault h input told long = absurd (not_short a.source b.source input h.right.input told.left h.right.read.gave h.right.read.within long)
+  long_ends (BadLine line) h input told long = absurd (not_short a.source b.source input h.input told.left h.read.gave h.read.within long)
+  long_ends SeedFault h input told long = absurd (not_short a.source b.source input h.input told.left h.read.gave h.read.within long)
 
-bad_line_ends : (IsRun : List ℕ → List Section → History → Type 0) (form : Option Form) (a b : Outside) (status : Status) → Ends IsRun form a b status
-    → (input : List ℕ) (line : ℕ) → Told form a b input → IsWithin input_limits input → parsed_script input ≡ Err line
-    → IsOrNoMemory (BadLine line) status
-bad_line_ends IsRun form a b NoMemory h input line told within bad = inr refl
-bad_line_ends IsRun form a b Usage h input line told within bad = absurd (no_form _ told.asked h.no_form)
-bad_line_ends IsRun form a b ReadFault h input line told within bad = absurd (told.read h.cause)
-bad_line_ends IsRun form a b TooLong h input line told within bad =
-    absurd (not_too_much a.source b.source input h.much.bytes told.left h.much.gave within)
-bad_line_ends IsRun form a b (BadLine other) h input line told within bad =
-    let same = sym h.bad ∙ same_script a.source b.source input h.input told.left h.read.gave ∙ bad in
-    inl (ap BadLine (cc same))
-bad_line_ends IsRun form a b Done h input line told within bad =
-    let same = sym h.log.prepared.spelled ∙ same_script a.source b.source input h.log.prepared.input told.left h.log.prepared.read.gave ∙ bad in absurd (cc same)
-bad_line_ends IsRun form a b WriteFault h input line told within bad =
-    let same = sym h.log.prepared.spelled ∙ same_script a.source b.source input h.log.prepared.input told.left h.log.prepared.read.gave ∙ bad in absurd (cc same)
-bad_line_ends IsRun form a b SeedFault h input line told within bad =
-    let same = sym h.script.1 ∙ same_script a.source b.source input h.input told.left h.read.gave ∙ bad in absurd (cc same)
+  bad_line_ends : (status : Status) → Ends IsText seeding a b status → (input : List ℕ) (line : ℕ) → Told a b input → IsWithin input_limits input
+      → parsed_script input ≡ Err line → IsOrNoMemory (BadLine line) status
+  bad_line_ends NoMemory h input line told within bad = inr refl
+  bad_line_ends Usage h input line told within bad = absurd h
+  bad_line_ends ReadFault h input line told within bad = absurd (told.read h.cause)
+  bad_line_ends TooLong h input line told within bad = absurd (not_too_much a.source b.source input h.much.bytes told.left h.much.gave within)
+  bad_line_ends (BadLine other) h input line told within bad =
+      let same = sym h.bad ∙ same_script a.source b.source input h.input told.left h.read.gave ∙ bad in
+      inl (ap BadLine (cc same))
+  bad_line_ends Done h input line told within bad =
+      let same = sym h.right.spelled ∙ same_script a.source b.source input h.right.input told.left h.right.read.gave ∙ bad in absurd (cc same)
+  bad_line_ends WriteFault h input line told within bad =
+      let same = sym h.right.spelled ∙ same_script a.source b.source input h.right.input told.left h.right.read.gave ∙ bad in absurd (cc same)
+  bad_line_ends SeedFault h input line told within bad =
+      let same = sym h.script.1 ∙ same_script a.source b.source input h.input told.left h.read.gave ∙ bad in absurd (cc same)
 
-script_ends : (IsRun : List ℕ → List Section → History → Type 0) (form : Option Form) (a b : Outside) (status : Status) → Ends IsRun form a b status
-    → (input : List ℕ) → IsReplayable form a b input → IsOrNoMemory Done status
-script_ends IsRun form a b Done h input fine = inl refl
-script_ends IsRun form a b NoMemory h input fine = inr refl
-script_ends IsRun form a b Usage h input fine = absurd (no_form _ fine.told.asked h.no_form)
-script_ends IsRun form a b ReadFault h input fine = absurd (fine.told.read h.cause)
-script_ends IsRun form a b WriteFault h input fine = absurd (fine.written h.written.cause)
-script_ends IsRun form a b SeedFault h input fine = absurd (fine.seeded h.seeds.cause)
-script_ends IsRun form a b TooLong h input fine =
-    absurd (not_too_much a.source b.source input h.much.bytes fine.told.left h.much.gave fine.within)
-script_ends IsRun form a b (BadLine line) h input fine =
-    let same = sym h.bad ∙ same_script a.source b.source input h.input fine.told.left h.read.gave ∙ fine.script.1 in absurd (cc same)
+  script_ends : (status : Status) → Ends IsText seeding a b status → (input : List ℕ) → IsReplayable a b input → IsOrNoMemory Done status
+  script_ends Done h input fine = inl refl
+  script_ends NoMemory h input fine = inr refl
+  script_ends Usage h input fine = absurd h
+  script_ends ReadFault h input fine = absurd (fine.told.read h.cause)
+  script_ends WriteFault h input fine = absurd (fine.written h.written.cause)
+  script_ends SeedFault h input fine = absurd (fine.seeded h.seeds.cause)
+  script_ends TooLong h input fine = absurd (not_too_much a.source b.source input h.much.bytes fine.told.left h.much.gave fine.within)
+  script_ends (BadLine line) h input fine =
+      let same = sym h.bad ∙ same_script a.source b.source input h.input fine.told.left h.read.gave ∙ fine.script.1 in absurd (cc same)
 
--- ---- the theorem, from what each status means
+  -- ---- the theorem, from what each status means
 
-pub replay_is : (IsRun : List ℕ → List Section → History → Type 0) (form : Option Form) (a b : Outside) (status : Status) → Ends IsRun form a b status → IsReplay IsRun form a b status
-replay_is IsRun form a b status h = record {
-  ends = h;
-  usage = usage_exactly IsRun form a b status h;
-  own_seed = unasked IsRun form a b status h;
-  too_long = long_ends IsRun form a b status h;
-  bad_line = bad_line_ends IsRun form a b status h;
-  complete = script_ends IsRun form a b status h;
-}
+  pub replay_is : (status : Status) → Ends IsText seeding a b status → IsReplay IsRun seeding a b status
+  replay_is status h = record {
+    ends = h;
+    own_seed = unasked status h;
+    too_long = long_ends status h;
+    bad_line = bad_line_ends status h;
+    complete = script_ends status h;
+  }
 
--- ---- what a run does, from its parts
+  -- ---- what a run does, from its parts
 
--- a run that ended before its first call
-pub unrun_ends : (IsRun : List ℕ → List Section → History → Type 0) (form : Option Form) (a b : Outside) (status : Status)
-    → Ends NoRun form a b status → IsReplay IsRun form a b status
-unrun_ends IsRun form a b status h = replay_is IsRun form a b status (ends status h)
-  where
-    ends : (status : Status) → Ends NoRun form a b status → Ends IsRun form a b status
-    ends Done h = absurd h.log.run.run
-    ends WriteFault h = absurd h.log.run.run
-    ends Usage h = h
-    ends (BadLine line) h = h
-    ends ReadFault h = h
-    ends SeedFault h = h
-    ends TooLong h = h
-    ends NoMemory h = h
+  -- a run that ended before its first call
+  pub unrun_ends : (status : Status) → Ends NoText seeding a b status → IsReplay IsRun seeding a b status
+  unrun_ends status h = replay_is status (ends status h)
+    where
+      ends : (status : Status) → Ends NoText seeding a b status → Ends IsText seeding a b status
+      ends Done h = absurd h.right
+      ends WriteFault h = absurd h.right
+      ends Usage h = h
+      ends (BadLine line) h = h
+      ends ReadFault h = h
+      ends SeedFault h = h
+      ends TooLong h = h
+      ends NoMemory h = h
 
--- a run that found no memory for its calls
-pub want_ends : (IsRun : List ℕ → List Section → History → Type 0) (form : Option Form) (a b : Outside) (script : List Section) (seed : List ℕ)
-    → IsPrepared form a.source b.source a.seeds b.seeds script seed → b.sink ≡ a.sink → IsReplay IsRun form a b NoMemory
-want_ends IsRun form a b script seed prepared unwritten = replay_is IsRun form a b NoMemory (record {
-  asked = subst IsSome (sym prepared.seeded.said) refl;
-  quiet = prepared.read.quiet;
-  seeds = inr (seed, prepared.seeded);
-  unwritten = unwritten;
-})
+  -- a run that found no memory for its calls
+  pub want_ends : (script : List Section) (seed : List ℕ) → IsPrepared seeding a.source b.source a.seeds b.seeds script seed → b.sink ≡ a.sink
+      → IsReplay IsRun seeding a b NoMemory
+  want_ends script seed prepared unwritten = replay_is NoMemory (record {
+    quiet = prepared.read.quiet;
+    seeds = inr (seed, prepared.seeded);
+    unwritten = unwritten;
+  })
 
--- a run that told these entries and notes
-pub run_ends : (IsRun : List ℕ → List Section → History → Type 0) (form : Option Form) (a b : Outside) (script : List Section) (seed : List ℕ)
-    (told : PlacedShown) (notes : List Note) (status : Status) → IsPrepared form a.source b.source a.seeds b.seeds script seed
-    → TellsRun IsRun seed script told notes
-    → EndsLog (shown_log (entries_of told) ++ notes_text notes) a.sink b.sink status → IsReplay IsRun form a b status
-run_ends IsRun form a b script seed told notes status prepared ran h = ended status h
-  where
-    log : HasLog IsRun form a b (shown_log (entries_of told) ++ notes_text notes)
-    log = record {
-      script = script;
-      seed = seed;
-      prepared = prepared;
-      run = record {
+  -- a run that told these entries and notes
+  pub run_ends : (script : List Section) (seed : List ℕ) (told : PlacedShown) (notes : List Note) (status : Status)
+      → IsPrepared seeding a.source b.source a.seeds b.seeds script seed → TellsRun IsRun seed script told notes
+      → EndsLog (shown_log (entries_of told) ++ notes_text notes) a.sink b.sink status → IsReplay IsRun seeding a b status
+  run_ends script seed told notes status prepared ran h = ended status h
+    where
+      right : HasLog IsRun seeding a b (shown_log (entries_of told) ++ notes_text notes)
+      right = record {
+        input = prepared.input;
+        read = prepared.read;
+        script = script;
+        spelled = prepared.spelled;
+        seed = seed;
+        seeded = prepared.seeded;
         history = ran.history;
         run = ran.run;
         log = ap₂ (λ (lines : List ℕ) (ns : List Note). lines ++ notes_text ns) (told_log told ran.history ran.in_place) ran.noted;
-      };
-    }
+      }
 
-    ended : (status : Status) → EndsLog (shown_log (entries_of told) ++ notes_text notes) a.sink b.sink status → IsReplay IsRun form a b status
-    ended Done h = replay_is IsRun form a b Done (record { text = _; log = log; written = h })
-    ended WriteFault h = replay_is IsRun form a b WriteFault (record { text = _; log = log; written = h })
-    ended NoMemory h = want_ends IsRun form a b script seed prepared h
-    ended Usage h = absurd h
-    ended (BadLine line) h = absurd h
-    ended ReadFault h = absurd h
-    ended SeedFault h = absurd h
-    ended TooLong h = absurd h
+      ended : (status : Status) → EndsLog (shown_log (entries_of told) ++ notes_text notes) a.sink b.sink status → IsReplay IsRun seeding a b status
+      ended Done h = replay_is Done (record { text = _; right = right; written = h })
+      ended WriteFault h = replay_is WriteFault (record { text = _; right = right; written = h })
+      ended NoMemory h = want_ends script seed prepared h
+      ended Usage h = absurd h
+      ended (BadLine line) h = absurd h
+      ended ReadFault h = absurd h
+      ended SeedFault h = absurd h
+      ended TooLong h = absurd h

@@ -1,70 +1,62 @@
--- What a run did from what it met outside to what it leaves, by the status that it ends with.
-use Rattle.std.specs.Prelude.{◌≡◌, ◌⊎◌, ℕ, List, Option, Some, None, IsSome, Ok, Err}
-use Rattle.mount_model.specs.History.{History}
+-- What a run did from what it met outside to what it leaves, by the status that it ends with. IsText says which
+-- text it writes where it is done.
+use Rattle.std.specs.Prelude.{◌≡◌, ◌⊎◌, ℕ, List, Ok, Err}
 use Rattle.script_lang.specs.declared.commands.Section.{Section}
 use Rattle.script_lang.specs.Script.{parsed_script}
 use Rattle.fsc_outside.specs.Causes.{Rose}
 use Rattle.fsc_outside.specs.Input.{ReadWhole, ReadTooMuch}
+use Rattle.fsc_outside.specs.States.{SinkState}
 use Rattle.fsc_outside.specs.Whole.{GotWhole, GotPart}
 use Rattle.reply_text.specs.declared.status.Status.{Status}
 use Rattle.reply_text.specs.declared.status.Status.TheVariants.{Done, Usage, BadLine, ReadFault}
 use Rattle.reply_text.specs.declared.status.Status.TheVariants.{WriteFault, SeedFault, TooLong, NoMemory}
-use Rattle.fsc_tool.specs.declared.form.Form.{Form}
-use Rattle.fsc_tool.specs.declared.form.Form.TheVariants.{Unseeded}
+use Rattle.fsc_tool.specs.declared.form.Seeding.{Seeding}
+use Rattle.fsc_tool.specs.declared.form.Seeding.TheVariants.{Asked}
 use Rattle.fsc_tool.specs.Limits.{input_limits}
 use Rattle.fsc_tool.specs.Outside.{Outside}
 use Rattle.fsc_tool.specs.Seed.{FailedSeed, IsSeedOf}
-use Rattle.fsc_tool.specs.LogOfRun.{HasLog}
 
 -- a text that is a script
 abbrev pub IsScript : List ℕ → Type 0
 IsScript text = (script : List Section) × (parsed_script text ≡ Ok script)
 
--- the log was written whole
-pub record EndsDone (IsRun : List ℕ → List Section → History → Type 0)
-    (form : Option Form) (a b : Outside) : Type 0 where
+-- the text was written whole
+pub record EndsDone (IsText : List ℕ → Type 0) (old new : SinkState) : Type 0 where
   pub text : List ℕ
-  pub log : HasLog IsRun form a b text
-  pub written : GotWhole a.sink b.sink text
+  pub right : IsText text
+  pub written : GotWhole old new text
 
--- the sink failed short of the log's end
-pub record EndsWriteFault (IsRun : List ℕ → List Section → History → Type 0)
-    (form : Option Form) (a b : Outside) : Type 0 where
+-- the sink failed short of the text's end
+pub record EndsWriteFault (IsText : List ℕ → Type 0) (old new : SinkState) : Type 0 where
   pub text : List ℕ
-  pub log : HasLog IsRun form a b text
-  pub written : GotPart a.sink b.sink text
+  pub right : IsText text
+  pub written : GotPart old new text
 
--- the words are no form, and nothing was called
-pub record EndsUsage (form : Option Form) (a b : Outside) : Type 0 where
-  pub no_form : form ≡ None
-  pub still : b ≡ a
-
--- the words are a form; nothing was written, and no seed asked for
-pub record EndsEarly (form : Option Form) (a b : Outside) : Type 0 where
-  pub asked : IsSome form
+-- nothing was written, and no seed asked for
+pub record EndsEarly (a b : Outside) : Type 0 where
   pub unwritten : b.sink ≡ a.sink
   pub unasked : b.seeds ≡ a.seeds
 
 -- a call of the source failed
-pub record EndsReadFault (form : Option Form) (a b : Outside) : Type 0 where
-  pub early : EndsEarly form a b
+pub record EndsReadFault (a b : Outside) : Type 0 where
+  pub early : EndsEarly a b
   pub cause : Rose a.source.faults b.source.faults
 
 -- the source gave more than the limits allow
-pub record EndsTooLong (form : Option Form) (a b : Outside) : Type 0 where
-  pub early : EndsEarly form a b
+pub record EndsTooLong (a b : Outside) : Type 0 where
+  pub early : EndsEarly a b
   pub much : ReadTooMuch input_limits a.source b.source
 
 -- the line is the first outside the grammar
-pub record EndsBadLine (line : ℕ) (form : Option Form) (a b : Outside) : Type 0 where
-  pub early : EndsEarly form a b
+pub record EndsBadLine (line : ℕ) (a b : Outside) : Type 0 where
+  pub early : EndsEarly a b
   pub input : List ℕ
   pub read : ReadWhole input_limits a.source b.source input
   pub bad : parsed_script input ≡ Err line
 
 -- the words give no seed, the source gave a script, and the seed source failed; nothing was written
-pub record EndsSeedFault (form : Option Form) (a b : Outside) : Type 0 where
-  pub asked : form ≡ Some Unseeded
+pub record EndsSeedFault (seeding : Seeding) (a b : Outside) : Type 0 where
+  pub asked : seeding ≡ Asked
   pub input : List ℕ
   pub read : ReadWhole input_limits a.source b.source input
   pub script : IsScript input
@@ -72,20 +64,25 @@ pub record EndsSeedFault (form : Option Form) (a b : Outside) : Type 0 where
   pub unwritten : b.sink ≡ a.sink
 
 -- there was no memory, before the seed was taken or after; nothing failed, and nothing was written
-pub record EndsNoMemory (form : Option Form) (a b : Outside) : Type 0 where
-  pub asked : IsSome form
+pub record EndsNoMemory (seeding : Seeding) (a b : Outside) : Type 0 where
   pub quiet : b.source.faults ≡ a.source.faults
-  pub seeds : (b.seeds ≡ a.seeds) ⊎ ((seed : List ℕ) × IsSeedOf form a.seeds b.seeds seed)
+  pub seeds : (b.seeds ≡ a.seeds) ⊎ ((seed : List ℕ) × IsSeedOf seeding a.seeds b.seeds seed)
   pub unwritten : b.sink ≡ a.sink
 
--- what the status means of a run in the form that the words are, if they are one
-abbrev pub Ends : (List ℕ → List Section → History → Type 0)
-    → Option Form → Outside → Outside → Status → Type 0
-Ends IsRun form a b Done = EndsDone IsRun form a b
-Ends IsRun form a b Usage = EndsUsage form a b
-Ends IsRun form a b (BadLine line) = EndsBadLine line form a b
-Ends IsRun form a b ReadFault = EndsReadFault form a b
-Ends IsRun form a b WriteFault = EndsWriteFault IsRun form a b
-Ends IsRun form a b SeedFault = EndsSeedFault form a b
-Ends IsRun form a b TooLong = EndsTooLong form a b
-Ends IsRun form a b NoMemory = EndsNoMemory form a b
+-- what the status means of a run that reads a script; it is never Usage
+abbrev pub Ends : (List ℕ → Type 0) → Seeding → Outside → Outside → Status → Type 0
+Ends IsText seeding a b Done = EndsDone IsText a.sink b.sink
+Ends IsText seeding a b Usage = ⊥
+Ends IsText seeding a b (BadLine line) = EndsBadLine line a b
+Ends IsText seeding a b ReadFault = EndsReadFault a b
+Ends IsText seeding a b WriteFault = EndsWriteFault IsText a.sink b.sink
+Ends IsText seeding a b SeedFault = EndsSeedFault seeding a b
+Ends IsText seeding a b TooLong = EndsTooLong a b
+Ends IsText seeding a b NoMemory = EndsNoMemory seeding a b
+
+-- what it means of a run that reads nothing
+abbrev pub EndsUnread : (List ℕ → Type 0) → SinkState → SinkState → Status → Type 0
+EndsUnread IsText old new Done = EndsDone IsText old new
+EndsUnread IsText old new WriteFault = EndsWriteFault IsText old new
+EndsUnread IsText old new NoMemory = new ≡ old
+EndsUnread IsText old new other = ⊥

@@ -1,29 +1,55 @@
--- The words of the command line: `replay` or `replay --serial`, with `--seed HEX64` behind it or without.
-use Rattle.std.specs.Prelude.{ℕ, List, [], ◌∷◌, ◌&&◌, Bool, codes, Option, Some, None, if◌then◌else◌}
-use Rattle.std.specs.Option.{option_map}
+-- What the words of the command line ask for. `replay` or `replay --serial`, alone or with `--seed HEX64`
+-- behind; `gen NUMBER` or `gen NUMBER --summary`, where the number is a decimal numeral below 2^32.
+use Rattle.std.specs.Prelude.{ℕ, List, [], ◌∷◌, ◌^◌, codes, Option, Some, None, if◌then◌else◌}
+use Rattle.std.specs.Option.{option_map, option_and_then}
 use Rattle.std.specs.Str.{bytes_eq}
 use Rattle.text_words.specs.Digits.{hex_bytes_of_length}
-use Rattle.fsc_tool.specs.declared.form.Form.{Form}
-use Rattle.fsc_tool.specs.declared.form.Form.TheVariants.{Seeded, Unseeded}
+use Rattle.text_words.specs.Numbers.{number_below}
+use Rattle.fsc_tool.specs.declared.form.Way.{Way}
+use Rattle.fsc_tool.specs.declared.form.Way.TheVariants.{InTurn, InThreads}
+use Rattle.fsc_tool.specs.declared.form.Seeding.{Seeding}
+use Rattle.fsc_tool.specs.declared.form.Seeding.TheVariants.{Given, Asked}
+use Rattle.fsc_tool.specs.declared.form.ToolForm.{ToolForm}
+use Rattle.fsc_tool.specs.declared.form.ToolForm.TheVariants.{Replay, Generate, Summarise}
 
--- whether two words ask for a serial replay
-abbrev pub is_serial_replay : List ℕ → List ℕ → Bool
-is_serial_replay verb serial = bytes_eq verb (codes "replay") && bytes_eq serial (codes "--serial")
+-- where the seed comes from: no word, or `--seed` and 32 bytes in 64 digits of either case
+abbrev pub seeding_of : List (List ℕ) → Option Seeding
+seeding_of [] = Some Asked
+seeding_of (name ∷ digits ∷ []) =
+    if bytes_eq name (codes "--seed") then option_map Given (hex_bytes_of_length 32 digits) else None
+seeding_of _ = None
 
--- the form that the words behind those of the run make: without a seed, or with 32 bytes in 64 digits of
--- either case
-abbrev pub form_behind : List (List ℕ) → Option Form
-form_behind [] = Some Unseeded
-form_behind (name ∷ digits ∷ []) =
-    if bytes_eq name (codes "--seed") then option_map Seeded (hex_bytes_of_length 32 digits) else None
-form_behind _ = None
+abbrev pub replayed : Way → Option Seeding → Option ToolForm
+replayed way None = None
+replayed way (Some seeding) = Some (Replay way seeding)
 
--- the form of a run in rotation that the words are, where they are one
-abbrev pub serial_form_of : List (List ℕ) → Option Form
-serial_form_of (verb ∷ serial ∷ words) = if is_serial_replay verb serial then form_behind words else None
-serial_form_of _ = None
+-- behind `replay`
+abbrev pub replay_of : List (List ℕ) → Option ToolForm
+replay_of [] = replayed InThreads (Some Asked)
+replay_of (word ∷ words) =
+    if bytes_eq word (codes "--serial") then replayed InTurn (seeding_of words)
+    else replayed InThreads (seeding_of (word ∷ words))
 
--- the form of a run in threads that the words are, where they are one
-abbrev pub threads_form_of : List (List ℕ) → Option Form
-threads_form_of (verb ∷ words) = if bytes_eq verb (codes "replay") then form_behind words else None
-threads_form_of [] = None
+-- behind `gen` and the number
+abbrev pub generated_behind : List (List ℕ) → ℕ → Option ToolForm
+generated_behind [] number = Some (Generate number)
+generated_behind (word ∷ []) number = if bytes_eq word (codes "--summary") then Some (Summarise number) else None
+generated_behind _ number = None
+
+-- behind `gen`
+abbrev pub generated_of : List (List ℕ) → Option ToolForm
+generated_of [] = None
+generated_of (number ∷ words) = option_and_then (generated_behind words) (number_below (2 ^ 32) number)
+
+-- what the words ask for, where they are a form
+abbrev pub form_of : List (List ℕ) → Option ToolForm
+form_of [] = None
+form_of (verb ∷ words) =
+    if bytes_eq verb (codes "replay") then replay_of words
+    else if bytes_eq verb (codes "gen") then generated_of words
+    else None
+
+-- the same for a tool that starts no thread
+abbrev pub without_threads : Option ToolForm → Option ToolForm
+without_threads (Some (Replay InThreads seeding)) = None
+without_threads other = other

@@ -5,16 +5,13 @@ use Rattle.mount_model.specs.History.{History, IsLegal, NeverWantsMemory}
 use Rattle.script_lang.specs.declared.commands.Section.{Section}
 use Rattle.load_gen.specs.Generated.{generated, generated_script}
 use Rattle.fsc_outside.specs.Causes.{Rose}
-use Rattle.fsc_outside.specs.States.{SinkState}
-use Rattle.fsc_outside.specs.Whole.{GotWhole, GotPart}
 use Rattle.reply_text.specs.Log.{log_text}
 use Rattle.reply_text.specs.Notes.{notes_text}
 use Rattle.reply_text.specs.declared.status.Status.{Status}
-use Rattle.reply_text.specs.declared.status.Status.TheVariants.{Done, WriteFault, NoMemory}
+use Rattle.reply_text.specs.declared.status.Status.TheVariants.{Done}
 use Rattle.fsc_session.specs.Session.{notes_of}
 use Rattle.fsc_session.specs.Serial.{serial_history}
-use Rattle.fsc_tool.specs.declared.gen_form.GenForm.{GenForm}
-use Rattle.fsc_tool.specs.declared.gen_form.GenForm.TheVariants.{Script, Summary}
+use Rattle.fsc_tool.specs.Ends.{EndsUnread}
 use Rattle.fsc_tool.specs.Outside.{Outside}
 use Rattle.fsc_tool.specs.Replay.{IsOrNoMemory}
 use Rattle.fsc_tool.specs.Runs.{IsSerialRun}
@@ -39,24 +36,14 @@ pub record SummaryOfRun (lawful : History → Type 0) (number : ℕ) (text : Lis
   pub fixed : IsLegal history → text ≡ run_summary zero_seed (generated_script number)
       (serial_history zero_seed (generated_script number))
 
--- the text that the form asks for
-abbrev pub IsAskedText : (History → Type 0) → GenForm → List ℕ → Type 0
-IsAskedText lawful (Script number) text = text ≡ generated number
-IsAskedText lawful (Summary number) text = SummaryOfRun lawful number text
+-- the text is the script that the number gives
+abbrev pub IsScriptText : ℕ → List ℕ → Type 0
+IsScriptText number text = text ≡ generated number
 
--- the text was written whole, the sink failed short of its end, or there was no memory and nothing was
--- written
-abbrev pub EndsGen : (History → Type 0) → GenForm → SinkState → SinkState → Status → Type 0
-EndsGen lawful form old new Done = (text : List ℕ) × IsAskedText lawful form text × GotWhole old new text
-EndsGen lawful form old new WriteFault = (text : List ℕ) × IsAskedText lawful form text × GotPart old new text
-EndsGen lawful form old new NoMemory = new ≡ old
-EndsGen lawful form old new other = ⊥
-
--- a run in a form that generates
-pub record IsGenRun (lawful : History → Type 0) (form : GenForm) (a b : Outside) (status : Status)
-    : Type 0 where
+-- a run that reads nothing and writes such a text
+pub record IsGenRun (IsText : List ℕ → Type 0) (a b : Outside) (status : Status) : Type 0 where
   -- what the status means, with its cause
-  pub ends : EndsGen lawful form a.sink b.sink status
+  pub ends : EndsUnread IsText a.sink b.sink status
   -- nothing is read, and no seed asked for
   pub unread : b.source ≡ a.source
   pub unasked : b.seeds ≡ a.seeds

@@ -2,7 +2,6 @@ pub mod Ends
 pub mod Faults
 pub mod Forms
 pub mod Gen
-pub mod GenForms
 pub mod Limits
 pub mod LogOfRun
 pub mod Outside

@@ -1,32 +1,33 @@
 -- The theorem of the tool: what holds of a run in any form of the words.
-use Rattle.std.specs.Prelude.{◌≡◌, ◌↔◌, ℕ, List, Some, None, IsSome}
+use Rattle.std.specs.Prelude.{◌≡◌, ◌↔◌, ℕ, List, Option, Some, None}
 use Rattle.mount_model.specs.History.{History}
 use Rattle.reply_text.specs.declared.status.Status.{Status}
 use Rattle.reply_text.specs.declared.status.Status.TheVariants.{Usage}
-use Rattle.fsc_tool.specs.declared.gen_form.GenForm.{GenForm}
-use Rattle.fsc_tool.specs.Forms.{serial_form_of, threads_form_of}
-use Rattle.fsc_tool.specs.Gen.{IsGenRun}
-use Rattle.fsc_tool.specs.GenForms.{gen_form_of}
+use Rattle.fsc_tool.specs.declared.form.Way.TheVariants.{InTurn, InThreads}
+use Rattle.fsc_tool.specs.declared.form.ToolForm.{ToolForm}
+use Rattle.fsc_tool.specs.declared.form.ToolForm.TheVariants.{Replay, Generate, Summarise}
+use Rattle.fsc_tool.specs.Forms.{form_of, without_threads}
+use Rattle.fsc_tool.specs.Gen.{IsGenRun, IsScriptText, SummaryOfRun}
 use Rattle.fsc_tool.specs.Outside.{Outside}
 use Rattle.fsc_tool.specs.Replay.{IsReplay}
 use Rattle.fsc_tool.specs.Runs.{IsLawfulRun, IsSerialRun}
 
--- what is generated where the words say so, and otherwise a run in rotation
-pub record IsSerialToolRun (lawful : History → Type 0) (words : List (List ℕ)) (a b : Outside) (status : Status)
-    : Type 0 where
-  pub generates : (form : GenForm) → gen_form_of words ≡ Some form → IsGenRun lawful form a b status
-  pub replays : gen_form_of words ≡ None → IsReplay (IsSerialRun lawful) (serial_form_of words) a b status
-  -- Usage comes exactly where the words are no form of either
-  pub usage : (status ≡ Usage) ↔ (gen_form_of words ≡ None) × (serial_form_of words ≡ None)
+-- a run in this form: an equation a form. Without one nothing is called
+abbrev pub IsRunIn : (History → Type 0) → Option ToolForm → Outside → Outside → Status → Type 0
+IsRunIn lawful None a b status = (status ≡ Usage) × (b ≡ a)
+IsRunIn lawful (Some (Replay InTurn seeding)) a b status = IsReplay (IsSerialRun lawful) seeding a b status
+IsRunIn lawful (Some (Replay InThreads seeding)) a b status = IsReplay (IsLawfulRun lawful) seeding a b status
+IsRunIn lawful (Some (Generate number)) a b status = IsGenRun (IsScriptText number) a b status
+IsRunIn lawful (Some (Summarise number)) a b status = IsGenRun (SummaryOfRun lawful number) a b status
 
--- a run in rotation where the words say so, what is generated where they say that, and otherwise a run in
--- threads
+-- a run in the form that the words are; Usage comes exactly where they are none
 pub record IsToolRun (lawful : History → Type 0) (words : List (List ℕ)) (a b : Outside) (status : Status)
     : Type 0 where
-  pub generates : (form : GenForm) → gen_form_of words ≡ Some form → IsGenRun lawful form a b status
-  pub serial : IsSome (serial_form_of words) → IsReplay (IsSerialRun lawful) (serial_form_of words) a b status
-  pub threads : gen_form_of words ≡ None → serial_form_of words ≡ None
-      → IsReplay (IsLawfulRun lawful) (threads_form_of words) a b status
-  -- Usage comes exactly where the words are no form of any of them
-  pub usage : (status ≡ Usage)
-      ↔ (gen_form_of words ≡ None) × (serial_form_of words ≡ None) × (threads_form_of words ≡ None)
+  pub run : IsRunIn lawful (form_of words) a b status
+  pub usage : (status ≡ Usage) ↔ (form_of words ≡ None)
+
+-- the same of a tool that starts no thread
+pub record IsSerialToolRun (lawful : History → Type 0) (words : List (List ℕ)) (a b : Outside) (status : Status)
+    : Type 0 where
+  pub run : IsRunIn lawful (without_threads (form_of words)) a b status
+  pub usage : (status ≡ Usage) ↔ (without_threads (form_of words) ≡ None)

@@ -1,55 +1,100 @@
 //! The words of the command line.
 
-ghost use Rattle.std.specs.Prelude.{◌≡◌, ℕ, List, map, Option, string_bytes, codes, ◌&&◌};
+ghost use Rattle.std.specs.Prelude.{◌≡◌, map, string_bytes};
 ghost use Rattle.text_words.specs.Digits.{hex_bytes_of_length};
-ghost use Rattle.fsc_tool.specs.Forms.{form_behind, is_serial_replay, serial_form_of, threads_form_of};
+ghost use Rattle.fsc_tool.specs.Forms as spec;
+ghost use Rattle.fsc_tool.specs.Forms.{form_of, generated_behind, generated_of, replay_of, seeding_of};
 
-use text_words::hex_bytes_into;
+use text_words::{decimal_value, hex_bytes_into};
+
+/// How the callers of a script run.
+#[derive(Clone, Copy)]
+pub(crate) enum Way {
+    /// They take turns, command by command.
+    InTurn,
+    /// Each runs in a thread of its own.
+    InThreads,
+}
 
 /// Where a run's seed comes from.
 #[derive(Clone, Copy)]
-pub(crate) enum Form {
-    /// `--seed HEX64`, which gives the seed.
-    Seeded([u8; 32]),
-    /// No word of it. The seed source gives the seed.
-    Unseeded,
+pub(crate) enum Seeding {
+    /// The words give it: `--seed HEX64`.
+    Given([u8; 32]),
+    /// No word does. The seed source gives it.
+    Asked,
 }
 
-// The form of a run in rotation that the words are; none for other words.
-pub(crate) fn read_serial_form(words: &Vec<String>) -> Option<Form>
-    ensures { result ≡ serial_form_of (map string_bytes words.now.items) }
-{
-    if words.len() < 2 {
-        return None;
-    }
-    if !is_serial_replay(words[0].as_str(), words[1].as_str()) {
-        return None;
-    }
-    read_form_behind(&words[2..])
+/// What the words ask for.
+#[derive(Clone, Copy)]
+pub(crate) enum ToolForm {
+    /// To replay the script that the source gives.
+    Replay { way: Way, seeding: Seeding },
+    /// To write the script that the number gives.
+    Generate(u32),
+    /// To write the summary of a run of it.
+    Summarise(u32),
 }
 
-// The form of a run in threads that the words are; none for other words.
-pub(crate) fn read_threads_form(words: &Vec<String>) -> Option<Form>
-    ensures { result ≡ threads_form_of (map string_bytes words.now.items) }
-{
-    if words.is_empty() || words[0].as_str() != "replay" {
-        return None;
-    }
-    read_form_behind(&words[1..])
-}
-
-fn is_serial_replay(verb: &str, serial: &str) -> bool
-    ensures { result ≡ is_serial_replay verb.now serial.now }
-{
-    verb == "replay" && serial == "--serial"
-}
-
-// The form that the words behind those of the run make.
-fn read_form_behind(words: &[String]) -> Option<Form>
-    ensures { result ≡ form_behind (map string_bytes words.now) }
+// What the words ask for; none where they are no form.
+pub(crate) fn read_form(words: &[String]) -> Option<ToolForm>
+    ensures { result ≡ form_of (map string_bytes words.now) }
 {
     if words.is_empty() {
-        return Some(Form::Unseeded);
+        return None;
+    }
+    if words[0].as_str() == "replay" {
+        return read_replay(&words[1..]);
+    }
+    if words[0].as_str() == "gen" {
+        return read_generated(&words[1..]);
+    }
+    None
+}
+
+// The form without threads: one in which callers run in threads is none.
+pub(crate) fn without_threads(form: Option<ToolForm>) -> Option<ToolForm>
+    ensures { result ≡ spec.without_threads form }
+{
+    match form {
+        Some(
+            ToolForm::Replay {
+                way: Way::InThreads,
+                seeding: _,
+            },
+        ) => None,
+        other => other,
+    }
+}
+
+// The form that the words behind `replay` make.
+fn read_replay(words: &[String]) -> Option<ToolForm>
+    ensures { result ≡ replay_of (map string_bytes words.now) }
+{
+    if words.is_empty() {
+        return replayed(Way::InThreads, Some(Seeding::Asked));
+    }
+    if words[0].as_str() == "--serial" {
+        return replayed(Way::InTurn, read_seeding(&words[1..]));
+    }
+    replayed(Way::InThreads, read_seeding(words))
+}
+
+fn replayed(way: Way, seeding: Option<Seeding>) -> Option<ToolForm>
+    ensures { result ≡ spec.replayed way seeding }
+{
+    match seeding {
+        Some(seeding) => Some(ToolForm::Replay { way, seeding }),
+        None => None,
+    }
+}
+
+// Where the words behind those of the run say that the seed comes from.
+fn read_seeding(words: &[String]) -> Option<Seeding>
+    ensures { result ≡ seeding_of (map string_bytes words.now) }
+{
+    if words.is_empty() {
+        return Some(Seeding::Asked);
     }
     if words.len() != 2 {
         return None;
@@ -57,7 +102,7 @@ fn read_form_behind(words: &[String]) -> Option<Form>
     if words[0].as_str() != "--seed" {
         return None;
     }
-    read_seed(words[1].as_bytes()).map(Form::Seeded)
+    read_seed(words[1].as_bytes()).map(Seeding::Given)
 }
 
 // The 32 bytes that 64 digits spell.
@@ -69,4 +114,33 @@ fn read_seed(digits: &[u8]) -> Option<[u8; 32]>
         return None;
     }
     Some(seed)
+}
+
+// The form that the words behind `gen` make.
+fn read_generated(words: &[String]) -> Option<ToolForm>
+    ensures { result ≡ generated_of (map string_bytes words.now) }
+{
+    if words.is_empty() {
+        return None;
+    }
+    match decimal_value(words[0].as_bytes()) {
+        Some(number) => read_behind_number(&words[1..], number),
+        None => None,
+    }
+}
+
+// The form that the words behind the number make.
+fn read_behind_number(words: &[String], number: u32) -> Option<ToolForm>
+    ensures { result ≡ generated_behind (map string_bytes words.now) number }
+{
+    if words.is_empty() {
+        return Some(ToolForm::Generate(number));
+    }
+    if words.len() != 1 {
+        return None;
+    }
+    if words[0].as_str() != "--summary" {
+        return None;
+    }
+    Some(ToolForm::Summarise(number))
 }

@@ -1,9 +1,10 @@
 //! The runs of the forms that generate a script. They ask neither the source nor the seed source.
 
 ghost use Rattle.std.specs.Prelude.{◌≡◌, [], IfOk};
-ghost use Rattle.fsc_tool.specs.Gen.{EndsGen, IsAskedText, SummaryOfRun, zero_seed};
+ghost use Rattle.fsc_tool.specs.Ends.{EndsUnread};
+ghost use Rattle.fsc_tool.specs.Gen.{IsScriptText, SummaryOfRun, zero_seed};
+ghost use Rattle.fsc_tool.specs.Written.{EndsLog};
 
-use crate::gen_form::GenForm;
 use crate::replay::{history_of, whole_log};
 use crate::rotation::run_in_rotation;
 use crate::summary::{summary_text, wants_memory};
@@ -15,46 +16,40 @@ use mount_shared::MountMachine;
 use reply_text::Status;
 use std::alloc::{AllocError, Global};
 
-// Writes what the form asks for into the sink, once it stands whole, and tells how the run ends.
-pub(crate) fn run_generated<K: Sink, G: Gate, M: MountMachine>(
+// Writes the script that the number gives into the sink, once it stands whole, and tells how the run ends.
+pub(crate) fn run_generating<K: Sink>(alloc: Global, number: u32, sink: &mut K) -> Status
+    ensures { EndsUnread (IsScriptText number) (K.state sink.old) (K.state sink.new) result }
+{
+    match generate(alloc, number) {
+        Ok(text) => write_text(text, sink),
+        Err(_) => Status::NoMemory,
+    }
+}
+
+// The same of the summary of a run of it.
+pub(crate) fn run_summarising<K: Sink, G: Gate, M: MountMachine>(
     alloc: Global,
-    form: GenForm,
+    number: u32,
     sink: &mut K,
     gate: &G,
     machine: M,
 ) -> Status
     requires { M.leads [] machine }
-    ensures { EndsGen M.lawful form (K.state sink.old) (K.state sink.new) result }
+    ensures { EndsUnread (SummaryOfRun M.lawful number) (K.state sink.old) (K.state sink.new) result }
 {
-    let text = match asked_text(alloc, form, gate, machine) {
-        Ok(text) => text,
-        Err(_) => return Status::NoMemory,
-    };
-    match write_all(sink, text.as_slice()) {
-        Ok(()) => Status::Done,
-        Err(_) => Status::WriteFault,
+    match summary_of(alloc, number, gate, machine) {
+        Ok(text) => write_text(text, sink),
+        Err(_) => Status::NoMemory,
     }
 }
 
-// What the form asks for.
-fn asked_text<G: Gate, M: MountMachine>(
-    alloc: Global,
-    form: GenForm,
-    gate: &G,
-    machine: M,
-) -> Result<Bytes, AllocError>
-    requires { M.leads [] machine }
-    ensures { IfOk result (λ text. IsAskedText M.lawful form text) }
+// Writes a text into the sink, and tells how the run ends.
+fn write_text<K: Sink>(text: Bytes, sink: &mut K) -> Status
+    ensures { EndsLog text (K.state sink.old) (K.state sink.new) result }
 {
-    match form {
-        GenForm::Script(number) => {
-            let text = generate(alloc, number)?;
-            Ok(text)
-        }
-        GenForm::Summary(number) => {
-            let text = summary_of(alloc, number, gate, machine)?;
-            Ok(text)
-        }
+    match write_all(sink, text.as_slice()) {
+        Ok(()) => Status::Done,
+        Err(_) => Status::WriteFault,
     }
 }
 

@@ -2,7 +2,6 @@
 #![tactic(auto)]
 
 mod form;
-mod gen_form;
 mod gen_runs;
 mod limits;
 mod replay;

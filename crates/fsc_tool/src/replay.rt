@@ -10,11 +10,11 @@ ghost use Rattle.script_lang.specs.Spelled.{IsSpelled};
 ghost use Rattle.fsc_tool.specs.Ends.{Ends};
 ghost use Rattle.fsc_tool.specs.Faults.{input_status, script_status};
 ghost use Rattle.fsc_tool.specs.Outside.{outside};
-ghost use Rattle.fsc_tool.specs.Prepared.{IsPrepared, NoRun};
+ghost use Rattle.fsc_tool.specs.Prepared.{IsPrepared, NoText};
 ghost use Rattle.fsc_tool.specs.Written.{EndsLog};
 
 use crate::PlacedVec;
-use crate::form::Form;
+use crate::form::Seeding;
 use crate::limits::INPUT_LIMITS;
 use crate::seed::take_seed;
 use crate::told::Told;
@@ -33,25 +33,21 @@ pub(crate) struct Prepared {
     pub(crate) seed: [u8; 32],
 }
 
-// The script that the source gives and the seed of a run in this form, or else the status with which the
-// run ends before its first call.
+// The script that the source gives and the seed of the run, or else the status with which it ends before its
+// first call.
 pub(crate) fn prepare<S: Source, E: SeedSource>(
     alloc: Global,
-    form: Option<Form>,
+    seeding: Seeding,
     source: &mut S,
     seeds: &mut E,
 ) -> Result<Prepared, Status>
-    ensures prepared { IfOk result (λ run. IsPrepared form (S.state source.old) (S.state source.new)
+    ensures prepared { IfOk result (λ run. IsPrepared seeding (S.state source.old) (S.state source.new)
         (E.state seeds.old) (E.state seeds.new) run.script run.seed) }
     ensures spelled { IfOk result (λ run. IsSpelled run.script) }
     ensures ended { IfErr result (λ status. (sink : SinkState)
-        → Ends NoRun form (outside (S.state source.old) sink (E.state seeds.old))
+        → Ends NoText seeding (outside (S.state source.old) sink (E.state seeds.old))
         (outside (S.state source.new) sink (E.state seeds.new)) status) }
 {
-    let form = match form {
-        Some(form) => form,
-        None => return Err(Status::Usage),
-    };
     let input = match read_all(alloc, source, INPUT_LIMITS) {
         Ok(input) => input,
         Err(fault) => return Err(input_status(fault)),
@@ -60,7 +56,7 @@ pub(crate) fn prepare<S: Source, E: SeedSource>(
         Ok(script) => script,
         Err(fault) => return Err(script_status(fault)),
     };
-    let seed = match take_seed(form, seeds) {
+    let seed = match take_seed(seeding, seeds) {
         Ok(seed) => seed,
         Err(_) => return Err(Status::SeedFault),
     };

@@ -6,9 +6,8 @@ ghost use Rattle.fsc_tool.specs.Replay.{IsReplay};
 ghost use Rattle.fsc_tool.specs.Runs.{IsLawfulRun, IsSerialRun};
 ghost use Rattle.fsc_tool.specs.Tool.{IsSerialToolRun, IsToolRun};
 
-use crate::form::{Form, read_serial_form, read_threads_form};
-use crate::gen_form::read_gen_form;
-use crate::gen_runs::run_generated;
+use crate::form::{Seeding, ToolForm, Way, read_form, without_threads};
+use crate::gen_runs::{run_generating, run_summarising};
 use crate::replay::{finish, prepare};
 use crate::rotation::run_in_rotation;
 use crate::threads::run_in_threads;
@@ -51,15 +50,21 @@ pub fn tool<
         let after = outside (S.state source.new) (K.state sink.new) (E.state seeds.new) in
         IsToolRun M.lawful (map string_bytes words.now.items) before after result }
 {
-    if let Some(form) = read_gen_form(words) {
-        return run_generated(alloc, form, sink, gate, machine);
+    let Some(form) = read_form(words) else {
+        return Status::Usage;
+    };
+    match form {
+        ToolForm::Replay {
+            way: Way::InTurn,
+            seeding,
+        } => replay_in_rotation(alloc, seeding, source, sink, seeds, gate, machine),
+        ToolForm::Replay {
+            way: Way::InThreads,
+            seeding,
+        } => replay_in_threads(rt, alloc, seeding, source, sink, seeds, gate, machine),
+        ToolForm::Generate(number) => run_generating(alloc, number, sink),
+        ToolForm::Summarise(number) => run_summarising(alloc, number, sink, gate, machine),
     }
-    let serial = read_serial_form(words);
-    if serial.is_some() {
-        return replay_in_rotation(alloc, serial, source, sink, seeds, gate, machine);
-    }
-    let form = read_threads_form(words);
-    replay_in_threads(rt, alloc, form, source, sink, seeds, gate, machine)
 }
 
 /// Replays the script that the source gives on the machine, which no call was made on, and writes its
@@ -84,17 +89,22 @@ pub fn tool_serial<S: Source, K: Sink, E: SeedSource, M: MountMachine>(
         let after = outside (S.state source.new) (K.state sink.new) (E.state seeds.new) in
         IsSerialToolRun M.lawful (map string_bytes words.now.items) before after result }
 {
-    if let Some(form) = read_gen_form(words) {
-        return run_generated(alloc, form, sink, &OpenGate, machine);
+    let Some(form) = without_threads(read_form(words)) else {
+        return Status::Usage;
+    };
+    match form {
+        ToolForm::Replay { way: _, seeding } => {
+            replay_in_rotation(alloc, seeding, source, sink, seeds, &OpenGate, machine)
+        }
+        ToolForm::Generate(number) => run_generating(alloc, number, sink),
+        ToolForm::Summarise(number) => { run_summarising(alloc, number, sink, &OpenGate, machine) }
     }
-    let form = read_serial_form(words);
-    replay_in_rotation(alloc, form, source, sink, seeds, &OpenGate, machine)
 }
 
-// A replay in this form whose callers take turns.
+// A replay whose callers take turns.
 fn replay_in_rotation<S: Source, K: Sink, E: SeedSource, G: Gate, M: MountMachine>(
     alloc: Global,
-    form: Option<Form>,
+    seeding: Seeding,
     source: &mut S,
     sink: &mut K,
     seeds: &mut E,
@@ -104,9 +114,9 @@ fn replay_in_rotation<S: Source, K: Sink, E: SeedSource, G: Gate, M: MountMachin
     requires { M.leads [] machine }
     ensures { let before = outside (S.state source.old) (K.state sink.old) (E.state seeds.old) in
         let after = outside (S.state source.new) (K.state sink.new) (E.state seeds.new) in
-        IsReplay (IsSerialRun M.lawful) form before after result }
+        IsReplay (IsSerialRun M.lawful) seeding before after result }
 {
-    let run = match prepare(alloc, form, source, seeds) {
+    let run = match prepare(alloc, seeding, source, seeds) {
         Ok(run) => run,
         Err(status) => return status,
     };
@@ -117,7 +127,7 @@ fn replay_in_rotation<S: Source, K: Sink, E: SeedSource, G: Gate, M: MountMachin
     finish(alloc, told, sink)
 }
 
-// A replay in this form whose callers run in threads.
+// A replay whose callers run in threads.
 fn replay_in_threads<
     R: Threads + Wait + Sync,
     S: Source,
@@ -128,7 +138,7 @@ fn replay_in_threads<
 >(
     rt: &R,
     alloc: Global,
-    form: Option<Form>,
+    seeding: Seeding,
     source: &mut S,
     sink: &mut K,
     seeds: &mut E,
@@ -138,9 +148,9 @@ fn replay_in_threads<
     requires { M.leads [] machine }
     ensures { let before = outside (S.state source.old) (K.state sink.old) (E.state seeds.old) in
         let after = outside (S.state source.new) (K.state sink.new) (E.state seeds.new) in
-        IsReplay (IsLawfulRun M.lawful) form before after result }
+        IsReplay (IsLawfulRun M.lawful) seeding before after result }
 {
-    let run = match prepare(alloc, form, source, seeds) {
+    let run = match prepare(alloc, seeding, source, seeds) {
         Ok(run) => run,
         Err(status) => return status,
     };
