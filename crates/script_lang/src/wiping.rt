@@ -46,12 +46,20 @@ fn wipe_verb(alloc: Global, verb: &mut Verb)
         Verb::Write { bytes, .. } => wipe_bytes(alloc, bytes),
         Verb::MetaPut { bytes, .. } => wipe_bytes(alloc, bytes),
         Verb::Protector { secret, .. } => wipe_new_secret(alloc, secret),
-        Verb::ProtectorChange { secret, new_secret, .. } => {
+        Verb::ProtectorChange {
+            secret,
+            new_secret,
+            ..
+        } => {
             wipe_secret(alloc, secret);
             wipe_new_secret(alloc, new_secret);
         }
         Verb::PolicyNew { secret, .. } => wipe_secret(alloc, secret),
-        Verb::PolicyAdd { secret, added_secret, .. } => {
+        Verb::PolicyAdd {
+            secret,
+            added_secret,
+            ..
+        } => {
             wipe_secret(alloc, secret);
             wipe_secret(alloc, added_secret);
         }
