@@ -1,5 +1,7 @@
 //! What is told of a command line that is no form: its first word at fault, and the remedy.
 
+ghost use Rattle.std.specs.Prelude.{◌<◌, length};
+
 use crate::bad_line::shown;
 use reply_text::Status;
 use std::io::IsTerminal;
@@ -18,6 +20,8 @@ const NO_WORDS: &str = "give a form: fsc replay < SCRIPT runs a script; fsc --he
 const SCRIPT_BY_INPUT: &str = "the script comes from standard input: fsc replay < FILE";
 
 const SEED_DIGITS: &str = "a seed is 64 hexadecimal digits";
+
+const DIGITS_OF_HALF_A_SEED: usize = 32;
 
 const NUMBER_OF_GEN: &str = "gen takes a number from 0 to 4294967295, without leading zeros";
 
@@ -39,8 +43,8 @@ pub(crate) fn tell_of_closed(rt: &HostRuntime) {
     );
 }
 
-/// Tells on standard error that the words of the command line are no form: the first at fault, but for a seed, and
-/// what to do.
+/// Tells on standard error that the words of the command line are no form: the first at fault by its number,
+/// the word itself unless it may be a seed, and what to do.
 pub(crate) fn advise_words(rt: &HostRuntime, words: &Vec<String>) {
     let _ = eprintln!(rt; "{}", Status::Usage);
     let Some(fault) = fault_of(words.as_slice()) else {
@@ -52,13 +56,25 @@ pub(crate) fn advise_words(rt: &HostRuntime, words: &Vec<String>) {
         return;
     }
     let number = fault.place + 1;
-    if fault.place > 0 && words[fault.place - 1].as_str() == "--seed" {
+    if may_be_seed(words.as_slice(), fault.place) {
         let _ = eprintln!(rt; "fsc: word {number}: {remedy}");
         return;
     }
     if let Ok(word) = shown(rt.alloc(), words[fault.place].as_bytes()) {
         let _ = eprintln!(rt; "fsc: word {number}, \"{word}\": {remedy}");
     }
+}
+
+// Whether the word may be a seed, or have one in it: it stands behind `--seed`, begins with `--seed=`, or has
+// as many hexadecimal digits as half a seed.
+fn may_be_seed(words: &[String], place: usize) -> bool
+    requires { place < length words.now }
+{
+    let word = words[place].as_str();
+    let is_digit = |byte: &&u8| byte.is_ascii_hexdigit();
+    place > 0 && words[place - 1].as_str() == "--seed"
+        || word.starts_with("--seed=")
+        || word.as_bytes().iter().filter(is_digit).count() >= DIGITS_OF_HALF_A_SEED
 }
 
 // The first word at fault; none where the words are a form.
