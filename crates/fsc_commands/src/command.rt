@@ -21,7 +21,9 @@ use script_lang::Verb;
 use std::alloc::{AllocError, Global};
 
 /// Runs a command, and puts what it asked and was replied behind the caller's other entries. A session's
-/// work has an outcome. The one error is want of memory: then the port came by some calls.
+/// work has an outcome. The one error is want of memory: then the port came by some calls. It is never inlined,
+/// so that what it leaves on the stack lies below who called it.
+#[inline(never)]
 pub fn run_command<P: MountPort, S: Stretches>(
     alloc: Global,
     port: &mut P,

@@ -1,7 +1,7 @@
 //! What comes before a run's calls and after them: a script with a seed from the bytes that come in, and
 //! the log that goes out. What a run as a whole means stands in `specs/Replay.antt`.
 
-ghost use Rattle.std.specs.Prelude.{◌≡◌, ◌++◌, IfOk, IfErr};
+ghost use Rattle.std.specs.Prelude.{◌≡◌, ◌++◌, [], replicate, IfOk, IfErr};
 ghost use Rattle.call_history.specs.Placed.{entries_of};
 ghost use Rattle.fsc_outside.specs.States.{SinkState};
 ghost use Rattle.reply_text.specs.Notes.{notes_text};
@@ -18,12 +18,14 @@ use crate::form::Seeding;
 use crate::limits::INPUT_LIMITS;
 use crate::seed::take_seed;
 use crate::told::Told;
+use byte_words::wipe;
 use call_history::Entry;
 use fsc_outside::{InputFault, SeedSource, Sink, Source, read_all, write_all};
+use fsc_session::scrub_stack;
 use item_list::Bytes;
 use mount_model::Reply;
 use reply_text::{Note, Shown, Status, write_log, write_notes};
-use script_lang::{Script, ScriptFault, read_script};
+use script_lang::{Script, ScriptFault, read_script, wipe_script};
 use std::alloc::{AllocError, Global};
 
 // What a run starts from.
@@ -33,8 +35,20 @@ pub(crate) struct Prepared {
     pub(crate) seed: [u8; 32],
 }
 
+impl Prepared {
+    // Overwrites the secrets of the script, which is empty then, and the seed.
+    pub(crate) fn wipe(&mut self, alloc: Global)
+        ensures script { self.new.script ≡ [] }
+        ensures seed { self.new.seed ≡ replicate 32 0 }
+    {
+        wipe_script(alloc, &mut self.script);
+        wipe(&mut self.seed);
+    }
+}
+
 // The script that the source gives and the seed of the run, or else the status with which it ends before its
-// first call.
+// first call. The bytes that came in are overwritten once they are read, and so is what the reading left on
+// the stack.
 pub(crate) fn prepare<S: Source, E: SeedSource>(
     alloc: Global,
     seeding: Seeding,
@@ -52,7 +66,9 @@ pub(crate) fn prepare<S: Source, E: SeedSource>(
         Ok(input) => input,
         Err(fault) => return Err(input_status(fault)),
     };
-    let script = match read_script(alloc, input.as_slice()) {
+    let read = read_script(alloc, input.as_slice());
+    wipe_input(input);
+    let script = match read {
         Ok(script) => script,
         Err(fault) => return Err(script_status(fault)),
     };
@@ -60,7 +76,14 @@ pub(crate) fn prepare<S: Source, E: SeedSource>(
         Ok(seed) => seed,
         Err(_) => return Err(Status::SeedFault),
     };
+    scrub_stack();
     Ok(Prepared { script, seed })
+}
+
+// Overwrites the bytes that came in, in which the script's secrets stand as digits.
+fn wipe_input(input: Bytes) {
+    let mut text = input.into_vec();
+    wipe(text.as_mut_slice());
 }
 
 // How a run ends whose input isn't read.

@@ -14,7 +14,7 @@ use crate::told::Told;
 use call_history::{MOST_PLACES, sort_by_place};
 use fsc_commands::{MOST_CALLS, Stretches};
 use fsc_outside::Gate;
-use fsc_session::Runner;
+use fsc_session::{Runner, scrub_stack};
 use mount_shared::{MountMachine, SerialMount};
 use script_lang::{Script, Section};
 use std::alloc::{AllocError, Global};
@@ -46,6 +46,7 @@ pub(crate) fn run_in_rotation<G: Gate, S: Stretches, M: MountMachine>(
         gate,
         stretches,
     )?;
+    scrub_stack();
     let mut told = told_by(alloc, runners)?;
     sort_by_place(&mut told.entries)?;
     Ok(told)

@@ -116,14 +116,18 @@ fn replay_in_rotation<S: Source, K: Sink, E: SeedSource, G: Gate, M: MountMachin
         let after = outside (S.state source.new) (K.state sink.new) (E.state seeds.new) in
         IsReplay (IsSerialRun M.lawful) seeding before after result }
 {
-    let run = match prepare(alloc, seeding, source, seeds) {
+    let mut run = match prepare(alloc, seeding, source, seeds) {
         Ok(run) => run,
         Err(status) => return status,
     };
     let told = match run_in_rotation(alloc, &run.script, &run.seed, gate, &OnOneThread, machine) {
         Ok(told) => told,
-        Err(_) => return Status::NoMemory,
+        Err(_) => {
+            run.wipe(alloc);
+            return Status::NoMemory;
+        }
     };
+    run.wipe(alloc);
     finish(alloc, told, sink)
 }
 
@@ -150,7 +154,7 @@ fn replay_in_threads<
         let after = outside (S.state source.new) (K.state sink.new) (E.state seeds.new) in
         IsReplay (IsLawfulRun M.lawful) seeding before after result }
 {
-    let run = match prepare(alloc, seeding, source, seeds) {
+    let mut run = match prepare(alloc, seeding, source, seeds) {
         Ok(run) => run,
         Err(status) => return status,
     };
@@ -160,7 +164,11 @@ fn replay_in_threads<
     };
     let told = match run_in_threads(rt, alloc, &run.script, &run.seed, gate, &stretches, machine) {
         Ok(told) => told,
-        Err(_) => return Status::NoMemory,
+        Err(_) => {
+            run.wipe(alloc);
+            return Status::NoMemory;
+        }
     };
+    run.wipe(alloc);
     finish(alloc, told, sink)
 }
