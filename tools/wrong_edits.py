@@ -40,13 +40,16 @@ class Function:
         return file == self.file and self.first <= number <= self.last
 
     def has_proof(self, path):
-        """Whether this file, below proofs/, is of its proof: its module's folder, its type's, and its own name, or that of a ring of functions."""
-        module = [] if self.file in ("src/lib.rt", "src/main.rt") else self.file[4:-3].split("/")
+        """Whether this file, below proofs/, is of its proof: a method's lies in the folder of its type, which may stand in
+        another module than the method; another function's in that of its module; and behind it its own name, or that of a ring of functions."""
         folders = path.split("/")[:-1]
-        below = folders[len(module):]
-        names = [word for it in below for word in re.split(r"[+-]", it)]
-        of_type = not self.of_type or any(it.startswith(self.of_type) for it in below)
-        return folders[:len(module)] == module and self.name in names and of_type
+        if self.of_type:
+            at = next((number for number, it in enumerate(folders) if it.startswith(self.of_type)), len(folders))
+            below = folders[at + 1:]
+        else:
+            module = [] if self.file in ("src/lib.rt", "src/main.rt") else self.file[4:-3].split("/")
+            below = folders[len(module):] if folders[:len(module)] == module else []
+        return self.name in [word for it in below for word in re.split(r"[+-]", it)]
 
 
 @dataclass(frozen=True)
