@@ -28,7 +28,7 @@ class BadEdit(Exception):
 
 @dataclass(frozen=True)
 class Function:
-    """A function of a file: the type whose method it is, if any, and its lines, the first of the body among them, from 0."""
+    """A function of a file: the type whose method it is, if any, and its lines with the attributes above it, the first of the body among them, from 0."""
     file: str
     of_type: str
     name: str
@@ -99,7 +99,10 @@ def functions(file, text):
             continue
         lies = extent(lines, at, head[1])
         if lies:
-            found.append(Function(file, of_type if head[1] else "", head[2], at, *lies))
+            first = at
+            while lines[first - 1].startswith(f"{head[1]}#["):
+                first -= 1
+            found.append(Function(file, of_type if head[1] else "", head[2], first, *lies))
             behind = lies[1]
     return found
 
@@ -190,7 +193,7 @@ def changes_nothing(texts, taken):
     line = texts[home.file].split("\n")[home.last]
     if home.first == home.last:
         return Edit("(a comment)", ((home.file, line, f"{line} // as it was"),), home)
-    head = texts[home.file].split("\n")[home.first]
+    head = next(it for it in texts[home.file].split("\n")[home.first:] if FUNCTION.match(it))
     return Edit("(a comment)", ((home.file, head, f"{head} // as it was"),), home)
 
 
