@@ -20,13 +20,15 @@ pub fn scrub_stack() {
     wipe(&mut room);
 }
 
-// Tells whether a command draws, opens, adds, removes or lets go of keys. Behind the others the stack stays as
-// it is: to overwrite it takes about as long as a call.
+// Tells whether a command draws, opens, adds, removes or lets go of keys, or may name one by its bytes. Behind
+// the others the stack stays as it is: to overwrite it takes about as long as a call.
 pub(crate) fn handles_keys(verb: &Verb) -> bool {
     match verb {
         Verb::AddKey(_)
         | Verb::RemoveKey(_)
         | Verb::RemoveKeyAll(_)
+        | Verb::KeyStatus(_)
+        | Verb::SetPolicy { .. }
         | Verb::Close(_)
         | Verb::DropCaches
         | Verb::Protector { .. }
@@ -39,9 +41,7 @@ pub(crate) fn handles_keys(verb: &Verb) -> bool {
         | Verb::Status(_)
         | Verb::Encrypt { .. }
         | Verb::Migrate(_) => true,
-        Verb::KeyStatus(_)
-        | Verb::SetPolicy { .. }
-        | Verb::SetPolicyBytes { .. }
+        Verb::SetPolicyBytes { .. }
         | Verb::GetPolicy(_)
         | Verb::Mkdir(_)
         | Verb::Create(_)

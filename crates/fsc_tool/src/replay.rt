@@ -47,8 +47,8 @@ impl Prepared {
 }
 
 // The script that the source gives and the seed of the run, or else the status with which it ends before its
-// first call. The bytes that came in are overwritten once they are read, and so is what the reading left on
-// the stack.
+// first call. The bytes that came in are overwritten once they are read, and where the run goes on so is what
+// the reading left on the stack.
 pub(crate) fn prepare<S: Source, E: SeedSource>(
     alloc: Global,
     seeding: Seeding,

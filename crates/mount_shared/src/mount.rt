@@ -47,9 +47,9 @@ impl Mount {
     /// Answers the caller's call. What comes is the reply, or for a Read what is left to be deciphered
     /// once the turn is given back.
     ///
-    /// Whatever raw keys were added: after a refusal all but cached keys is as before; removing keys, a
-    /// status, closing and dropping caches never want memory; and where the answer is a refusal, the reply is
-    /// that one, also where there is no memory.
+    /// Whatever raw keys were added: after a refusal all but cached keys is as before, and removing keys, a
+    /// status, closing and dropping caches never want memory. Where the state stands for a mount whose answer
+    /// is a refusal, the reply is that one, also where there is no memory.
     pub fn answer(&mut self, caller: u32, call: &Call) -> Lent
         requires { Fits call.now }
         ensures made { IsMade self.old.state (entry caller call.now (reply_of result)) self.new.state }
