@@ -11,7 +11,7 @@ returns c =
     let led = c.call-next.ensures.came.led _ (c.call-answer.ensures.came.led [] began) in
     let who = ap (λ view. view.caller) port in
     record {
-      lawful = subst (λ n. IsLawful (entry 0 c.args.first c.call-answer.result.reply ∷ entry n c.args.second c.call-next.result.reply ∷ []))
+      lawful = subst (λ n. IsLawful (entry 0 c.args.first.now c.call-answer.result.reply ∷ entry n c.args.second.now c.call-next.result.reply ∷ []))
           (c.call-answer.ensures.caller ∙ who)
-          (subst (λ n. IsLawful (entry n c.args.first c.call-answer.result.reply ∷ entry c.call-answer.new.self.caller c.args.second c.call-next.result.reply ∷ [])) who led.lawful);
+          (subst (λ n. IsLawful (entry n c.args.first.now c.call-answer.result.reply ∷ entry c.call-answer.new.self.caller c.args.second.now c.call-next.result.reply ∷ [])) who led.lawful);
     }
