@@ -1,5 +1,6 @@
 pub mod Asked
 pub mod LawLemmas
+pub mod MeaningLemmas
 pub mod NoteLemmas
 pub mod RunLemmas
 pub mod ShownRuns

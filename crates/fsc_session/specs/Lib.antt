@@ -1,4 +1,5 @@
 pub mod Asking
+pub mod Meaning
 pub mod Rotation
 pub mod Running
 pub mod Serial

@@ -8,6 +8,7 @@ ghost use Rattle.script_lang.specs.declared.commands.Section.{Section};
 ghost use Rattle.fsc_commands.specs.Steps.{Reaches};
 ghost use Rattle.fsc_commands.specs.Steps.Steps.{Done};
 ghost use Rattle.fsc_session.specs.Session.{AreNextCalls, IsRunOfSection, section_steps};
+ghost use Rattle.fsc_session.specs.Meaning.{LogsHaveOneMeaning, WhatIsToldDeterminesTheHistory};
 ghost use Rattle.fsc_session.specs.Rotation.{Waiting, rotation_steps};
 ghost use Rattle.fsc_session.specs.Serial.{serial_history};
 
@@ -25,4 +26,14 @@ pub fn answers_determine_the_run()
         → Reaches (rotation_steps seed script) history (Done after) → IsLegal history
         → NeverWantsMemory history
         → history ≡ serial_history seed script }
+{}
+
+/// What entries tell, with script and seed, determines the history: the calls with all that no line shows.
+pub fn what_is_told_determines_the_history()
+    ensures { WhatIsToldDeterminesTheHistory }
+{}
+
+/// So a log, with its notes, is the log of one run of a script with a seed and of no other.
+pub fn logs_have_one_meaning()
+    ensures { LogsHaveOneMeaning }
 {}

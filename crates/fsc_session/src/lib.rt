@@ -8,7 +8,10 @@ mod session;
 mod stack;
 
 use item_list::Items;
-pub use laws::{answers_determine_the_run, runs_are_next_calls};
+pub use laws::{
+    answers_determine_the_run, logs_have_one_meaning, runs_are_next_calls,
+    what_is_told_determines_the_history,
+};
 use reply_text::Note;
 pub use runner::{Ran, Runner};
 pub use session::run_caller;

@@ -7,3 +7,4 @@ pub mod SharedCalls
 pub mod StandsAfter
 pub mod StandsLaws
 pub mod TellsOfKeys
+pub mod TellsOfOthers

@@ -7,6 +7,7 @@ ghost use Rattle.mount_model.specs.Fits.{Fits};
 ghost use Rattle.mount_shared.specs.Lends.{LendsBlocks};
 ghost use Rattle.mount_shared.specs.Made.{IsMade};
 ghost use Rattle.mount_shared.specs.TellsOfKeys.{AbsentIsGone, BusyIsOpen};
+ghost use Rattle.mount_shared.specs.TellsOfOthers.{ClosesOwn, TellsRecords};
 
 use crate::file_answers::answer_on_files;
 use crate::key_answers::reply_on_keys;
@@ -35,6 +36,8 @@ pub(crate) fn answer<L: Ledger>(
     ensures absent { AbsentIsGone state.new call.now.op (reply_of result) }
     ensures busy { BusyIsOpen state.new call.now.op (reply_of result) }
     ensures lends { LendsBlocks state.old caller call.now.op result }
+    ensures closes { ClosesOwn state.old caller call.now.op (reply_of result) }
+    ensures records { TellsRecords state.old call.now.op (reply_of result) }
 {
     let mut steps = Steps::<L>::new(blank);
     match &call.op {

@@ -6,6 +6,7 @@ ghost use Rattle.mount_files.specs.Lent.{reply_of};
 ghost use Rattle.mount_shared.specs.Groups.{is_on_files};
 ghost use Rattle.mount_shared.specs.Lends.{LendsBlocks};
 ghost use Rattle.mount_shared.specs.Made.{IsMade};
+ghost use Rattle.mount_shared.specs.TellsOfOthers.{ClosesOwn};
 
 use mount_files::{Lent, close, open_node, read_begin, write};
 use mount_model::{Call, Op};
@@ -25,6 +26,7 @@ pub(crate) fn answer_on_files<L: Ledger>(
     requires { IsTrue (is_on_files call.now.op) }
     ensures made { IsMade state.old (entry caller call.now (reply_of result)) state.new }
     ensures lends { LendsBlocks state.old caller call.now.op result }
+    ensures closes { ClosesOwn state.old caller call.now.op (reply_of result) }
 {
     match &call.op {
         Op::OpenNode { path } => Lent::Ready(open_node(alloc, state, caller, path, steps)),

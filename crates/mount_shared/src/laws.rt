@@ -1,9 +1,24 @@
-//! What a mount is made of. This function does nothing: its contract is the law.
+//! What a mount is made of, and what its replies tell. These functions do nothing: their contracts are laws.
 
-ghost use Rattle.std.specs.Prelude.{◌≡◌};
+ghost use Rattle.std.specs.Prelude.{◌≡◌, ℕ, Bool, false};
+ghost use Rattle.policy_ctx.specs.declared.policy.KeyId.{KeyId};
+ghost use Rattle.user_claims.specs.Claims.{ClaimSet, is_present, without_claim};
+ghost use Rattle.mount_model.specs.Lawful.{TellsBy};
 ghost use Rattle.mount_shared.specs.declared.mount.Mount.{Mount};
+
+use mount_model::{Op, Reply};
 
 /// A mount is its state and where it takes memory, and nothing else: no copy of a key lies beside them.
 pub fn a_mount_is_its_state()
     ensures { (a b : Mount) → a.alloc ≡ b.alloc → a.state ≡ b.state → a ≡ b }
+{}
+
+/// Whatever raw keys were added, a removal of all claims tells that none is left, and a user's removal exactly
+/// whether another's is.
+pub fn removals_tell_which_claims_are_left()
+    ensures all { (claims : ClaimSet) (uid : ℕ) (id : KeyId) (others busy : Bool)
+        → TellsBy claims uid (Op.RemoveKeyAll id) (Reply.Removed others busy) → others ≡ false }
+    ensures own { (claims : ClaimSet) (uid : ℕ) (id : KeyId) (others busy : Bool)
+        → TellsBy claims uid (Op.RemoveKey id) (Reply.Removed others busy)
+        → others ≡ is_present (without_claim claims id uid) id }
 {}

@@ -17,6 +17,7 @@ ghost use Rattle.mount_shared.specs.Made.{IsMade};
 ghost use Rattle.mount_shared.specs.StandsAfter.{StandsAfter};
 ghost use Rattle.mount_shared.specs.StandsLaws.{StandsAfter-wanting};
 ghost use Rattle.mount_shared.specs.TellsOfKeys.{AbsentIsGone, BusyIsOpen};
+ghost use Rattle.mount_shared.specs.TellsOfOthers.{ClosesOwn, TellsRecords};
 
 use crate::answers::answer;
 use crate::machine::MountMachine;
@@ -47,8 +48,9 @@ impl Mount {
     /// Answers the caller's call. What comes is the reply, or for a Read what is left to be deciphered
     /// once the turn is given back.
     ///
-    /// Whatever raw keys were added: after a refusal all but cached keys is as before, and removing keys, a
-    /// status, closing and dropping caches never want memory. Where the state stands for a mount whose answer
+    /// Whatever raw keys were added: after a refusal all but cached keys is as before, removing keys, a status,
+    /// closing and dropping caches never want memory, a close is refused exactly where the caller has no such
+    /// handle, and of records it is told what they are. Where the state stands for a mount whose answer
     /// is a refusal, the reply is that one, also where there is no memory.
     pub fn answer(&mut self, caller: u32, call: &Call) -> Lent
         requires { Fits call.now }
@@ -56,6 +58,8 @@ impl Mount {
         ensures absent { AbsentIsGone self.new.state call.now.op (reply_of result) }
         ensures busy { BusyIsOpen self.new.state call.now.op (reply_of result) }
         ensures lends { LendsBlocks self.old.state caller call.now.op result }
+        ensures closes { ClosesOwn self.old.state caller call.now.op (reply_of result) }
+        ensures records { TellsRecords self.old.state call.now.op (reply_of result) }
         ensures refused { is_refused (reply_of result) ≡ true → SameButKeys self.old.state self.new.state }
         ensures sure { takes_memory call.now.op ≡ false → reply_of result ≢ Reply.Refused Refusal.NoMemory }
         ensures due { (m : PlainMount) → StandsFor self.old.state m
@@ -90,6 +94,8 @@ impl Machine for Mount {
         ensures absent { AbsentIsGone self.new.state call.now.op (reply_of result) }
         ensures busy { BusyIsOpen self.new.state call.now.op (reply_of result) }
         ensures lends { LendsBlocks self.old.state who call.now.op result }
+        ensures closes { ClosesOwn self.old.state who call.now.op (reply_of result) }
+        ensures records { TellsRecords self.old.state call.now.op (reply_of result) }
         ensures refused { is_refused (reply_of result) ≡ true → SameButKeys self.old.state self.new.state }
         ensures sure { takes_memory call.now.op ≡ false → reply_of result ≢ Reply.Refused Refusal.NoMemory }
         ensures due { (m : PlainMount) → StandsFor self.old.state m

@@ -1,5 +1,6 @@
 pub mod RecordLines
 pub mod LineValues
+pub mod LinkText
 pub mod Stretching
 pub mod Reading
 pub mod Descriptor

@@ -4,6 +4,7 @@
 mod descriptor;
 mod fault;
 mod lines;
+mod link;
 mod policy_file;
 mod policy_reading;
 mod policy_text;
@@ -17,6 +18,7 @@ pub use descriptor::Descriptor;
 pub use fault::MetaFault;
 pub use fsc_keys::KeyId;
 pub use item_list::Bytes;
+pub use link::{MOST_LINK_BYTES, encode_link, is_link};
 pub use policy_ctx::{Pad, Unit};
 pub use policy_file::{Options, PolicyFile, add_protector, drop_protector};
 pub use policy_reading::decode_policy_file;

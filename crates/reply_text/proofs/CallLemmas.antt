@@ -1,11 +1,10 @@
 -- Of which bytes calls and replies are: no `=` stands in a call, and no line feed in either.
-use Rattle.std.proofs.Common.{◌≡◌, ◌≢◌, ℕ, ◌<◌, ◌≤◌, ◌^◌, ◌==◌, ◌&&◌, Bool, true, not, List, [], ◌∷◌, ◌++◌, length, codes, refl, leb-true, arith}
+use Rattle.std.proofs.Common.{◌≡◌, ℕ, ◌<◌, ◌≤◌, ◌^◌, ◌==◌, ◌&&◌, Bool, true, not, List, [], ◌∷◌, ◌++◌, length, codes, refl, leb-true, arith}
 use Rattle.std.specs.Prelude.{nat_le}
-use Rattle.std.specs.List.{All, AllPass, list_all}
+use Rattle.std.specs.List.{All, list_all}
 use Rattle.std.proofs.lemmas.Bool.{and_parts}
-use Rattle.std.proofs.lemmas.List.Elements.{All-nil, All-cons, All-append, All-weaker}
+use Rattle.std.proofs.lemmas.List.Elements.{All-nil, All-append, All-weaker}
 use Rattle.std.proofs.lemmas.List.Sums.{AllPass-from_list_all}
-use Rattle.hex.specs.Hex.{encode_lower}
 use Rattle.script_words.specs.Word.{word_text}
 use Rattle.text_words.specs.Numbers.{decimal_of}
 use Rattle.mount_model.specs.declared.call.Op.{Op}
@@ -15,11 +14,11 @@ use Rattle.mount_model.specs.declared.reply.Refusal.TheVariants.{NoKey, Access, 
 use Rattle.mount_model.specs.declared.reply.Reply.{Reply}
 use Rattle.mount_model.specs.declared.reply.Reply.TheVariants as reply
 use Rattle.reply_text.specs.Words.{bit, flag_text, state_text, kind_text, refusal_text}
-use Rattle.reply_text.specs.Names.{path_text, record_text, bytes_text, names_text}
+use Rattle.reply_text.specs.Names.{path_text, record_text, names_text}
 use Rattle.reply_text.specs.Calls.{span_text, store_text, call_text}
 use Rattle.reply_text.specs.Replies.{reply_text}
 use Rattle.reply_text.specs.Ranges.{CallIsInRange, RefusalIsInRange, ReplyIsInRange}
-use Rattle.reply_text.proofs.FieldLemmas.{IsFieldByte, IsCallByte, IsLineByte, field_byte, bit-small, IsField-decimal, IsField-digits, IsField-word, IsField-record, IsField-bytes, IsField-path}
+use Rattle.reply_text.proofs.FieldLemmas.{IsFieldByte, IsCallByte, IsLineByte, bit-small, IsField-decimal, IsField-digits, IsField-word, IsField-record, IsField-bytes, IsField-path}
 use Rattle.reply_text.proofs.ReplyLemmas.{IsField-state, IsField-kind}
 
 -- ---- of a call

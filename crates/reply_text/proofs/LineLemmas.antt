@@ -6,19 +6,18 @@ use Rattle.std.specs.Str.{bytes_eq}
 use Rattle.std.proofs.lemmas.List.{append_cancel_left, append_cancel_right}
 use Rattle.std.proofs.lemmas.List.Elements.{All-head, All-tail, All-append}
 use Rattle.text_words.specs.Numbers.{decimal_of}
-use Rattle.mount_model.specs.declared.call.Call.{Call}
 use Rattle.mount_model.specs.declared.reply.Reply.{Reply}
 use Rattle.mount_model.specs.History.{MountEntry, History}
 use Rattle.reply_text.specs.Calls.{call_text}
 use Rattle.reply_text.specs.Replies.{reply_text}
 use Rattle.reply_text.specs.Log.{head_text, entry_text, log_from}
 use Rattle.reply_text.specs.Notes.{outcome_word, note_text}
-use Rattle.reply_text.specs.Ranges.{ReplyIsInRange, EntryIsInRange, NoteIsInRange}
+use Rattle.reply_text.specs.Ranges.{EntryIsInRange}
 use Rattle.reply_text.specs.LogLaws.{told, DifferentRepliesHaveDifferentLines, LinesTellTheirEntries, LogsTellTheirEntries, NoteLinesTellTheirNotes}
 use Rattle.reply_text.specs.declared.notes.Note.{Note}
 use Rattle.reply_text.specs.declared.outcome.Outcome.{Outcome}
 use Rattle.reply_text.specs.declared.outcome.Outcome.TheVariants.{Done, Refused, Conflict, BadRecord, WrongKind, WrongKey, NotListed, Listed, Full, LastOne, NoMemory, OddReply, Current}
-use Rattle.reply_text.proofs.FieldLemmas.{IsFieldByte, IsCallByte, IsLineByte, no_space, parted, number_field, IsField-decimal}
+use Rattle.reply_text.proofs.FieldLemmas.{IsCallByte, IsLineByte, no_space, parted, number_field, IsField-decimal}
 use Rattle.reply_text.proofs.ReplyLemmas.{reply_text-injective}
 use Rattle.reply_text.proofs.CallLemmas.{call_literal, IsCall-call_text, IsLine-reply_text, line_call, line, lined_more}
 
@@ -116,7 +115,7 @@ first_line a b x y ha hb e =
     let parts = parted IsLineByte a b _ _ ha hb not_feed not_feed (sym (append_assoc a (codes "\n") x) ∙ e ∙ append_assoc b (codes "\n") y) in
     (ap (λ t. t ++ codes "\n") parts.0, append_cancel_left (codes "\n") x y parts.1)
 
-first_entry : (place : ℕ) (e f : MountEntry) (x y : List ℕ) → place < 2 ^ 64 → EntryIsInRange e → EntryIsInRange f
+pub first_entry : (place : ℕ) (e f : MountEntry) (x y : List ℕ) → place < 2 ^ 64 → EntryIsInRange e → EntryIsInRange f
     → entry_text place e ++ x ≡ entry_text place f ++ y → (told e ≡ told f) × (x ≡ y)
 first_entry place e f x y small he hf same =
     let be = entry_text-body place e in
@@ -126,7 +125,7 @@ first_entry place e f x y small he hf same =
     (ap (λ t. t ++ x) (sym be) ∙ same ∙ ap (λ t. t ++ y) bf) in
     ((lines_tell place place e f small small he hf (be ∙ parts.0 ∙ sym bf)).1, parts.1)
 
-nothing_told : (place : ℕ) (e : MountEntry) (x : List ℕ) → [] ≡ entry_text place e ++ x → ⊥
+pub nothing_told : (place : ℕ) (e : MountEntry) (x : List ℕ) → [] ≡ entry_text place e ++ x → ⊥
 nothing_told place e x same =
     let none : [] ≡ by_fields place e ++ x = same ∙ ap (λ t. t ++ x) (entry_text-by_fields place e) in
     ended (decimal_of place) _ x none

@@ -9,7 +9,7 @@ use Rattle.std.proofs.lemmas.List.{take_more}
 use Rattle.std.proofs.lemmas.Option.{slice_get_within, get_or_from_slice_get, slice_get-get_or}
 use Rattle.percent_encoding.specs.AsciiSet.{contains, should_percent_encode}
 use Rattle.percent_encoding.specs.Percent.{percent_encode, percent_encode_byte, encode_byte}
-use Rattle.script_words.specs.Word.{is_plain_character, byte_text, word_text}
+use Rattle.script_words.specs.Word.{is_plain_character, word_text}
 use Rattle.script_words.proofs.EscapeLemmas.{percent_encode-ESCAPED}
 use Rattle.reply_text.specs.Names.{part_text, path_text, record_byte_text, record_text}
 use Rattle.reply_text.specs.declared.names.TheConstants.{ESCAPED_IN_WORDS, ESCAPED_IN_RECORDS}

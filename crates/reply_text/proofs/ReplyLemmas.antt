@@ -1,12 +1,11 @@
 -- The text of a reply tells the reply.
-use Rattle.std.proofs.Common.{◌≡◌, ℕ, ◌+◌, ◌*◌, ◌<◌, ◌^◌, Bool, true, false, List, [], ◌∷◌, ◌++◌, length, drop, codes, refl, ap, sym, ◌∙◌, arith}
+use Rattle.std.proofs.Common.{◌≡◌, ℕ, ◌+◌, ◌*◌, ◌<◌, ◌^◌, Bool, List, length, drop, codes, refl, ap, sym, ◌∙◌, arith}
 use Rattle.std.specs.Prelude.{if◌then◌else◌, slice_index}
 use Rattle.std.specs.List.{All}
 use Rattle.std.specs.Str.{bytes_eq}
 use Rattle.std.specs.Str.Parse.{digits_value}
 use Rattle.std.proofs.lemmas.Fmt.{decimal_injective}
 use Rattle.std.proofs.lemmas.List.{append_cancel_left}
-use Rattle.std.proofs.lemmas.List.Elements.{All-head, All-nil, All-cons}
 use Rattle.text_words.specs.Numbers.{decimal_of}
 use Rattle.text_words.proofs.NumberLemmas.{IsDecimal-decimal_of}
 use Rattle.mount_model.specs.declared.reply.KeyState.{KeyState}
@@ -21,7 +20,7 @@ use Rattle.reply_text.specs.Words.{state_text, kind_text, refusal_text}
 use Rattle.reply_text.specs.Names.{names_text}
 use Rattle.reply_text.specs.Replies.{reply_text}
 use Rattle.reply_text.specs.Ranges.{RefusalIsInRange, ReplyIsInRange}
-use Rattle.reply_text.proofs.FieldLemmas.{IsFieldByte, EndsBy, no_space, parted, field_literal, number_field, flag_field, last_flag, digits-injective, bytes_text-injective, word_text-injective, names_text-injective, names_end}
+use Rattle.reply_text.proofs.FieldLemmas.{IsFieldByte, no_space, parted, field_literal, number_field, flag_field, last_flag, digits-injective, bytes_text-injective, word_text-injective, names_text-injective, names_end}
 
 -- ---- words
 

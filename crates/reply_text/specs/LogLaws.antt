@@ -1,5 +1,5 @@
 -- What a line tells: whoever has it can say who was answered what.
-use Rattle.std.specs.Prelude.{◌≡◌, ◌<◌, ◌^◌, ℕ, List, length, All, map}
+use Rattle.std.specs.Prelude.{◌≡◌, ◌<◌, ◌^◌, ℕ, List, ◌++◌, length, All, map}
 use Rattle.mount_model.specs.declared.call.Call.{Call}
 use Rattle.mount_model.specs.declared.reply.Reply.{Reply}
 use Rattle.mount_model.specs.History.{MountEntry, History}
@@ -33,6 +33,13 @@ abbrev pub LogsTellTheirEntries : Type 0
 LogsTellTheirEntries =
     (g h : History) → length g < 2 ^ 64 → length h < 2 ^ 64 → All EntryIsInRange g → All EntryIsInRange h
     → log_text g ≡ log_text h → map told g ≡ map told h
+
+-- a beginning of a text that is a log of so many entries determines what they tell, and what follows it
+abbrev pub BeginningsTellTheirEntries : Type 0
+BeginningsTellTheirEntries =
+    (g h : History) (x y : List ℕ) → length g ≡ length h → length g < 2 ^ 64
+    → All EntryIsInRange g → All EntryIsInRange h
+    → log_text g ++ x ≡ log_text h ++ y → (map told g ≡ map told h) × (x ≡ y)
 
 -- a note's line determines the note
 abbrev pub NoteLinesTellTheirNotes : Type 0

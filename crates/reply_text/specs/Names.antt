@@ -1,7 +1,7 @@
 -- How a log writes bytes and names. A word stands as a script writes it: letters, digits, `-`, `.`,
 -- `_` and `~` as they are, every other byte as `%` and two upper-case digits. So neither a space nor
 -- `=` nor a line feed stands in it.
-use Rattle.std.specs.Prelude.{ℕ, ◌==◌, List, [], ◌∷◌, ◌++◌, codes, if◌then◌else◌}
+use Rattle.std.specs.Prelude.{ℕ, ◌==◌, List, [], ◌∷◌, codes, if◌then◌else◌}
 use Rattle.std.specs.List.{flat_map}
 use Rattle.hex.specs.Hex.{encode_lower}
 use Rattle.script_words.specs.Word.{byte_text, word_text}

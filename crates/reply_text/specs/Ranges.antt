@@ -1,6 +1,6 @@
 -- What the values of a line's types hold: bytes below 256, and numbers that their types have room
 -- for. Each value of a program is so; lists and numbers in clauses range over all.
-use Rattle.std.specs.Prelude.{◌<◌, ◌^◌, ⊤, ℕ, List, length, All}
+use Rattle.std.specs.Prelude.{◌<◌, ◌^◌, ⊤, length, All}
 use Rattle.hex.specs.Hex.{IsBytes}
 use Rattle.mount_model.specs.declared.call.Op.{Op}
 use Rattle.mount_model.specs.declared.call.Op.TheVariants as op

@@ -1,7 +1,7 @@
 //! What holds of all lines: they tell who was answered what. Each law is a function without work.
 
-ghost use Rattle.reply_text.specs.LogLaws.{DifferentRepliesHaveDifferentLines, LinesTellTheirEntries};
-ghost use Rattle.reply_text.specs.LogLaws.{LogsTellTheirEntries, NoteLinesTellTheirNotes};
+ghost use Rattle.reply_text.specs.LogLaws.{BeginningsTellTheirEntries, DifferentRepliesHaveDifferentLines};
+ghost use Rattle.reply_text.specs.LogLaws.{LinesTellTheirEntries, LogsTellTheirEntries, NoteLinesTellTheirNotes};
 
 /// Different replies of one call have different lines.
 pub fn different_replies_have_different_lines()
@@ -16,6 +16,12 @@ pub fn lines_tell_their_entries()
 /// So a log determines them for each of its entries, in order of place.
 pub fn logs_tell_their_entries()
     ensures { LogsTellTheirEntries }
+{}
+
+/// So do its beginnings: a text that begins with two logs of equally many entries has one log there, and one
+/// rest behind it.
+pub fn beginnings_tell_their_entries()
+    ensures { BeginningsTellTheirEntries }
 {}
 
 /// A note's line determines the note.

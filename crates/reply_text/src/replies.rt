@@ -144,8 +144,8 @@ fn state_text(state: KeyState) -> &'static [u8]
     }
 }
 
-// The name of a refusal, with a space behind it where a version follows.
-fn refusal_name(refusal: Refusal) -> &'static [u8]
+/// The name of a refusal, as a log has it, with a space behind it where a version follows.
+pub fn refusal_name(refusal: Refusal) -> &'static [u8]
     ensures { result.now ≡ refusal_name refusal }
 {
     match refusal {

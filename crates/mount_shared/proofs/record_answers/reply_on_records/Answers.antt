@@ -5,8 +5,8 @@ use Rattle.mount_shared.proofs.MadeLemmas.{itself, all_kept, made_given_or_none}
 use Rattle.mount_shared.proofs.RecordLemmas.{load_due, store_due, load_told, store_told}
 use Rattle.mount_shared.proofs.record_answers.reply_on_records.Goals as goal
 
-pub returns-in-MetaLoad : goal.returns-in-MetaLoad
-returns-in-MetaLoad c = λ caller.
+pub returns-in-MetaLoad-clause-made : goal.returns-in-MetaLoad-clause-made
+returns-in-MetaLoad-clause-made c = λ caller.
     made_given_or_none c.args.state.now c.args.state.now caller c.args.call.now (MetaLoad c.in-MetaLoad.name) c.meta_load.result c.in-MetaLoad.is refl
     (λ cs. refl)
     (load_told (record_of c.args.state.now.meta c.in-MetaLoad.name) c.meta_load.result c.meta_load.ensures.held c.meta_load.ensures.absent)
@@ -14,8 +14,8 @@ returns-in-MetaLoad c = λ caller.
     (λ m st. load_due c.args.state.now m st c.in-MetaLoad.name c.meta_load.result c.meta_load.ensures.absent)
     c.meta_load.ensures.stands
 
-pub returns-in-MetaStore : goal.returns-in-MetaStore
-returns-in-MetaStore c = λ caller.
+pub returns-in-MetaStore-clause-made : goal.returns-in-MetaStore-clause-made
+returns-in-MetaStore-clause-made c = λ caller.
     made_given_or_none c.args.state.now c.meta_store.new.state caller c.args.call.now
     (MetaStore c.in-MetaStore.name c.in-MetaStore.expected c.in-MetaStore.bytes) c.meta_store.result c.in-MetaStore.is refl
     (λ cs. refl)

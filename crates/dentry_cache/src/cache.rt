@@ -1,0 +1,144 @@
+//! The cache of names.
+
+ghost use Rattle.std.specs.Prelude.{◌≡◌, ◌≤◌, [], length, Some, option_map, IfOk, OnOk, OnErr};
+ghost use Rattle.std.specs.List.{find};
+ghost use Rattle.dentry_cache.specs.Names.{no_names, with_pairs, key_of, cached, used, kept, one_more_refused};
+ghost use Rattle.dentry_cache.specs.Names.{forgotten, dir_forgotten, HoldsNoMore, HoldsBeside, HoldsNone};
+ghost use Rattle.dentry_cache.specs.Names.{HoldsNoneIn, is_in};
+
+use crate::key::NameKey;
+use crate::limits::{MOST_CACHED_NAME_BYTES, MOST_CACHED_NAMES};
+use lru::LruCache;
+use std::alloc::{AllocError, Global};
+use std::marker::Model;
+use std::num::NonZeroUsize;
+
+/// Names with the nodes that they lead to, at most `MOST_CACHED_NAMES`, the most recently used first; and how
+/// often a name was not kept, for want of memory.
+#[derive(Drop)]
+pub struct NameCache {
+    pairs: LruCache<NameKey, u32>,
+    refused: u64,
+}
+
+impl Model for NameCache {
+    ghost use Rattle.std.specs.Prelude.{◌≡◌, ℕ, List, refl};
+    ghost use Rattle.std.specs.Coded.{code_by, coded×, coded_list, coded_ℕ};
+    ghost use Rattle.dentry_cache.specs.contracts.key.NameKey as key;
+    ghost use Rattle.dentry_cache.specs.declared.limits.TheConstants.{MOST_CACHED_NAMES};
+    ghost use Rattle.dentry_cache.specs.Names.{NameList, Pair};
+
+    ghost Value = { NameList };
+
+    ghost coded = { code_by (List Pair × ℕ)
+        (coded× (coded_list (coded× key.the_row.coded coded_ℕ)) coded_ℕ)
+        (λ names. (names.pairs, names.refused))
+        (λ parts. record { pairs = parts.0; refused = parts.1 })
+        (λ _. refl) };
+
+    ghost view = { λ c. record { pairs = c.pairs.entries; refused = c.refused } };
+
+    ghost invariant = { λ c. c.pairs.cap ≡ MOST_CACHED_NAMES };
+}
+
+impl NameCache {
+    /// No names. It takes memory for two ends of a list.
+    pub fn new(alloc: Global) -> Result<NameCache, AllocError>
+        ensures { IfOk result (λ names. names ≡ no_names) }
+    {
+        let Some(most) = NonZeroUsize::new(MOST_CACHED_NAMES) else {
+            unreachable!()
+        };
+        Ok(NameCache {
+            pairs: LruCache::sparse(alloc, most)?,
+            refused: 0,
+        })
+    }
+
+    /// How often a name was not kept, for want of memory.
+    pub fn refused(&self) -> u64
+        ensures { result ≡ self.now.refused }
+    {
+        self.refused
+    }
+
+    /// The node to which the name leads, where that is cached. The name is then the most recently used.
+    pub fn find(&mut self, dir: u32, name: &[u8]) -> Option<u32>
+        requires short { length name.now ≤ MOST_CACHED_NAME_BYTES }
+        ensures value { result ≡ cached self.old dir name.now }
+        ensures recent { self.new ≡ used self.old dir name.now }
+        ensures stays { cached self.new dir name.now ≡ result }
+        ensures no_more { HoldsNoMore self.old self.new }
+    {
+        self.pairs.get(&NameKey::of(dir, name)).copied()
+    }
+
+    /// Caches that the name leads to the node. Where there are as many names as may be, the one that was not
+    /// used for longest goes. Where there is no memory all stays, and one more is counted as refused.
+    pub fn keep(&mut self, dir: u32, name: &[u8], number: u32) -> Result<(), AllocError>
+        requires short { length name.now ≤ MOST_CACHED_NAME_BYTES }
+        ensures kept { OnOk result (self.new ≡ kept self.old dir name.now number) }
+        ensures found { OnOk result (cached self.new dir name.now ≡ Some number) }
+        ensures refused { OnErr result (self.new ≡ one_more_refused self.old) }
+        ensures beside { HoldsBeside self.old self.new (key_of dir name.now, number) }
+    {
+        // That there are at most so many.
+        let _few = self.pairs.len();
+        match self.pairs.put(NameKey::of(dir, name), number) {
+            Ok(_) => Ok(()),
+            Err(_) => {
+                self.refused = self.refused.saturating_add(1);
+                Err(AllocError)
+            }
+        }
+    }
+
+    /// Forgets where the name leads. It takes no memory.
+    pub fn forget(&mut self, dir: u32, name: &[u8])
+        requires short { length name.now ≤ MOST_CACHED_NAME_BYTES }
+        ensures gone { self.new ≡ forgotten self.old dir name.now }
+        ensures none { HoldsNone self.new dir name.now }
+        ensures no_more { HoldsNoMore self.old self.new }
+    {
+        // That no two pairs have one name.
+        let _apart = self.pairs.len();
+        let _gone = self.pairs.pop_entry(&NameKey::of(dir, name));
+    }
+
+    /// Forgets all names of the directory. It takes no memory. It goes over all names.
+    pub fn forget_dir(&mut self, dir: u32)
+        ensures gone { self.new ≡ dir_forgotten self.old dir }
+        ensures none { HoldsNoneIn self.new dir }
+        ensures no_more { HoldsNoMore self.old self.new }
+    {
+        while let Some(key) = self.first_in(dir) {
+            self.take(&key);
+        }
+    }
+
+    // The first name of the directory.
+    fn first_in(&self, dir: u32) -> Option<NameKey>
+        ensures { result ≡ option_map (λ pair. pair.0) (find (is_in dir) self.now.pairs) }
+    {
+        for (key, _) in self.pairs.iter() {
+            if key.dir == dir {
+                return Some(*key);
+            }
+        }
+        None
+    }
+
+    // Forgets where the name leads.
+    fn take(&mut self, key: &NameKey)
+        ensures { self.new ≡ forgotten self.old key.now.dir key.now.name }
+    {
+        let _gone = self.pairs.pop_entry(key);
+    }
+
+    /// Forgets all names. It takes no memory.
+    pub fn forget_all(&mut self)
+        ensures { self.new ≡ with_pairs self.old [] }
+    {
+        self.pairs.clear();
+    }
+}

@@ -1,0 +1,12 @@
+//! Names that are cached, each with the node that it leads to, so that a look-up enciphers nothing.
+#![tactic(auto)]
+
+mod cache;
+mod key;
+mod laws;
+mod limits;
+
+pub use cache::NameCache;
+pub use key::NameKey;
+pub use laws::a_name_cache_is_what_is_seen_of_it;
+pub use limits::{MOST_CACHED_NAME_BYTES, MOST_CACHED_NAMES};

@@ -1,0 +1,75 @@
+-- What is made of the words of a line, one after the other. Each word is read as what stands there in the
+-- line of an entry. Of any other word something is made too: that it was another shows when the line is
+-- written again.
+use Rattle.std.specs.Prelude.{ℕ, ◌≡◌, ◌^◌, ◌/◌, ◌-◌, ◌==◌, ⊤, Bool, false, nat_le, nat_eq, List, [], length}
+use Rattle.std.specs.Prelude.{drop, map, replicate}
+use Rattle.std.specs.Prelude.{codes, slice_get, Option, unwrap_or, Result, Ok, Err, if◌then◌else◌}
+use Rattle.std.specs.List.{slice_split, starts_with}
+use Rattle.std.specs.Option.{option_map_or}
+use Rattle.percent_encoding.specs.Percent.{percent_decode}
+use Rattle.text_words.specs.Digits.{hex_bytes_of_length}
+use Rattle.text_words.specs.Numbers.{number_below}
+use Rattle.policy_ctx.specs.declared.policy.KeyId.{KeyId}
+use Rattle.script_words.specs.Keys.{hex_or_none}
+use Rattle.script_words.specs.Path.{is_slash}
+
+-- what is made of some words, and the words that are left
+abbrev pub Form : Type 0 → Type 0
+Form A = List (List ℕ) → A × List (List ℕ)
+
+-- no further word
+abbrev pub says : {A : Type 0} → A → Form A
+says a = λ words. (a, words)
+
+-- one form, and then the next
+infixl 10 ◌>>=◌
+abbrev pub ◌>>=◌ : {A B : Type 0} → Form A → (A → Form B) → Form B
+form >>= next = λ words. next (form words).0 (form words).1
+
+-- one word, which is empty past the last one
+abbrev pub word : {A : Type 0} → (List ℕ → A) → Form A
+word read = λ words. (read (unwrap_or (slice_get words 0) []), drop 1 words)
+
+-- one word, and what is made of what it says
+abbrev pub only : {A B : Type 0} → (A → B) → (List ℕ → A) → Form B
+only make read = word read >>= λ a. says (make a)
+
+-- a function that reads makes what the form makes, and leaves the words that the form leaves; want of memory
+-- comes freely
+abbrev pub Makes : {A E : Type 0} → Result A E → A × List (List ℕ) → List (List ℕ) → Type 0
+Makes (Ok made) read left = read ≡ (made, left)
+Makes (Err error) read left = ⊤
+
+-- a number below 2^32, and a place
+abbrev pub number_in : List ℕ → ℕ
+number_in text = unwrap_or (number_below (2 ^ 32) text) 0
+
+abbrev pub place_in : List ℕ → ℕ
+place_in text = unwrap_or (number_below (2 ^ 64) text) 0
+
+-- as many zeros as the number says, where they are no more than this: for bytes of which a line has the number
+abbrev pub zeros_in : ℕ → List ℕ → List ℕ
+zeros_in most text = replicate (if nat_le (number_in text) most then number_in text else 0) 0
+
+-- an identifier and a policy, in digits of either case
+abbrev pub id_in : List ℕ → KeyId
+id_in text = record { 0 = unwrap_or (hex_bytes_of_length 16 text) (replicate 16 0) }
+
+abbrev pub policy_in : List ℕ → List ℕ
+policy_in text = unwrap_or (hex_bytes_of_length 24 text) (replicate 24 0)
+
+-- bytes in digits, or `-` for none
+abbrev pub bytes_in : List ℕ → List ℕ
+bytes_in text = unwrap_or (hex_or_none (length text / 2) text) []
+
+-- the parts of a path: the words behind its slashes, and none for `/` alone
+abbrev pub path_in : List ℕ → List (List ℕ)
+path_in text = if nat_le (length text) 1 then [] else map percent_decode (slice_split is_slash (drop 1 text))
+
+-- a flag, by its last digit
+abbrev pub flag_in : List ℕ → Bool
+flag_in text = option_map_or (λ b. b == 49) (slice_get text (length text - 1)) false
+
+-- how many users hold a key
+abbrev pub users_in : List ℕ → ℕ
+users_in text = if starts_with nat_eq text (codes "users=") then number_in (drop 6 text) else 0

@@ -1,0 +1,6 @@
+pub mod Fields
+pub mod Names
+pub mod CallForms
+pub mod ReplyForms
+pub mod Guess
+pub mod Reading

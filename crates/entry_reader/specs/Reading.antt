@@ -1,0 +1,60 @@
+-- What reading a line answers: just the lines of entries of calls that fit are read.
+use Rattle.std.specs.Prelude.{◌≡◌, ◌≢◌, ◌<◌, ◌^◌, ⊤, ℕ, List, length, Option, Some, None, IsSomeAnd}
+use Rattle.hex.specs.Hex.{IsBytes}
+use Rattle.mount_model.specs.declared.call.Op.{Op}
+use Rattle.mount_model.specs.declared.call.Op.TheVariants.{RemoveKey, RemoveKeyAll, KeyStatus}
+use Rattle.mount_model.specs.declared.call.Op.TheVariants.{SetPolicy, MetaLoad, MetaStore}
+use Rattle.mount_model.specs.declared.reply.Reply.{Reply}
+use Rattle.mount_model.specs.declared.reply.Reply.TheVariants.{Added, PolicyIs}
+use Rattle.mount_model.specs.Fits.{Fits}
+use Rattle.mount_model.specs.History.{MountEntry}
+use Rattle.reply_text.specs.Log.{entry_text}
+use Rattle.reply_text.specs.LogLaws.{told}
+use Rattle.reply_text.specs.Ranges.{EntryIsInRange}
+use Rattle.entry_reader.specs.declared.reader.LogEntry.{LogEntry}
+
+-- what the types of a call or a reply say besides its range: an identifier has 16 bytes, a policy 24, and the
+-- name of a record is of bytes
+abbrev pub CallIsTyped : Op → Type 0
+CallIsTyped (RemoveKey id) = length id.0 ≡ 16
+CallIsTyped (RemoveKeyAll id) = length id.0 ≡ 16
+CallIsTyped (KeyStatus id) = length id.0 ≡ 16
+CallIsTyped (SetPolicy path policy nonce) = length policy ≡ 24
+CallIsTyped (MetaLoad name) = IsBytes name
+CallIsTyped (MetaStore name expected bytes) = IsBytes name
+CallIsTyped other = ⊤
+
+abbrev pub ReplyIsTyped : Reply → Type 0
+ReplyIsTyped (Added id) = length id.0 ≡ 16
+ReplyIsTyped (PolicyIs policy) = length policy ≡ 24
+ReplyIsTyped other = ⊤
+
+-- an entry that a program can hold, of a call that a mount may be asked; the reply may be any, also one that
+-- no such call has
+pub record IsEntry (e : MountEntry) : Type 0 where
+  pub in_range : EntryIsInRange e
+  pub asked : CallIsTyped e.call.op
+  pub replied : ReplyIsTyped e.reply
+  pub fits : Fits e.call
+
+-- the line is the line of such an entry, at its place
+pub record IsLineOf (line : List ℕ) (read : LogEntry) : Type 0 where
+  pub place : read.place < 2 ^ 64
+  pub entry : IsEntry read.entry
+  pub text : line ≡ entry_text read.place read.entry
+
+-- an entry is kept where the line is its line, and where it is not, none is
+abbrev pub Keeps : List ℕ → LogEntry → Option LogEntry → Type 0
+Keeps line read (Some kept) = (kept ≡ read) × IsLineOf line read
+Keeps line read None = ¬ (Fits read.entry.call × (line ≡ entry_text read.place read.entry))
+
+-- what was read is an entry whose line it is; and where nothing was, it is the line of none
+abbrev pub TellsLine : List ℕ → Option LogEntry → Type 0
+TellsLine line (Some read) = IsLineOf line read
+TellsLine line None = (place : ℕ) (e : MountEntry) → place < 2 ^ 64 → IsEntry e → line ≢ entry_text place e
+
+-- the line of any such entry is read, as what that entry tells
+abbrev pub ReadsBack : List ℕ → Option LogEntry → Type 0
+ReadsBack line read =
+    (place : ℕ) (e : MountEntry) → place < 2 ^ 64 → IsEntry e → line ≡ entry_text place e
+    → IsSomeAnd read (λ x. (x.place ≡ place) × (told x.entry ≡ told e))

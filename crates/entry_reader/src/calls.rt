@@ -1,0 +1,183 @@
+//! The call of a line.
+
+ghost use Rattle.std.specs.Prelude.{◌≡◌, IfOk};
+ghost use Rattle.entry_reader.specs.Fields.{Makes};
+ghost use Rattle.entry_reader.specs.CallForms as forms;
+
+use crate::fields::{id, number, path, policy, take_word, unescaped, zeros};
+use mount_model::Op;
+use mount_model::limits::{MOST_CARRIED_BYTES, MOST_RAW_BYTES, MOST_WRITE_BYTES};
+use script_lang::{CommandName, Words};
+use std::alloc::{AllocError, Global};
+
+// What stands for a nonce, which no line shows.
+const NO_NONCE: [u8; 16] = [0; 16];
+
+// The call of the words, with zeros for what no line shows; none where no call has the name.
+pub(crate) fn read_call(alloc: Global, words: &mut Words<'_>) -> Result<Option<Op>, AllocError>
+    ensures { Makes result (forms.call_form words.old) words.new }
+{
+    match CommandName::read(take_word(words)) {
+        Some(name) => read_named(alloc, name, words),
+        None => Ok(None),
+    }
+}
+
+// The call of this name, of the words behind it.
+fn read_named(
+    alloc: Global,
+    name: CommandName,
+    words: &mut Words<'_>,
+) -> Result<Option<Op>, AllocError>
+    ensures { Makes result (forms.call_named name words.old) words.new }
+{
+    match name {
+        CommandName::AddKey => {
+            let raw = zeros(alloc, words, MOST_RAW_BYTES)?;
+            Ok(Some(Op::AddKey { raw }))
+        }
+        CommandName::RemoveKey => Ok(Some(Op::RemoveKey { id: id(words) })),
+        CommandName::RemoveKeyAll => Ok(Some(Op::RemoveKeyAll { id: id(words) })),
+        CommandName::KeyStatus => Ok(Some(Op::KeyStatus { id: id(words) })),
+        CommandName::SetPolicy => Ok(Some(set_policy(alloc, words)?)),
+        CommandName::GetPolicy => {
+            let path = path(alloc, words)?;
+            Ok(Some(Op::GetPolicy { path }))
+        }
+        CommandName::Mkdir => {
+            let path = path(alloc, words)?;
+            let nonce = NO_NONCE;
+            Ok(Some(Op::Mkdir { path, nonce }))
+        }
+        CommandName::Create => {
+            let path = path(alloc, words)?;
+            let nonce = NO_NONCE;
+            Ok(Some(Op::Create { path, nonce }))
+        }
+        CommandName::Symlink => Ok(Some(symlink(alloc, words)?)),
+        CommandName::ReadLink => {
+            let path = path(alloc, words)?;
+            Ok(Some(Op::ReadLink { path }))
+        }
+        CommandName::Unlink => {
+            let path = path(alloc, words)?;
+            Ok(Some(Op::Unlink { path }))
+        }
+        CommandName::Rmdir => {
+            let path = path(alloc, words)?;
+            Ok(Some(Op::Rmdir { path }))
+        }
+        CommandName::Rename => Ok(Some(rename(alloc, words)?)),
+        CommandName::List => Ok(Some(list(alloc, words)?)),
+        CommandName::Stat => {
+            let path = path(alloc, words)?;
+            Ok(Some(Op::Stat { path }))
+        }
+        CommandName::Open => {
+            let path = path(alloc, words)?;
+            Ok(Some(Op::OpenNode { path }))
+        }
+        CommandName::Close => Ok(Some(Op::Close {
+            handle: number(words),
+        })),
+        CommandName::Read => Ok(Some(read(words))),
+        CommandName::Write => Ok(Some(write(alloc, words)?)),
+        CommandName::DropCaches => Ok(Some(Op::DropCaches)),
+        CommandName::MetaGet => {
+            let name = unescaped(alloc, words)?;
+            Ok(Some(Op::MetaLoad { name }))
+        }
+        CommandName::MetaPut => Ok(Some(meta_put(alloc, words)?)),
+        CommandName::SetPolicyBytes
+        | CommandName::Fill
+        | CommandName::Protector
+        | CommandName::ProtectorChange
+        | CommandName::PolicyNew
+        | CommandName::PolicyAdd
+        | CommandName::PolicyDrop
+        | CommandName::Unlock
+        | CommandName::Lock
+        | CommandName::Status
+        | CommandName::Encrypt
+        | CommandName::Migrate => Ok(None),
+    }
+}
+
+fn set_policy(alloc: Global, words: &mut Words<'_>) -> Result<Op, AllocError>
+    ensures { Makes result (forms.set_policy words.old) words.new }
+{
+    let path = path(alloc, words)?;
+    let policy = policy(words);
+    Ok(Op::SetPolicy {
+        path,
+        policy,
+        nonce: NO_NONCE,
+    })
+}
+
+fn symlink(alloc: Global, words: &mut Words<'_>) -> Result<Op, AllocError>
+    ensures { Makes result (forms.symlink words.old) words.new }
+{
+    let path = path(alloc, words)?;
+    let target = unescaped(alloc, words)?;
+    Ok(Op::Symlink {
+        path,
+        target,
+        nonce: NO_NONCE,
+    })
+}
+
+fn rename(alloc: Global, words: &mut Words<'_>) -> Result<Op, AllocError>
+    ensures { Makes result (forms.rename words.old) words.new }
+{
+    let old_path = path(alloc, words)?;
+    let new_path = path(alloc, words)?;
+    Ok(Op::Rename { old_path, new_path })
+}
+
+fn list(alloc: Global, words: &mut Words<'_>) -> Result<Op, AllocError>
+    ensures { Makes result (forms.list words.old) words.new }
+{
+    let path = path(alloc, words)?;
+    let start = number(words);
+    Ok(Op::List { path, start })
+}
+
+fn read(words: &mut Words<'_>) -> Op
+    ensures { forms.read words.old ≡ (result, words.new) }
+{
+    let handle = number(words);
+    let offset = number(words);
+    let len = number(words);
+    Op::Read {
+        handle,
+        offset,
+        len,
+    }
+}
+
+fn write(alloc: Global, words: &mut Words<'_>) -> Result<Op, AllocError>
+    ensures { Makes result (forms.write words.old) words.new }
+{
+    let handle = number(words);
+    let offset = number(words);
+    let bytes = zeros(alloc, words, MOST_WRITE_BYTES)?;
+    Ok(Op::Write {
+        handle,
+        offset,
+        bytes,
+    })
+}
+
+fn meta_put(alloc: Global, words: &mut Words<'_>) -> Result<Op, AllocError>
+    ensures { Makes result (forms.meta_put words.old) words.new }
+{
+    let name = unescaped(alloc, words)?;
+    let expected = number(words);
+    let bytes = zeros(alloc, words, MOST_CARRIED_BYTES)?;
+    Ok(Op::MetaStore {
+        name,
+        expected,
+        bytes,
+    })
+}

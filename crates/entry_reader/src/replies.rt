@@ -1,0 +1,142 @@
+//! The reply of a line.
+
+ghost use Rattle.std.specs.Prelude.{◌≡◌, IfOk};
+ghost use Rattle.entry_reader.specs.Fields.{Makes, word};
+ghost use Rattle.entry_reader.specs.Names as names;
+ghost use Rattle.entry_reader.specs.ReplyForms as forms;
+
+use crate::fields::{bytes, flag, id, number, policy, take_word, unescape, unescaped, users};
+use crate::names::{ReplyName, kind_in, refusal_in, state_in};
+use mount_model::{KeyState, NameList, NodeKind, Refusal, Reply};
+use script_lang::Words;
+use std::alloc::{AllocError, Global};
+
+// The reply of the words; of those that are none, any.
+pub(crate) fn read_reply(alloc: Global, words: &mut Words<'_>) -> Result<Reply, AllocError>
+    ensures { Makes result (forms.reply_form words.old) words.new }
+{
+    match ReplyName::read(take_word(words)) {
+        Some(name) => read_named(alloc, name, words),
+        None => Ok(Reply::Done),
+    }
+}
+
+// The reply that begins with this name, of the words behind it.
+fn read_named(alloc: Global, name: ReplyName, words: &mut Words<'_>) -> Result<Reply, AllocError>
+    ensures { Makes result (forms.reply_named name words.old) words.new }
+{
+    match name {
+        ReplyName::Added => Ok(Reply::Added(id(words))),
+        ReplyName::Removed => Ok(removed(words)),
+        ReplyName::Status => Ok(status(words)),
+        ReplyName::Done => Ok(Reply::Done),
+        ReplyName::Policy => Ok(Reply::PolicyIs(policy(words))),
+        ReplyName::Names => listing(alloc, words),
+        ReplyName::Stat => Ok(stat(words)),
+        ReplyName::Handle => Ok(Reply::Opened(number(words))),
+        ReplyName::Data => Ok(Reply::Content(bytes(alloc, words)?)),
+        ReplyName::Target => Ok(Reply::Target(unescaped(alloc, words)?)),
+        ReplyName::Record => held(alloc, words),
+        ReplyName::Stored => Ok(Reply::Stored(number(words))),
+        ReplyName::Refused => Ok(refused(words)),
+    }
+}
+
+fn removed(words: &mut Words<'_>) -> Reply
+    ensures { forms.removed words.old ≡ (result, words.new) }
+{
+    let others = flag(words);
+    let busy = flag(words);
+    Reply::Removed { others, busy }
+}
+
+fn status(words: &mut Words<'_>) -> Reply
+    ensures { forms.status words.old ≡ (result, words.new) }
+{
+    let state = state(words);
+    let by_self = flag(words);
+    let users = users(words);
+    Reply::Status {
+        state,
+        by_self,
+        users,
+    }
+}
+
+fn listing(alloc: Global, words: &mut Words<'_>) -> Result<Reply, AllocError>
+    ensures { Makes result (forms.names words.old) words.new }
+{
+    let _count = take_word(words);
+    let more = flag(words);
+    let names = words_left(alloc, words)?;
+    Ok(Reply::Names { names, more })
+}
+
+// The bytes of each word that is left.
+fn words_left(alloc: Global, words: &mut Words<'_>) -> Result<NameList, AllocError>
+    ensures { Makes result (forms.words_left words.old) words.new }
+{
+    let mut names = NameList::new(alloc);
+    'words: while let Some(word) = words.next() {
+        let name = unescape(alloc, word)?;
+        names.push(name)?;
+    }
+    Ok(names)
+}
+
+fn stat(words: &mut Words<'_>) -> Reply
+    ensures { forms.stat words.old ≡ (result, words.new) }
+{
+    let kind = kind(words);
+    let node = number(words);
+    let size = number(words);
+    let encrypted = flag(words);
+    let keyed = flag(words);
+    Reply::Stat {
+        kind,
+        node,
+        size,
+        encrypted,
+        keyed,
+    }
+}
+
+fn held(alloc: Global, words: &mut Words<'_>) -> Result<Reply, AllocError>
+    ensures { Makes result (forms.held words.old) words.new }
+{
+    let version = number(words);
+    let bytes = bytes(alloc, words)?;
+    Ok(Reply::Held { version, bytes })
+}
+
+fn refused(words: &mut Words<'_>) -> Reply
+    ensures { forms.refused words.old ≡ (result, words.new) }
+{
+    let why = take_word(words);
+    Reply::Refused(refusal_behind(why, words))
+}
+
+// The refusal of this word, with the version behind it where one stands there.
+fn refusal_behind(why: &[u8], words: &mut Words<'_>) -> Refusal
+    ensures { forms.refusal_behind why.now words.old ≡ (result, words.new) }
+{
+    if why == b"changed".as_slice() {
+        let version = number(words);
+        return Refusal::Changed { version };
+    }
+    refusal_in(why)
+}
+
+// What stands of a key.
+fn state(words: &mut Words<'_>) -> KeyState
+    ensures { word names.state_in words.old ≡ (result, words.new) }
+{
+    state_in(take_word(words))
+}
+
+// What a node is.
+fn kind(words: &mut Words<'_>) -> NodeKind
+    ensures { word names.kind_in words.old ≡ (result, words.new) }
+{
+    kind_in(take_word(words))
+}

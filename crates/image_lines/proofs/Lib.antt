@@ -1,0 +1,14 @@
+pub mod Cuts
+pub mod Pieces
+pub mod Telling
+pub mod LineLaws
+pub mod Chains
+pub mod Bodies
+pub mod ReadingLaws
+pub mod AgainLaws
+pub mod ChildLaws
+pub mod ImageLaws
+pub mod RoundLemmas
+pub mod SearchLemmas
+pub mod ChildRounds
+pub mod Answered

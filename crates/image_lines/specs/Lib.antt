@@ -1,0 +1,6 @@
+pub mod Image
+pub mod ImageText
+pub mod Rules
+pub mod Lines
+pub mod Reading
+pub mod Places

@@ -1,0 +1,67 @@
+//! An image, read from its text.
+
+ghost use Rattle.std.specs.Prelude.{◌≡◌, ◌≤◌, ◌⊎◌, Ok, Err, map, length, IfOk, IfErr};
+ghost use Rattle.image_lines.specs.Image as tree;
+ghost use Rattle.image_lines.specs.ImageText.{image_text};
+ghost use Rattle.image_lines.specs.Rules.{IsImage};
+ghost use Rattle.image_lines.specs.Reading.{image_read};
+ghost use Rattle.image_lines.specs.Places.{IsReadFault, node_of_place};
+ghost use Rattle.image_lines.specs.declared.fault.ImageFault.TheVariants.{NoMemory};
+ghost use Rattle.image_lines.specs.declared.TheConstants.{MOST_IMAGE_BYTES};
+
+use crate::MOST_IMAGE_BYTES;
+use crate::fault::ImageFault;
+use crate::round_of_children::check_children;
+use crate::round_of_lines::{NodePlace, node_places};
+use std::alloc::Global;
+use std::marker::Model;
+
+/// An image, over the text from which it was read. Of each node it keeps 8 bytes besides: where the node
+/// stands. What the node is, and its entries and blocks, are read from the text when they are asked for.
+#[derive(Drop)]
+pub struct Image<'a> {
+    text: &'a [u8],
+    places: Vec<NodePlace>,
+}
+
+impl<'a> Model for Image<'a> {
+    ghost use Rattle.std.specs.Prelude.{◌≡◌, List, map, Ok};
+    ghost use Rattle.image_lines.specs.Image.{ImageNode};
+    ghost use Rattle.image_lines.specs.Reading.{image_read};
+    ghost use Rattle.image_lines.specs.Places.{node_of_place};
+
+    ghost Value = { List ImageNode };
+
+    ghost view = { λ image. map (node_of_place image.text.now) image.places.items };
+
+    ghost invariant = { λ image. image_read image.text.now
+        ≡ Ok (map (node_of_place image.text.now) image.places.items) };
+}
+
+/// Reads an image: of a text of at most `MOST_IMAGE_BYTES` bytes, that whose text it is. Else the line at
+/// fault: the first that its place doesn't allow, that no line feed ended, or that is missing; where there is
+/// none, the first entry line whose child is the root, has no node line, or is the child of an earlier entry
+/// line. Or there was no memory.
+pub fn read_image(alloc: Global, text: &[u8]) -> Result<Image<'_>, ImageFault>
+    requires short { length text.now ≤ MOST_IMAGE_BYTES }
+    ensures read { IfOk result (λ image. image_read text.now ≡ Ok image) }
+    ensures found { IfOk result (λ image. IsImage image × (text.now ≡ image_text image)) }
+    ensures every { (image : tree.Image) → IsImage image → text.now ≡ image_text image
+        → (result ≡ Ok image) ⊎ (result ≡ Err NoMemory) }
+    ensures refused { IfErr result (λ fault. IsReadFault fault (image_read text.now)) }
+{
+    let places = read_places(alloc, text)?;
+    Ok(Image { text, places })
+}
+
+// The places of the nodes of an image.
+fn read_places(alloc: Global, text: &[u8]) -> Result<Vec<NodePlace>, ImageFault>
+    requires short { length text.now ≤ MOST_IMAGE_BYTES }
+    ensures read { IfOk result (λ places. image_read text.now
+        ≡ Ok (map (node_of_place text.now) places.items)) }
+    ensures refused { IfErr result (λ fault. IsReadFault fault (image_read text.now)) }
+{
+    let places = node_places(alloc, text)?;
+    check_children(alloc, text, places.as_slice())?;
+    Ok(places)
+}

@@ -1,0 +1,166 @@
+//! Where a line of an image stands, and which lines may stand there.
+
+ghost use Rattle.std.specs.Prelude.{◌≡◌, ◌≤◌};
+ghost use Rattle.image_lines.specs.declared.place.Place.TheVariants.{AtHeader, AtRoot};
+ghost use Rattle.image_lines.specs.Rules as rules;
+ghost use Rattle.image_lines.specs.Reading as spec;
+ghost use Rattle.image_lines.specs.Reading.{step};
+
+use crate::lines::{read_block_line, read_entry_line, read_node_line};
+use crate::node_line::{NodeKind, NodeLine, StoredBytes};
+use crate::rules::is_entry_name;
+use mount_limits::BLOCK_SIZE;
+
+/// The first line of every image.
+pub(crate) const HEADER: &[u8] = b"fsc-image 1";
+
+/// Where a line of an image stands, as far as it tells which lines may.
+#[derive(Clone, Copy)]
+pub(crate) enum Place {
+    /// In front of all lines.
+    AtHeader,
+    /// Behind the header.
+    AtRoot,
+    /// Behind the line of a directory, or behind one of its entries. The last name is empty before the
+    /// first entry.
+    InDir {
+        number: u32,
+        under_policy: bool,
+        last: StoredBytes,
+    },
+    /// Behind a file, with so many blocks still to come, or behind a link.
+    Behind {
+        number: u32,
+        left: u32,
+    },
+}
+
+impl Place {
+    // The place behind the line, where it may stand at this one.
+    pub(crate) fn next(&self, line: &[u8]) -> Option<Place>
+        ensures { result ≡ step self.now line.now }
+    {
+        match self {
+            Place::AtHeader => at_header(line),
+            Place::AtRoot => at_root(line),
+            Place::InDir {
+                number,
+                under_policy,
+                last,
+            } => match read_entry_line(line) {
+                Some(entry) => next_entry(*number, *under_policy, last, &entry.name),
+                None => next_node(*number, line),
+            },
+            Place::Behind { number, left: 0 } => next_node(*number, line),
+            Place::Behind { number, left } => next_block(*number, *left, line),
+        }
+    }
+
+    // Whether an image may end here.
+    pub(crate) fn may_end(&self) -> bool
+        ensures { result ≡ spec.may_end self.now }
+    {
+        matches!(self, Place::InDir { .. } | Place::Behind { left: 0, .. })
+    }
+}
+
+fn at_header(line: &[u8]) -> Option<Place>
+    ensures { result ≡ step AtHeader line.now }
+{
+    if line == HEADER {
+        Some(Place::AtRoot)
+    } else {
+        None
+    }
+}
+
+// The root: node 0, a directory without context.
+fn at_root(line: &[u8]) -> Option<Place>
+    ensures { result ≡ step AtRoot line.now }
+{
+    match read_node_line(line)? {
+        NodeLine {
+            number: 0,
+            context: None,
+            kind: NodeKind::Dir,
+        } => Some(Place::InDir {
+            number: 0,
+            under_policy: false,
+            last: StoredBytes::new(),
+        }),
+        _ => None,
+    }
+}
+
+// The place behind the line of a node of a greater number.
+fn next_node(number: u32, line: &[u8]) -> Option<Place>
+    ensures { result ≡ spec.next_node number line.now }
+{
+    let NodeLine {
+        number: next,
+        context,
+        kind,
+    } = read_node_line(line)?;
+    if number < next {
+        Some(place_behind(next, context.is_some(), kind))
+    } else {
+        None
+    }
+}
+
+// The place behind an entry, where its name is in range and greater than the last one.
+fn next_entry(
+    number: u32,
+    under_policy: bool,
+    last: &StoredBytes,
+    name: &StoredBytes,
+) -> Option<Place>
+    ensures { result ≡ spec.next_entry number under_policy last.now name.now }
+{
+    if is_entry_name(under_policy, name.bytes()) && last.bytes().cmp(name.bytes()).is_lt() {
+        Some(Place::InDir {
+            number,
+            under_policy,
+            last: *name,
+        })
+    } else {
+        None
+    }
+}
+
+// The place behind a block, of which so many are still to come.
+fn next_block(number: u32, left: u32, line: &[u8]) -> Option<Place>
+    requires { 1 ≤ left }
+    ensures { result ≡ spec.next_block number left line.now }
+{
+    read_block_line(line)?;
+    Some(Place::Behind {
+        number,
+        left: left - 1,
+    })
+}
+
+// The place behind the line of a node.
+fn place_behind(number: u32, under_policy: bool, kind: NodeKind) -> Place
+    ensures { result ≡ spec.place_behind number under_policy kind }
+{
+    match kind {
+        NodeKind::Dir => Place::InDir {
+            number,
+            under_policy,
+            last: StoredBytes::new(),
+        },
+        NodeKind::File { size } => Place::Behind {
+            number,
+            left: blocks_for(size),
+        },
+        NodeKind::Link(_) => Place::Behind { number, left: 0 },
+    }
+}
+
+// How many blocks a file of that many bytes has.
+fn blocks_for(size: u32) -> u32
+    ensures { result ≡ rules.blocks_for size }
+{
+    size.div_ceil(BLOCK_SIZE as u32)
+}

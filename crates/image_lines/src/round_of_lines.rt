@@ -1,0 +1,70 @@
+//! The first round of reading: each line may stand where it does.
+
+ghost use Rattle.std.specs.Prelude.{◌≡◌, ◌≤◌, ◌++◌, None, map, length, IfOk, IfErr, OnOk, OnErr};
+ghost use Rattle.text_words.specs.Lines.{pieces_of};
+ghost use Rattle.image_lines.specs.Lines.{node_told};
+ghost use Rattle.image_lines.specs.Reading.{line_fault, nodes_at};
+ghost use Rattle.image_lines.specs.Places.{IsFault, node_of_place, place_told};
+ghost use Rattle.image_lines.specs.declared.TheConstants.{MOST_IMAGE_BYTES};
+
+use crate::MOST_IMAGE_BYTES;
+use crate::fault::ImageFault;
+use crate::lines::read_node_line;
+use crate::place::Place;
+use std::alloc::{AllocError, Global};
+use text_words::next_line;
+
+/// Where a node stands in a text.
+#[derive(Clone, Copy)]
+pub(crate) struct NodePlace {
+    /// The node's number.
+    pub number: u32,
+    /// The index of the first byte of its line.
+    pub at: u32,
+}
+
+// The places of the nodes. Else the first line that its place doesn't allow, that no line feed ended, or
+// that is missing.
+pub(crate) fn node_places(alloc: Global, text: &[u8]) -> Result<Vec<NodePlace>, ImageFault>
+    requires short { length text.now ≤ MOST_IMAGE_BYTES }
+    ensures faultless { IfOk result (λ places. line_fault text.now ≡ None) }
+    ensures nodes { IfOk result (λ places. map (node_of_place text.now) places.items
+        ≡ nodes_at (pieces_of text.now)) }
+    ensures refused { IfErr result (λ fault. IsFault fault (line_fault text.now)) }
+{
+    let mut places = Vec::new(alloc);
+    let mut place = Place::AtHeader;
+    let mut rest = text;
+    let mut number = 1;
+    'lines: while !rest.is_empty() {
+        let line = next_line(rest);
+        if !line.ended {
+            return Err(ImageFault::BadLine { line: number });
+        }
+        let Some(next) = place.next(line.bytes) else {
+            return Err(ImageFault::BadLine { line: number });
+        };
+        add_place(&mut places, line.bytes, text.len() - rest.len())?;
+        place = next;
+        rest = line.rest;
+        number += 1;
+    }
+    if !place.may_end() {
+        return Err(ImageFault::BadLine { line: number });
+    }
+    Ok(places)
+}
+
+// Adds the place of the line, where it is a node's.
+fn add_place(places: &mut Vec<NodePlace>, line: &[u8], at: usize) -> Result<(), AllocError>
+    requires { at ≤ MOST_IMAGE_BYTES }
+    ensures { OnOk result (places.new.items ≡ places.old.items ++ place_told (node_told line.now) at) }
+{
+    if let Some(node) = read_node_line(line) {
+        places.push(NodePlace {
+            number: node.number,
+            at: at as u32,
+        })?;
+    }
+    Ok(())
+}

@@ -1,0 +1,51 @@
+//! Which bytes may stand as a name or a target.
+
+ghost use Rattle.std.specs.Prelude.{◌≡◌};
+ghost use Rattle.std.specs.List.{list_any};
+ghost use Rattle.image_lines.specs.Rules as spec;
+
+use name_crypt::{LEAST_STORED_BYTES, MOST_NAME_BYTES};
+
+// Whether a directory, under a policy or not, may have the bytes as an entry's name.
+pub(crate) fn is_entry_name(under_policy: bool, name: &[u8]) -> bool
+    ensures { result ≡ spec.is_entry_name under_policy name.now }
+{
+    if under_policy {
+        is_stored(LEAST_STORED_BYTES, name)
+    } else {
+        is_stored(1, name) && may_be_part(name)
+    }
+}
+
+// Whether a link, under a policy or not, may have the bytes as its target.
+pub(crate) fn is_target(under_policy: bool, target: &[u8]) -> bool
+    ensures { result ≡ spec.is_target under_policy target.now }
+{
+    let least = if under_policy { LEAST_STORED_BYTES } else { 1 };
+    is_stored(least, target)
+}
+
+fn is_stored(least: usize, bytes: &[u8]) -> bool
+    ensures { result ≡ spec.is_stored least bytes.now }
+{
+    least <= bytes.len() && bytes.len() <= MOST_NAME_BYTES
+}
+
+fn may_be_part(bytes: &[u8]) -> bool
+    ensures { result ≡ spec.may_be_part bytes.now }
+{
+    !has_slash_or_nul(bytes) && !is_dots(bytes)
+}
+
+fn has_slash_or_nul(bytes: &[u8]) -> bool
+    ensures { result ≡ list_any spec.is_slash_or_nul bytes.now }
+{
+    bytes.iter().any(|b| *b == b'/' || *b == 0)
+}
+
+// Whether the bytes are `.` or `..`.
+fn is_dots(bytes: &[u8]) -> bool
+    ensures { result ≡ spec.is_dots bytes.now }
+{
+    bytes == b".".as_slice() || bytes == b"..".as_slice()
+}

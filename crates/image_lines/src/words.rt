@@ -1,0 +1,138 @@
+//! The words on the lines of nodes and entries.
+
+ghost use Rattle.std.specs.Prelude.{◌≡◌, ◌≢◌, ◌∷◌, [], Option, None, Some, MatchOption, is_none, is_some, length};
+ghost use Rattle.std.specs.Option.{option_map};
+ghost use Rattle.text_words.specs.Words.{words_of};
+ghost use Rattle.image_lines.specs.Lines as spec;
+ghost use Rattle.image_lines.specs.Rules as rules;
+
+use crate::node_line::{EntryLine, NodeKind, NodeLine, StoredBytes};
+use crate::rules::is_target;
+use mount_limits::MOST_FILE_BYTES;
+use name_crypt::MOST_NAME_BYTES;
+use policy_ctx::{CONTEXT_LEN, decode_context};
+use text_words::{decimal_value, lower_hex_bytes, lower_hex_bytes_into, nth_word, word_count};
+
+// The words behind `node`: a number, a kind and a context, and for a file or a link one more.
+#[derive(Clone, Copy)]
+struct NodeWords<'a> {
+    number: &'a [u8],
+    kind: &'a [u8],
+    context: &'a [u8],
+    last: Option<&'a [u8]>,
+}
+
+// The node of which the words tell.
+pub(crate) fn node_of_words(text: &[u8]) -> Option<NodeLine>
+    ensures { result ≡ spec.node_of_words (words_of text.now) }
+{
+    let words = node_words(text)?;
+    let number = decimal_value(words.number)?;
+    let context = context_told(words.context)?;
+    let kind = kind_told(words.kind, context.is_some(), words.last)?;
+    Some(NodeLine {
+        number,
+        context,
+        kind,
+    })
+}
+
+// The entry of which the words tell.
+pub(crate) fn entry_of_words(text: &[u8]) -> Option<EntryLine>
+    ensures { option_map (λ entry. (entry.name, entry.child)) result ≡ spec.entry_of_words (words_of text.now) }
+{
+    let (child, name) = two_words(text)?;
+    let child = decimal_value(child)?;
+    let name = stored_told(name)?;
+    Some(EntryLine { name, child })
+}
+
+// The words, if they are three or four.
+fn node_words(text: &[u8]) -> Option<NodeWords<'_>>
+    ensures { MatchOption result (spec.node_of_words (words_of text.now) ≡ None)
+        (λ w. spec.node_of_words (words_of text.now)
+        ≡ spec.node_of w.number.now w.kind.now w.context.now (option_map (λ last. last.now) w.last)) }
+{
+    let count = word_count(text);
+    if count != 3 && count != 4 {
+        return None;
+    }
+    Some(NodeWords {
+        number: nth_word(text, 0)?,
+        kind: nth_word(text, 1)?,
+        context: nth_word(text, 2)?,
+        last: nth_word(text, 3),
+    })
+}
+
+// The words, if they are two.
+fn two_words(text: &[u8]) -> Option<(&[u8], &[u8])>
+    ensures { MatchOption result (length (words_of text.now) ≢ 2)
+        (λ x. words_of text.now ≡ x.0.now ∷ x.1.now ∷ []) }
+{
+    if word_count(text) != 2 {
+        return None;
+    }
+    Some((nth_word(text, 0)?, nth_word(text, 1)?))
+}
+
+// At most 255 bytes, in lower-case digits.
+fn stored_told(word: &[u8]) -> Option<StoredBytes>
+    ensures { result ≡ spec.stored_told word.now }
+{
+    let len = word.len() / 2;
+    if len > MOST_NAME_BYTES {
+        return None;
+    }
+    let mut bytes = [0; MOST_NAME_BYTES];
+    if !lower_hex_bytes_into(word, &mut bytes[..len]) {
+        return None;
+    }
+    Some(StoredBytes::of(&bytes[..len]))
+}
+
+// A context in its 80 digits, or `-` for none.
+fn context_told(word: &[u8]) -> Option<Option<[u8; CONTEXT_LEN]>>
+    ensures { result ≡ spec.context_told word.now }
+{
+    if word == b"-".as_slice() {
+        return Some(None);
+    }
+    let context = lower_hex_bytes(word)?;
+    if decode_context(&context).is_err() {
+        return None;
+    }
+    Some(Some(context))
+}
+
+// What a word tells a node to be, with the one behind the context, where there is one.
+fn kind_told(word: &[u8], under_policy: bool, last: Option<&[u8]>) -> Option<NodeKind>
+    ensures { result ≡ spec.kind_told word.now under_policy (option_map (λ last. last.now) last.entry) }
+{
+    match last {
+        None if word == b"dir".as_slice() => Some(NodeKind::Dir),
+        Some(last) if word == b"file".as_slice() => file_told(last),
+        Some(last) if word == b"link".as_slice() => link_told(under_policy, last),
+        _ => None,
+    }
+}
+
+fn file_told(word: &[u8]) -> Option<NodeKind>
+    ensures { result ≡ spec.file_told word.now }
+{
+    let size = decimal_value(word)?;
+    if size as usize > MOST_FILE_BYTES {
+        return None;
+    }
+    Some(NodeKind::File { size })
+}
+
+fn link_told(under_policy: bool, word: &[u8]) -> Option<NodeKind>
+    ensures { result ≡ spec.link_told under_policy word.now }
+{
+    let target = stored_told(word)?;
+    if !is_target(under_policy, target.bytes()) {
+        return None;
+    }
+    Some(NodeKind::Link(target))
+}

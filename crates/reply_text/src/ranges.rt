@@ -1,0 +1,127 @@
+//! What each value of a program holds: bytes below 256, and numbers that their types have room for. The
+//! functions here do nothing; each says by its contract that the value which it is shown is in range.
+
+ghost use Rattle.std.specs.Prelude.{◌<◌, ◌^◌, length, All};
+ghost use Rattle.hex.specs.Hex.{IsBytes};
+ghost use Rattle.reply_text.specs.Ranges.{CallIsInRange, EntryIsInRange, RefusalIsInRange, ReplyIsInRange};
+
+use call_history::Entry;
+use item_list::Bytes;
+use mount_model::{Call, Op, Refusal, Reply};
+
+/// Each entry of a history is in range.
+pub fn entry_in_range(entry: &Entry<Call, Reply>)
+    ensures { EntryIsInRange entry.now }
+{
+    let _who = entry.who;
+    call_in_range(&entry.call);
+    reply_in_range(&entry.reply);
+}
+
+/// Each call is in range: its user, and what its text shows of what it asks.
+pub fn call_in_range(call: &Call)
+    ensures uid { call.now.uid < 2 ^ 32 }
+    ensures asked { CallIsInRange call.now.op }
+{
+    let _uid = call.uid;
+    op_in_range(&call.op);
+}
+
+/// Each reply is in range.
+pub fn reply_in_range(reply: &Reply)
+    ensures { ReplyIsInRange reply.now }
+{
+    match reply {
+        Reply::Added(id) => are_bytes(&id.0),
+        Reply::PolicyIs(policy) => are_bytes(policy),
+        Reply::Names { names, .. } => names_in_range(names.as_slice()),
+        Reply::Stat { node, size, .. } => {
+            let _node = *node;
+            let _size = *size;
+        }
+        Reply::Content(bytes) | Reply::Target(bytes) => are_bytes(bytes.as_slice()),
+        Reply::Held { version, bytes } => {
+            let _version = *version;
+            are_bytes(bytes.as_slice());
+        }
+        Reply::Status { users: number, .. } | Reply::Opened(number) | Reply::Stored(number) => {
+            let _number = *number;
+        }
+        Reply::Refused(refusal) => refusal_in_range(*refusal),
+        Reply::Removed { .. } | Reply::Done => {}
+    }
+}
+
+// What is asked for is in range.
+fn op_in_range(op: &Op)
+    ensures { CallIsInRange op.now }
+{
+    match op {
+        Op::AddKey { raw } => {
+            let _count = raw.len();
+        }
+        Op::RemoveKey { id } | Op::RemoveKeyAll { id } | Op::KeyStatus { id } => are_bytes(&id.0),
+        Op::SetPolicy { policy, .. } => are_bytes(policy),
+        Op::List { start: number, .. } | Op::Close { handle: number } => {
+            let _number = *number;
+        }
+        Op::Read {
+            handle,
+            offset,
+            len,
+        } => {
+            let _numbers = (*handle, *offset, *len);
+        }
+        Op::Write {
+            handle,
+            offset,
+            bytes,
+        } => {
+            let _numbers = (*handle, *offset, bytes.len());
+        }
+        Op::MetaStore {
+            expected,
+            bytes,
+            ..
+        } => {
+            let _numbers = (*expected, bytes.len());
+        }
+        Op::GetPolicy { .. }
+        | Op::Mkdir { .. }
+        | Op::Create { .. }
+        | Op::Symlink { .. }
+        | Op::ReadLink { .. }
+        | Op::Unlink { .. }
+        | Op::Rmdir { .. }
+        | Op::Rename { .. }
+        | Op::Stat { .. }
+        | Op::OpenNode { .. }
+        | Op::DropCaches
+        | Op::MetaLoad { .. } => {}
+    }
+}
+
+fn refusal_in_range(refusal: Refusal)
+    ensures { RefusalIsInRange refusal }
+{
+    if let Refusal::Changed { version } = refusal {
+        let _version = version;
+    }
+}
+
+// There are less names than a list has room for, and each is of bytes.
+fn names_in_range(names: &[Bytes])
+    ensures few { length names.now < 2 ^ 64 }
+    ensures bytes { All IsBytes names.now }
+{
+    'names: for number in 0..names.len() {
+        are_bytes(names[number].as_slice());
+    }
+}
+
+// Each number of a slice of bytes lies below 256.
+fn are_bytes(bytes: &[u8])
+    ensures { IsBytes bytes.now }
+{
+    let _len = bytes.len();
+}

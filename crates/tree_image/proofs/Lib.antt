@@ -1,0 +1,4 @@
+pub mod ImageLemmas
+pub mod LengthLemmas
+pub mod OrderLemmas
+pub mod TextLemmas

@@ -1,0 +1,9 @@
+-- That the image of a disk is that of the mount for which it stands.
+use Rattle.std.specs.Prelude.{◌≡◌, ℕ}
+use Rattle.disk_tree.specs.DiskTree.{Disk}
+use Rattle.mount_model.specs.PlainMount.{PlainMount}
+use Rattle.mount_state.specs.StandsFor.{TreeStands}
+use Rattle.tree_image.specs.Images.{image_of, mount_image}
+
+abbrev pub ImagesAgree : Type 0
+ImagesAgree = (disk : Disk) (next : ℕ) (m : PlainMount) → TreeStands disk next m → image_of disk ≡ mount_image m

@@ -1,0 +1,10 @@
+//! The image of a tree: what lies on a disk, written as a text.
+#![tactic(auto)]
+
+mod laws;
+mod length;
+mod order;
+mod write;
+
+pub use laws::images_agree;
+pub use write::write_image;
