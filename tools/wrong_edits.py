@@ -28,13 +28,15 @@ class BadEdit(Exception):
 
 @dataclass(frozen=True)
 class Function:
-    """A function of a file: the type whose method it is, if any, and its lines with the attributes above it, the first of the body among them, from 0."""
+    """A function of a file: the type whose method it is, if any, and its lines with the attributes above it, the first of the body among them, from 0.
+    It is plain where its own name and its type's tell where its proof lies: no method of a trait, of some of a type's instances or of a ring."""
     file: str
     of_type: str
     name: str
     first: int
     body: int
     last: int
+    is_plain: bool = True
 
     def has_line(self, file, number):
         return file == self.file and self.first <= number <= self.last
@@ -54,10 +56,12 @@ class Function:
 
 @dataclass(frozen=True)
 class Edit:
-    """A wrong edit: its name, its replacements (file, old text, new text), and the one function whose body it changes, if that is all."""
+    """A wrong edit: its name, its replacements (file, old text, new text), the one function whose body it changes, if that is all,
+    and else the functions that are told to be refused by it, if any, by their paths below the crate."""
     name: str
     pairs: tuple
     function: Function = None
+    refused: tuple = ()
 
 
 def type_of(header):
@@ -67,6 +71,14 @@ def type_of(header):
         before, bare = bare, re.sub(r"<[^<>]*>", "", bare)
     words = re.findall(r"\w+", bare.split(" for ")[-1])
     return next((it for it in words if it not in ("mut", "dyn")), "")
+
+
+def is_whole(header):
+    """Whether an impl's header is for all of a type, and for no trait."""
+    params = re.match(r"<((?:[^<>]|<[^<>]*>)*)>", header)
+    own = re.findall(r"(?:^|,)\s*(?:const )?('?\w+)", re.sub(r"<[^<>]*>", "", params[1])) if params else []
+    told = re.search(r"\w<((?:[^<>]|<[^<>]*>)*)>\s*(where\b.*|\{.*)?$", header[params.end() if params else 0:])
+    return " for " not in header and all(it.strip() in own for it in told[1].split(",")) if told else " for " not in header
 
 
 def extent(lines, first, indent):
@@ -89,11 +101,12 @@ def extent(lines, first, indent):
 
 def functions(file, text):
     """The functions of a file as `rt fmt` lays it out, those of traits and macros aside, which reach further than their own proof."""
-    lines, found, kind, of_type, behind = text.split("\n"), [], "", "", -1
+    lines, found, kind, of_type, behind, plain = text.split("\n"), [], "", "", -1, True
     for at, line in enumerate(lines):
         block = BLOCK.match(line)
         if block:
             kind, of_type = block[1], type_of(block[2]) if block[1] == "impl" else ""
+            plain = kind == "impl" and is_whole(block[2])
         head = FUNCTION.match(line)
         if not head or at <= behind or kind in ("trait", "macro_rules") and head[1]:
             continue
@@ -102,7 +115,9 @@ def functions(file, text):
             first = at
             while lines[first - 1].startswith(f"{head[1]}#["):
                 first -= 1
-            found.append(Function(file, of_type if head[1] else "", head[2], first, *lies))
+            sure = plain if head[1] else head[2] != "main"
+            sure = sure and not any("#[cycle" in it for it in lines[first:at])
+            found.append(Function(file, of_type if head[1] else "", head[2], first, *lies, sure))
             behind = lies[1]
     return found
 
@@ -154,7 +169,11 @@ def read_edit(name, text, texts):
         homes.add(inside[0] if inside and old in texts[file] else None)
     if now == texts:
         raise BadEdit("it changes nothing")
-    return Edit(name, pairs, homes.pop() if len(homes) == 1 else None)
+    told = tuple(line[9:].strip() for line in text.split("\n") if line.startswith("refused: "))
+    lacking = [it for it in told if it not in [place_of(function, texts) for function in every_function(texts)]]
+    if lacking:
+        raise BadEdit(f"there is no plain function {lacking[0]} to be refused")
+    return Edit(name, pairs, homes.pop() if len(homes) == 1 else None, told)
 
 
 def applied(edits, texts):
@@ -173,6 +192,48 @@ def applied(edits, texts):
     return made
 
 
+def every_function(texts):
+    return [it for file, text in texts.items() if file.startswith("src/") and file.endswith(".rt") for it in functions(file, text)]
+
+
+def module_of(file):
+    return [] if file in ("src/lib.rt", "src/main.rt") else file[4:-3].split("/")
+
+
+def place_of(function, texts):
+    """The path of a plain function below its crate, as a check names it and as its proof lies, or None where that isn't sure: a
+    method is in the module of its type."""
+    if not function.is_plain:
+        return None
+    if not function.of_type:
+        return "::".join([*module_of(function.file), function.name])
+    stands = re.compile(rf"^(?:pub(?:\(\w+\))? )?(?:struct|enum|union) {function.of_type}\b", re.M)
+    homes = [file for file, text in texts.items() if file.startswith("src/") and stands.search(text)]
+    return "::".join([*module_of(homes[0]), function.of_type, function.name]) if len(homes) == 1 else None
+
+
+HOLE = "use Rattle.{crate}.proofs.{path}.Statement.{{statement}}\n\npub {name}_spec : {{M : Type 1}} → statement M\n{name}_spec = ?\n"
+
+
+def holed(crate, texts, untouched, taken):
+    """The texts with a hole for the proof of each function of the untouched crate that isn't taken, where its place is sure.
+    Whatever stands on such a function has its contract, as ever, and its own proof costs nothing."""
+    made = dict(texts)
+    for function in every_function(untouched):
+        place = None if function in taken else place_of(function, untouched)
+        if place:
+            folder = "proofs/" + place.replace("::", "/")
+            for part in ("Answers", "Invariants", "Proof"):
+                made.pop(f"{folder}/{part}.antt", None)
+            made[f"{folder}/Proof.antt"] = HOLE.format(crate=crate, path=place.replace("::", "."), name=function.name)
+    return made
+
+
+def is_checked(said, crate, place):
+    """Whether a check came to the end of this function's proof and refused nothing in it."""
+    return any(re.match(rf"fn {crate}::{re.escape(place)}: (proved|no holes|depends on a hole)\b", it) for it in said)
+
+
 def in_rounds(edits):
     """The edits in rounds, the k-th of each function in round k, and those that go alone."""
     rounds, numbers, alone = [], {}, []
@@ -188,7 +249,7 @@ def in_rounds(edits):
 
 def changes_nothing(texts, taken):
     """An edit that adds a comment to a function of the crate, one that isn't taken where there is one."""
-    every = [it for file in sorted(texts) if file.startswith("src/") and "test" not in file for it in functions(file, texts[file])]
+    every = [it for it in every_function(dict(sorted(texts.items()))) if "test" not in it.file and place_of(it, texts)]
     home = next((it for it in every if it not in taken), every[0])
     line = texts[home.file].split("\n")[home.last]
     if home.first == home.last:

@@ -1,0 +1,164 @@
+"""What a check of a crate takes and what it came to: the crates, the toolchain's words, the libraries below, and a check's output.
+
+Used by `tools/edits`; nothing here knows of edits.
+"""
+import hashlib
+import os
+import re
+import shutil
+import subprocess
+import tempfile
+import time
+from dataclasses import dataclass
+from pathlib import Path
+
+PARTS = ("src", "specs", "proofs")
+
+
+@dataclass(frozen=True)
+class Crate:
+    """A crate of crates.txt: its name, its line, and the libraries that it uses, the repository's own and the kit's."""
+    name: str
+    line: str
+    own: tuple
+    of_kit: tuple
+
+
+def crates_of(top):
+    """Each crate of crates.txt by its name, lowest first."""
+    lines = {}
+    for line in (top / "crates.txt").read_text(encoding="utf-8").splitlines():
+        words, _, below = line.partition("#")[0].partition(":")
+        if words.strip():
+            lines[words.split()[0]] = (" ".join(line.partition("#")[0].split()), below.split())
+    found = {}
+    while len(found) < len(lines):
+        ready = [it for it, (_, below) in lines.items() if it not in found and all(low in found for low in below if low in lines)]
+        if not ready:
+            raise SystemExit("crates of crates.txt stand on one another in a ring")
+        for it in ready:
+            line, below = lines[it]
+            found[it] = Crate(it, line, tuple(low for low in below if low in lines), tuple(low for low in below if low not in lines))
+    return found
+
+
+def below(crates, name):
+    """The repository's crates that this one stands on, each once, lower ones first."""
+    found = []
+    for it in crates[name].own:
+        found += [more for more in [*below(crates, it), it] if more not in found]
+    return found
+
+
+def texts_of(folder):
+    """A crate's files that a check reads, by their paths in it."""
+    files = sorted(it for part in PARTS for it in (folder / part).rglob("*") if it.is_file())
+    return {it.relative_to(folder).as_posix(): it.read_text(encoding="utf-8") for it in files}
+
+
+class Kit:
+    """The toolchain: its line, and the words that a check of a crate takes."""
+
+    def __init__(self):
+        told = lambda verb: subprocess.run(["rt", verb], capture_output=True, text=True, check=True).stdout.strip()
+        self.version, self.top = told("version"), Path(told("doc")).parent
+
+    def words(self, crates, name, root, folder_of):
+        """The words for a crate whose root file is this, over libraries that lie in these folders."""
+        words = ["--crate-name", name, root]
+        for it in ("std", *crates[name].of_kit):
+            words += ["--extern", f"{it}={self.top}/rlibs/{it}.rlib"]
+        words += ["-L", f"dependency={self.top}/rlibs"]
+        for it in crates[name].own:
+            words += ["--extern", f"{it}={folder_of(it)}/{it}.rlib"]
+        for it in below(crates, name):
+            words += ["-L", f"dependency={folder_of(it)}"]
+        words += ["--antt-project", f"{self.top}/rattle/logic/antt-project.json", "--logic-built", f"{self.top}/logic_built"]
+        return [*words, "--links", f"{name}=", "--jobs", "1"]
+
+
+class Run:
+    """What a run of the prover in a crate's folder said, and what it took."""
+
+    def __init__(self, kit, verb, words, folder):
+        began = time.monotonic()
+        with tempfile.TemporaryFile("w+", errors="replace") as out:
+            ran = subprocess.Popen([f"{kit.top}/bin/rattle", verb, *words], cwd=folder, stdin=subprocess.DEVNULL, stdout=out, stderr=out)
+            _, status, used = os.wait4(ran.pid, 0)
+            ran.returncode = self.status = os.waitstatus_to_exitcode(status)
+            out.seek(0)
+            self.said = out.read().split("\n")
+        self.wall, self.work = time.monotonic() - began, used.ru_utime + used.ru_stime
+        self.last = next((it for it in reversed(self.said) if it.strip()), "")
+
+    def is_proved(self):
+        return self.status == 0
+
+    def is_refused(self):
+        """Whether it came to an end that is a verdict: something is refused, or has a hole."""
+        return self.status == 1 and bool(re.match(r"logic=not-proved|only=\d+ |holes=\d+$", self.last))
+
+    def is_cut_off(self):
+        """Whether it was killed, or wanted memory, so that nothing is known."""
+        return self.status < 0 or self.status > 128 or not (self.is_proved() or self.is_refused()) and any("memory" in it for it in self.said)
+
+    def cost(self):
+        return f"{self.wall:.0f} s, {self.work:.0f} s of a processor"
+
+    def last_words(self):
+        told = [it for it in self.said if re.search(r"\berror\b|no verdict", it)] or [self.last]
+        return " / ".join(it.strip()[:200] for it in told[:2])
+
+
+class Libraries:
+    """The libraries that checks stand on: those that the gate, or a check, left in the checkout, where they are newer than all
+    that they were built from, and else statements, which are built into a folder of this machine by the sums of their texts."""
+
+    def __init__(self, kit, top, crates, sums, room):
+        self.kit, self.top, self.crates, self.sums, self.room = kit, top, crates, sums, room
+        self.times, self.lies_there = {}, False
+
+    def choose(self, needed):
+        """Takes all of these from the checkout, or none, since a library's statements fit those that it was built over."""
+        self.lies_there = all(self.time(it) for it in needed)
+
+    def time(self, name):
+        """When the checkout's library was built, or 0 where it isn't there or something that it was built from is newer."""
+        if name not in self.times:
+            folder = self.top / "crates" / name
+            made = folder / "out" / "rlib" / f"{name}.rlib"
+            built = made.stat().st_mtime if made.is_dir() else 0
+            texts = [self.top / "crates.txt", *(more for part in PARTS for more in [folder / part, *(folder / part).rglob("*")] if more.exists())]
+            lower = [self.time(it) for it in self.crates[name].own]
+            is_new = built and all(lower) and max([*lower, *(it.stat().st_mtime for it in texts)]) <= built
+            self.times[name] = built if is_new else 0
+        return self.times[name]
+
+    def folder(self, name):
+        return self.top / "crates" / name / "out" / "rlib" if self.lies_there else self.room / self.sums[name]
+
+    def stands(self, name):
+        return (self.folder(name) / f"{name}.rlib").is_dir()
+
+    def build(self, name):
+        """Proves a library and keeps its statements."""
+        with tempfile.TemporaryDirectory(dir=self.room) as made:
+            root = "src/lib.rt"
+            words = [*self.kit.words(self.crates, name, root, self.folder), "--statements", "-o", f"{made}/new/{name}.rlib"]
+            os.mkdir(f"{made}/new")
+            shutil.copytree(self.top / "crates" / name, f"{made}/crate", ignore=shutil.ignore_patterns("out"))
+            run = Run(self.kit, "build", words, f"{made}/crate")
+            if run.is_proved() and not self.stands(name):
+                shutil.rmtree(self.folder(name), ignore_errors=True)
+                os.rename(f"{made}/new", self.folder(name))
+        return run
+
+
+def sums_of(kit, top, crates, reading, read):
+    """For each crate the sum of all that a verdict on it rests on, with its texts as they are read."""
+    handles, found = (top / "HANDLES").read_text(encoding="utf-8"), {}
+    for name, crate in crates.items():
+        made = hashlib.sha256(repr((reading, kit.version, handles, crate.line, [found[it] for it in crate.own])).encode())
+        made.update(repr(sorted(read(texts_of(top / "crates" / name)).items())).encode())
+        found[name] = made.hexdigest()
+    return found
