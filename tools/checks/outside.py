@@ -1,12 +1,76 @@
-"""Pipes, full devices, closed descriptors, seeds, and secrets in what is told of a line at fault."""
+"""Inputs that fail, pipes, full devices and files, closed descriptors, signals, seeds, and secrets in what is told."""
+import ctypes
+import mmap
 import os
+import resource
+import signal
 import subprocess
+import tempfile
+import time
 
 from checks.running import PROGRAM, SECONDS, SERIAL, THREADED, TOP, ZEROS, run
 
 WRITE_FAULT = b"fsc: write fault\nfsc: "
 ALL_FORMS = [["--help"], ["--version"], ["gen", "1"], ["gen", "1", "--summary"]]
+READ_FAULT = b"fsc: read fault\nfsc: "
 ONE_CALL = b"caller 0\nmkdir /a\n"
+FIRST = "examples/one-key"
+
+
+def whole(path):
+    """The bytes of a file."""
+    with open(os.path.join(TOP, path), "rb") as it:
+        return it.read()
+
+
+def broken_inputs(tally):
+    """A script of which just a beginning can be read: from memory of this process, behind which its file has ended."""
+    script, page = whole(FIRST + ".fsc"), mmap.PAGESIZE
+    with tempfile.TemporaryFile() as file, open("/proc/self/mem", "rb", buffering=0) as given:
+        file.truncate(2 * page)
+        memory = mmap.mmap(file.fileno(), 2 * page)
+        file.truncate(page)
+        end = ctypes.addressof(ctypes.c_char.from_buffer(memory)) + page
+        for words in (SERIAL, THREADED):
+            for count in (*range(0, len(script), 7), len(script)):
+                memory[page - count:page] = script[:count]
+                os.lseek(given.fileno(), end - count, os.SEEK_SET)
+                status, got, told = run(words, stdin=given)
+                tally.wants(f"an input that fails behind {count} bytes ends with 4",
+                            (status, got) == (4, b"") and told.startswith(READ_FAULT), str(status))
+                tally.wants(f"an input is read for {count} bytes", os.lseek(given.fileno(), 0, os.SEEK_CUR) == end)
+
+
+def full_files(tally):
+    """A file that takes only so many bytes has the beginning of the log of that length, and a fault is told."""
+    script, log = whole(FIRST + ".fsc"), whole(FIRST + ".log")
+
+    for words in (SERIAL, THREADED):
+        for count in (*range(0, len(log), 16), len(log)):
+            with tempfile.TemporaryFile() as it:
+                limit = lambda most=count: resource.setrlimit(resource.RLIMIT_FSIZE, (most, most))
+                # with the signal ignored that else ends a process which writes more
+                status, _, told = run(words, script, stdout=it, restore_signals=False, preexec_fn=limit)
+                it.seek(0)
+                got = it.read()
+            is_so = (status, told) == (0, b"") if count == len(log) else status == 5 and told.startswith(WRITE_FAULT)
+            tally.wants(f"a file that takes {count} bytes has so many of the log", is_so and got == log[:count], f"{status}, {len(got)} bytes")
+
+
+def slow_pipes(tally):
+    """A script that comes by seven bytes, to a program that is stopped and goes on meanwhile, has its log."""
+    script, log = whole(FIRST + ".fsc"), whole(FIRST + ".log")
+    for words in (SERIAL, THREADED):
+        with subprocess.Popen([PROGRAM, *words], stdin=subprocess.PIPE, stdout=subprocess.PIPE, bufsize=0) as it:
+            for at in range(0, len(script), 7):
+                it.stdin.write(script[at:at + 7])
+                it.send_signal(signal.SIGSTOP if at % 14 else signal.SIGCONT)
+                time.sleep(0.001)
+            it.send_signal(signal.SIGCONT)
+            it.stdin.close()
+            got = it.stdout.read()
+            status = it.wait(timeout=SECONDS)
+        tally.wants("a script that comes by seven bytes has its log", (status, got) == (0, log), str(status))
 
 
 def closed_pipes(tally):
@@ -82,4 +146,4 @@ def hidden_secrets(tally):
                     (status, got) == (3, b"") and told.startswith(b"fsc: bad line 2\n") and secret not in told, repr(told))
 
 
-CHECKS = (closed_pipes, full_devices, drawn_seeds, other_forms, hidden_secrets)
+CHECKS = (broken_inputs, full_files, slow_pipes, closed_pipes, full_devices, drawn_seeds, other_forms, hidden_secrets)
