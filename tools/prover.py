@@ -128,7 +128,7 @@ class Libraries:
             folder = self.top / "crates" / name
             made = folder / "out" / "rlib" / f"{name}.rlib"
             built = made.stat().st_mtime if made.is_dir() else 0
-            texts = [self.top / "crates.txt", *(more for part in PARTS for more in [folder / part, *(folder / part).rglob("*")] if more.exists())]
+            texts = [self.top / "crates.txt", self.kit.top / "KIT-ID", *(more for part in PARTS for more in [folder / part, *(folder / part).rglob("*")] if more.exists())]
             lower = [self.time(it) for it in self.crates[name].own]
             is_new = built and all(lower) and max([*lower, *(it.stat().st_mtime for it in texts)]) <= built
             self.times[name] = built if is_new else 0

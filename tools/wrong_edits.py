@@ -131,12 +131,18 @@ def pairs_of(text):
             if not re.match(r"(src|specs|proofs)/(?!.*\.\.)", file):
                 raise BadEdit(f"{file} is no file of src/, specs/ or proofs/")
         elif line.startswith("old: "):
+            if old is not None:
+                raise BadEdit(f"a line 'new:' is missing behind: {old}")
             old = line[5:]
         elif line.startswith("new:"):
             if not file or not old:
                 raise BadEdit("a line 'new:' stands before its 'file:' or 'old:'")
             found.append((file, old, re.sub(r"\A ", "", line[4:])))
             old = None
+        elif line.strip() and not line.startswith("refused: "):
+            raise BadEdit(f"a line is of no kind: {line}")
+    if old is not None:
+        raise BadEdit(f"a line 'new:' is missing behind: {old}")
     if not found:
         raise BadEdit("it has no pair of lines 'old:' and 'new:'")
     return tuple(found)
@@ -212,21 +218,34 @@ def place_of(function, texts):
     return "::".join([*module_of(homes[0]), function.of_type, function.name]) if len(homes) == 1 else None
 
 
+# What names another function's proof.
+NAMED = r"\bRattle\.{crate}\.proofs\.([\w.]+)\.(?:Answers|Invariants|Proof)\b"
 HOLE = "use Rattle.{crate}.proofs.{path}.Statement.{{statement}}\n\npub {name}_spec : {{M : Type 1}} → statement M\n{name}_spec = ?\n"
 
 
-def holed(crate, texts, untouched, taken):
+def holed(crate, texts, untouched, taken, kept=()):
     """The texts with a hole for the proof of each function of the untouched crate that isn't taken, where its place is sure.
-    Whatever stands on such a function has its contract, as ever, and its own proof costs nothing."""
-    made = dict(texts)
+    Whatever stands on such a function has its contract, as ever, and its own proof costs nothing. One whose proof another
+    proof names keeps it, and so does one that is proved together with others, and those whose folders are told."""
+    made, kept = dict(texts), set(kept)
+    for file, text in untouched.items():
+        if file.startswith("proofs/"):
+            kept.update("proofs/" + it.replace(".", "/") for it in re.findall(NAMED.format(crate=crate), text))
+            ring = re.match(r"(proofs/(?:\w+/)*)\+(\S+?)/", file)
+            kept.update(ring[1] + it for it in re.split(r"[+-]", ring[2])) if ring else None
     for function in every_function(untouched):
         place = None if function in taken else place_of(function, untouched)
-        if place:
+        if place and "proofs/" + place.replace("::", "/") not in kept:
             folder = "proofs/" + place.replace("::", "/")
             for part in ("Answers", "Invariants", "Proof"):
                 made.pop(f"{folder}/{part}.antt", None)
             made[f"{folder}/Proof.antt"] = HOLE.format(crate=crate, path=place.replace("::", "."), name=function.name)
     return made
+
+
+def reserved(said):
+    """The folders of proofs that a check names as none for a file, since the functions there are proved with others."""
+    return {it[1] for it in map(re.compile(r"\./(proofs/\S+)/Proof\.antt: error\[reserved-name\]").match, said) if it}
 
 
 def is_checked(said, crate, place):
