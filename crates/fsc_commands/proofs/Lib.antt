@@ -1,3 +1,4 @@
+pub mod BegunLemmas
 pub mod CallLemmas
 pub mod OpeningLemmas
 pub mod PartLemmas

@@ -11,14 +11,12 @@ use Rattle.key_wrap.specs.Laws.{OpensAgain}
 use Rattle.key_wrap.specs.Wrapping.{opened_secret, wrapped_secret}
 use Rattle.protector_meta.specs.declared.wraps.Wrap.{Wrap}
 use Rattle.protector_meta.specs.Wraps.{wrap_for}
-use Rattle.script_words.specs.declared.secrets.NewSecret.{NewSecret}
 use Rattle.script_words.specs.declared.secrets.NewSecret.TheVariants as new
 use Rattle.reply_text.specs.declared.outcome.Outcome.{Outcome}
 use Rattle.reply_text.specs.declared.outcome.Outcome.TheVariants.{BadRecord}
 use Rattle.fsc_commands.specs.declared.loaded.LoadedProtector.{LoadedProtector}
 use Rattle.fsc_commands.specs.declared.loaded.LoadedPolicy.{LoadedPolicy}
 use Rattle.fsc_commands.specs.declared.opened.OpenedPolicy.{OpenedPolicy}
-use Rattle.fsc_commands.specs.declared.opened.OpenedProtector.{OpenedProtector}
 use Rattle.fsc_commands.specs.MadeRecords.{MadeProtectorsOpen, MadeWrapsOpen, ChangedProtectorsOpen, OpenedPoliciesAreNamed, loaded_again, loaded_changed}
 use Rattle.fsc_commands.specs.Records.{protector_with_key, protector_key_found, policy_key_found, policy_with_key, policy_by, policy_loaded, key_in_wrap}
 

@@ -1,5 +1,5 @@
 -- A session's work, part after part.
-use Rattle.std.proofs.Common.{◌≡◌, ℕ, ◌+◌, ◌≤◌, ◌++◌, Some, Ok, Err, ap, sym, subst, ◌∙◌, arith, append_assoc, length-append}
+use Rattle.std.proofs.Common.{◌≡◌, ℕ, ◌+◌, ◌≤◌, ◌++◌, Some, Ok, Err, sym, subst, arith, length-append}
 use Rattle.std.specs.Prelude.{Option, Result}
 use Rattle.call_history.specs.Placed.{entries_of}
 use Rattle.mount_model.specs.Port.{PlacedCalls}
@@ -8,7 +8,7 @@ use Rattle.reply_text.specs.declared.outcome.Outcome.{Outcome}
 use Rattle.fsc_commands.specs.Steps.{Reaches}
 use Rattle.fsc_commands.specs.Steps.Steps.{Done}
 use Rattle.fsc_commands.specs.CommandSteps.{CommandSteps, when_ok}
-use Rattle.fsc_commands.specs.Made.{Made, MadePart, CameBySome}
+use Rattle.fsc_commands.specs.Made.{Made, MadePart}
 use Rattle.fsc_commands.proofs.StepsLemmas.{entries_of-append, grown_twice, Reaches-on}
 
 -- a part that got an outcome ends the work
@@ -49,14 +49,6 @@ part_goes_on came by_more first second third left between before_left most rest 
       few = omega (arith, few, few', sum, low);
       counted = omega (arith, counted, counted', sum);
     }
-
--- calls after a part are calls
-pub part_fails : {P A : Type 0} (came : P → PlacedCalls → P → Type 0)
-    (by_more : (first second third : P) (e f : PlacedCalls) → came first e second → came second f third → came first (e ++ f) third)
-    (first second third : P) (left before_left most : ℕ) (steps : (A → CommandSteps) → CommandSteps) (got : Result A Outcome) (old new : PlacedShown)
-    → MadePart (came first) second left before_left most steps got old new → CameBySome (came second) third → CameBySome (came first) third
-part_fails came by_more first second third left before_left most steps got old new part some =
-    (part.made ++ some.0, by_more first second third part.made some.0 part.came_by some.1)
 
 -- what few calls made is made by no more than four
 pub made_by_four : {P : Type 0} (came : PlacedCalls → P → Type 0) (port : P) (left before_left most : ℕ) (steps : CommandSteps) (outcome : Option Outcome) (old new : PlacedShown)

@@ -57,6 +57,14 @@ Reaches-and_then names (Done other) next (e ∷ es) value so = absurd so
 Reaches-and_then names (Ask who call more) next (e ∷ es) value so =
     (so.0, so.1, Reaches-and_then (names_after names e.reply) (more e.reply) next es value so.2)
 
+-- a beginning of the first steps is a beginning of both
+pub Reaches-begun : {A B : Type 0} (names : List (List ℕ)) (steps rest : Steps A) (next : List (List ℕ) → A → Steps B) (es : History)
+    → Reaches steps es rest → Reaches (and_then names steps next) es (and_then (names_from names es) rest next)
+Reaches-begun names steps rest next [] so = ap (λ s. and_then names s next) so
+Reaches-begun names (Done other) rest next (e ∷ es) so = absurd so
+Reaches-begun names (Ask who call more) rest next (e ∷ es) so =
+    (so.0, so.1, Reaches-begun (names_after names e.reply) (more e.reply) rest next es so.2)
+
 -- steps that end with a value have it
 pub value_reached : {A : Type 0} (steps : Steps A) (es : History) (value : A) → Reaches steps es (Done value) → value_after steps es ≡ Some value
 value_reached steps [] value so = ap (λ s. value_after s []) so

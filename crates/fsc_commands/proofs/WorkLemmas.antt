@@ -1,6 +1,6 @@
 -- A session's work where a part of it opened a record: the key is overwritten before the outcome is handed on.
-use Rattle.std.proofs.Common.{◌≡◌, ℕ, ◌+◌, ◌≤◌, ◌++◌, Some, Ok, Err, ap, sym, subst, ◌∙◌, arith, append_assoc, length-append}
-use Rattle.std.specs.Prelude.{Result, IfOk, OnErr}
+use Rattle.std.proofs.Common.{◌≡◌, ℕ, ◌+◌, ◌≤◌, ◌++◌, Some, Ok, Err, sym, subst, arith, length-append}
+use Rattle.std.specs.Prelude.{Result, IfOk}
 use Rattle.call_history.specs.Placed.{entries_of}
 use Rattle.mount_model.specs.Port.{PlacedCalls}
 use Rattle.reply_text.specs.Shown.{PlacedShown}
@@ -8,7 +8,7 @@ use Rattle.reply_text.specs.declared.outcome.Outcome.{Outcome}
 use Rattle.fsc_commands.specs.Steps.{Reaches}
 use Rattle.fsc_commands.specs.Steps.Steps.{Done}
 use Rattle.fsc_commands.specs.CommandSteps.{CommandSteps, when_ok, ended}
-use Rattle.fsc_commands.specs.Made.{Made, MadePart, CameBySome}
+use Rattle.fsc_commands.specs.Made.{Made, MadePart}
 use Rattle.fsc_commands.proofs.StepsLemmas.{entries_of-append, grown_twice, Reaches-on}
 
 -- what a part got ends the work, of which it is at most so much
@@ -51,13 +51,3 @@ work_goes_on came by_more first second third left between before_left most rest 
       few = omega (arith, few, few', sum, low);
       counted = omega (arith, counted, counted', sum);
     }
-
--- calls after a part are calls
-pub work_fails : {P A R E : Type 0} (came : P → PlacedCalls → P → Type 0)
-    (by_more : (first second third : P) (e f : PlacedCalls) → came first e second → came second f third → came first (e ++ f) third)
-    (first second third : P) (left before_left most : ℕ) (steps : (A → CommandSteps) → CommandSteps) (got : Result A Outcome) (result : Result R E)
-    (old new : PlacedShown) → MadePart (came first) second left before_left most steps got old new
-    → OnErr result (CameBySome (came second) third) → OnErr result (CameBySome (came first) third)
-work_fails came by_more first second third left before_left most steps got (Ok value) old new part some = tt
-work_fails came by_more first second third left before_left most steps got (Err fault) old new part some =
-    (part.made ++ some.0, by_more first second third part.made some.0 part.came_by some.1)

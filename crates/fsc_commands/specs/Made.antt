@@ -37,6 +37,20 @@ pub record MadePart {P A : Type 0} (came : PlacedCalls → P → Type 0) (port :
 abbrev pub asked : ℕ → Call → ℕ × ShownEntry → ℕ × MountEntry
 asked caller call placed = (placed.0, entry caller call placed.1.reply)
 
--- the port came by some calls, of which nothing else is told
-abbrev pub CameBySome : {P : Type 0} → (PlacedCalls → P → Type 0) → P → Type 0
-CameBySome came port = (made : PlacedCalls) × came made port
+-- the port came by at most so many calls, with which these steps begin: each is the one that they ask for after
+-- the calls before it and their replies
+pub record Begun {P A : Type 0} (came : PlacedCalls → P → Type 0) (port : P) (most : ℕ) (steps : Steps A)
+    : Type 0 where
+  pub made : PlacedCalls
+  pub rest : Steps A
+  pub came_by : came made port
+  pub begins : Reaches steps (entries_of made) rest
+  pub few : length made ≤ most
+
+-- the same of a part of a session's work, whatever comes after it
+pub record BegunPart {P A : Type 0} (came : PlacedCalls → P → Type 0) (port : P) (most : ℕ)
+    (steps : (A → CommandSteps) → CommandSteps) : Type 0 where
+  pub made : PlacedCalls
+  pub came_by : came made port
+  pub begins : (next : A → CommandSteps) → (rest : CommandSteps) × Reaches (steps next) (entries_of made) rest
+  pub few : length made ≤ most

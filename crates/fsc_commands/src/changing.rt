@@ -7,7 +7,7 @@ ghost use Rattle.script_words.specs.Secrets.{IsSecret, IsNewSecret};
 ghost use Rattle.fsc_commands.specs.NewRecords.{first_drawn, new_wrapping_key};
 ghost use Rattle.fsc_commands.specs.Opening.{storing};
 ghost use Rattle.fsc_commands.specs.ProtectorSteps.{protector_change_steps, protector_rewrapped};
-ghost use Rattle.fsc_commands.specs.Made.{Made, CameBySome};
+ghost use Rattle.fsc_commands.specs.Made.{Made, Begun};
 ghost use Rattle.fsc_commands.specs.declared.TheConstants.{MOST_CALLS};
 
 use crate::drawn::{iv_drawn, salt_drawn};
@@ -49,7 +49,8 @@ pub(crate) fn protector_change<P: MountPort, S: Stretches>(
         (protector_change_steps seed.now turn.caller turn.uid turn.number protector.now secret.now new.now)
         (Some outcome) entries.old entries.new) }
     ensures caller { P.who port.new ≡ P.who port.old }
-    ensures failed { OnErr result (CameBySome (P.came port.old) port.new) }
+    ensures failed { OnErr result (Begun (P.came port.old) port.new MOST_CALLS
+        (protector_change_steps seed.now turn.caller turn.uid turn.number protector.now secret.now new.now)) }
 {
     match open_protector(alloc, port, stretches, turn, protector, secret, entries)? {
         Ok(mut opener) => {
@@ -86,7 +87,10 @@ fn store_rewrapped<P: MountPort, S: Stretches>(
         opened.now.key new.now)))
         (Some outcome) entries.old entries.new) }
     ensures caller { P.who port.new ≡ P.who port.old }
-    ensures failed { OnErr result (CameBySome (P.came port.old) port.new) }
+    ensures failed { OnErr result (Begun (P.came port.old) port.new 1
+        (storing turn.caller turn.uid (Record.Protector label.now) opened.now.loaded.version (protector_text
+        (protector_rewrapped seed.now turn.caller turn.number opened.now.loaded.protector opened.now.key
+        new.now)))) }
 {
     let rewrapped = rewrapped(alloc, stretches, seed, turn, opened, new)?;
     let text = stored_protector(alloc, &rewrapped)?;

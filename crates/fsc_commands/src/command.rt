@@ -6,7 +6,7 @@ ghost use Rattle.script_lang.specs.Asked.{IsAskable};
 ghost use Rattle.fsc_commands.specs.Commands.{command_steps, plain_or_session};
 ghost use Rattle.fsc_commands.specs.CommandSteps.{CommandSteps};
 ghost use Rattle.fsc_commands.specs.Steps.{names_in};
-ghost use Rattle.fsc_commands.specs.Made.{Made, CameBySome};
+ghost use Rattle.fsc_commands.specs.Made.{Made, Begun};
 ghost use Rattle.fsc_commands.specs.declared.TheConstants.{MOST_CALLS};
 
 use crate::calls::plain_op;
@@ -21,8 +21,9 @@ use script_lang::Verb;
 use std::alloc::{AllocError, Global};
 
 /// Runs a command, and puts what it asked and was replied behind the caller's other entries. A session's
-/// work has an outcome. The one error is want of memory: then the port came by some calls. It is never inlined,
-/// so that what it leaves on the stack lies below who called it.
+/// work has an outcome. The one error is want of memory: then the calls that were made are those with which
+/// the command's steps begin. It is never inlined, so that what it leaves on the stack lies below who called
+/// it.
 #[inline(never)]
 pub fn run_command<P: MountPort, S: Stretches>(
     alloc: Global,
@@ -42,7 +43,8 @@ pub fn run_command<P: MountPort, S: Stretches>(
         (command_steps seed.now turn.caller turn.uid turn.number (names_in entries.old) verb.now)
         outcome entries.old entries.new) }
     ensures caller { P.who port.new ≡ P.who port.old }
-    ensures failed { OnErr result (CameBySome (P.came port.old) port.new) }
+    ensures failed { OnErr result (Begun (P.came port.old) port.new MOST_CALLS
+        (command_steps seed.now turn.caller turn.uid turn.number (names_in entries.old) verb.now)) }
 {
     match plain_op(alloc, seed, turn, entries, verb)? {
         Some(op) => {
@@ -68,7 +70,8 @@ fn make_call<P: MountPort>(
         (P.calls_left port.new) (P.calls_left port.old) MOST_CALLS
         (plain_or_session turn.caller turn.uid (Some op) session) outcome entries.old entries.new) }
     ensures caller { P.who port.new ≡ P.who port.old }
-    ensures failed { OnErr result (CameBySome (P.came port.old) port.new) }
+    ensures failed { OnErr result ((session : CommandSteps) → Begun (P.came port.old) port.new MOST_CALLS
+        (plain_or_session turn.caller turn.uid (Some op) session)) }
 {
     let mut call = Call { uid: turn.uid, op };
     let placed = ask(alloc, port, turn, &mut call)?;

@@ -4,7 +4,7 @@ ghost use Rattle.std.specs.Prelude.{◌≡◌, ◌≤◌, Some, IfOk, OnErr};
 ghost use Rattle.fsc_commands.specs.PolicySteps as spec;
 ghost use Rattle.fsc_commands.specs.PolicySteps.{encrypt_steps};
 ghost use Rattle.fsc_commands.specs.Steps.{names_in};
-ghost use Rattle.fsc_commands.specs.Made.{Made, CameBySome};
+ghost use Rattle.fsc_commands.specs.Made.{Made, Begun};
 ghost use Rattle.fsc_commands.specs.declared.TheConstants.{MOST_CALLS};
 
 use crate::draws::nonce_drawn;
@@ -40,7 +40,9 @@ pub(crate) fn encrypt<P: MountPort>(
         (encrypt_steps seed.now turn.caller turn.uid turn.number (names_in entries.old) path.now
         policy.now settings) (Some outcome) entries.old entries.new) }
     ensures caller { P.who port.new ≡ P.who port.old }
-    ensures failed { OnErr result (CameBySome (P.came port.old) port.new) }
+    ensures failed { OnErr result (Begun (P.came port.old) port.new MOST_CALLS
+        (encrypt_steps seed.now turn.caller turn.uid turn.number (names_in entries.old) path.now policy.now
+        settings)) }
 {
     let meant = path_meant(alloc, entries, path)?;
     match load_policy(alloc, port, turn, policy, entries)? {

@@ -5,7 +5,7 @@ ghost use Rattle.fsc_keys.specs.Keys.{key_id_of};
 ghost use Rattle.fsc_keys.specs.declared.raw_key.TheConstants.{MOST_RAW_KEY_BYTES};
 ghost use Rattle.script_words.specs.Secrets.{IsSecret};
 ghost use Rattle.fsc_commands.specs.Opening.{opening_protector, opening_policy};
-ghost use Rattle.fsc_commands.specs.Made.{MadePart, CameBySome};
+ghost use Rattle.fsc_commands.specs.Made.{MadePart, BegunPart};
 
 use crate::EntryList;
 use crate::meant::record_name;
@@ -39,7 +39,8 @@ pub(crate) fn open_protector<P: MountPort, S: Stretches>(
         (P.calls_left port.old) 1 (opening_protector turn.caller turn.uid label.now secret.now) got
         entries.old entries.new) }
     ensures caller { P.who port.new ≡ P.who port.old }
-    ensures failed { OnErr result (CameBySome (P.came port.old) port.new) }
+    ensures failed { OnErr result (BegunPart (P.came port.old) port.new 1
+        (opening_protector turn.caller turn.uid label.now secret.now)) }
 {
     let name = record_name(alloc, &Record::Protector(*label))?;
     let mut call = meta_load(turn, name);
@@ -77,7 +78,8 @@ pub(crate) fn open_policy<P: MountPort>(
         key_id_of opened.key ≡ opened.loaded.policy.id)) }
     ensures whole { IfOk result (λ got. IfOk got (λ opened. length opened.key ≡ MOST_RAW_KEY_BYTES)) }
     ensures caller { P.who port.new ≡ P.who port.old }
-    ensures failed { OnErr result (CameBySome (P.came port.old) port.new) }
+    ensures failed { OnErr result (BegunPart (P.came port.old) port.new 1
+        (opening_policy turn.caller turn.uid label.now protector.now key.now)) }
 {
     let name = record_name(alloc, &Record::Policy(*label))?;
     let mut call = meta_load(turn, name);

@@ -7,7 +7,7 @@ ghost use Rattle.fsc_commands.specs.Wiped.{wiped_call};
 ghost use Rattle.mount_model.specs.declared.call.Op.TheVariants.{MetaLoad};
 ghost use Rattle.fsc_commands.specs.CommandSteps.{last_call, called};
 ghost use Rattle.fsc_commands.specs.Opening.{loading_policy};
-ghost use Rattle.fsc_commands.specs.Made.{Made, MadePart, CameBySome, asked};
+ghost use Rattle.fsc_commands.specs.Made.{Made, MadePart, Begun, BegunPart, asked};
 ghost use Rattle.reply_text.specs.Shown.{shown_entry};
 
 use crate::EntryList;
@@ -43,7 +43,7 @@ pub(crate) fn ask<P: MountPort>(
     ensures one_fewer { IfOk result (λ placed. P.calls_left port.new + 1 ≡ P.calls_left port.old) }
     ensures caller { P.who port.new ≡ P.who port.old }
     ensures unasked { OnErr result (port.new ≡ port.old) }
-    ensures failed { OnErr result (CameBySome (P.came port.old) port.new) }
+    ensures failed { OnErr result (P.came port.old [] port.new) }
 {
     let answered = ask_lent(alloc, port, turn, call);
     wipe_call(alloc, call);
@@ -67,7 +67,7 @@ fn ask_lent<P: MountPort>(
     ensures one_fewer { IfOk result (λ placed. P.calls_left port.new + 1 ≡ P.calls_left port.old) }
     ensures caller { P.who port.new ≡ P.who port.old }
     ensures unasked { OnErr result (port.new ≡ port.old) }
-    ensures failed { OnErr result (CameBySome (P.came port.old) port.new) }
+    ensures failed { OnErr result (P.came port.old [] port.new) }
 {
     let shown = shown_of(alloc, call)?;
     let placed = port.call(call);
@@ -105,7 +105,8 @@ pub(crate) fn finish<P: MountPort>(
         (P.calls_left port.old) 1 (last_call turn.caller turn.uid op wanted) (Some outcome)
         entries.old entries.new) }
     ensures caller { P.who port.new ≡ P.who port.old }
-    ensures failed { OnErr result (CameBySome (P.came port.old) port.new) }
+    ensures failed { OnErr result (Begun (P.came port.old) port.new 1
+        (last_call turn.caller turn.uid op wanted)) }
 {
     let mut call = Call { uid: turn.uid, op };
     let placed = ask(alloc, port, turn, &mut call)?;
@@ -128,7 +129,8 @@ pub(crate) fn load_policy<P: MountPort>(
         (P.calls_left port.old) 1 (loading_policy turn.caller turn.uid label.now) got
         entries.old entries.new) }
     ensures caller { P.who port.new ≡ P.who port.old }
-    ensures failed { OnErr result (CameBySome (P.came port.old) port.new) }
+    ensures failed { OnErr result (BegunPart (P.came port.old) port.new 1
+        (loading_policy turn.caller turn.uid label.now)) }
 {
     let name = record_name(alloc, &Record::Policy(*label))?;
     let mut call = meta_load(turn, name);

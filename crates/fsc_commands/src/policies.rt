@@ -2,7 +2,7 @@
 
 ghost use Rattle.std.specs.Prelude.{◌≡◌, ◌≤◌, Some, IfOk, OnErr};
 ghost use Rattle.fsc_commands.specs.PolicySteps.{lock_steps, status_steps};
-ghost use Rattle.fsc_commands.specs.Made.{Made, CameBySome};
+ghost use Rattle.fsc_commands.specs.Made.{Made, Begun};
 ghost use Rattle.fsc_commands.specs.declared.TheConstants.{MOST_CALLS};
 
 use crate::outcomes::Wanted;
@@ -28,7 +28,8 @@ pub(crate) fn lock<P: MountPort>(
         (P.calls_left port.old) MOST_CALLS (lock_steps turn.caller turn.uid policy.now) (Some outcome)
         entries.old entries.new) }
     ensures caller { P.who port.new ≡ P.who port.old }
-    ensures failed { OnErr result (CameBySome (P.came port.old) port.new) }
+    ensures failed { OnErr result (Begun (P.came port.old) port.new MOST_CALLS
+        (lock_steps turn.caller turn.uid policy.now)) }
 {
     match load_policy(alloc, port, turn, policy, entries)? {
         Ok(loaded) => {
@@ -56,7 +57,8 @@ pub(crate) fn status<P: MountPort>(
         (P.calls_left port.old) MOST_CALLS (status_steps turn.caller turn.uid policy.now) (Some outcome)
         entries.old entries.new) }
     ensures caller { P.who port.new ≡ P.who port.old }
-    ensures failed { OnErr result (CameBySome (P.came port.old) port.new) }
+    ensures failed { OnErr result (Begun (P.came port.old) port.new MOST_CALLS
+        (status_steps turn.caller turn.uid policy.now)) }
 {
     match load_policy(alloc, port, turn, policy, entries)? {
         Ok(loaded) => {

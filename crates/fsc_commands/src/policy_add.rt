@@ -7,7 +7,7 @@ ghost use Rattle.script_words.specs.Secrets.{IsSecret};
 ghost use Rattle.fsc_commands.specs.Opening.{storing};
 ghost use Rattle.fsc_commands.specs.PolicySteps as spec;
 ghost use Rattle.fsc_commands.specs.PolicySteps.{policy_add_steps};
-ghost use Rattle.fsc_commands.specs.Made.{Made, CameBySome};
+ghost use Rattle.fsc_commands.specs.Made.{Made, Begun};
 ghost use Rattle.fsc_commands.specs.declared.TheConstants.{MOST_CALLS};
 
 use crate::drawn::iv_drawn;
@@ -51,7 +51,9 @@ pub(crate) fn policy_add<P: MountPort, S: Stretches>(
         (policy_add_steps seed.now turn.caller turn.uid turn.number policy.now protector.now secret.now
         added.now added_secret.now) (Some outcome) entries.old entries.new) }
     ensures caller { P.who port.new ≡ P.who port.old }
-    ensures failed { OnErr result (CameBySome (P.came port.old) port.new) }
+    ensures failed { OnErr result (Begun (P.came port.old) port.new MOST_CALLS
+        (policy_add_steps seed.now turn.caller turn.uid turn.number policy.now protector.now secret.now
+        added.now added_secret.now)) }
 {
     match open_protector(alloc, port, stretches, turn, protector, secret, entries)? {
         Ok(mut opener) => {
@@ -98,7 +100,9 @@ fn add_through<P: MountPort, S: Stretches>(
         (spec.add_through seed.now turn.caller turn.uid turn.number policy.now protector.now key.now
         added.now added_secret.now) (Some outcome) entries.old entries.new) }
     ensures caller { P.who port.new ≡ P.who port.old }
-    ensures failed { OnErr result (CameBySome (P.came port.old) port.new) }
+    ensures failed { OnErr result (Begun (P.came port.old) port.new 3
+        (spec.add_through seed.now turn.caller turn.uid turn.number policy.now protector.now key.now
+        added.now added_secret.now)) }
 {
     match open_policy(alloc, port, turn, policy, protector, key, entries)? {
         Ok(mut opened) => match room_for(added, &opened.loaded.policy.wraps) {
@@ -157,7 +161,9 @@ fn add_to<P: MountPort, S: Stretches>(
         (spec.add_to seed.now turn.caller turn.uid turn.number policy.now loaded policy_key.now added.now
         added_secret.now) (Some outcome) entries.old entries.new) }
     ensures caller { P.who port.new ≡ P.who port.old }
-    ensures failed { OnErr result (CameBySome (P.came port.old) port.new) }
+    ensures failed { OnErr result (Begun (P.came port.old) port.new 2
+        (spec.add_to seed.now turn.caller turn.uid turn.number policy.now loaded policy_key.now added.now
+        added_secret.now)) }
 {
     match open_protector(alloc, port, stretches, turn, added, added_secret, entries)? {
         Ok(mut adding) => {
@@ -204,7 +210,10 @@ fn store_widened<P: MountPort>(
         (spec.policy_widened seed.now turn.caller turn.number wrapped.now added.now key.now loaded.policy)))
         (Some outcome) entries.old entries.new) }
     ensures caller { P.who port.new ≡ P.who port.old }
-    ensures failed { OnErr result (CameBySome (P.came port.old) port.new) }
+    ensures failed { OnErr result (Begun (P.came port.old) port.new 1
+        (storing turn.caller turn.uid (Record.Policy policy.now) loaded.version (policy_text
+        (spec.policy_widened seed.now turn.caller turn.number wrapped.now added.now key.now
+        loaded.policy)))) }
 {
     let LoadedPolicy {
         version,

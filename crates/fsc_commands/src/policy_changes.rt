@@ -3,7 +3,7 @@
 ghost use Rattle.std.specs.Prelude.{◌≡◌, ◌≤◌, Some, IfOk, OnErr};
 ghost use Rattle.fsc_commands.specs.PolicySteps as spec;
 ghost use Rattle.fsc_commands.specs.PolicySteps.{policy_drop_steps, migrate_steps};
-ghost use Rattle.fsc_commands.specs.Made.{Made, CameBySome};
+ghost use Rattle.fsc_commands.specs.Made.{Made, Begun};
 ghost use Rattle.fsc_commands.specs.declared.TheConstants.{MOST_CALLS};
 
 use crate::new_records::usual_options;
@@ -34,7 +34,8 @@ pub(crate) fn policy_drop<P: MountPort>(
         (policy_drop_steps turn.caller turn.uid policy.now protector.now) (Some outcome)
         entries.old entries.new) }
     ensures caller { P.who port.new ≡ P.who port.old }
-    ensures failed { OnErr result (CameBySome (P.came port.old) port.new) }
+    ensures failed { OnErr result (Begun (P.came port.old) port.new MOST_CALLS
+        (policy_drop_steps turn.caller turn.uid policy.now protector.now)) }
 {
     match load_policy(alloc, port, turn, policy, entries)? {
         Ok(loaded) => {
@@ -61,7 +62,8 @@ pub(crate) fn migrate<P: MountPort>(
         (P.calls_left port.old) MOST_CALLS (migrate_steps turn.caller turn.uid policy.now) (Some outcome)
         entries.old entries.new) }
     ensures caller { P.who port.new ≡ P.who port.old }
-    ensures failed { OnErr result (CameBySome (P.came port.old) port.new) }
+    ensures failed { OnErr result (Begun (P.came port.old) port.new MOST_CALLS
+        (migrate_steps turn.caller turn.uid policy.now)) }
 {
     match load_policy(alloc, port, turn, policy, entries)? {
         Ok(loaded) => {

@@ -7,7 +7,7 @@ ghost use Rattle.script_words.specs.Secrets.{IsSecret};
 ghost use Rattle.fsc_commands.specs.NewRecords.{options_said};
 ghost use Rattle.fsc_commands.specs.Opening.{storing};
 ghost use Rattle.fsc_commands.specs.PolicySteps.{drawn_policy, policy_new_steps};
-ghost use Rattle.fsc_commands.specs.Made.{Made, CameBySome};
+ghost use Rattle.fsc_commands.specs.Made.{Made, Begun};
 ghost use Rattle.fsc_commands.specs.declared.TheConstants.{MOST_CALLS};
 
 use crate::drawn::{iv_drawn, policy_key_drawn};
@@ -49,7 +49,9 @@ pub(crate) fn policy_new<P: MountPort, S: Stretches>(
         (policy_new_steps seed.now turn.caller turn.uid turn.number policy.now protector.now secret.now
         options) (Some outcome) entries.old entries.new) }
     ensures caller { P.who port.new ≡ P.who port.old }
-    ensures failed { OnErr result (CameBySome (P.came port.old) port.new) }
+    ensures failed { OnErr result (Begun (P.came port.old) port.new MOST_CALLS
+        (policy_new_steps seed.now turn.caller turn.uid turn.number policy.now protector.now secret.now
+        options)) }
 {
     match open_protector(alloc, port, stretches, turn, protector, secret, entries)? {
         Ok(mut opener) => {
@@ -91,7 +93,9 @@ fn store_drawn<P: MountPort>(
         (policy_text (drawn_policy seed.now turn.caller turn.number policy.now protector.now options key.now)))
         (Some outcome) entries.old entries.new) }
     ensures caller { P.who port.new ≡ P.who port.old }
-    ensures failed { OnErr result (CameBySome (P.came port.old) port.new) }
+    ensures failed { OnErr result (Begun (P.came port.old) port.new 1
+        (storing turn.caller turn.uid (Record.Policy policy.now) 0 (policy_text (drawn_policy seed.now
+        turn.caller turn.number policy.now protector.now options key.now)))) }
 {
     let drawn = drawn_policy(alloc, seed, turn, policy, protector, options, key)?;
     let text = stored_policy(alloc, &drawn)?;

@@ -5,7 +5,7 @@ ghost use Rattle.script_words.specs.Secrets.{IsNewSecret};
 ghost use Rattle.fsc_commands.specs.ProtectorSteps.{protector_steps};
 ghost use Rattle.fsc_commands.specs.NewRecords as spec;
 ghost use Rattle.fsc_commands.specs.NewRecords.{first_drawn};
-ghost use Rattle.fsc_commands.specs.Made.{Made, CameBySome};
+ghost use Rattle.fsc_commands.specs.Made.{Made, Begun};
 ghost use Rattle.fsc_commands.specs.declared.TheConstants.{MOST_CALLS};
 
 use crate::drawn::{iv_drawn, key_drawn, salt_drawn};
@@ -43,7 +43,8 @@ pub(crate) fn protector<P: MountPort, S: Stretches>(
         (protector_steps seed.now turn.caller turn.uid turn.number label.now new.now) (Some outcome)
         entries.old entries.new) }
     ensures caller { P.who port.new ≡ P.who port.old }
-    ensures failed { OnErr result (CameBySome (P.came port.old) port.new) }
+    ensures failed { OnErr result (Begun (P.came port.old) port.new MOST_CALLS
+        (protector_steps seed.now turn.caller turn.uid turn.number label.now new.now)) }
 {
     let made = drawn_protector(alloc, stretches, seed, turn, label, new)?;
     let text = stored_protector(alloc, &made)?;

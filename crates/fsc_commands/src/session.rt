@@ -4,7 +4,7 @@ ghost use Rattle.std.specs.Prelude.{◌≡◌, ◌≤◌, IfOk, OnErr};
 ghost use Rattle.script_lang.specs.Asked.{IsAskable};
 ghost use Rattle.fsc_commands.specs.SessionSteps.{opening_steps, session_steps};
 ghost use Rattle.fsc_commands.specs.Steps.{names_in};
-ghost use Rattle.fsc_commands.specs.Made.{Made, CameBySome};
+ghost use Rattle.fsc_commands.specs.Made.{Made, Begun};
 ghost use Rattle.fsc_commands.specs.declared.TheConstants.{MOST_CALLS};
 
 use crate::changing::protector_change;
@@ -42,7 +42,8 @@ pub(crate) fn run_session<P: MountPort, S: Stretches>(
         (session_steps seed.now turn.caller turn.uid turn.number (names_in entries.old) verb.now)
         outcome entries.old entries.new) }
     ensures caller { P.who port.new ≡ P.who port.old }
-    ensures failed { OnErr result (CameBySome (P.came port.old) port.new) }
+    ensures failed { OnErr result (Begun (P.came port.old) port.new MOST_CALLS
+        (session_steps seed.now turn.caller turn.uid turn.number (names_in entries.old) verb.now)) }
 {
     match verb {
         Verb::Protector {
@@ -100,7 +101,8 @@ fn run_opening<P: MountPort, S: Stretches>(
         (opening_steps seed.now turn.caller turn.uid turn.number verb.now) outcome
         entries.old entries.new) }
     ensures caller { P.who port.new ≡ P.who port.old }
-    ensures failed { OnErr result (CameBySome (P.came port.old) port.new) }
+    ensures failed { OnErr result (Begun (P.came port.old) port.new MOST_CALLS
+        (opening_steps seed.now turn.caller turn.uid turn.number verb.now)) }
 {
     match verb {
         Verb::ProtectorChange {

@@ -6,7 +6,7 @@ ghost use Rattle.protector_meta.specs.PolicyText.{policy_text};
 ghost use Rattle.protector_meta.specs.ProtectorText.{protector_text};
 ghost use Rattle.fsc_commands.specs.CommandSteps.{when_ok};
 ghost use Rattle.fsc_commands.specs.Opening.{storing};
-ghost use Rattle.fsc_commands.specs.Made.{Made, CameBySome};
+ghost use Rattle.fsc_commands.specs.Made.{Made, Begun};
 
 use crate::EntryList;
 use crate::meant::record_name;
@@ -57,7 +57,8 @@ pub(crate) fn store_record<P: MountPort>(
         (P.calls_left port.old) 1 (storing turn.caller turn.uid stored.now expected text) (Some outcome)
         entries.old entries.new) }
     ensures caller { P.who port.new ≡ P.who port.old }
-    ensures failed { OnErr result (CameBySome (P.came port.old) port.new) }
+    ensures failed { OnErr result (Begun (P.came port.old) port.new 1
+        (storing turn.caller turn.uid stored.now expected text)) }
 {
     let op = Op::MetaStore {
         name: record_name(alloc, stored)?,
@@ -86,7 +87,9 @@ pub(crate) fn store_changed<P: MountPort>(
         storing turn.caller turn.uid (Record.Policy label.now) version (policy_text policy)))
         (Some outcome) entries.old entries.new) }
     ensures caller { P.who port.new ≡ P.who port.old }
-    ensures failed { OnErr result (CameBySome (P.came port.old) port.new) }
+    ensures failed { OnErr result (Begun (P.came port.old) port.new 1
+        (when_ok changed (λ policy. storing turn.caller turn.uid (Record.Policy label.now) version
+        (policy_text policy)))) }
 {
     match changed {
         Ok(policy) => {

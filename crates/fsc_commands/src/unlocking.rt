@@ -8,7 +8,7 @@ ghost use Rattle.script_words.specs.Secrets.{IsSecret};
 ghost use Rattle.fsc_commands.specs.declared.outcomes.Wanted.TheVariants as wanted;
 ghost use Rattle.fsc_commands.specs.CommandSteps.{last_call};
 ghost use Rattle.fsc_commands.specs.PolicySteps.{unlock_steps, unlock_through};
-ghost use Rattle.fsc_commands.specs.Made.{Made, CameBySome};
+ghost use Rattle.fsc_commands.specs.Made.{Made, Begun};
 ghost use Rattle.fsc_commands.specs.declared.TheConstants.{MOST_CALLS};
 
 use crate::opened::OpenedPolicy;
@@ -46,7 +46,8 @@ pub(crate) fn unlock<P: MountPort, S: Stretches>(
         (unlock_steps turn.caller turn.uid policy.now protector.now secret.now) (Some outcome)
         entries.old entries.new) }
     ensures caller { P.who port.new ≡ P.who port.old }
-    ensures failed { OnErr result (CameBySome (P.came port.old) port.new) }
+    ensures failed { OnErr result (Begun (P.came port.old) port.new MOST_CALLS
+        (unlock_steps turn.caller turn.uid policy.now protector.now secret.now)) }
 {
     match open_protector(alloc, port, stretches, turn, protector, secret, entries)? {
         Ok(mut opener) => {
@@ -75,7 +76,8 @@ fn unlock_through<P: MountPort>(
         (unlock_through turn.caller turn.uid policy.now protector.now key.now) (Some outcome)
         entries.old entries.new) }
     ensures caller { P.who port.new ≡ P.who port.old }
-    ensures failed { OnErr result (CameBySome (P.came port.old) port.new) }
+    ensures failed { OnErr result (Begun (P.came port.old) port.new 2
+        (unlock_through turn.caller turn.uid policy.now protector.now key.now)) }
 {
     match open_policy(alloc, port, turn, policy, protector, key, entries)? {
         Ok(mut opened) => {
@@ -103,7 +105,8 @@ fn add_key<P: MountPort>(
         (last_call turn.caller turn.uid (AddKey opened.now.key) wanted.Added) (Some outcome)
         entries.old entries.new) }
     ensures caller { P.who port.new ≡ P.who port.old }
-    ensures failed { OnErr result (CameBySome (P.came port.old) port.new) }
+    ensures failed { OnErr result (Begun (P.came port.old) port.new 1
+        (last_call turn.caller turn.uid (AddKey opened.now.key) wanted.Added)) }
 {
     let raw = Bytes::from_vec(Vec::from_slice(alloc, opened.key.bytes())?);
     let outcome = finish(

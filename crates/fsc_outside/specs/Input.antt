@@ -1,8 +1,10 @@
 -- What reading a source to its end does, within limits.
-use Rattle.std.specs.Prelude.{ℕ, ◌≡◌, ◌+◌, ◌<◌, ◌≤◌, ◌⊎◌, List, length, Result, Ok, Err}
+use Rattle.std.specs.Prelude.{ℕ, ◌≡◌, ◌<◌, ◌≤◌, ◌⊎◌, List, [], ◌∷◌, length, Result, Ok, Err}
 use Rattle.std.specs.Io.KnownBytes.{Consumes, IsAtEnd}
 use Rattle.text_words.specs.Lines.{line_count}
-use Rattle.fsc_outside.specs.Causes.{Rose}
+use Rattle.fsc_outside.specs.Reading.{CameByReading, ReadPart, ReadInVain, most_read}
+use Rattle.fsc_outside.specs.Reads.{ReadCall}
+use Rattle.fsc_outside.specs.Reads.ReadCall.{Gave}
 use Rattle.fsc_outside.specs.States.{SourceState}
 use Rattle.fsc_outside.specs.declared.input.InputLimits.{InputLimits}
 use Rattle.fsc_outside.specs.declared.input.InputFault.{InputFault}
@@ -19,38 +21,47 @@ pub record IsWithin (limits : InputLimits) (text : List ℕ) : Type 0 where
   pub lines : line_count text ≤ limits.lines
 
 -- a source gave just one byte beyond the limit, and was asked for no more
-pub record GaveByteMore (limits : InputLimits) (old new : SourceState) (bytes : List ℕ) : Type 0 where
+pub record GaveByteMore (limits : InputLimits) (Came : List ReadCall → Type 0) (old new : SourceState)
+    (bytes : List ℕ) : Type 0 where
   pub given : Consumes old.left new.left bytes
-  pub size : length bytes ≡ limits.bytes + 1
+  pub size : length bytes ≡ most_read limits
+  pub calls : CameByReading limits Came bytes []
 
--- a source gave a whole text of no more bytes, and of too many lines
-pub record GaveLinesMore (limits : InputLimits) (old new : SourceState) (bytes : List ℕ) : Type 0 where
+-- a source gave a whole text of no more bytes, and of too many lines; the last call told its end
+pub record GaveLinesMore (limits : InputLimits) (Came : List ReadCall → Type 0) (old new : SourceState)
+    (bytes : List ℕ) : Type 0 where
   pub gave : GaveWhole old new bytes
   pub size : length bytes ≤ limits.bytes
   pub lines : limits.lines < line_count bytes
+  pub calls : CameByReading limits Came bytes (Gave [] ∷ [])
 
 -- what is too long, and how much of it is read
-abbrev pub GaveTooMuch : InputLimits → SourceState → SourceState → List ℕ → Type 0
-GaveTooMuch limits old new bytes = GaveByteMore limits old new bytes ⊎ GaveLinesMore limits old new bytes
+abbrev pub GaveTooMuch : InputLimits → (List ReadCall → Type 0) → SourceState → SourceState → List ℕ → Type 0
+GaveTooMuch limits Came old new bytes =
+    GaveByteMore limits Came old new bytes ⊎ GaveLinesMore limits Came old new bytes
 
--- the text was read whole
-pub record ReadWhole (limits : InputLimits) (old new : SourceState) (text : List ℕ) : Type 0 where
+-- the text was read whole; the last call told its end
+pub record ReadWhole (limits : InputLimits) (Came : List ReadCall → Type 0) (old new : SourceState)
+    (text : List ℕ) : Type 0 where
   pub gave : GaveWhole old new text
   pub within : IsWithin limits text
   pub quiet : new.faults ≡ old.faults
+  pub calls : CameByReading limits Came text (Gave [] ∷ [])
 
 -- a text beyond a limit was begun
-pub record ReadTooMuch (limits : InputLimits) (old new : SourceState) : Type 0 where
+pub record ReadTooMuch (limits : InputLimits) (Came : List ReadCall → Type 0) (old new : SourceState)
+    : Type 0 where
   pub bytes : List ℕ
-  pub gave : GaveTooMuch limits old new bytes
+  pub gave : GaveTooMuch limits Came old new bytes
   pub quiet : new.faults ≡ old.faults
 
 -- how reading to the end ends
-abbrev pub EndsReading : InputLimits → SourceState → SourceState → Result (List ℕ) InputFault → Type 0
-EndsReading limits old new (Ok text) = ReadWhole limits old new text
-EndsReading limits old new (Err ReadFault) = Rose old.faults new.faults
-EndsReading limits old new (Err TooLong) = ReadTooMuch limits old new
-EndsReading limits old new (Err NoMemory) = new.faults ≡ old.faults
+abbrev pub EndsReading : InputLimits → (List ReadCall → Type 0) → SourceState → SourceState
+    → Result (List ℕ) InputFault → Type 0
+EndsReading limits Came old new (Ok text) = ReadWhole limits Came old new text
+EndsReading limits Came old new (Err ReadFault) = ReadPart limits Came old new
+EndsReading limits Came old new (Err TooLong) = ReadTooMuch limits Came old new
+EndsReading limits Came old new (Err NoMemory) = ReadInVain limits Came old new
 
 -- a text with too many lines is refused, and any other is handed over
 abbrev pub LimitsLines : ℕ → List ℕ → Result (List ℕ) InputFault → Type 0

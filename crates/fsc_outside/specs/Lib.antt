@@ -1,6 +1,9 @@
 pub mod Causes
 pub mod States
+pub mod Reads
+pub mod ReadLaws
 pub mod Sources
 pub mod Sinks
 pub mod Whole
+pub mod Reading
 pub mod Input

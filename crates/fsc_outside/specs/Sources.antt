@@ -1,6 +1,7 @@
 -- What the sources in memory do, call by call.
-use Rattle.std.specs.Prelude.{ℕ, min, List, length, drop, Contains}
+use Rattle.std.specs.Prelude.{ℕ, min, List, length, drop, Contains, Some}
 use Rattle.fsc_outside.specs.Causes.{one_more}
+use Rattle.fsc_outside.specs.States.{SourceState, source_state}
 
 -- a source in memory: the bytes left, the most that a call gives, the numbers of the calls that fail,
 -- how many calls were made, and how many failed
@@ -26,3 +27,11 @@ failed_read feed = record feed { calls = one_more feed.calls; faults = one_more 
 -- after a call that gave n bytes
 abbrev pub after_read : Feed → ℕ → Feed
 after_read feed n = record feed { left = drop n feed.left; calls = one_more feed.calls }
+
+-- what is known of it
+abbrev pub fed : Feed → SourceState
+fed feed = source_state (Some feed.left) feed.faults
+
+-- what is known of a source of these bytes that never fails
+abbrev pub steady : List ℕ → SourceState
+steady bytes = source_state (Some bytes) 0

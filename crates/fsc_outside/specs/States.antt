@@ -7,6 +7,9 @@ pub record SourceState : Type 0 where
   pub left : Option (List ℕ)
   pub faults : ℕ
 
+abbrev pub source_state : Option (List ℕ) → ℕ → SourceState
+source_state left faults = record { left = left; faults = faults }
+
 -- a sink: the bytes got, where it tells them, and how often a call failed
 pub record SinkState : Type 0 where
   pub got : Option (List ℕ)

@@ -54,7 +54,8 @@ pub fn read_all<S: Source>(
     limits: InputLimits,
 ) -> Result<Bytes, InputFault>
     requires { limits.bytes < usize.MAX }
-    ensures { EndsReading limits (S.state source.old) (S.state source.new) result }
+    ensures { EndsReading limits (λ calls. S.came source.old calls source.new) (S.state source.old)
+        (S.state source.new) result }
 {
     let mut text = Vec::new(alloc);
     'reading: while text.len() <= limits.bytes {

@@ -1,28 +1,42 @@
 //! Sources of bytes: the trait, and two sources in memory.
 
-ghost use Rattle.std.specs.Prelude.{◌≡◌, ℕ, ◌≤◌, ◌<◌, ◌↔◌, List, [], length, take, drop};
+ghost use Rattle.std.specs.Prelude.{◌≡◌, ℕ, ◌≤◌, ◌<◌, ◌↔◌, List, [], ◌∷◌, ◌++◌, length, take, drop};
 ghost use Rattle.std.specs.Prelude.{Option, Some, IfOk, IsErr, OnErr, min, vec_len};
 ghost use Rattle.std.specs.Io.{ReadsAtMost};
 ghost use Rattle.std.specs.Io.KnownBytes.{ReadConsumes};
 ghost use Rattle.fsc_outside.specs.Causes.{HasCause};
 ghost use Rattle.fsc_outside.specs.States.{SourceState};
+ghost use Rattle.fsc_outside.specs.Reads.{ReadCall, AreReads, read_call};
+ghost use Rattle.fsc_outside.specs.ReadLaws.{AreReads-none, AreReads-on};
 ghost use Rattle.fsc_outside.specs.Sources.{Feed, FailsNext, next_count, failed_read, after_read};
+ghost use Rattle.fsc_outside.specs.Sources.{fed, steady};
 
 use crate::{CallList, Failed, is_listed};
 use std::marker::Model;
 
-/// Where bytes come from. Its meaning is the bytes that are left, where it tells them, and how often
-/// a call failed.
+/// Where bytes come from. Its meaning is the bytes that are left, where it tells them, how often a call
+/// failed, and by which calls it came to what it is.
 pub trait Source {
     /// What is known of it now. Its count never falls.
     ghost state: { Self → SourceState };
+
+    /// The one source has become the other by these calls, one after another.
+    ghost came: { Self → List ReadCall → Self → Type 0 };
 
     /// Puts the next bytes at the front of `piece` and tells how many. None for a nonempty piece
     /// means the end.
     fn read(&mut self, piece: &mut [u8]) -> Result<usize, Failed>
         ensures bound { ReadsAtMost result piece.new }
         ensures bytes { ReadConsumes (state self.old).left (state self.new).left result piece.new }
-        ensures cause { HasCause (state self.old).faults (state self.new).faults result };
+        ensures cause { HasCause (state self.old).faults (state self.new).faults result }
+        ensures came { came self.old (read_call piece.new result ∷ []) self.new };
+
+    /// No call leaves it as it is.
+    ghost by_none: { (source : Self) → came source [] source };
+
+    /// And calls follow calls.
+    ghost by_more: { (first second third : Self) (calls more : List ReadCall)
+        → came first calls second → came second more third → came first (calls ++ more) third };
 }
 
 /// A source in memory that gives pieces, and fails at the calls that it is told.
@@ -74,12 +88,19 @@ impl MemSource {
 }
 
 impl Source for MemSource {
-    ghost state = { λ s. record { left = Some s.left; faults = s.faults } };
+    ghost state = { fed };
+
+    ghost came = { λ old calls new. AreReads (fed old) calls (fed new) };
+
+    ghost by_none = { λ s. AreReads-none (fed s) };
+
+    ghost by_more = { λ a b c. AreReads-on (fed a) (fed b) (fed c) };
 
     fn read(&mut self, piece: &mut [u8]) -> Result<usize, Failed>
         ensures bound { ReadsAtMost result piece.new }
         ensures bytes { ReadConsumes (Some self.old.left) (Some self.new.left) result piece.new }
         ensures cause { HasCause self.old.faults self.new.faults result }
+        ensures came { AreReads (fed self.old) (read_call piece.new result ∷ []) (fed self.new) }
         ensures fails { IsErr result ↔ FailsNext self.old }
         ensures failed { OnErr result (self.new ≡ failed_read self.old) }
         ensures gave { IfOk result (λ n. (n ≡ next_count self.old (length piece.old))
@@ -122,12 +143,19 @@ impl SteadySource {
 }
 
 impl Source for SteadySource {
-    ghost state = { λ s. record { left = Some s; faults = 0 } };
+    ghost state = { steady };
+
+    ghost came = { λ old calls new. AreReads (steady old) calls (steady new) };
+
+    ghost by_none = { λ s. AreReads-none (steady s) };
+
+    ghost by_more = { λ a b c. AreReads-on (steady a) (steady b) (steady c) };
 
     fn read(&mut self, piece: &mut [u8]) -> Result<usize, Failed>
         ensures bound { ReadsAtMost result piece.new }
         ensures bytes { ReadConsumes (Some self.old) (Some self.new) result piece.new }
         ensures cause { HasCause 0 0 result }
+        ensures came { AreReads (steady self.old) (read_call piece.new result ∷ []) (steady self.new) }
         ensures gave { result ≡ Ok (min (length piece.old) (length self.old)) }
     {
         let count = give(&self.bytes[self.at..], usize::MAX, piece);

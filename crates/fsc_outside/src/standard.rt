@@ -1,10 +1,12 @@
 //! Standard input and output as a source and a sink: the edge of what is proved.
 
-ghost use Rattle.std.specs.Prelude.{◌≡◌, ℕ};
+ghost use Rattle.std.specs.Prelude.{◌≡◌, ℕ, List, [], ◌∷◌, ◌++◌};
 ghost use Rattle.std.specs.Io.{ReadsAtMost, WritesAtMost};
 ghost use Rattle.std.specs.Io.KnownBytes.{ReadConsumes, WriteAppends};
 ghost use Rattle.fsc_outside.specs.Causes.{HasCause};
-ghost use Rattle.fsc_outside.specs.States.{SourceState, SinkState};
+ghost use Rattle.fsc_outside.specs.Reads.{ReadCall, AreReads, read_call};
+ghost use Rattle.fsc_outside.specs.ReadLaws.{AreReads-none, AreReads-on};
+ghost use Rattle.fsc_outside.specs.States.{SourceState, SinkState, source_state};
 
 use crate::{Failed, Sink, Source};
 use std::io::{Read, Stdin, Stdout, Write};
@@ -43,7 +45,15 @@ impl StdSource<Stdin> {
 }
 
 impl<R: Read + Drop> Source for StdSource<R> {
-    ghost state = { λ s. record { left = R.remaining s.0; faults = s.1 } };
+    ghost state = { λ s. source_state (R.remaining s.0) s.1 };
+
+    ghost came = { λ old calls new. AreReads (source_state (R.remaining old.0) old.1) calls
+        (source_state (R.remaining new.0) new.1) };
+
+    ghost by_none = { λ s. AreReads-none (source_state (R.remaining s.0) s.1) };
+
+    ghost by_more = { λ a b c. AreReads-on (source_state (R.remaining a.0) a.1)
+        (source_state (R.remaining b.0) b.1) (source_state (R.remaining c.0) c.1) };
 
     fn read(&mut self, piece: &mut [u8]) -> Result<usize, Failed> {
         match self.reader.read(piece) {

@@ -4,3 +4,4 @@ pub mod MeaningLemmas
 pub mod NoteLemmas
 pub mod RunLemmas
 pub mod ShownRuns
+pub mod StopLemmas

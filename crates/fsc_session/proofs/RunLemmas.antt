@@ -23,7 +23,7 @@ use Rattle.fsc_commands.specs.Made.{Made}
 use Rattle.fsc_commands.specs.declared.TheConstants.{MOST_CALLS}
 use Rattle.fsc_commands.proofs.StepsLemmas.{entries_of-append, names_in-append, names_in-shown, shown_calls-append, Reaches-on, Reaches-and_then, value_reached}
 
-drop-at : {A : Type 0} (n : ℕ) (xs : List A) (x : A) → slice_get xs n ≡ Some x → drop n xs ≡ x ∷ drop (n + 1) xs
+pub drop-at : {A : Type 0} (n : ℕ) (xs : List A) (x : A) → slice_get xs n ≡ Some x → drop n xs ≡ x ∷ drop (n + 1) xs
 drop-at {A} n xs x here =
     let within = slice_get_within xs n x here in
     let next : suc n ≡ n + 1 = omega arith in

@@ -4,3 +4,4 @@ pub mod Rotation
 pub mod Running
 pub mod Serial
 pub mod Session
+pub mod Stopping

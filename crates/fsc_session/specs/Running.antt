@@ -16,17 +16,30 @@ use Rattle.fsc_session.specs.Session.{IsRunOfSection, IsRunSoFar, noted, notes_o
 use Rattle.fsc_session.specs.Rotation.{Waiting, waiting}
 
 -- a caller with its section, the number of its next command, what is shown of its calls so far with the
--- replies, and its notes
+-- replies, and its notes; it is spent once a step found no memory
 pub record RunnerView : Type 0 where
   pub caller : ℕ
   pub section : Section
   pub next : ℕ
   pub entries : PlacedShown
   pub notes : List Note
+  pub spent : Bool
 
+-- one that is not spent
 abbrev pub runner_view : ℕ → Section → ℕ → PlacedShown → List Note → RunnerView
 runner_view caller section next entries notes =
-    record { caller = caller; section = section; next = next; entries = entries; notes = notes }
+    record {
+      caller = caller;
+      section = section;
+      next = next;
+      entries = entries;
+      notes = notes;
+      spent = false;
+    }
+
+-- the same runner, spent or not
+abbrev pub spent_if : Bool → RunnerView → RunnerView
+spent_if spent runner = record runner { spent = spent }
 
 -- the number of its next command, while one is left
 abbrev pub next_command : RunnerView → Option ℕ

@@ -1,11 +1,12 @@
 //! A caller that makes its section's calls, command by command.
 
-ghost use Rattle.std.specs.Prelude.{◌≡◌, ◌≤◌, [], ◌++◌, IfOk, OnOk, OnErr};
+ghost use Rattle.std.specs.Prelude.{◌≡◌, ◌≤◌, [], ◌++◌, IfOk, OnOk, OnErr, IsErr, IsTrue, IsFalse};
 ghost use Rattle.fsc_session.specs.Asking.{AsksRightly};
 ghost use Rattle.fsc_session.specs.Running.{RunnerView, runner_view, next_command, Stepped};
+ghost use Rattle.fsc_session.specs.Stopping.{next_steps};
 ghost use Rattle.script_lang.specs.Asked.{IsAskable};
 ghost use Rattle.fsc_commands.specs.Commands.{command_steps};
-ghost use Rattle.fsc_commands.specs.Made.{Made, CameBySome};
+ghost use Rattle.fsc_commands.specs.Made.{Made, Begun};
 ghost use Rattle.fsc_commands.specs.Steps.{names_in};
 ghost use Rattle.fsc_session.specs.Session.{noted};
 ghost use Rattle.fsc_commands.specs.declared.TheConstants.{MOST_CALLS};
@@ -36,16 +37,18 @@ pub struct Runner<'a> {
     next: usize,
     entries: EntryList,
     notes: NoteList,
+    // A step found no memory. What it left is no state between two commands, so no other step may follow.
+    spent: bool,
 }
 
 impl<'a> Model for Runner<'a> {
     ghost use Rattle.std.specs.Prelude.{◌≤◌, length};
-    ghost use Rattle.fsc_session.specs.Running.{RunnerView, runner_view};
+    ghost use Rattle.fsc_session.specs.Running.{RunnerView, runner_view, spent_if};
 
     ghost Value = { RunnerView };
 
-    ghost view = { λ runner. runner_view runner.caller runner.section.now runner.next runner.entries
-        runner.notes };
+    ghost view = { λ runner. spent_if runner.spent (runner_view runner.caller runner.section.now runner.next
+        runner.entries runner.notes) };
 
     ghost invariant = { λ runner. runner.next ≤ length runner.section.now.commands };
 }
@@ -61,13 +64,15 @@ impl<'a> Runner<'a> {
             next: 0,
             entries: EntryList::new(alloc),
             notes: NoteList::new(alloc),
+            spent: false,
         }
     }
 
     /// Runs the next command on the caller's port, which makes at most four calls, and stretches its
-    /// passphrases in the way that is handed in; false where none is left. After want of memory the runner
-    /// is spent. Behind a command that handles keys, and behind want of memory, `scrub_stack` overwrites what
-    /// it left on the stack.
+    /// passphrases in the way that is handed in; false where none is left. The one error is want of memory:
+    /// the calls made by then are those with which the command's steps begin, and the runner is spent. A step
+    /// of a spent runner answers that error, and makes no call. Behind a command that handles keys, and behind
+    /// want of memory, `scrub_stack` overwrites what it left on the stack.
     pub fn step<P: MountPort, S: Stretches>(
         &mut self,
         alloc: Global,
@@ -82,8 +87,16 @@ impl<'a> Runner<'a> {
         ensures stepped { IfOk result (λ more. Stepped (P.came port.old) port.new
             (P.calls_left port.new) (P.calls_left port.old) seed.now more self.old self.new) }
         ensures caller { P.who port.new ≡ P.who port.old }
-        ensures failed { OnErr result (CameBySome (P.came port.old) port.new) }
+        ensures unspent { OnOk result (IsFalse self.new.spent) }
+        ensures failed { OnErr result (Begun (P.came port.old) port.new MOST_CALLS
+            (next_steps seed.now self.old)) }
+        ensures spent { OnErr result (IsTrue self.new.spent) }
+        ensures stays { IsTrue self.old.spent
+            → IsErr result × (port.new ≡ port.old) × (self.new ≡ self.old) }
     {
+        if self.spent {
+            return Err(AllocError);
+        }
         let commands = self.section.commands.as_slice();
         if self.next == commands.len() {
             return Ok(false);
@@ -94,6 +107,8 @@ impl<'a> Runner<'a> {
             number: self.next,
         };
         let command = &commands[self.next];
+        // Until the command has ended and its note stands.
+        self.spent = true;
         let outcome = run_scrubbed(
             alloc,
             port,
@@ -105,6 +120,7 @@ impl<'a> Runner<'a> {
         )?;
         note(&mut self.notes, self.caller, command, outcome)?;
         self.next += 1;
+        self.spent = false;
         Ok(true)
     }
 
@@ -158,7 +174,8 @@ fn run_scrubbed<P: MountPort, S: Stretches>(
         (command_steps seed.now turn.caller turn.uid turn.number (names_in entries.old) verb.now)
         outcome entries.old entries.new) }
     ensures caller { P.who port.new ≡ P.who port.old }
-    ensures failed { OnErr result (CameBySome (P.came port.old) port.new) }
+    ensures failed { OnErr result (Begun (P.came port.old) port.new MOST_CALLS
+        (command_steps seed.now turn.caller turn.uid turn.number (names_in entries.old) verb.now)) }
 {
     let ended = run_command(alloc, port, stretches, seed, turn, verb, entries);
     if ended.is_err() || handles_keys(verb) {

@@ -3,7 +3,7 @@
 ghost use Rattle.std.specs.Prelude.{◌≤◌, ◌*◌, length, IfOk, OnErr};
 ghost use Rattle.fsc_session.specs.Asking.{AsksRightly};
 ghost use Rattle.fsc_session.specs.Running.{SectionRan};
-ghost use Rattle.fsc_commands.specs.Made.{CameBySome};
+ghost use Rattle.fsc_session.specs.Stopping.{SectionBegun};
 ghost use Rattle.fsc_commands.specs.declared.TheConstants.{MOST_CALLS};
 
 use crate::runner::{Ran, Runner};
@@ -17,7 +17,8 @@ use std::alloc::{AllocError, Global};
 /// Runs the section's commands one after another on the caller's port, and stretches their passphrases in
 /// the way that is handed in. The gate is called before each, and behind each that was run: after want of
 /// memory in a command it is not. The port has four calls left for each command. In the end `scrub_stack`
-/// overwrites what they left on the stack.
+/// overwrites what they left on the stack. The one error is want of memory: then the calls are those of the
+/// commands that were run, and behind them those with which the next command's steps begin.
 pub fn run_caller<P: MountPort, G: Gate, S: Stretches>(
     alloc: Global,
     port: &mut P,
@@ -31,7 +32,8 @@ pub fn run_caller<P: MountPort, G: Gate, S: Stretches>(
     requires asked { AsksRightly section.now }
     ensures ran { IfOk result (λ ran. SectionRan (P.came port.old) port.new (P.calls_left port.new)
         (P.calls_left port.old) seed.now (P.who port.old) section.now ran.entries ran.notes) }
-    ensures failed { OnErr result (CameBySome (P.came port.old) port.new) }
+    ensures failed { OnErr result (SectionBegun (P.came port.old) port.new seed.now (P.who port.old)
+        section.now) }
 {
     let caller = port.caller();
     let mut runner = Runner::new(alloc, caller, section);

@@ -7,6 +7,7 @@ use Rattle.script_lang.specs.declared.commands.Section.{Section}
 use Rattle.script_lang.specs.Script.{parsed_script}
 use Rattle.fsc_outside.specs.States.{SourceState, SeedState}
 use Rattle.fsc_outside.specs.Input.{GaveWhole, GaveTooMuch, IsWithin}
+use Rattle.fsc_outside.specs.Reads.{ReadCall}
 use Rattle.reply_text.specs.declared.status.Status.{Status}
 use Rattle.reply_text.specs.declared.status.Status.TheVariants.{Done, Usage, BadLine, ReadFault, WriteFault, SeedFault, TooLong, NoMemory}
 use Rattle.fsc_tool.specs.declared.form.Seeding.{Seeding}
@@ -43,12 +44,12 @@ gave_told old new input bytes told gave =
     told_whole new.left input bytes (subst (λ (left : Option (List ℕ)). Consumes left new.left bytes) told gave.given) gave.ended
 
 -- it can't have given too much of a text within the limits
-not_too_much : (old new : SourceState) (input bytes : List ℕ) → old.left ≡ Some input → GaveTooMuch input_limits old new bytes
-    → IsWithin input_limits input → ⊥
-not_too_much old new input bytes told (inl more) within =
+not_too_much : (Came : List ReadCall → Type 0) (old new : SourceState) (input bytes : List ℕ) → old.left ≡ Some input
+    → GaveTooMuch input_limits Came old new bytes → IsWithin input_limits input → ⊥
+not_too_much Came old new input bytes told (inl more) within =
     let part = told_part new.left input bytes (subst (λ (left : Option (List ℕ)). Consumes left new.left bytes) told more.given) in
     omega (arith, part, more.size, within.bytes)
-not_too_much old new input bytes told (inr more) within =
+not_too_much Came old new input bytes told (inr more) within =
     let whole = gave_told old new input bytes told more.gave in
     let lines : input_limits.lines < line_count input = subst (λ (xs : List ℕ). input_limits.lines < line_count xs) whole more.lines in
     omega (arith, lines, within.lines)
@@ -72,11 +73,11 @@ same_script old new input bytes told gave = ap parsed_script (gave_told old new 
 own_seed : (seeding : Seeding) (old new : SeedState) (seed own : List ℕ) → seeding ≡ Given own → IsSeedOf seeding old new seed → new ≡ old
 own_seed seeding old new seed own is taken = (subst (λ (s : Seeding). ComesFrom s old new seed) is taken.given).1
 
-module _ (IsRun : List ℕ → List Section → History → Type 0) (seeding : Seeding) (a b : Outside) where
+module _ (IsRun : List ℕ → List Section → History → Type 0) (Came : List ReadCall → Type 0) (seeding : Seeding) (a b : Outside) where
   abbrev IsText : List ℕ → Type 0
-  IsText = HasLog IsRun seeding a b
+  IsText = HasLog IsRun Came seeding a b
 
-  unasked : (status : Status) → Ends IsText seeding a b status → (own : List ℕ) → seeding ≡ Given own → b.seeds ≡ a.seeds
+  unasked : (status : Status) → Ends IsText Came seeding a b status → (own : List ℕ) → seeding ≡ Given own → b.seeds ≡ a.seeds
   unasked Done h own said = own_seed seeding a.seeds b.seeds h.right.seed own said h.right.seeded
   unasked WriteFault h own said = own_seed seeding a.seeds b.seeds h.right.seed own said h.right.seeded
   unasked Usage h own said = absurd h
@@ -91,22 +92,22 @@ module _ (IsRun : List ℕ → List Section → History → Type 0) (seeding : S
 
   -- ---- a source that tells its bytes
 
-  long_ends : (status : Status) → Ends IsText seeding a b status → (input : List ℕ) → Told a b input → IsLong input → IsOrNoMemory TooLong status
+  long_ends : (status : Status) → Ends IsText Came seeding a b status → (input : List ℕ) → Told a b input → IsLong input → IsOrNoMemory TooLong status
   long_ends TooLong h input told long = inl refl
   long_ends NoMemory h input told long = inr refl
   long_ends Usage h input told long = absurd h
-  long_ends ReadFault h input told long = absurd (told.read h.cause)
+  long_ends ReadFault h input told long = absurd (told.read h.part.cause)
   long_ends Done h input told long = absurd (not_short a.source b.source input h.right.input told.left h.right.read.gave h.right.read.within long)
   long_ends WriteFault h input told long = absurd (not_short a.source b.source input h.right.input told.left h.right.read.gave h.right.read.within long)
   long_ends (BadLine line) h input told long = absurd (not_short a.source b.source input h.input told.left h.read.gave h.read.within long)
   long_ends SeedFault h input told long = absurd (not_short a.source b.source input h.input told.left h.read.gave h.read.within long)
 
-  bad_line_ends : (status : Status) → Ends IsText seeding a b status → (input : List ℕ) (line : ℕ) → Told a b input → IsWithin input_limits input
+  bad_line_ends : (status : Status) → Ends IsText Came seeding a b status → (input : List ℕ) (line : ℕ) → Told a b input → IsWithin input_limits input
       → parsed_script input ≡ Err line → IsOrNoMemory (BadLine line) status
   bad_line_ends NoMemory h input line told within bad = inr refl
   bad_line_ends Usage h input line told within bad = absurd h
-  bad_line_ends ReadFault h input line told within bad = absurd (told.read h.cause)
-  bad_line_ends TooLong h input line told within bad = absurd (not_too_much a.source b.source input h.much.bytes told.left h.much.gave within)
+  bad_line_ends ReadFault h input line told within bad = absurd (told.read h.part.cause)
+  bad_line_ends TooLong h input line told within bad = absurd (not_too_much Came a.source b.source input h.much.bytes told.left h.much.gave within)
   bad_line_ends (BadLine other) h input line told within bad =
       let same = sym h.bad ∙ same_script a.source b.source input h.input told.left h.read.gave ∙ bad in
       inl (ap BadLine (cc same))
@@ -117,20 +118,20 @@ module _ (IsRun : List ℕ → List Section → History → Type 0) (seeding : S
   bad_line_ends SeedFault h input line told within bad =
       let same = sym h.script.1 ∙ same_script a.source b.source input h.input told.left h.read.gave ∙ bad in absurd (cc same)
 
-  script_ends : (status : Status) → Ends IsText seeding a b status → (input : List ℕ) → IsReplayable a b input → IsOrNoMemory Done status
+  script_ends : (status : Status) → Ends IsText Came seeding a b status → (input : List ℕ) → IsReplayable a b input → IsOrNoMemory Done status
   script_ends Done h input fine = inl refl
   script_ends NoMemory h input fine = inr refl
   script_ends Usage h input fine = absurd h
-  script_ends ReadFault h input fine = absurd (fine.told.read h.cause)
+  script_ends ReadFault h input fine = absurd (fine.told.read h.part.cause)
   script_ends WriteFault h input fine = absurd (fine.written h.written.cause)
   script_ends SeedFault h input fine = absurd (fine.seeded h.seeds.cause)
-  script_ends TooLong h input fine = absurd (not_too_much a.source b.source input h.much.bytes fine.told.left h.much.gave fine.within)
+  script_ends TooLong h input fine = absurd (not_too_much Came a.source b.source input h.much.bytes fine.told.left h.much.gave fine.within)
   script_ends (BadLine line) h input fine =
       let same = sym h.bad ∙ same_script a.source b.source input h.input fine.told.left h.read.gave ∙ fine.script.1 in absurd (cc same)
 
   -- ---- the theorem, from what each status means
 
-  pub replay_is : (status : Status) → Ends IsText seeding a b status → IsReplay IsRun seeding a b status
+  pub replay_is : (status : Status) → Ends IsText Came seeding a b status → IsReplay IsRun Came seeding a b status
   replay_is status h = record {
     ends = h;
     own_seed = unasked status h;
@@ -142,10 +143,10 @@ module _ (IsRun : List ℕ → List Section → History → Type 0) (seeding : S
   -- ---- what a run does, from its parts
 
   -- a run that ended before its first call
-  pub unrun_ends : (status : Status) → Ends NoText seeding a b status → IsReplay IsRun seeding a b status
+  pub unrun_ends : (status : Status) → Ends NoText Came seeding a b status → IsReplay IsRun Came seeding a b status
   unrun_ends status h = replay_is status (ends status h)
     where
-      ends : (status : Status) → Ends NoText seeding a b status → Ends IsText seeding a b status
+      ends : (status : Status) → Ends NoText Came seeding a b status → Ends IsText Came seeding a b status
       ends Done h = absurd h.right
       ends WriteFault h = absurd h.right
       ends Usage h = h
@@ -156,9 +157,10 @@ module _ (IsRun : List ℕ → List Section → History → Type 0) (seeding : S
       ends NoMemory h = h
 
   -- a run that found no memory for its calls
-  pub want_ends : (script : List Section) (seed : List ℕ) → IsPrepared seeding a.source b.source a.seeds b.seeds script seed → b.sink ≡ a.sink
-      → IsReplay IsRun seeding a b NoMemory
+  pub want_ends : (script : List Section) (seed : List ℕ) → IsPrepared Came seeding a.source b.source a.seeds b.seeds script seed → b.sink ≡ a.sink
+      → IsReplay IsRun Came seeding a b NoMemory
   want_ends script seed prepared unwritten = replay_is NoMemory (record {
+    read = inr (prepared.input, prepared.read);
     quiet = prepared.read.quiet;
     seeds = inr (seed, prepared.seeded);
     unwritten = unwritten;
@@ -166,11 +168,11 @@ module _ (IsRun : List ℕ → List Section → History → Type 0) (seeding : S
 
   -- a run that told these entries and notes
   pub run_ends : (script : List Section) (seed : List ℕ) (told : PlacedShown) (notes : List Note) (status : Status)
-      → IsPrepared seeding a.source b.source a.seeds b.seeds script seed → TellsRun IsRun seed script told notes
-      → EndsLog (shown_log (entries_of told) ++ notes_text notes) a.sink b.sink status → IsReplay IsRun seeding a b status
+      → IsPrepared Came seeding a.source b.source a.seeds b.seeds script seed → TellsRun IsRun seed script told notes
+      → EndsLog (shown_log (entries_of told) ++ notes_text notes) a.sink b.sink status → IsReplay IsRun Came seeding a b status
   run_ends script seed told notes status prepared ran h = ended status h
     where
-      right : HasLog IsRun seeding a b (shown_log (entries_of told) ++ notes_text notes)
+      right : HasLog IsRun Came seeding a b (shown_log (entries_of told) ++ notes_text notes)
       right = record {
         input = prepared.input;
         read = prepared.read;
@@ -183,7 +185,7 @@ module _ (IsRun : List ℕ → List Section → History → Type 0) (seeding : S
         log = ap₂ (λ (lines : List ℕ) (ns : List Note). lines ++ notes_text ns) (told_log told ran.history ran.in_place) ran.noted;
       }
 
-      ended : (status : Status) → EndsLog (shown_log (entries_of told) ++ notes_text notes) a.sink b.sink status → IsReplay IsRun seeding a b status
+      ended : (status : Status) → EndsLog (shown_log (entries_of told) ++ notes_text notes) a.sink b.sink status → IsReplay IsRun Came seeding a b status
       ended Done h = replay_is Done (record { text = _; right = right; written = h })
       ended WriteFault h = replay_is WriteFault (record { text = _; right = right; written = h })
       ended NoMemory h = want_ends script seed prepared h

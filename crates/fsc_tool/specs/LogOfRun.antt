@@ -4,6 +4,7 @@ use Rattle.mount_model.specs.History.{History}
 use Rattle.script_lang.specs.declared.commands.Section.{Section}
 use Rattle.script_lang.specs.Script.{parsed_script}
 use Rattle.fsc_outside.specs.Input.{ReadWhole}
+use Rattle.fsc_outside.specs.Reads.{ReadCall}
 use Rattle.reply_text.specs.Log.{log_text}
 use Rattle.reply_text.specs.Notes.{notes_text}
 use Rattle.fsc_session.specs.Session.{notes_of}
@@ -12,12 +13,12 @@ use Rattle.fsc_tool.specs.Limits.{input_limits}
 use Rattle.fsc_tool.specs.Outside.{Outside}
 use Rattle.fsc_tool.specs.Seed.{IsSeedOf}
 
--- the source gave an input within the limits that is this script, the run had this seed, and the text is the
+-- the source gave an input within the limits, by the calls by which it came, that is this script, the run had this seed, and the text is the
 -- log of one history, which is a run of the script with the seed, and behind it the notes of that run
 pub record HasLog (IsRun : List ℕ → List Section → History → Type 0)
-    (seeding : Seeding) (a b : Outside) (text : List ℕ) : Type 0 where
+    (Came : List ReadCall → Type 0) (seeding : Seeding) (a b : Outside) (text : List ℕ) : Type 0 where
   pub input : List ℕ
-  pub read : ReadWhole input_limits a.source b.source input
+  pub read : ReadWhole input_limits Came a.source b.source input
   pub script : List Section
   pub spelled : parsed_script input ≡ Ok script
   pub seed : List ℕ

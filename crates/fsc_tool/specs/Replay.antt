@@ -5,6 +5,7 @@ use Rattle.script_lang.specs.declared.commands.Section.{Section}
 use Rattle.script_lang.specs.Script.{parsed_script}
 use Rattle.fsc_outside.specs.Causes.{Rose}
 use Rattle.fsc_outside.specs.Input.{IsWithin}
+use Rattle.fsc_outside.specs.Reads.{ReadCall}
 use Rattle.reply_text.specs.declared.status.Status.{Status}
 use Rattle.reply_text.specs.declared.status.Status.TheVariants.{Done, BadLine, TooLong, NoMemory}
 use Rattle.fsc_tool.specs.declared.form.Seeding.{Seeding}
@@ -31,11 +32,12 @@ pub record IsReplayable (a b : Outside) (input : List ℕ) : Type 0 where
 abbrev pub IsOrNoMemory : Status → Status → Type 0
 IsOrNoMemory wanted status = (status ≡ wanted) ⊎ (status ≡ NoMemory)
 
--- a replay whose seed comes so, where IsRun says what makes a history a run of a script with a seed
-pub record IsReplay (IsRun : List ℕ → List Section → History → Type 0)
+-- a replay whose seed comes so, where IsRun says what makes a history a run of a script with a seed, and Came
+-- by which calls of the source it became what it is
+pub record IsReplay (IsRun : List ℕ → List Section → History → Type 0) (Came : List ReadCall → Type 0)
     (seeding : Seeding) (a b : Outside) (status : Status) : Type 0 where
-  -- what the status means, with its cause; the log is of a history that is such a run
-  pub ends : Ends (HasLog IsRun seeding a b) seeding a b status
+  -- what the status means, with its cause and what was read; the log is of a history that is such a run
+  pub ends : Ends (HasLog IsRun Came seeding a b) Came seeding a b status
   -- the seed source isn't asked where the words give a seed
   pub own_seed : (seed : List ℕ) → seeding ≡ Given seed → b.seeds ≡ a.seeds
   -- what a source that tells its bytes makes of the other statuses

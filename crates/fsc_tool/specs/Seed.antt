@@ -1,5 +1,5 @@
 -- The seed of a run, and how often the seed source is asked for it.
-use Rattle.std.specs.Prelude.{◌≡◌, ℕ, List, length, IfSome, Result, Ok, Err}
+use Rattle.std.specs.Prelude.{◌≡◌, ℕ, List, length, replicate, IfSome, Result, Ok, Err}
 use Rattle.fsc_outside.specs.Causes.{Rose, one_more}
 use Rattle.fsc_outside.specs.States.{SeedState}
 use Rattle.fsc_outside.specs.declared.Failed.{Failed}
@@ -31,3 +31,8 @@ pub record IsSeedOf (seeding : Seeding) (old new : SeedState) (seed : List ℕ) 
 abbrev pub TakesSeed : Seeding → SeedState → SeedState → Result (List ℕ) Failed → Type 0
 TakesSeed seeding old new (Ok seed) = IsSeedOf seeding old new seed
 TakesSeed seeding old new (Err _) = (seeding ≡ Asked) × FailedSeed old new
+
+-- the words' own seed with zeros in its place
+abbrev pub wiped_seeding : Seeding → Seeding
+wiped_seeding (Given own) = Given (replicate 32 0)
+wiped_seeding Asked = Asked

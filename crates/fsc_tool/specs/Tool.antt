@@ -1,6 +1,7 @@
 -- The theorem of the tool: what holds of a run in any form of the words.
-use Rattle.std.specs.Prelude.{◌≡◌, ◌↔◌, ℕ, List, Option, Some, None}
+use Rattle.std.specs.Prelude.{◌≡◌, ◌↔◌, ℕ, List, [], Option, Some, None}
 use Rattle.mount_model.specs.History.{History}
+use Rattle.fsc_outside.specs.Reads.{ReadCall}
 use Rattle.reply_text.specs.declared.status.Status.{Status}
 use Rattle.reply_text.specs.declared.status.Status.TheVariants.{Usage}
 use Rattle.fsc_tool.specs.declared.form.Way.TheVariants.{InTurn, InThreads}
@@ -12,22 +13,27 @@ use Rattle.fsc_tool.specs.Outside.{Outside}
 use Rattle.fsc_tool.specs.Replay.{IsReplay}
 use Rattle.fsc_tool.specs.Runs.{IsLawfulRun, IsSerialRun}
 
--- a run in this form: an equation a form. Without one nothing is called
-abbrev pub IsRunIn : (History → Type 0) → Option ToolForm → Outside → Outside → Status → Type 0
-IsRunIn lawful None a b status = (status ≡ Usage) × (b ≡ a)
-IsRunIn lawful (Some (Replay InTurn seeding)) a b status = IsReplay (IsSerialRun lawful) seeding a b status
-IsRunIn lawful (Some (Replay InThreads seeding)) a b status = IsReplay (IsLawfulRun lawful) seeding a b status
-IsRunIn lawful (Some (Generate number)) a b status = IsGenRun (IsScriptText number) a b status
-IsRunIn lawful (Some (Summarise number)) a b status = IsGenRun (SummaryOfRun lawful number) a b status
+-- a run in this form: an equation a form. Without one nothing is called. Came tells by which calls the source
+-- became what it is
+abbrev pub IsRunIn : (History → Type 0) → (List ReadCall → Type 0) → Option ToolForm → Outside → Outside → Status
+    → Type 0
+IsRunIn lawful Came None a b status = (status ≡ Usage) × (b ≡ a) × Came []
+IsRunIn lawful Came (Some (Replay InTurn seeding)) a b status =
+    IsReplay (IsSerialRun lawful) Came seeding a b status
+IsRunIn lawful Came (Some (Replay InThreads seeding)) a b status =
+    IsReplay (IsLawfulRun lawful) Came seeding a b status
+IsRunIn lawful Came (Some (Generate number)) a b status = IsGenRun (IsScriptText number) a b status × Came []
+IsRunIn lawful Came (Some (Summarise number)) a b status =
+    IsGenRun (SummaryOfRun lawful number) a b status × Came []
 
 -- a run in the form that the words are; Usage comes exactly where they are none
-pub record IsToolRun (lawful : History → Type 0) (words : List (List ℕ)) (a b : Outside) (status : Status)
-    : Type 0 where
-  pub run : IsRunIn lawful (form_of words) a b status
+pub record IsToolRun (lawful : History → Type 0) (Came : List ReadCall → Type 0) (words : List (List ℕ))
+    (a b : Outside) (status : Status) : Type 0 where
+  pub run : IsRunIn lawful Came (form_of words) a b status
   pub usage : (status ≡ Usage) ↔ (form_of words ≡ None)
 
 -- the same of a tool that starts no thread
-pub record IsSerialToolRun (lawful : History → Type 0) (words : List (List ℕ)) (a b : Outside) (status : Status)
-    : Type 0 where
-  pub run : IsRunIn lawful (without_threads (form_of words)) a b status
+pub record IsSerialToolRun (lawful : History → Type 0) (Came : List ReadCall → Type 0) (words : List (List ℕ))
+    (a b : Outside) (status : Status) : Type 0 where
+  pub run : IsRunIn lawful Came (without_threads (form_of words)) a b status
   pub usage : (status ≡ Usage) ↔ (without_threads (form_of words) ≡ None)

@@ -1,10 +1,13 @@
 //! The words of the command line.
 
-ghost use Rattle.std.specs.Prelude.{◌≡◌, map, string_bytes};
+ghost use Rattle.std.specs.Prelude.{◌≡◌, [], map, string_bytes};
 ghost use Rattle.text_words.specs.Digits.{hex_bytes_of_length};
 ghost use Rattle.fsc_tool.specs.Forms as spec;
 ghost use Rattle.fsc_tool.specs.Forms.{form_of, generated_behind, generated_of, replay_of, seeding_of};
 
+use byte_words::wipe;
+use std::alloc::Global;
+use std::mem;
 use text_words::{decimal_value, hex_bytes_into};
 
 /// How the callers of a script run.
@@ -36,7 +39,9 @@ pub(crate) enum ToolForm {
     Summarise(u32),
 }
 
-// What the words ask for; none where they are no form.
+// What the words ask for; none where they are no form. It has a frame of its own: a seed that it leaves there is
+// overwritten with what lies below the caller's.
+#[inline(never)]
 pub(crate) fn read_form(words: &[String]) -> Option<ToolForm>
     ensures { result ≡ form_of (map string_bytes words.now) }
 {
@@ -50,6 +55,16 @@ pub(crate) fn read_form(words: &[String]) -> Option<ToolForm>
         return read_generated(&words[1..]);
     }
     None
+}
+
+// Overwrites the words, of which one may be a seed, and takes them away. It takes no memory.
+pub(crate) fn wipe_words(alloc: Global, words: &mut Vec<String>)
+    ensures { words.new.items ≡ [] }
+{
+    'words: for word in mem::replace(words, Vec::new(alloc)) {
+        let mut text = word.into_bytes();
+        wipe(text.as_mut_slice());
+    }
 }
 
 // The form without threads: one in which callers run in threads is none.

@@ -6,17 +6,19 @@ ghost use Rattle.call_history.specs.Placed.{entries_of};
 ghost use Rattle.fsc_outside.specs.States.{SinkState};
 ghost use Rattle.reply_text.specs.Notes.{notes_text};
 ghost use Rattle.reply_text.specs.Shown.{shown_log};
+ghost use Rattle.reply_text.specs.declared.status.Status.TheVariants.{NoMemory};
 ghost use Rattle.script_lang.specs.Spelled.{IsSpelled};
 ghost use Rattle.fsc_tool.specs.Ends.{Ends};
 ghost use Rattle.fsc_tool.specs.Faults.{input_status, script_status};
 ghost use Rattle.fsc_tool.specs.Outside.{outside};
 ghost use Rattle.fsc_tool.specs.Prepared.{IsPrepared, NoText};
+ghost use Rattle.fsc_tool.specs.Seed.{wiped_seeding};
 ghost use Rattle.fsc_tool.specs.Written.{EndsLog};
 
 use crate::PlacedVec;
 use crate::form::Seeding;
 use crate::limits::INPUT_LIMITS;
-use crate::seed::take_seed;
+use crate::seed::{take_seed, wipe_seeding};
 use crate::told::Told;
 use byte_words::wipe;
 use call_history::Entry;
@@ -47,19 +49,47 @@ impl Prepared {
 }
 
 // The script that the source gives and the seed of the run, or else the status with which it ends before its
-// first call. The bytes that came in are overwritten once they are read, and where the run goes on so is what
-// the reading left on the stack.
+// first call. The bytes that came in are overwritten once they are read, and at every end so are the seed of the
+// words and what the reading left on the stack. What is prepared lies in a box, so that no move leaves another
+// seed.
 pub(crate) fn prepare<S: Source, E: SeedSource>(
+    alloc: Global,
+    seeding: &mut Seeding,
+    source: &mut S,
+    seeds: &mut E,
+) -> Result<Box<Prepared>, Status>
+    ensures prepared { IfOk result (λ run. IsPrepared (λ calls. S.came source.old calls source.new)
+        seeding.old (S.state source.old) (S.state source.new) (E.state seeds.old) (E.state seeds.new)
+        run.value.script run.value.seed) }
+    ensures spelled { IfOk result (λ run. IsSpelled run.value.script) }
+    ensures ended { IfErr result (λ status. (sink : SinkState)
+        → Ends NoText (λ calls. S.came source.old calls source.new) seeding.old
+        (outside (S.state source.old) sink (E.state seeds.old))
+        (outside (S.state source.new) sink (E.state seeds.new)) status) }
+    ensures wiped { seeding.new ≡ wiped_seeding seeding.old }
+{
+    let prepared = prepare_unscrubbed(alloc, *seeding, source, seeds);
+    wipe_seeding(seeding);
+    scrub_stack();
+    prepared
+}
+
+// The same, in a frame of its own, so that what it leaves, its copy of the words' seed too, lies below the frame that
+// overwrites it.
+#[inline(never)]
+fn prepare_unscrubbed<S: Source, E: SeedSource>(
     alloc: Global,
     seeding: Seeding,
     source: &mut S,
     seeds: &mut E,
-) -> Result<Prepared, Status>
-    ensures prepared { IfOk result (λ run. IsPrepared seeding (S.state source.old) (S.state source.new)
-        (E.state seeds.old) (E.state seeds.new) run.script run.seed) }
-    ensures spelled { IfOk result (λ run. IsSpelled run.script) }
+) -> Result<Box<Prepared>, Status>
+    ensures prepared { IfOk result (λ run. IsPrepared (λ calls. S.came source.old calls source.new)
+        seeding (S.state source.old) (S.state source.new) (E.state seeds.old) (E.state seeds.new)
+        run.value.script run.value.seed) }
+    ensures spelled { IfOk result (λ run. IsSpelled run.value.script) }
     ensures ended { IfErr result (λ status. (sink : SinkState)
-        → Ends NoText seeding (outside (S.state source.old) sink (E.state seeds.old))
+        → Ends NoText (λ calls. S.came source.old calls source.new) seeding
+        (outside (S.state source.old) sink (E.state seeds.old))
         (outside (S.state source.new) sink (E.state seeds.new)) status) }
 {
     let input = match read_all(alloc, source, INPUT_LIMITS) {
@@ -72,12 +102,31 @@ pub(crate) fn prepare<S: Source, E: SeedSource>(
         Ok(script) => script,
         Err(fault) => return Err(script_status(fault)),
     };
-    let seed = match take_seed(seeding, seeds) {
-        Ok(seed) => seed,
-        Err(_) => return Err(Status::SeedFault),
-    };
-    scrub_stack();
-    Ok(Prepared { script, seed })
+    let mut run = unseeded(alloc, script)?;
+    match take_seed(seeding, seeds) {
+        Ok(seed) => run.seed = seed,
+        Err(_) => {
+            run.wipe(alloc);
+            return Err(Status::SeedFault);
+        }
+    }
+    Ok(run)
+}
+
+// A run of the script, with zeros in the place of its seed. The one error is want of memory, behind which the
+// script is overwritten.
+fn unseeded(alloc: Global, script: Script) -> Result<Box<Prepared>, Status>
+    ensures script { IfOk result (λ run. run.value.script ≡ script) }
+    ensures error { IfErr result (λ status. status ≡ NoMemory) }
+{
+    let seed = [0; 32];
+    match Box::new(alloc, Prepared { script, seed }) {
+        Ok(run) => Ok(run),
+        Err(mut refused) => {
+            refused.value.wipe(alloc);
+            Err(Status::NoMemory)
+        }
+    }
 }
 
 // Overwrites the bytes that came in, in which the script's secrets stand as digits.

@@ -1,8 +1,10 @@
 //! The seed of a run.
 
-ghost use Rattle.fsc_tool.specs.Seed.{TakesSeed};
+ghost use Rattle.std.specs.Prelude.{◌≡◌};
+ghost use Rattle.fsc_tool.specs.Seed.{TakesSeed, wiped_seeding};
 
 use crate::form::Seeding;
+use byte_words::wipe;
 use fsc_outside::{Failed, SeedSource};
 
 // The seed of a run. The seed source is asked once, and only where the words give no seed.
@@ -12,5 +14,14 @@ pub(crate) fn take_seed<E: SeedSource>(seeding: Seeding, seeds: &mut E) -> Resul
     match seeding {
         Seeding::Given(seed) => Ok(seed),
         Seeding::Asked => seeds.seed(),
+    }
+}
+
+// Overwrites the seed that the words give, if they do.
+pub(crate) fn wipe_seeding(seeding: &mut Seeding)
+    ensures { seeding.new ≡ wiped_seeding seeding.old }
+{
+    if let Seeding::Given(seed) = seeding {
+        wipe(seed);
     }
 }

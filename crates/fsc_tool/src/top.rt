@@ -1,12 +1,15 @@
 //! The tool's calls: one that starts threads, and one that waits for nobody.
 
-ghost use Rattle.std.specs.Prelude.{[], map, string_bytes};
+ghost use Rattle.std.specs.Prelude.{◌≡◌, List, [], map, string_bytes};
+ghost use Rattle.std.specs.Option.{option_map_or};
+ghost use Rattle.fsc_outside.specs.Reads.{ReadCall};
+ghost use Rattle.fsc_tool.specs.Forms.{form_of};
 ghost use Rattle.fsc_tool.specs.Outside.{outside};
 ghost use Rattle.fsc_tool.specs.Replay.{IsReplay};
 ghost use Rattle.fsc_tool.specs.Runs.{IsLawfulRun, IsSerialRun};
 ghost use Rattle.fsc_tool.specs.Tool.{IsSerialToolRun, IsToolRun};
 
-use crate::form::{Seeding, ToolForm, Way, read_form, without_threads};
+use crate::form::{Seeding, ToolForm, Way, read_form, wipe_words, without_threads};
 use crate::gen_runs::{run_generating, run_summarising};
 use crate::replay::{finish, prepare};
 use crate::rotation::run_in_rotation;
@@ -27,7 +30,8 @@ use std::thread::Threads;
 /// `tool_serial`, and what generates is run as there; else each caller runs in a thread of its own, and waits
 /// for its turn on the machine at each call. Each command runs between the gate's two calls. Nothing is
 /// written before all callers have ended and the whole log stands. The seed source is asked once for each
-/// script in the grammar, where the words give no seed.
+/// script in the grammar, where the words give no seed. Words that are a form are overwritten and taken away
+/// once they are read, since one of them may be a seed.
 pub fn tool<
     R: Threads + Wait + Sync,
     S: Source,
@@ -38,7 +42,7 @@ pub fn tool<
 >(
     rt: &R,
     alloc: Global,
-    words: &Vec<String>,
+    words: &mut Vec<String>,
     source: &mut S,
     sink: &mut K,
     seeds: &mut E,
@@ -46,24 +50,35 @@ pub fn tool<
     machine: M,
 ) -> Status
     requires { M.leads [] machine }
-    ensures { let before = outside (S.state source.old) (K.state sink.old) (E.state seeds.old) in
+    ensures run { let before = outside (S.state source.old) (K.state sink.old) (E.state seeds.old) in
         let after = outside (S.state source.new) (K.state sink.new) (E.state seeds.new) in
-        IsToolRun M.lawful (map string_bytes words.now.items) before after result }
+        let came = λ (calls : List ReadCall). S.came source.old calls source.new in
+        IsToolRun M.lawful came (map string_bytes words.old.items) before after result }
+    ensures words { words.new.items
+        ≡ option_map_or (λ form. []) (form_of (map string_bytes words.old.items)) words.old.items }
 {
-    let Some(form) = read_form(words) else {
-        return Status::Usage;
-    };
-    match form {
-        ToolForm::Replay {
-            way: Way::InTurn,
-            seeding,
-        } => replay_in_rotation(alloc, seeding, source, sink, seeds, gate, machine),
-        ToolForm::Replay {
-            way: Way::InThreads,
-            seeding,
-        } => replay_in_threads(rt, alloc, seeding, source, sink, seeds, gate, machine),
-        ToolForm::Generate(number) => run_generating(alloc, number, sink),
-        ToolForm::Summarise(number) => run_summarising(alloc, number, sink, gate, machine),
+    let mut form = read_form(words.as_slice());
+    if form.is_some() {
+        wipe_words(alloc, words);
+    }
+    match &mut form {
+        None => Status::Usage,
+        Some(
+            ToolForm::Replay {
+                way: Way::InTurn,
+                seeding,
+            },
+        ) => replay_in_rotation(alloc, seeding, source, sink, seeds, gate, machine),
+        Some(
+            ToolForm::Replay {
+                way: Way::InThreads,
+                seeding,
+            },
+        ) => replay_in_threads(rt, alloc, seeding, source, sink, seeds, gate, machine),
+        Some(ToolForm::Generate(number)) => run_generating(alloc, *number, sink),
+        Some(ToolForm::Summarise(number)) => {
+            run_summarising(alloc, *number, sink, gate, machine)
+        }
     }
 }
 
@@ -87,24 +102,26 @@ pub fn tool_serial<S: Source, K: Sink, E: SeedSource, M: MountMachine>(
     requires { M.leads [] machine }
     ensures { let before = outside (S.state source.old) (K.state sink.old) (E.state seeds.old) in
         let after = outside (S.state source.new) (K.state sink.new) (E.state seeds.new) in
-        IsSerialToolRun M.lawful (map string_bytes words.now.items) before after result }
+        let came = λ (calls : List ReadCall). S.came source.old calls source.new in
+        IsSerialToolRun M.lawful came (map string_bytes words.now.items) before after result }
 {
-    let Some(form) = without_threads(read_form(words)) else {
-        return Status::Usage;
-    };
-    match form {
-        ToolForm::Replay { way: _, seeding } => {
+    let mut form = without_threads(read_form(words));
+    match &mut form {
+        None => Status::Usage,
+        Some(ToolForm::Replay { way: _, seeding }) => {
             replay_in_rotation(alloc, seeding, source, sink, seeds, &OpenGate, machine)
         }
-        ToolForm::Generate(number) => run_generating(alloc, number, sink),
-        ToolForm::Summarise(number) => { run_summarising(alloc, number, sink, &OpenGate, machine) }
+        Some(ToolForm::Generate(number)) => run_generating(alloc, *number, sink),
+        Some(ToolForm::Summarise(number)) => {
+            run_summarising(alloc, *number, sink, &OpenGate, machine)
+        }
     }
 }
 
 // A replay whose callers take turns.
 fn replay_in_rotation<S: Source, K: Sink, E: SeedSource, G: Gate, M: MountMachine>(
     alloc: Global,
-    seeding: Seeding,
+    seeding: &mut Seeding,
     source: &mut S,
     sink: &mut K,
     seeds: &mut E,
@@ -114,7 +131,8 @@ fn replay_in_rotation<S: Source, K: Sink, E: SeedSource, G: Gate, M: MountMachin
     requires { M.leads [] machine }
     ensures { let before = outside (S.state source.old) (K.state sink.old) (E.state seeds.old) in
         let after = outside (S.state source.new) (K.state sink.new) (E.state seeds.new) in
-        IsReplay (IsSerialRun M.lawful) seeding before after result }
+        let came = λ (calls : List ReadCall). S.came source.old calls source.new in
+        IsReplay (IsSerialRun M.lawful) came seeding.old before after result }
 {
     let mut run = match prepare(alloc, seeding, source, seeds) {
         Ok(run) => run,
@@ -142,7 +160,7 @@ fn replay_in_threads<
 >(
     rt: &R,
     alloc: Global,
-    seeding: Seeding,
+    seeding: &mut Seeding,
     source: &mut S,
     sink: &mut K,
     seeds: &mut E,
@@ -152,7 +170,8 @@ fn replay_in_threads<
     requires { M.leads [] machine }
     ensures { let before = outside (S.state source.old) (K.state sink.old) (E.state seeds.old) in
         let after = outside (S.state source.new) (K.state sink.new) (E.state seeds.new) in
-        IsReplay (IsLawfulRun M.lawful) seeding before after result }
+        let came = λ (calls : List ReadCall). S.came source.old calls source.new in
+        IsReplay (IsLawfulRun M.lawful) came seeding.old before after result }
 {
     let mut run = match prepare(alloc, seeding, source, seeds) {
         Ok(run) => run,

@@ -22,7 +22,7 @@ fn words_of(alloc: Global) -> Result<Vec<String>, AllocError> {
 #[test]
 fn two_callers_meet_in_the_middle_of_their_sections(rt: HostRuntime) -> Result<(), Fail> {
     let alloc = rt.alloc();
-    let words = words_of(alloc)?;
+    let mut words = words_of(alloc)?;
     let script = b"caller 1\ndrop-caches\ndrop-caches\ncaller 2\ndrop-caches\ndrop-caches\n";
     let mut source = MemSource::new(Vec::from_slice(alloc, script)?, 1000, CallList::new(alloc));
     let mut sink = MemSink::new(alloc, 8192, 1000, CallList::new(alloc))?;
@@ -34,7 +34,7 @@ fn two_callers_meet_in_the_middle_of_their_sections(rt: HostRuntime) -> Result<(
     let status = tool(
         &rt,
         alloc,
-        &words,
+        &mut words,
         &mut source,
         &mut sink,
         &mut FixedSeed::failing(),
@@ -50,7 +50,7 @@ fn two_callers_meet_in_the_middle_of_their_sections(rt: HostRuntime) -> Result<(
 #[test]
 fn a_reply_that_wants_memory_ends_no_section(rt: HostRuntime) -> Result<(), Fail> {
     let alloc = rt.alloc();
-    let words = words_of(alloc)?;
+    let mut words = words_of(alloc)?;
     let script = b"caller 1\ndrop-caches\ndrop-caches\ndrop-caches\n";
     let mut source = MemSource::new(Vec::from_slice(alloc, script)?, 1000, CallList::new(alloc));
     let mut sink = MemSink::new(alloc, 8192, 1000, CallList::new(alloc))?;
@@ -61,7 +61,7 @@ fn a_reply_that_wants_memory_ends_no_section(rt: HostRuntime) -> Result<(), Fail
     let status = tool(
         &rt,
         alloc,
-        &words,
+        &mut words,
         &mut source,
         &mut sink,
         &mut FixedSeed::failing(),

@@ -1,4 +1,4 @@
-use Rattle.std.proofs.Common.{ℕ, List, Some, arith}
+use Rattle.std.proofs.Common.{ℕ, List, Some, ap, arith}
 use Rattle.std.specs.Prelude.{Option}
 use Rattle.std.proofs.lemmas.Result.{err_from_is_err_and}
 use Rattle.policy_ctx.specs.Policy.{policy_bytes}
@@ -6,13 +6,14 @@ use Rattle.mount_model.specs.declared.call.Op.TheVariants.{SetPolicy}
 use Rattle.script_lang.specs.declared.verb.Settings.{Settings}
 use Rattle.fsc_commands.specs.declared.loaded.LoadedPolicy.{LoadedPolicy}
 use Rattle.fsc_commands.specs.declared.outcomes.Wanted.TheVariants as wanted
-use Rattle.fsc_commands.specs.CommandSteps.{CommandSteps, last_call}
+use Rattle.fsc_commands.specs.CommandSteps.{CommandSteps, when_ok, last_call}
 use Rattle.fsc_commands.specs.Opening.{loading_policy}
 use Rattle.fsc_commands.specs.PolicySteps.{node_policy}
 use Rattle.fsc_commands.specs.Steps.{names_in}
 use Rattle.fsc_commands.specs.Stars.{path_meant}
 use Rattle.fsc_commands.specs.PlainCalls.{nonce_drawn}
-use Rattle.fsc_commands.proofs.PartLemmas.{part_ends, part_goes_on, part_fails}
+use Rattle.fsc_commands.proofs.BegunLemmas.{part_stops, part_fails}
+use Rattle.fsc_commands.proofs.PartLemmas.{part_ends, part_goes_on}
 use Rattle.fsc_commands.proofs.encrypting.encrypt.Goals as goal
 
 -- what comes after the policy was loaded
@@ -39,10 +40,20 @@ returns-in_ok-outcome-in-Ok-clause-made g c =
     c.in-Ok.is c.in_ok-loaded.ensures.made
     (rw (c.in_ok-meant.ensures.value, c.encode_policy.ensures, c.node_policy.ensures, c.nonce_drawn.ensures) at c.in_ok-outcome-in-Ok.ensures.made)
 
+pub returns-in_err-loaded-clause-failed : goal.returns-in_err-loaded-clause-failed
+returns-in_err-loaded-clause-failed g c =
+    let next : LoadedPolicy → CommandSteps = set c.args.turn.caller c.args.turn.uid (path_meant (names_in c.args.entries.now) c.args.path.now) c.args.settings
+    (nonce_drawn c.args.seed.now c.args.turn.caller c.args.turn.number) in
+    let p = err_from_is_err_and c.from_residual-in_err-loaded.result c.from_residual-in_err-loaded.ensures.1 in
+    rw p.1 (part_stops 4 (loading_policy c.args.turn.caller c.args.turn.uid c.args.policy.now) next (omega arith) c.in_err-loaded.ensures.failed)
+
 pub returns-in_err-outcome-in-Ok-clause-failed : goal.returns-in_err-outcome-in-Ok-clause-failed
 returns-in_err-outcome-in-Ok-clause-failed g c =
+    let next : LoadedPolicy → CommandSteps = set c.args.turn.caller c.args.turn.uid (path_meant (names_in c.args.entries.now) c.args.path.now) c.args.settings
+    (nonce_drawn c.args.seed.now c.args.turn.caller c.args.turn.number) in
     let p = err_from_is_err_and c.from_residual-in_err-outcome-in-Ok.result c.from_residual-in_err-outcome-in-Ok.ensures.1 in
     rw p.1 (part_fails g.P.MountPort.came g.met.P.MountPort.by_more c.args.port.now c.load_policy.new.port c.finish.new.port
-    (g.P.MountPort.calls_left c.load_policy.new.port) (g.P.MountPort.calls_left c.args.port.now) 1
-    (loading_policy c.args.turn.caller c.args.turn.uid c.args.policy.now) c.in_ok-loaded.field-0 c.args.entries.now c.load_policy.new.entries
-    c.in_ok-loaded.ensures.made c.in_err-outcome-in-Ok.ensures.failed)
+    (g.P.MountPort.calls_left c.load_policy.new.port) (g.P.MountPort.calls_left c.args.port.now) 1 1 4
+    (loading_policy c.args.turn.caller c.args.turn.uid c.args.policy.now) next c.in_ok-loaded.field-0 (next c.in-Ok.loaded) c.args.entries.now c.load_policy.new.entries
+    (omega arith) (ap (λ got. when_ok got next) c.in-Ok.is) c.in_ok-loaded.ensures.made
+    (rw (c.in_ok-meant.ensures.value, c.encode_policy.ensures, c.node_policy.ensures, c.nonce_drawn.ensures) at c.in_err-outcome-in-Ok.ensures.failed))

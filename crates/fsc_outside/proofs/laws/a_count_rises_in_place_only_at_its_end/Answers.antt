@@ -1,4 +1,4 @@
-use Rattle.std.proofs.Common.{◌+◌, ◌-◌, ◌^◌, ◌≤◌, subst, inl, inr, arith}
+use Rattle.std.proofs.Common.{◌≡◌, ◌+◌, ◌-◌, ◌^◌, ◌≤◌, ◌∙◌, inl, inr, arith}
 use Rattle.std.proofs.lemmas.Bool.{cases_lt}
 use Rattle.std.proofs.Math.Nat.{min-eq_left}
 use Rattle.fsc_outside.proofs.laws.a_count_rises_in_place_only_at_its_end.Goals as goal
@@ -7,7 +7,7 @@ use Rattle.fsc_outside.proofs.laws.a_count_rises_in_place_only_at_its_end.Goals 
 pub returns : goal.returns
 returns c count rose = elim (cases_lt count (2 ^ 64 - 1)) [
   | inl low ↦
-      let risen : count + 1 ≤ count = subst (λ n. n ≤ count) (min-eq_left (omega arith)) rose in
+      let risen : count ≡ count + 1 = rose ∙ min-eq_left (omega arith) in
       absurd (omega (arith, risen))
   | inr at_end ↦ at_end
 ]

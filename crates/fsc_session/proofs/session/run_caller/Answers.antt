@@ -1,6 +1,8 @@
-use Rattle.std.proofs.Common.{◌≤◌, ◌+◌, ◌++◌, length, sym, ap, ◌∙◌, subst, arith}
+use Rattle.std.proofs.Common.{Some, ◌≤◌, ◌+◌, ◌++◌, length, sym, ap, ◌∙◌, subst, arith}
 use Rattle.std.proofs.lemmas.Result.{err_from_is_err_and}
 use Rattle.fsc_session.proofs.RunLemmas.{so_far_goes_on, next_after, run_is_whole, notes_are_whole}
+use Rattle.fsc_session.proofs.StopLemmas.{is_begun}
+use Rattle.fsc_session.specs.Meaning.{IsBegunBy}
 use Rattle.fsc_session.specs.Session.{IsRunOfSection, notes_of_section}
 use Rattle.fsc_session.proofs.session.run_caller.Goals as goal
 
@@ -8,8 +10,22 @@ pub returns-in_err-step-clause-failed : goal.returns-in_err-step-clause-failed
 returns-in_err-step-clause-failed g c =
     let p = err_from_is_err_and c.from_residual.result c.from_residual.ensures.1 in
     let more = c.in_err-step.ensures.failed in
-    let so = c.commands.invariant.ran in
-    rw p.1 (so.placed ++ more.0, g.met.P.MountPort.by_more c.args.port.now c.commands.port c.step.new.port so.placed more.0 so.came_by more.1)
+    let i = c.commands.invariant in
+    let so = i.ran in
+    rw p.1 (record {
+      runner = c.commands.runner;
+      told = so.placed;
+      made = more.made;
+      rest = more.rest;
+      came_by = g.met.P.MountPort.by_more c.args.port.now c.commands.port c.step.new.port so.placed more.made so.came_by more.came_by;
+      own = (i.caller, i.section);
+      has_run = so.has_run;
+      begins = more.begins;
+      few = more.few;
+      begun = subst (λ section. IsBegunBy c.args.seed.now (g.P.MountPort.who c.args.port.now) (Some section) (so.placed ++ more.made)) i.section
+          (subst (λ caller. IsBegunBy c.args.seed.now caller (Some c.commands.runner.section) (so.placed ++ more.made)) i.caller
+          (is_begun c.args.seed.now c.commands.runner so.placed more.made more.rest so.has_run more.begins));
+    })
 
 pub commands-preserved : goal.commands-preserved
 commands-preserved g c =

@@ -2,9 +2,9 @@ use Rattle.fsc_tool.proofs.TopLemmas.{run_ends, unrun_ends}
 use Rattle.fsc_tool.proofs.top.replay_in_rotation.Goals as goal
 
 pub returns-in-Err : goal.returns-in-Err
-returns-in-Err g c = unrun_ends _ _ _ _ c.in-Err.status (c.in-Err.ensures.ended (g.K.Sink.state c.args.sink.now))
+returns-in-Err g c = unrun_ends _ _ _ _ _ c.in-Err.status (c.in-Err.ensures.ended (g.K.Sink.state c.args.sink.now))
 
 pub returns : goal.returns
 returns g c =
-    run_ends _ _ _ _ c.in-Ok.run'.script c.in-Ok.run'.seed c.in-Ok-run_in_rotation.told.entries.items c.in-Ok-run_in_rotation.told.notes.items _
-    c.in-Ok.ensures.prepared c.in-Ok-run_in_rotation.ensures c.finish.ensures
+    run_ends _ _ _ _ _ c.deref.result.now.script c.deref-2.result.now.seed c.in-Ok-run_in_rotation.told.entries.items c.in-Ok-run_in_rotation.told.notes.items _
+    (rw c.deref.ensures (rw c.deref-2.ensures c.in-Ok.ensures.prepared)) c.in-Ok-run_in_rotation.ensures c.finish.ensures

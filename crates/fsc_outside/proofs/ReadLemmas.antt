@@ -1,0 +1,105 @@
+-- Calls of a source, one after another, and how a reading ends.
+use Rattle.std.proofs.Common.{◌≡◌, ℕ, ◌<◌, ◌≤◌, List, [], ◌∷◌, ◌++◌, length, take, All, Option, Some, None, Result, Ok, Err}
+use Rattle.std.proofs.Common.{sym, ap, ◌∙◌, subst, inr, arith, append-nil, length-append}
+use Rattle.std.proofs.lemmas.List.Elements.{All-nil, All-cons, All-append, All-head, All-tail}
+use Rattle.std.specs.Io.KnownBytes.{Consumes, Keeps, ReadConsumes}
+use Rattle.fsc_outside.specs.Causes.{HasCause}
+use Rattle.fsc_outside.specs.States.{SourceState}
+use Rattle.fsc_outside.specs.Reads.{ReadCall, AreReads, GaveSome, given_by, read_call}
+use Rattle.fsc_outside.specs.Reads.ReadCall.{Gave, Faulted}
+use Rattle.fsc_outside.specs.ReadLaws.{Consumes-on, given_on}
+use Rattle.fsc_outside.specs.Input.{EndsReading, GaveWhole, LimitsLines}
+use Rattle.fsc_outside.specs.Reading.{CameByReading, most_read}
+use Rattle.fsc_outside.specs.declared.input.InputLimits.{InputLimits}
+use Rattle.fsc_outside.specs.declared.input.InputFault.{InputFault}
+use Rattle.fsc_outside.specs.declared.input.InputFault.TheVariants.{ReadFault, TooLong, NoMemory}
+
+-- ---- one call
+
+kept_none : (a b : Option (List ℕ)) → Keeps a b → Consumes a b []
+kept_none None b kept = tt
+kept_none (Some old) None kept = absurd kept
+kept_none (Some old) (Some new) kept = sym kept
+
+-- a call is one read
+pub is_read : {E : Type 0} → (old new : SourceState) (piece : List ℕ) (result : Result ℕ E)
+    → ReadConsumes old.left new.left result piece → HasCause old.faults new.faults result
+    → AreReads old (read_call piece result ∷ []) new
+is_read old new piece (Ok count) bytes cause = record {
+  bytes = subst (Consumes old.left new.left) (sym (append-nil (take count piece))) bytes.0;
+  faults = cause.quiet;
+}
+is_read old new piece (Err fault) bytes cause = record {
+  bytes = kept_none old.left new.left bytes;
+  faults = cause.failed;
+}
+
+-- one that failed consumes nothing
+pub kept_on : (a b c : Option (List ℕ)) (bytes : List ℕ) → Consumes a b bytes → Keeps b c → Consumes a c bytes
+kept_on a b c bytes given kept = subst (Consumes a c) (append-nil bytes) (Consumes-on a b c bytes [] given (kept_none b c kept))
+
+-- ---- many calls
+
+-- calls that each gave something are no more than the bytes
+few_calls : (calls : List ReadCall) → All GaveSome calls → length calls ≤ length (given_by calls)
+few_calls [] each = omega arith
+few_calls (Gave bytes ∷ calls) each =
+    let some : 0 < length bytes = All-head GaveSome (Gave bytes) calls each in
+    let more = few_calls calls (All-tail GaveSome (Gave bytes) calls each) in
+    omega (arith, some, more, length-append bytes (given_by calls))
+few_calls (Faulted ∷ calls) each = absurd (All-head GaveSome Faulted calls each)
+
+module _ {S : Type 0} (came : S → List ReadCall → S → Type 0)
+    (by_more : (first second third : S) (calls more : List ReadCall) → came first calls second → came second more third
+    → came first (calls ++ more) third) where
+  -- a reading goes on by a call that gave something
+  pub reads_on : (first second third : S) (limits : InputLimits) (text piece : List ℕ)
+      → CameByReading limits (λ calls. came first calls second) text [] → came second (Gave piece ∷ []) third → 0 < length piece
+      → length (text ++ piece) ≤ most_read limits → CameByReading limits (λ calls. came first calls third) (text ++ piece) []
+  reads_on first second third limits text piece so call some fits =
+      let calls : List ReadCall = so.calls ++ Gave piece ∷ [] in
+      let each : All GaveSome calls =
+      All-append GaveSome so.calls (Gave piece ∷ []) so.each (All-cons GaveSome (Gave piece) [] some (All-nil GaveSome)) in
+      let given : given_by calls ≡ text ++ piece =
+      given_on so.calls (Gave piece ∷ []) ∙ ap (λ bytes. bytes ++ (piece ++ [])) so.given ∙ ap (λ bytes. text ++ bytes) (append-nil piece) in
+      record {
+        calls = calls;
+        came_by = subst (λ made. came first made third) (sym (append-nil calls)) (by_more first second third so.calls (Gave piece ∷ [])
+            (subst (λ made. came first made second) (append-nil so.calls) so.came_by) call);
+        each = each;
+        given = given;
+        few = omega (arith, few_calls calls each, ap length given, ap length (append-nil calls), fits);
+      }
+
+  -- and ends with one more
+  pub reads_last : (first second third : S) (limits : InputLimits) (text : List ℕ) (last : ReadCall)
+      → CameByReading limits (λ calls. came first calls second) text [] → came second (last ∷ []) third
+      → length text ≤ limits.bytes → CameByReading limits (λ calls. came first calls third) text (last ∷ [])
+  reads_last first second third limits text last so call fits = record {
+    calls = so.calls;
+    came_by = by_more first second third so.calls (last ∷ []) (subst (λ made. came first made second) (append-nil so.calls) so.came_by) call;
+    each = so.each;
+    given = so.given;
+    few = omega (arith, few_calls so.calls so.each, ap length so.given, length-append so.calls (last ∷ []), fits);
+  }
+
+-- ---- a whole text
+
+pub whole_ends : (limits : InputLimits) (Came : List ReadCall → Type 0) (old new : SourceState) (text : List ℕ)
+    (result : Result (List ℕ) InputFault) → LimitsLines limits.lines text result → GaveWhole old new text
+    → length text ≤ limits.bytes → new.faults ≡ old.faults → CameByReading limits Came text (Gave [] ∷ [])
+    → EndsReading limits Came old new result
+whole_ends limits Came old new text (Ok same) limited gave short quiet calls =
+    subst (λ xs. EndsReading limits Came old new (Ok xs)) (sym limited.0) (record {
+      gave = gave;
+      within = record { bytes = short; lines = limited.1 };
+      quiet = quiet;
+      calls = calls;
+    })
+whole_ends limits Came old new text (Err TooLong) limited gave short quiet calls = record {
+  bytes = text;
+  gave = inr (record { gave = gave; size = short; lines = limited; calls = calls });
+  quiet = quiet;
+}
+whole_ends limits Came old new text (Err ReadFault) limited gave short quiet calls = absurd limited
+whole_ends limits Came old new text (Err NoMemory) limited gave short quiet calls = absurd limited

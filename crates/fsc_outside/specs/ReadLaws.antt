@@ -1,0 +1,44 @@
+-- Calls after calls are calls, and none are none.
+use Rattle.std.proofs.Common.{◌≡◌, ℕ, List, [], ◌∷◌, ◌++◌, Option, Some, None, refl, sym, ap, ◌∙◌, subst, append_assoc}
+use Rattle.std.specs.Io.KnownBytes.{Consumes}
+use Rattle.fsc_outside.specs.Causes.{one_more}
+use Rattle.fsc_outside.specs.Reads.{ReadCall, AreReads, given_by, faults_behind}
+use Rattle.fsc_outside.specs.Reads.ReadCall.{Gave, Faulted}
+use Rattle.fsc_outside.specs.States.{SourceState}
+
+pub given_on : (calls more : List ReadCall) → given_by (calls ++ more) ≡ given_by calls ++ given_by more
+given_on [] more = refl
+given_on (Gave bytes ∷ calls) more =
+    ap (λ rest. bytes ++ rest) (given_on calls more)
+    ∙ sym (append_assoc bytes (given_by calls) (given_by more))
+given_on (Faulted ∷ calls) more = given_on calls more
+
+faults_on : (calls more : List ReadCall) (count : ℕ)
+    → faults_behind (calls ++ more) count ≡ faults_behind more (faults_behind calls count)
+faults_on [] more count = refl
+faults_on (Gave bytes ∷ calls) more count = faults_on calls more count
+faults_on (Faulted ∷ calls) more count = faults_on calls more (one_more count)
+
+Consumes-none : (left : Option (List ℕ)) → Consumes left left []
+Consumes-none None = tt
+Consumes-none (Some bytes) = refl
+
+pub Consumes-on : (a b c : Option (List ℕ)) (xs ys : List ℕ)
+    → Consumes a b xs → Consumes b c ys → Consumes a c (xs ++ ys)
+Consumes-on None b c xs ys first second = tt
+Consumes-on (Some old) None c xs ys first second = absurd first
+Consumes-on (Some old) (Some mid) None xs ys first second = absurd second
+Consumes-on (Some old) (Some mid) (Some new) xs ys first second =
+    let all : old ≡ xs ++ mid = first in
+    all ∙ ap (λ zs. xs ++ zs) second ∙ sym (append_assoc xs ys new)
+
+pub AreReads-none : (source : SourceState) → AreReads source [] source
+AreReads-none source = record { bytes = Consumes-none source.left; faults = refl }
+
+pub AreReads-on : (a b c : SourceState) (e f : List ReadCall)
+    → AreReads a e b → AreReads b f c → AreReads a (e ++ f) c
+AreReads-on a b c e f first second = record {
+  bytes = subst (Consumes a.left c.left) (sym (given_on e f))
+      (Consumes-on a.left b.left c.left (given_by e) (given_by f) first.bytes second.bytes);
+  faults = second.faults ∙ ap (faults_behind f) first.faults ∙ sym (faults_on e f a.faults);
+}

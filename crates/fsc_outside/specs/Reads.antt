@@ -1,0 +1,38 @@
+-- The calls of a source, one after another, and what they make of it.
+use Rattle.std.specs.Prelude.{ℕ, ◌≡◌, ◌<◌, List, [], ◌∷◌, ◌++◌, length, take, Result, Ok, Err}
+use Rattle.std.specs.Io.KnownBytes.{Consumes}
+use Rattle.fsc_outside.specs.Causes.{one_more}
+use Rattle.fsc_outside.specs.States.{SourceState}
+
+-- a call gave these bytes, none at the end, or for an empty piece; or it failed
+pub data ReadCall : Type 0 where
+  Gave : List ℕ → ReadCall
+  Faulted : ReadCall
+
+-- the call that has this result, with these bytes in the piece then
+abbrev pub read_call : {E : Type 0} → List ℕ → Result ℕ E → ReadCall
+read_call piece (Ok count) = Gave (take count piece)
+read_call piece (Err _) = Faulted
+
+-- the bytes that calls gave, together
+abbrev pub given_by : List ReadCall → List ℕ
+given_by [] = []
+given_by (Gave bytes ∷ more) = bytes ++ given_by more
+given_by (Faulted ∷ more) = given_by more
+
+-- the count of faults behind calls, from the one before them
+abbrev pub faults_behind : List ReadCall → ℕ → ℕ
+faults_behind [] count = count
+faults_behind (Gave bytes ∷ more) count = faults_behind more count
+faults_behind (Faulted ∷ more) count = faults_behind more (one_more count)
+
+-- a call that gave at least a byte: it didn't fail, and neither was it at the end nor was its piece empty
+abbrev pub GaveSome : ReadCall → Type 0
+GaveSome (Gave bytes) = 0 < length bytes
+GaveSome Faulted = ⊥
+
+-- what calls make of a source: the bytes that they gave are gone, where they were told, and each one that
+-- failed was counted
+pub record AreReads (old : SourceState) (calls : List ReadCall) (new : SourceState) : Type 0 where
+  pub bytes : Consumes old.left new.left (given_by calls)
+  pub faults : new.faults ≡ faults_behind calls old.faults
