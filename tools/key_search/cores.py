@@ -11,7 +11,7 @@ import struct
 import subprocess
 import threading
 
-from key_search.sessions import CALLER
+from key_search.sessions import HEADS
 
 STACK, HEAP = "stack", "heap"
 LOAD, NOTE, WRITABLE = 1, 4, 2
@@ -19,26 +19,27 @@ REGISTERS = (1, 2, 0x202)
 ARENA = 64 * 2**20
 SECONDS = 120
 
+# What the program shows of a command on a terminal begins so, and goes on with its line.
+SHOWN = "\r\x1b[Kfsc: line "
+
 
 def gdb_lines(program, words, files, numbers, room):
     """The commands for gdb: a stop where each of these commands of the session begins, and one where the log is written.
 
-    Standard error is a terminal, so the program tells each command that it begins, by one write that ends with the
-    caller's number. The stop is at that write, and then at the first write to standard output. Each write is met
-    twice, as it begins and as it ends.
+    Standard error is a terminal, so the program tells each command that it begins, by one write with the command's
+    line in the script. The stop is at that write, and then at the first write to standard output.
     """
     script, terminal = files
     yield from ("set pagination off", "set confirm off", "set debuginfod enabled off", "set auto-solib-add off",
                 "set dump-excluded-mappings on", "set exec-wrapper env -i", f"exec-file {program}", "catch syscall write")
-    met, begun = 0, False
+    begun = False
     for name, number in sorted(numbers.items(), key=lambda it: it[1]):
-        yield f"condition 1 $rdi == 2 && *(char *)($rsi + $rdx - 1) == '{CALLER}'"
-        yield f"ignore 1 {2 * number - met}"
+        line = enumerate(f"{len(HEADS) + 1 + number}:", len(SHOWN))
+        yield "condition 1 $rdi == 2" + "".join(f" && *(char *)($rsi + {at}) == '{digit}'" for at, digit in line)
         yield "continue" if begun else f"run {' '.join(words)} < {script} > /dev/null 2> {terminal}"
         yield from taken(name, room)
-        met, begun = 2 * number + 1, True
+        begun = True
     yield "condition 1 $rdi == 1"
-    yield "ignore 1 0"
     yield "continue"
     yield from taken("over", room)
     yield "kill"

@@ -6,6 +6,19 @@ pub(crate) struct Group {
     pub(crate) lines: &'static [&'static str],
 }
 
+/// The name of a command that the word is, if it is one.
+pub(crate) fn verb_named(word: &[u8]) -> Option<&'static str> {
+    for group in GROUPS.iter() {
+        for line in group.lines.iter() {
+            match line.split_once(' ') {
+                Some((verb, _)) if verb.as_bytes() == word => return Some(verb),
+                _ => {}
+            }
+        }
+    }
+    None
+}
+
 /// All commands of the grammar.
 pub(crate) const GROUPS: [Group; 6] = [
     Group {

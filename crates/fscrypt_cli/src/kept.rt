@@ -1,53 +1,121 @@
-//! A source that keeps what it gave, so that a line at fault can be shown.
+//! What standard input gave is kept for a line at fault, until the first command begins.
 
-ghost use Rattle.std.specs.Prelude.{◌≡◌};
-
+use crate::lines::{CommandLine, CommandLines};
+use byte_words::wipe;
 use fsc_outside::{Failed, Source};
+use fsc_tool::MOST_INPUT_BYTES;
 use std::alloc::Global;
+use std::sync::{Mutex, OnceLock};
 
-/// A source and the bytes that it gave, as long as there was memory for them.
+/// The text that came in, and the lines of its commands. The source that keeps it and the gate that lets go of
+/// it share it: no call waits for its lock, since the source is done when the gate begins.
 #[derive(Drop)]
-pub(crate) struct KeptSource<S: Source + Drop> {
-    source: S,
-    given: Vec<u8>,
-    lost: bool,
+pub(crate) struct KeptText {
+    // None where it couldn't be kept whole, and behind `forget`.
+    text: Mutex<Option<Vec<u8>>>,
+    // What was found at the end of the text, where it is asked for.
+    lines: OnceLock<CommandLines>,
+    finds_lines: bool,
 }
 
-impl<S: Source + Drop> KeptSource<S> {
-    pub(crate) fn new(alloc: Global, source: S) -> KeptSource<S> {
+impl KeptText {
+    /// No text so far. It takes no memory.
+    pub(crate) fn new(alloc: Global, finds_lines: bool) -> KeptText {
+        KeptText {
+            text: Mutex::new(Some(Vec::new(alloc))),
+            lines: OnceLock::new(),
+            finds_lines,
+        }
+    }
+
+    // Keeps the bytes behind those before. A text of which some can't be kept is let go of.
+    fn keep(&self, bytes: &[u8]) {
+        let is_kept = match self.text.try_lock() {
+            Some(mut kept) => match kept.as_mut() {
+                Some(text) => put_behind(text, bytes),
+                None => false,
+            },
+            None => false,
+        };
+        if !is_kept {
+            self.forget();
+        }
+    }
+
+    // Finds the lines of the commands, once the text is whole.
+    fn find_lines(&self, alloc: Global) {
+        if !self.finds_lines {
+            return;
+        }
+        if let Some(kept) = self.text.try_lock() {
+            if let Some(text) = kept.as_ref() {
+                if let Ok(lines) = CommandLines::of_script(alloc, text.as_slice()) {
+                    let _ = self.lines.try_set(lines);
+                }
+            }
+        }
+    }
+
+    /// Overwrites the text, and lets go of it.
+    pub(crate) fn forget(&self) {
+        if let Some(mut kept) = self.text.try_lock() {
+            if let Some(mut text) = kept.take() {
+                wipe(text.as_mut_slice());
+            }
+        }
+    }
+
+    /// The line of the caller's command of this number, both counted from 0; none where no lines were found.
+    pub(crate) fn line_of(&self, caller: u32, number: u64) -> Option<CommandLine> {
+        self.lines.get()?.command(caller, number)
+    }
+
+    /// The text, where it is still kept.
+    pub(crate) fn into_text(self) -> Option<Vec<u8>> {
+        self.text.into_inner()
+    }
+}
+
+// Puts bytes behind a text, which has room for the longest one, so that none is moved when more of it comes: a
+// move would leave its secrets in freed memory. False where there was no memory.
+fn put_behind(text: &mut Vec<u8>, bytes: &[u8]) -> bool {
+    let room = (MOST_INPUT_BYTES + 1).saturating_sub(text.len());
+    text.reserve_exact(room).is_ok() && text.extend_from_slice(bytes).is_ok()
+}
+
+/// A source whose bytes are kept.
+#[derive(Drop)]
+pub(crate) struct KeptSource<'a, S: Source + Drop> {
+    source: S,
+    alloc: Global,
+    kept: &'a KeptText,
+}
+
+impl<'a, S: Source + Drop> KeptSource<'a, S> {
+    pub(crate) fn new(alloc: Global, source: S, kept: &'a KeptText) -> KeptSource<'a, S> {
         KeptSource {
             source,
-            given: Vec::new(alloc),
-            lost: false,
-        }
-    }
-
-    // All that was given; nothing where there was no memory to keep it.
-    pub(crate) fn given(&self) -> &[u8] {
-        if self.lost {
-            return &[];
-        }
-        self.given.as_slice()
-    }
-
-    // Keeps the bytes behind those before.
-    fn keep(&mut self, bytes: &[u8])
-        ensures { self.new.source ≡ self.old.source }
-    {
-        if self.given.extend_from_slice(bytes).is_err() {
-            self.lost = true;
+            alloc,
+            kept,
         }
     }
 }
 
-impl<S: Source + Drop> Source for KeptSource<S> {
+impl<'a, S: Source + Drop> Source for KeptSource<'a, S> {
     ghost state = { λ kept. S.state kept.source };
+
+    ghost came = { λ old calls new. S.came old.source calls new.source };
+
+    ghost by_none = { λ kept. S.by_none kept.source };
+
+    ghost by_more = { λ a b c calls more. S.by_more a.source b.source c.source calls more };
 
     fn read(&mut self, piece: &mut [u8]) -> Result<usize, Failed> {
         match self.source.read(piece) {
             Ok(count) => {
-                if let Some(bytes) = piece.get(..count) {
-                    self.keep(bytes);
+                match piece.get(..count) {
+                    Some(bytes) if count > 0 => self.kept.keep(bytes),
+                    _ => self.kept.find_lines(self.alloc),
                 }
                 Ok(count)
             }

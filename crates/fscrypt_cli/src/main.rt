@@ -7,23 +7,25 @@ mod caused;
 mod commands;
 mod help;
 mod kept;
+mod lines;
 mod telling;
 
 use advice::{advise_words, tell_of_closed, tell_of_waiting};
+use byte_words::wipe;
 use caused::CausedSink;
 use fsc_outside::{RuntimeSeed, StdSource, write_all};
 use fsc_tool::tool;
 use help::{VERSION, advise, help_text};
-use kept::KeptSource;
+use kept::{KeptSource, KeptText};
 use mount_shared::Mount;
 use reply_text::Status;
 use std::env;
-use std::io::ErrorKind;
+use std::io::{ErrorKind, IsTerminal};
 use std::process::ExitCode;
 use telling::TellingGate;
 
 fn main(rt: HostRuntime) -> ExitCode {
-    let words = match words_of(&rt) {
+    let mut words = match words_of(&rt) {
         Ok(words) => words,
         Err(status) => return end(rt, status, &[]),
     };
@@ -37,26 +39,37 @@ fn main(rt: HostRuntime) -> ExitCode {
     let Ok(mount) = Mount::new(rt.alloc()) else {
         return end(rt, Status::NoMemory, &[]);
     };
-    let mut source = KeptSource::new(rt.alloc(), StdSource::new(&rt));
-    let mut sink = CausedSink::over(rt.stdout());
-    let mut seeds = RuntimeSeed::new(&rt);
     tell_of_waiting(&rt, &words);
+    let is_terminal = rt.stderr().is_terminal();
+    let kept = KeptText::new(rt.alloc(), is_terminal);
+    let mut sink = CausedSink::over(rt.stdout());
     let status = tool(
         &rt,
         rt.alloc(),
-        &words,
-        &mut source,
+        &mut words,
+        &mut KeptSource::new(rt.alloc(), StdSource::new(&rt), &kept),
         &mut sink,
-        &mut seeds,
-        &TellingGate::new(&rt),
+        &mut RuntimeSeed::new(&rt),
+        &TellingGate::new(&rt, &kept, is_terminal),
         mount,
     );
     match status {
         Status::Usage => advise_words(&rt, &words),
         Status::WriteFault if sink.is_closed() => tell_of_closed(&rt),
-        _ => return end(rt, status, source.given()),
+        _ => return end_run(rt, status, kept),
     }
+    kept.forget();
     ExitCode::from(status.number())
+}
+
+// The same as `end` for a run, whose input is shown where a line of it is at fault, and overwritten then.
+fn end_run(rt: HostRuntime, status: Status, kept: KeptText) -> ExitCode {
+    let Some(mut text) = kept.into_text() else {
+        return end(rt, status, &[]);
+    };
+    let code = end(rt, status, text.as_slice());
+    wipe(text.as_mut_slice());
+    code
 }
 
 // The words of the command line without the program's own name. One that isn't text is Usage.

@@ -1,37 +1,53 @@
 //! What is told of a run while it goes on.
 
+use crate::kept::KeptText;
+use crate::lines::CommandLine;
 use fsc_outside::Gate;
-use std::io::IsTerminal;
 
 // Goes back to the start of the line, and clears it.
 const CLEARED: &str = "\r\x1b[K";
 
-/// Tells on standard error which command of which caller runs, where that is a terminal. Nothing is left of it
-/// behind a command.
+/// Lets go of the text that came in when the first command begins: no line is at fault from then on. Tells on
+/// standard error which line of the script runs, where that is a terminal; of a script that did not come in, and
+/// where there was no memory to find the lines, the caller and its command's number. Nothing is left of it behind a command.
 #[derive(Drop)]
 pub(crate) struct TellingGate<'a> {
     rt: &'a HostRuntime,
-    is_read: bool,
+    kept: &'a KeptText,
+    is_terminal: bool,
 }
 
 impl<'a> TellingGate<'a> {
-    pub(crate) fn new(rt: &'a HostRuntime) -> TellingGate<'a> {
+    pub(crate) fn new(
+        rt: &'a HostRuntime,
+        kept: &'a KeptText,
+        is_terminal: bool,
+    ) -> TellingGate<'a> {
         TellingGate {
             rt,
-            is_read: rt.stderr().is_terminal(),
+            kept,
+            is_terminal,
         }
     }
 }
 
 impl<'a> Gate for TellingGate<'a> {
     fn before(&self, caller: u32, n: u64) {
-        if self.is_read {
-            let _ = eprint!(self.rt; "{CLEARED}fsc: command {n} of caller {caller}");
+        if n == 0 {
+            self.kept.forget();
+        }
+        if self.is_terminal {
+            let _ = match self.kept.line_of(caller, n) {
+                Some(CommandLine { line, verb }) => {
+                    eprint!(self.rt; "{CLEARED}fsc: line {line}: {verb}")
+                }
+                None => eprint!(self.rt; "{CLEARED}fsc: command {n} of caller {caller}"),
+            };
         }
     }
 
     fn after(&self, _caller: u32, _n: u64) {
-        if self.is_read {
+        if self.is_terminal {
             let _ = eprint!(self.rt; "{CLEARED}");
         }
     }

@@ -1,0 +1,53 @@
+//! Where the commands of a script stand.
+
+use crate::bad_line::first_word;
+use crate::commands::verb_named;
+use fsc_tool::MOST_INPUT_LINES;
+use std::alloc::{AllocError, Global};
+
+/// A command by its line, counted from 1, and its first word.
+#[derive(Clone, Copy)]
+pub(crate) struct CommandLine {
+    pub(crate) line: usize,
+    pub(crate) verb: &'static str,
+}
+
+/// The commands of each caller of a script, in order. The words behind a verb may be secrets: none is here.
+#[derive(Drop)]
+pub(crate) struct CommandLines {
+    callers: Vec<Vec<CommandLine>>,
+}
+
+impl CommandLines {
+    /// Those of a text that is a script.
+    pub(crate) fn of_script(alloc: Global, text: &[u8]) -> Result<CommandLines, AllocError> {
+        let mut found = CommandLines {
+            callers: Vec::new(alloc),
+        };
+        let lines = text.split(|byte| *byte == b'\n').take(MOST_INPUT_LINES);
+        for (before, line) in lines.enumerate() {
+            found.add(alloc, before.saturating_add(1), first_word(line))?;
+        }
+        Ok(found)
+    }
+
+    // Adds what the line with that number and that first word says: a further caller, or a command of the last.
+    fn add(&mut self, alloc: Global, line: usize, word: &[u8]) -> Result<(), AllocError> {
+        if word == b"caller".as_slice() {
+            self.callers.push(Vec::new(alloc))?;
+            return Ok(());
+        }
+        if let Some(commands) = self.callers.last_mut() {
+            if let Some(verb) = verb_named(word) {
+                commands.push(CommandLine { line, verb })?;
+            }
+        }
+        Ok(())
+    }
+
+    /// The caller's command of this number, both counted from 0.
+    pub(crate) fn command(&self, caller: u32, number: u64) -> Option<CommandLine> {
+        let commands = self.callers.get(caller as usize)?;
+        commands.get(number as usize).copied()
+    }
+}
