@@ -161,3 +161,67 @@ fn the_seed_source_gives_the_seed(rt: HostRuntime) -> Result<(), Fail> {
     assert_eq!(rt; sink.got(), log.as_slice());
     Ok(())
 }
+
+// A key that is added, asked for and removed.
+const FIRST: &str = "\
+caller 1000
+add-key 000102030405060708090a0b0c0d0e0f101112131415161718191a1b1c1d1e1f202122232425262728292a2b2c2d2e2f303132333435363738393a3b3c3d3e3f
+key-status id:8699c2c53707405da5aba5ae4d8583c0
+remove-key id:8699c2c53707405da5aba5ae4d8583c0
+key-status id:8699c2c53707405da5aba5ae4d8583c0
+";
+
+// Its log, whose identifier Linux gave to the key.
+const FIRST_LOG: &str = "\
+0 0 1000 add-key 64 = added 8699c2c53707405da5aba5ae4d8583c0
+1 0 1000 key-status 8699c2c53707405da5aba5ae4d8583c0 = status present self=1 users=1
+2 0 1000 remove-key 8699c2c53707405da5aba5ae4d8583c0 = removed others=0 busy=0
+3 0 1000 key-status 8699c2c53707405da5aba5ae4d8583c0 = status absent self=0 users=0
+";
+
+// How a run of that script ends whose bytes come by seven and go by sixteen, where this call fails, and what
+// it wrote.
+fn first_run(
+    alloc: Global,
+    read: Option<u32>,
+    write: Option<u32>,
+) -> Result<(Status, Vec<u8>), AllocError> {
+    let words = words_of(alloc, Some(SEED))?;
+    let input = Vec::from_slice(alloc, FIRST.as_bytes())?;
+    let mut source = MemSource::new(input, 7, calls(alloc, read)?);
+    let mut sink = MemSink::new(alloc, 8192, 16, calls(alloc, write)?)?;
+    let status = tool_serial(
+        alloc,
+        &words,
+        &mut source,
+        &mut sink,
+        &mut FixedSeed::failing(),
+        Mount::new(alloc)?,
+    );
+    Ok((status, Vec::from_slice(alloc, sink.got())?))
+}
+
+// How often that run reads and writes: a last read finds nothing left.
+const READS: u32 = 43;
+
+const WRITES: u32 = 20;
+
+#[test]
+fn each_read_and_each_write_fails_in_turn(rt: HostRuntime) -> Result<(), Fail> {
+    let alloc = rt.alloc();
+    for number in 0..READS {
+        let (status, got) = first_run(alloc, Some(number), None)?;
+        assert_eq!(rt; status, Status::ReadFault, "read {number}");
+        assert!(rt; got.is_empty(), "read {number}");
+    }
+    for number in 0..WRITES {
+        let (status, got) = first_run(alloc, None, Some(number))?;
+        assert_eq!(rt; status, Status::WriteFault, "write {number}");
+        assert_eq!(rt; got.len(), 16 * number as usize, "write {number}");
+        assert!(rt; FIRST_LOG.as_bytes().starts_with(&got), "write {number}");
+    }
+    let (status, got) = first_run(alloc, Some(READS), Some(WRITES))?;
+    assert_eq!(rt; status, Status::Done);
+    assert_eq!(rt; got.as_slice(), FIRST_LOG.as_bytes());
+    Ok(())
+}
