@@ -1,16 +1,18 @@
 //! A caller of `turn_lock`.
 
-ghost use Rattle.std.specs.Prelude.{◌≡◌, ◌<◌, ◌≤◌, ◌^◌, [], IfOk, OnOk};
+ghost use Rattle.std.specs.Prelude.{◌≡◌, ◌<◌, ◌≤◌, ◌^◌, [], IfOk, IfErr, OnOk};
 ghost use Rattle.turn_lock.specs.Passes.{first_pass};
 
-use std::alloc::{AllocError, Global};
+use std::alloc::{AllocFailed, Global};
 use std::sync::Wait;
 use turn_lock::{Machine, Pass, Shared, Worn};
 
-/// The machine behind a turn, and a pass for one caller with two calls.
-pub fn begun<M: Machine>(alloc: Global, machine: M) -> Result<(Shared<M>, Pass<M>), AllocError>
+/// The machine behind a turn, and a pass for one caller with two calls. For want of memory the
+/// machine comes back.
+pub fn begun<M: Machine>(alloc: Global, machine: M) -> Result<(Shared<M>, Pass<M>), AllocFailed<M>>
     requires { M.leads [] machine }
-    ensures { IfOk result (λ r. r.1 ≡ first_pass r.0.table 1 2) }
+    ensures pass { IfOk result (λ r. r.1 ≡ first_pass r.0.table 1 2) }
+    ensures given_back { IfErr result (λ failed. failed.value ≡ machine) }
 {
     Shared::start(alloc, machine, 1, 2)
 }

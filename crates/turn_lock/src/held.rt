@@ -1,6 +1,10 @@
 //! What lies in the slot while the turn is free.
+ghost use Rattle.std.specs.Prelude.{◌≡◌, [], IfOk, IfErr};
+ghost use Rattle.turn_lock.specs.Standing.{standing};
+
 use crate::machine::Machine;
 use crate::recorder::Recorder;
+use std::alloc::{AllocFailed, Global};
 use std::marker::Model;
 
 /// A value beside the record of its calls.
@@ -24,4 +28,28 @@ impl<M: Machine> Model for Held<M> {
     ghost view = { λ h. standing h.both.value.value h.both.value.recorder };
 
     ghost invariant = { λ h. M.leads h.both.value.recorder h.both.value.value };
+}
+
+impl<M: Machine> Held<M> {
+    // A value that stands after no call. For want of memory it comes back.
+    pub(crate) fn new(alloc: Global, value: M) -> Result<Held<M>, AllocFailed<M>>
+        requires leads { M.leads [] value }
+        ensures held { IfOk result (λ held. held ≡ standing value []) }
+        ensures given_back { IfErr result (λ failed. failed.value ≡ value) }
+    {
+        let Ok(recorder) = Recorder::new(alloc) else {
+            return Err(AllocFailed { value });
+        };
+        match Box::new(alloc, Recorded { value, recorder }) {
+            Ok(both) => Ok(Held { both }),
+            Err(AllocFailed { value: both }) => Err(AllocFailed { value: both.value }),
+        }
+    }
+
+    pub(crate) fn into_value(self) -> M
+        ensures value { result ≡ self.value }
+        ensures leads { M.leads self.history result }
+    {
+        Box::into_inner(self.both).value
+    }
 }

@@ -6,14 +6,13 @@ ghost use Rattle.call_history.specs.Prefix.{IsPrefix};
 ghost use Rattle.turn_lock.specs.Passes.{past_of, merged_entries, first_pass, IsMadeAt};
 ghost use Rattle.turn_lock.specs.Passes.{lower_part, upper_part, with_other};
 
-use crate::held::{Held, Recorded};
+use crate::held::Held;
 use crate::machine::{At, Machine, Worn};
 use crate::pass::Pass;
-use crate::recorder::Recorder;
 use crate::steps::{cut, enter, give_back, merge, take_turn};
 use crate::view::{Limits, Turn, View};
-use atomic_table::Table;
-use std::alloc::{AllocError, Global};
+use atomic_table::{Refused, Table};
+use std::alloc::{AllocError, AllocFailed, Global};
 use std::marker::{Brand, Model};
 use std::sync::Wait;
 
@@ -41,26 +40,33 @@ impl<M: Machine> Model for Shared<M> {
 impl<M: Machine> Shared<M> {
     /// Shares the value, which may stand after the empty history. The first pass owns the caller
     /// numbers from 0 to below `numbers`, and has `allowance` calls. For want of memory the value
-    /// is dropped.
+    /// comes back as it was given.
     pub fn start(
         alloc: Global,
         value: M,
         numbers: u32,
         allowance: u64,
-    ) -> Result<(Shared<M>, Pass<M>), AllocError>
+    ) -> Result<(Shared<M>, Pass<M>), AllocFailed<M>>
         requires some_number { 0 < numbers }
         requires allowance { allowance ≤ MOST_PLACES }
         requires leads { M.leads [] value }
         ensures shared { IfOk result (λ r. (r.0.numbers ≡ numbers) × (r.0.allowance ≡ allowance)) }
         ensures pass { IfOk result (λ r. r.1 ≡ first_pass r.0.table numbers allowance) }
+        ensures given_back { IfErr result (λ failed. failed.value ≡ value) }
     {
-        let recorder = Recorder::new(alloc)?;
-        let both = Box::new(alloc, Recorded { value, recorder })?;
-        let mut slots = Vec::new(alloc);
-        slots.push(Some(Held { both }))?;
+        let Ok(mut slots) = Vec::with_capacity(alloc, 1) else {
+            return Err(AllocFailed { value });
+        };
+        slots.push_reserved(Some(Held::new(alloc, value)?));
         let limits = Limits { numbers, allowance };
-        let Ok((table, seat)) = Table::new(alloc, &[0, 0], slots, &limits) else {
-            return Err(AllocError);
+        let (table, seat) = match Table::new(alloc, &[0, 0], slots, &limits) {
+            Ok(opened) => opened,
+            Err(Refused { mut slots }) => {
+                let held = slots.pop().flatten().unwrap();
+                return Err(AllocFailed {
+                    value: held.into_value(),
+                });
+            }
         };
         let pass = Pass {
             seat,
@@ -178,7 +184,6 @@ impl<M: Machine> Shared<M> {
         let mut closed = self.table.close_with(seat);
         let held = closed.take(0).unwrap();
         closed.free();
-        let Held { both } = held;
-        Box::into_inner(both).value
+        held.into_value()
     }
 }

@@ -56,7 +56,6 @@ returns-clause-leads g c =
     let held : c.unwrap-held.result ≡ standing left.value left.history =
     Some-injective _ _ (sym c.unwrap-held.ensures ∙ is) in
     let whole : merged entries ≡ merged_entries c.args.pass = ap (λ p. merged_entries p) c.pass.view_is in
-    subst (λ value. g.M.Machine.leads (merged_entries c.args.pass) value) (ap (λ r. r.value) (sym c.into_inner.ensures))
-    (subst (λ h. g.M.Machine.leads h c.held.inside.both.value.value)
-    (ap (λ h. h.history) c.held.view_is ∙ (ap (λ h. h.history) held
-    ∙ (sym (merged_by_callers left.history entries left.entries) ∙ whole))) c.held.invariant)
+    subst (λ h. g.M.Machine.leads h c.into_value.result)
+    (ap (λ h. h.history) held ∙ (sym (merged_by_callers left.history entries left.entries) ∙ whole))
+    c.into_value.ensures.leads
