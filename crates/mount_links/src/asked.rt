@@ -1,0 +1,78 @@
+//! Which calls may be about a link, and which replies tell one.
+
+ghost use Rattle.std.specs.Prelude.{◌≡◌, List, Some, ℕ};
+ghost use Rattle.mount_model.specs.History as history;
+ghost use Rattle.mount_model.specs.declared.call.Op.TheVariants.{MetaLoad};
+ghost use Rattle.script_words.specs.Records.{record_name, record_of};
+ghost use Rattle.script_words.specs.declared.record_words.Record.TheVariants.{Protector};
+ghost use Rattle.mount_links.specs.Linked as spec;
+ghost use Rattle.mount_links.specs.declared.asked.Asked.TheVariants.{Load};
+
+use mount_model::{Op, Refusal, Reply};
+use script_words::{Record, read_record};
+use short_bytes::Label;
+
+// What a call asks for: that the record of the protector with this label is loaded or stored, or something
+// else.
+#[derive(Drop)]
+pub(crate) enum Asked {
+    Load(Label),
+    Store(Label),
+    Other,
+}
+
+// What the call asks for.
+pub(crate) fn asked_of(op: &Op) -> Asked
+    ensures value { result ≡ spec.asked_of op.now }
+    ensures load { (label : List ℕ) → result ≡ Load label
+        → op.now ≡ MetaLoad (record_name (Protector label)) }
+{
+    match op {
+        Op::MetaLoad { name } => match read_record(name.as_slice()) {
+            Some(record) => load_asked(&record),
+            None => Asked::Other,
+        },
+        Op::MetaStore { name, .. } => match read_record(name.as_slice()) {
+            Some(record) => store_asked(&record),
+            None => Asked::Other,
+        },
+        _ => Asked::Other,
+    }
+}
+
+// What is asked for where this record is loaded.
+fn load_asked(record: &Record) -> Asked
+    ensures { result ≡ spec.load_asked (Some «record».now) }
+{
+    match record {
+        Record::Protector(label) => Asked::Load(*label),
+        Record::Policy(_) => Asked::Other,
+    }
+}
+
+// Where it is stored.
+fn store_asked(record: &Record) -> Asked
+    ensures { result ≡ spec.store_asked (Some «record».now) }
+{
+    match record {
+        Record::Protector(label) => Asked::Store(*label),
+        Record::Policy(_) => Asked::Other,
+    }
+}
+
+// Whether the reply tells the link to the protector of this label, and no byte else.
+pub(crate) fn is_link(label: &Label, reply: &Reply) -> bool
+    ensures { result ≡ spec.is_link label.now reply.now }
+{
+    match reply {
+        Reply::Held { bytes, .. } => protector_meta::is_link(label, bytes.as_slice()),
+        _ => false,
+    }
+}
+
+// Whether there was no memory for the call.
+pub(crate) fn is_want_of_memory(reply: &Reply) -> bool
+    ensures { result ≡ history.is_want_of_memory reply.now }
+{
+    matches!(reply, Reply::Refused(Refusal::NoMemory))
+}

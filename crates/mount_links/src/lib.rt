@@ -1,0 +1,16 @@
+//! A caller's port on two mounts: the record of a protector on the caller's own mount may be a link to the
+//! far one.
+#![tactic(auto)]
+
+mod asked;
+mod laws;
+mod linked;
+mod on_both;
+mod port;
+mod room;
+mod step;
+
+pub use laws::shown_histories_are_of_the_calls;
+pub use on_both::{ShownList, ShownOnBoth, split};
+pub use port::LinkPort;
+pub use step::LinkStep;

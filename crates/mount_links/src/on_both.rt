@@ -1,0 +1,105 @@
+//! What a log shows of a caller's calls, parted into what it shows on either mount.
+
+ghost use Rattle.std.specs.Prelude.{◌≡◌, ◌++◌, IfOk, OnOk};
+ghost use Rattle.script_words.specs.Records.{record_name};
+ghost use Rattle.mount_links.specs.LinkCalls.{load_shown};
+ghost use Rattle.mount_links.specs.Linked as spec;
+
+use crate::room::NameRoom;
+use crate::step::LinkStep;
+use call_history::Entry;
+use item_list::Items;
+use mount_model::{Call, Op, Refusal, Reply};
+use reply_text::{Shown, shown_of};
+use short_bytes::Label;
+use std::alloc::{AllocError, Global};
+
+/// What a log shows of calls, and what was replied, each with its place.
+pub type ShownList = Items<(u64, Entry<Shown, Reply>)>;
+
+/// What a log shows of a caller's calls on two mounts.
+#[derive(Drop)]
+pub struct ShownOnBoth {
+    pub own: ShownList,
+    pub far: ShownList,
+}
+
+/// What a log shows of the calls on the caller's own mount and on the far one, by what it shows of the
+/// caller's calls, and what became of each of them.
+pub fn split(
+    alloc: Global,
+    entries: ShownList,
+    steps: Vec<LinkStep>,
+) -> Result<ShownOnBoth, AllocError>
+    ensures own { IfOk result (λ both. both.own ≡ spec.own_parts load_shown steps.items entries) }
+    ensures far { IfOk result (λ both. both.far ≡ spec.far_parts steps.items entries) }
+{
+    let mut both = ShownOnBoth {
+        own: ShownList::new(alloc),
+        far: ShownList::new(alloc),
+    };
+    'calls: for (step, placed) in steps.into_iter().zip(entries.into_vec()) {
+        put_parts(alloc, &mut both, placed, step)?;
+    }
+    Ok(both)
+}
+
+// Puts the parts of a call behind the others.
+fn put_parts(
+    alloc: Global,
+    both: &mut ShownOnBoth,
+    placed: (u64, Entry<Shown, Reply>),
+    step: LinkStep,
+) -> Result<(), AllocError>
+    ensures own { OnOk result (both.new.own ≡ both.old.own ++ spec.own_part load_shown step placed) }
+    ensures far { OnOk result (both.new.far ≡ both.old.far ++ spec.far_part step placed) }
+{
+    match step {
+        LinkStep::Alone => both.own.push(placed)?,
+        LinkStep::Followed {
+            label,
+            first,
+            there,
+        } => {
+            let look = look_before(alloc, &label, &placed.1, first)?;
+            both.own.push((placed.0, look))?;
+            both.far.push((there, placed.1))?;
+        }
+        LinkStep::Looked {
+            label,
+            place,
+            first,
+        } => {
+            let look = look_before(alloc, &label, &placed.1, first)?;
+            both.own.push((place, look))?;
+            both.own.push(placed)?;
+        }
+        LinkStep::NotMade { label } => {
+            let refused = Reply::Refused(Refusal::NoMemory);
+            let look = look_before(alloc, &label, &placed.1, refused)?;
+            both.own.push((placed.0, look))?;
+        }
+    }
+    Ok(())
+}
+
+// What is shown of loading a protector's record before the call.
+fn look_before(
+    alloc: Global,
+    label: &Label,
+    entry: &Entry<Shown, Reply>,
+    reply: Reply,
+) -> Result<Entry<Shown, Reply>, AllocError>
+    ensures { IfOk result (λ look. look ≡ spec.look_before load_shown label.now entry.now reply) }
+{
+    let name = NameRoom::new(alloc)?.name(label);
+    let load = Call {
+        uid: entry.call.uid,
+        op: Op::MetaLoad { name },
+    };
+    Ok(Entry {
+        who: entry.who,
+        call: shown_of(alloc, &load)?,
+        reply,
+    })
+}

@@ -1,0 +1,115 @@
+//! The port.
+
+ghost use Rattle.std.specs.Prelude.{◌≡◌, ◌*◌, ◌≤◌, [], IfOk};
+ghost use Rattle.std.specs.Vec.{vec_len};
+ghost use Rattle.mount_links.specs.LinkCalls.{LinkCame, link_view};
+ghost use Rattle.mount_links.specs.PortLaws.{LinkCame-none, LinkCame-on, LinkCame-caller};
+
+use crate::linked::made;
+use crate::room::NameRoom;
+use crate::step::LinkStep;
+use mount_model::{Call, MountPort, Placed};
+use std::alloc::{AllocError, Global};
+use std::marker::Model;
+
+/// A caller's port on two mounts: calls go to its own mount, and those about a protector's record that is a
+/// link there to the far one. It keeps what became of each call. In clauses it is a `LinkView`.
+#[derive(Drop)]
+pub struct LinkPort<P: MountPort + Drop, Q: MountPort + Drop> {
+    own: P,
+    far: Q,
+    left: u64,
+    // Room for each call that is left.
+    steps: Vec<LinkStep>,
+    names: Vec<NameRoom>,
+}
+
+impl<P: MountPort + Drop, Q: MountPort + Drop> Model for LinkPort<P, Q> {
+    ghost use Rattle.std.specs.Prelude.{◌≡◌, ◌+◌, ◌*◌, ◌≤◌};
+    ghost use Rattle.std.specs.Vec.{vec_capacity, vec_len};
+    ghost use Rattle.mount_links.specs.LinkCalls.{LinkView, link_view};
+
+    ghost Value = { LinkView P Q };
+
+    ghost view = { λ port. link_view port.own port.far port.left port.steps.items };
+
+    ghost invariant = { λ port. (P.who port.own ≡ Q.who port.far)
+        × (2 * port.left ≤ P.calls_left port.own) × (port.left ≤ Q.calls_left port.far)
+        × (vec_len port.steps + port.left ≤ vec_capacity port.steps) × (port.left ≤ vec_len port.names) };
+}
+
+impl<P: MountPort + Drop, Q: MountPort + Drop> LinkPort<P, Q> {
+    /// The port of a caller, with so many calls, on its ports to its own mount and to the far one, which has
+    /// as many calls left as that, and the own one twice as many. All memory that its calls need is taken
+    /// here: where there is none for it, no call was made.
+    pub fn new(alloc: Global, own: P, far: Q, left: u64) -> Result<LinkPort<P, Q>, AllocError>
+        requires same { P.who own ≡ Q.who far }
+        requires own_left { 2 * left ≤ P.calls_left own }
+        requires far_left { left ≤ Q.calls_left far }
+        ensures { IfOk result (λ port. port ≡ link_view own far left []) }
+    {
+        let steps = Vec::with_capacity(alloc, left as usize)?;
+        let names = name_rooms(alloc, left)?;
+        Ok(LinkPort {
+            own,
+            far,
+            left,
+            steps,
+            names,
+        })
+    }
+
+    /// The two ports, the caller's own first, and what became of each call.
+    pub fn back(self) -> (P, Q, Vec<LinkStep>)
+        ensures own { result.0 ≡ self.own }
+        ensures far { result.1 ≡ self.far }
+        ensures steps { result.2.items ≡ self.steps }
+    {
+        (self.own, self.far, self.steps)
+    }
+}
+
+// So many rooms for names.
+fn name_rooms(alloc: Global, count: u64) -> Result<Vec<NameRoom>, AllocError>
+    ensures { IfOk result (λ rooms. count ≤ vec_len rooms) }
+{
+    let mut rooms = Vec::with_capacity(alloc, count as usize)?;
+    for _ in 0..count {
+        rooms.push(NameRoom::new(alloc)?)?;
+    }
+    Ok(rooms)
+}
+
+/// It comes by its calls: each has what became of it, and the two ports came by what this tells. Its caller
+/// and its places are those of the port to the own mount.
+impl<P: MountPort + Drop, Q: MountPort + Drop> MountPort for LinkPort<P, Q> {
+    ghost who = { λ port. P.who port.own };
+
+    ghost calls_left = { λ port. port.left };
+
+    ghost floor = { λ port. P.floor port.own };
+
+    ghost came = { LinkCame P.came Q.came };
+
+    fn caller(&self) -> u32 {
+        self.own.caller()
+    }
+
+    fn left(&self) -> u64 {
+        self.left
+    }
+
+    fn call(&mut self, call: &Call) -> Placed {
+        let room = self.names.take_last();
+        let made = made(&mut self.own, &mut self.far, call, room);
+        self.left -= 1;
+        self.steps.push_reserved(made.step);
+        made.placed
+    }
+
+    ghost by_none = { LinkCame-none P.came Q.came P.by_none Q.by_none };
+
+    ghost by_more = { LinkCame-on P.came Q.came P.by_more Q.by_more };
+
+    ghost one_caller = { LinkCame-caller P.came Q.came P.who P.one_caller };
+}

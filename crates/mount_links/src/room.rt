@@ -1,0 +1,54 @@
+//! Room for the names of protectors' records, taken before any call.
+
+ghost use Rattle.std.specs.Prelude.{◌≡◌, ◌+◌, ◌≤◌, ◌++◌, [], length};
+ghost use Rattle.std.specs.Vec.{vec_capacity, vec_len};
+ghost use Rattle.mount_model.specs.Carried.{HasLength};
+ghost use Rattle.mount_model.specs.declared.limits.TheConstants.{MOST_RECORD_NAME_BYTES};
+ghost use Rattle.script_words.specs.Records.{record_name};
+ghost use Rattle.script_words.specs.declared.record_words.Record.TheVariants.{Protector};
+
+use item_list::Bytes;
+use mount_model::limits::MOST_RECORD_NAME_BYTES;
+use short_bytes::Label;
+use std::alloc::{AllocError, Global};
+
+// Room for the name of a record.
+#[derive(Drop)]
+pub(crate) struct NameRoom {
+    bytes: Vec<u8>,
+    ghost none: { bytes.items ≡ [] },
+    ghost empty: { vec_len bytes ≡ 0 },
+    ghost room: { MOST_RECORD_NAME_BYTES ≤ vec_capacity bytes },
+}
+
+impl NameRoom {
+    // Takes the room.
+    pub(crate) fn new(alloc: Global) -> Result<NameRoom, AllocError> {
+        let bytes = Vec::with_capacity(alloc, MOST_RECORD_NAME_BYTES)?;
+        Ok(NameRoom { bytes })
+    }
+
+    // The name of the protector's record, in this room.
+    pub(crate) fn name(self, label: &Label) -> Bytes
+        ensures value { result ≡ record_name (Protector label.now) }
+        ensures fits { HasLength result MOST_RECORD_NAME_BYTES }
+    {
+        let mut name = self.bytes;
+        put(&mut name, b"protector/");
+        put(&mut name, label.bytes());
+        Bytes::from_vec(name)
+    }
+}
+
+// Puts the bytes behind the text, which has room for them.
+fn put(text: &mut Vec<u8>, bytes: &[u8])
+    requires { vec_len text.old + length bytes.now ≤ vec_capacity text.old }
+    ensures items { text.new.items ≡ text.old.items ++ bytes.now }
+    ensures len { vec_len text.new ≡ vec_len text.old + length bytes.now }
+    ensures room { vec_capacity text.old ≤ vec_capacity text.new }
+{
+    match text.extend_from_slice(bytes) {
+        Ok(()) => {}
+        Err(AllocError) => unreachable!(),
+    }
+}
