@@ -12,7 +12,7 @@ ghost use Rattle.fsc_session.specs.Session.{noted};
 ghost use Rattle.fsc_commands.specs.declared.TheConstants.{MOST_CALLS};
 
 use crate::NoteList;
-use crate::stack::{handles_keys, scrub_stack};
+use crate::stack::scrub_stack;
 use fsc_commands::{EntryList, MOST_CALLS, Stretches, Turn, run_command};
 use mount_model::MountPort;
 use reply_text::{Note, Outcome};
@@ -71,8 +71,8 @@ impl<'a> Runner<'a> {
     /// Runs the next command on the caller's port, which makes at most four calls, and stretches its
     /// passphrases in the way that is handed in; false where none is left. The one error is want of memory:
     /// the calls made by then are those with which the command's steps begin, and the runner is spent. A step
-    /// of a spent runner answers that error, and makes no call. Behind a command that handles keys, and behind
-    /// want of memory, `scrub_stack` overwrites what it left on the stack.
+    /// of a spent runner answers that error, and makes no call. Behind each command `scrub_stack` overwrites what
+    /// it left on the stack.
     pub fn step<P: MountPort, S: Stretches>(
         &mut self,
         alloc: Global,
@@ -154,8 +154,8 @@ impl<'a> Runner<'a> {
     }
 }
 
-// Runs a command. What one that handles keys left on the stack is overwritten, and so it is after want of
-// memory, which ends a run.
+// Runs a command. What it left on the stack is overwritten, however it ended: also one that names no key draws
+// nonces from the seed, and keys of the nodes on its path.
 fn run_scrubbed<P: MountPort, S: Stretches>(
     alloc: Global,
     port: &mut P,
@@ -178,9 +178,7 @@ fn run_scrubbed<P: MountPort, S: Stretches>(
         (command_steps seed.now turn.caller turn.uid turn.number (names_in entries.old) verb.now)) }
 {
     let ended = run_command(alloc, port, stretches, seed, turn, verb, entries);
-    if ended.is_err() || handles_keys(verb) {
-        scrub_stack();
-    }
+    scrub_stack();
     ended
 }
 

@@ -1,7 +1,6 @@
 //! What ended calls left on a thread's stack is overwritten.
 
 use byte_words::wipe;
-use script_lang::Verb;
 
 /// How far below its caller `scrub_stack` overwrites the stack, in bytes. Commands reach 24 KiB far, as
 /// measured.
@@ -18,45 +17,4 @@ pub fn scrub_stack() {
     // With another byte at its front the wipe writes the whole room.
     room[0] = 1;
     wipe(&mut room);
-}
-
-// Tells whether a command draws, opens, adds, removes or lets go of keys, or may name one by its bytes. Behind
-// the others the stack stays as it is: to overwrite it takes about as long as a call.
-pub(crate) fn handles_keys(verb: &Verb) -> bool {
-    match verb {
-        Verb::AddKey(_)
-        | Verb::RemoveKey(_)
-        | Verb::RemoveKeyAll(_)
-        | Verb::KeyStatus(_)
-        | Verb::SetPolicy { .. }
-        | Verb::Close(_)
-        | Verb::DropCaches
-        | Verb::Protector { .. }
-        | Verb::ProtectorChange { .. }
-        | Verb::PolicyNew { .. }
-        | Verb::PolicyAdd { .. }
-        | Verb::PolicyDrop { .. }
-        | Verb::Unlock { .. }
-        | Verb::Lock(_)
-        | Verb::Status(_)
-        | Verb::Encrypt { .. }
-        | Verb::Migrate(_) => true,
-        Verb::SetPolicyBytes { .. }
-        | Verb::GetPolicy(_)
-        | Verb::Mkdir(_)
-        | Verb::Create(_)
-        | Verb::Symlink { .. }
-        | Verb::ReadLink(_)
-        | Verb::Unlink(_)
-        | Verb::Rmdir(_)
-        | Verb::Rename { .. }
-        | Verb::List { .. }
-        | Verb::Stat(_)
-        | Verb::Open(_)
-        | Verb::Read { .. }
-        | Verb::Write { .. }
-        | Verb::Fill { .. }
-        | Verb::MetaGet(_)
-        | Verb::MetaPut { .. } => false,
-    }
 }

@@ -4,8 +4,11 @@ ghost use Rattle.std.specs.Prelude.{◌≡◌, [], map, string_bytes};
 ghost use Rattle.text_words.specs.Digits.{hex_bytes_of_length};
 ghost use Rattle.fsc_tool.specs.Forms as spec;
 ghost use Rattle.fsc_tool.specs.Forms.{form_of, generated_behind, generated_of, replay_of, seeding_of};
+ghost use Rattle.fsc_tool.specs.Forms.{without_threads};
 
+use crate::seed::wipe_seeding;
 use byte_words::wipe;
+use fsc_session::scrub_stack;
 use std::alloc::Global;
 use std::mem;
 use text_words::{decimal_value, hex_bytes_into};
@@ -19,8 +22,8 @@ pub(crate) enum Way {
     InThreads,
 }
 
-/// Where a run's seed comes from.
-#[derive(Clone, Copy)]
+/// Where a run's seed comes from. No copy of it is made but by a move.
+#[derive(Drop)]
 pub(crate) enum Seeding {
     /// The words give it: `--seed HEX64`.
     Given([u8; 32]),
@@ -29,7 +32,7 @@ pub(crate) enum Seeding {
 }
 
 /// What the words ask for.
-#[derive(Clone, Copy)]
+#[derive(Drop)]
 pub(crate) enum ToolForm {
     /// To replay the script that the source gives.
     Replay { way: Way, seeding: Seeding },
@@ -39,10 +42,24 @@ pub(crate) enum ToolForm {
     Summarise(u32),
 }
 
-// What the words ask for; none where they are no form. It has a frame of its own: a seed that it leaves there is
-// overwritten with what lies below the caller's.
+// Writes what the words ask for into the caller's room; none where they are no form. Whatever else it moves a seed
+// through lies in frames below the caller's, which are overwritten behind it.
+pub(crate) fn read_form(words: &[String], form: &mut Option<ToolForm>)
+    ensures { form.new ≡ form_of (map string_bytes words.now) }
+{
+    read_form_unscrubbed(words, form);
+    scrub_stack();
+}
+
 #[inline(never)]
-pub(crate) fn read_form(words: &[String]) -> Option<ToolForm>
+fn read_form_unscrubbed(words: &[String], form: &mut Option<ToolForm>)
+    ensures { form.new ≡ form_of (map string_bytes words.now) }
+{
+    *form = form_of(words);
+}
+
+// What the words ask for; none where they are no form.
+fn form_of(words: &[String]) -> Option<ToolForm>
     ensures { result ≡ form_of (map string_bytes words.now) }
 {
     if words.is_empty() {
@@ -67,18 +84,19 @@ pub(crate) fn wipe_words(alloc: Global, words: &mut Vec<String>)
     }
 }
 
-// The form without threads: one in which callers run in threads is none.
-pub(crate) fn without_threads(form: Option<ToolForm>) -> Option<ToolForm>
-    ensures { result ≡ spec.without_threads form }
+// Leaves no form of one in which callers run in threads, whose seed is overwritten.
+pub(crate) fn leave_threads(form: &mut Option<ToolForm>)
+    ensures { form.new ≡ without_threads form.old }
 {
-    match form {
-        Some(
-            ToolForm::Replay {
-                way: Way::InThreads,
-                seeding: _,
-            },
-        ) => None,
-        other => other,
+    if let Some(
+        ToolForm::Replay {
+            way: Way::InThreads,
+            seeding,
+        },
+    ) = form
+    {
+        wipe_seeding(seeding);
+        *form = None;
     }
 }
 

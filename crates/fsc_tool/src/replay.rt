@@ -68,27 +68,27 @@ pub(crate) fn prepare<S: Source, E: SeedSource>(
         (outside (S.state source.new) sink (E.state seeds.new)) status) }
     ensures wiped { seeding.new ≡ wiped_seeding seeding.old }
 {
-    let prepared = prepare_unscrubbed(alloc, *seeding, source, seeds);
+    let prepared = prepare_unscrubbed(alloc, seeding, source, seeds);
     wipe_seeding(seeding);
     scrub_stack();
     prepared
 }
 
-// The same, in a frame of its own, so that what it leaves, its copy of the words' seed too, lies below the frame that
+// The same, in a frame of its own, so that what it leaves, a copy of the words' seed too, lies below the frame that
 // overwrites it.
 #[inline(never)]
 fn prepare_unscrubbed<S: Source, E: SeedSource>(
     alloc: Global,
-    seeding: Seeding,
+    seeding: &Seeding,
     source: &mut S,
     seeds: &mut E,
 ) -> Result<Box<Prepared>, Status>
     ensures prepared { IfOk result (λ run. IsPrepared (λ calls. S.came source.old calls source.new)
-        seeding (S.state source.old) (S.state source.new) (E.state seeds.old) (E.state seeds.new)
+        seeding.now (S.state source.old) (S.state source.new) (E.state seeds.old) (E.state seeds.new)
         run.value.script run.value.seed) }
     ensures spelled { IfOk result (λ run. IsSpelled run.value.script) }
     ensures ended { IfErr result (λ status. (sink : SinkState)
-        → Ends NoText (λ calls. S.came source.old calls source.new) seeding
+        → Ends NoText (λ calls. S.came source.old calls source.new) seeding.now
         (outside (S.state source.old) sink (E.state seeds.old))
         (outside (S.state source.new) sink (E.state seeds.new)) status) }
 {

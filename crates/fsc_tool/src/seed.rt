@@ -8,11 +8,15 @@ use byte_words::wipe;
 use fsc_outside::{Failed, SeedSource};
 
 // The seed of a run. The seed source is asked once, and only where the words give no seed.
-pub(crate) fn take_seed<E: SeedSource>(seeding: Seeding, seeds: &mut E) -> Result<[u8; 32], Failed>
-    ensures { TakesSeed seeding (E.state seeds.old) (E.state seeds.new) result }
+pub(crate) fn take_seed<E: SeedSource>(seeding: &Seeding, seeds: &mut E) -> Result<[u8; 32], Failed>
+    ensures { TakesSeed seeding.now (E.state seeds.old) (E.state seeds.new) result }
 {
     match seeding {
-        Seeding::Given(seed) => Ok(seed),
+        Seeding::Given(own) => {
+            let mut seed = [0; 32];
+            seed.copy_from_slice(own);
+            Ok(seed)
+        }
         Seeding::Asked => seeds.seed(),
     }
 }

@@ -9,7 +9,7 @@ ghost use Rattle.fsc_tool.specs.Replay.{IsReplay};
 ghost use Rattle.fsc_tool.specs.Runs.{IsLawfulRun, IsSerialRun};
 ghost use Rattle.fsc_tool.specs.Tool.{IsSerialToolRun, IsToolRun};
 
-use crate::form::{Seeding, ToolForm, Way, read_form, wipe_words, without_threads};
+use crate::form::{Seeding, ToolForm, Way, leave_threads, read_form, wipe_words};
 use crate::gen_runs::{run_generating, run_summarising};
 use crate::replay::{finish, prepare};
 use crate::rotation::run_in_rotation;
@@ -57,7 +57,8 @@ pub fn tool<
     ensures words { words.new.items
         ≡ option_map_or (λ form. []) (form_of (map string_bytes words.old.items)) words.old.items }
 {
-    let mut form = read_form(words.as_slice());
+    let mut form = None;
+    read_form(words.as_slice(), &mut form);
     if form.is_some() {
         wipe_words(alloc, words);
     }
@@ -105,7 +106,9 @@ pub fn tool_serial<S: Source, K: Sink, E: SeedSource, M: MountMachine>(
         let came = λ (calls : List ReadCall). S.came source.old calls source.new in
         IsSerialToolRun M.lawful came (map string_bytes words.now.items) before after result }
 {
-    let mut form = without_threads(read_form(words));
+    let mut form = None;
+    read_form(words, &mut form);
+    leave_threads(&mut form);
     match &mut form {
         None => Status::Usage,
         Some(ToolForm::Replay { way: _, seeding }) => {
