@@ -17,6 +17,7 @@ FREE = {"remove-key", "remove-key-all", "key-status", "close", IDLE}
 SHAPES = {
     "protector": ["meta-put protector/{1} "],
     "protector-change": ["meta-get protector/{1}", "meta-put protector/{1} "],
+    "protector-link": ["meta-put protector/{1} "],
     "policy-new": ["meta-get protector/{2}", "meta-put policy/{1} "],
     "policy-add": ["meta-get protector/{2}", "meta-get policy/{1}", "meta-get protector/{4}", "meta-put policy/{1} "],
     "policy-drop": ["meta-get policy/{1}", "meta-put policy/{1} "],

@@ -98,6 +98,7 @@ def steps_of(command):
     steps = {
         "protector": "put protector/1",
         "protector-change": "get protector/1, put protector/1",
+        "protector-link": "put protector/1",
         "policy-new": "get protector/2, put policy/1",
         "policy-add": "get protector/2, get policy/1, get protector/4, put policy/1",
         "policy-drop": "get policy/1, put policy/1",

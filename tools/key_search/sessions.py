@@ -84,6 +84,7 @@ PLAN = [
     ("add spare", "policy-add docs login {login} spare {spare}"),
     ("change login", "protector-change login {login} {changed_new}"),
     ("drop spare", "policy-drop docs spare"),
+    ("link far", "protector-link far"),
     ("put old", "meta-put policy/old 0 {old}"),
     ("migrate old", "migrate old"),
     ("make e", "mkdir /e"),

@@ -92,6 +92,7 @@ fn read_named(
         | CommandName::Fill
         | CommandName::Protector
         | CommandName::ProtectorChange
+        | CommandName::ProtectorLink
         | CommandName::PolicyNew
         | CommandName::PolicyAdd
         | CommandName::PolicyDrop

@@ -1,6 +1,7 @@
 -- A session's work with protectors.
 use Rattle.std.specs.Prelude.{ℕ, List}
 use Rattle.protector_meta.specs.declared.protector.Protector.{Protector as ProtectorFile}
+use Rattle.protector_meta.specs.LinkText.{link_text}
 use Rattle.protector_meta.specs.ProtectorText.{protector_text}
 use Rattle.script_words.specs.declared.secrets.Secret.{Secret}
 use Rattle.script_words.specs.declared.secrets.NewSecret.{NewSecret}
@@ -29,3 +30,7 @@ protector_change_steps seed caller uid number label secret new =
     opening_protector caller uid label secret
     (λ opened. storing caller uid (Protector label) opened.loaded.version
     (protector_text (protector_rewrapped seed caller number opened.loaded.protector opened.key new)))
+
+-- a protector that lies on another mount is linked: the link stands as its record, and none is expected there
+abbrev pub protector_link_steps : ℕ → ℕ → List ℕ → CommandSteps
+protector_link_steps caller uid label = storing caller uid (Protector label) 0 (link_text label)

@@ -6,7 +6,7 @@ use Rattle.fsc_commands.specs.Steps.Steps.{Done}
 use Rattle.fsc_commands.specs.CommandSteps.{CommandSteps}
 use Rattle.fsc_commands.specs.PolicySteps.{lock_steps, status_steps, policy_drop_steps, migrate_steps}
 use Rattle.fsc_commands.specs.PolicySteps.{encrypt_steps, unlock_steps, policy_new_steps, policy_add_steps}
-use Rattle.fsc_commands.specs.ProtectorSteps.{protector_steps, protector_change_steps}
+use Rattle.fsc_commands.specs.ProtectorSteps.{protector_steps, protector_change_steps, protector_link_steps}
 
 -- the steps of the work that opens a protector, and a policy through it, where the command has this number in
 -- its caller's section; a command that is a single call has none
@@ -25,6 +25,8 @@ opening_steps seed caller uid number other = Done None
 abbrev pub session_steps : List ℕ → ℕ → ℕ → ℕ → List (List ℕ) → Verb → CommandSteps
 session_steps seed caller uid number names (verb.Protector protector secret) =
     protector_steps seed caller uid number protector secret
+session_steps seed caller uid number names (verb.ProtectorLink protector) =
+    protector_link_steps caller uid protector
 session_steps seed caller uid number names (verb.PolicyDrop policy protector) =
     policy_drop_steps caller uid policy protector
 session_steps seed caller uid number names (verb.Lock policy) = lock_steps caller uid policy

@@ -8,6 +8,7 @@ mod command;
 mod drawn;
 mod draws;
 mod encrypting;
+mod linking;
 mod loaded;
 mod meant;
 mod new_records;

@@ -9,6 +9,7 @@ ghost use Rattle.fsc_commands.specs.declared.TheConstants.{MOST_CALLS};
 
 use crate::changing::protector_change;
 use crate::encrypting::encrypt;
+use crate::linking::protector_link;
 use crate::policies::{lock, status};
 use crate::policy_add::policy_add;
 use crate::policy_changes::{migrate, policy_drop};
@@ -51,6 +52,10 @@ pub(crate) fn run_session<P: MountPort, S: Stretches>(
             secret,
         } => {
             let outcome = protector(alloc, port, stretches, seed, turn, label, secret, entries)?;
+            Ok(Some(outcome))
+        }
+        Verb::ProtectorLink(label) => {
+            let outcome = protector_link(alloc, port, turn, label, entries)?;
             Ok(Some(outcome))
         }
         Verb::PolicyDrop { policy, protector } => {

@@ -75,6 +75,7 @@ pub(crate) const GROUPS: [Group; 6] = [
         lines: &[
             "protector PROTECTOR NEWSECRET      make a protector",
             "protector-change PROTECTOR SECRET NEWSECRET give it another secret",
+            "protector-link PROTECTOR           say that it lies on another mount",
             "policy-new POLICY PROTECTOR SECRET [PAD UNIT] make a policy",
             "policy-add POLICY PROTECTOR SECRET ADDED SECRET let ADDED open it too",
             "policy-drop POLICY PROTECTOR       let a protector open it no longer",

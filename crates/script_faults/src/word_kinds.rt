@@ -121,6 +121,7 @@ pub(crate) fn kinds_of(name: CommandName) -> &'static [WordKind]
         CommandName::ProtectorChange => {
             &[WordKind::Label, WordKind::Secret, WordKind::NewSecret]
         }
+        CommandName::ProtectorLink => &[WordKind::Label],
         CommandName::PolicyNew => &[
             WordKind::Label,
             WordKind::Label,

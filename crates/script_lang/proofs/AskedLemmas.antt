@@ -109,6 +109,7 @@ form_of-askable name.ProtectorChange words =
     then_some (λ x. IsSecret x.0) (λ x. IsAskable x.0) _ (word secret_of x0.1) (word_some IsSecret secret_of secret_of-secret x0.1) (λ x1 h1.
     then_some (λ x. IsNewSecret x.0) (λ x. IsAskable x.0) _ (word new_secret_of x1.1) (word_some IsNewSecret new_secret_of new_secret_of-secret x1.1) (λ x2 h2.
     (h0, (h1, h2)))))
+form_of-askable name.ProtectorLink words = only_some IsLabel IsAskable _ label_of label_of-label (λ a h. h) words
 form_of-askable name.PolicyNew words =
     then_some (λ x. IsLabel x.0) (λ x. IsAskable x.0) _ (word label_of words) (word_some IsLabel label_of label_of-label words) (λ x0 h0.
     then_some (λ x. IsLabel x.0) (λ x. IsAskable x.0) _ (word label_of x0.1) (word_some IsLabel label_of label_of-label x0.1) (λ x1 h1.

@@ -149,6 +149,7 @@ command_named-words (verb.ProtectorChange protector secret new_secret) h =
       new_secret_of-text new_secret h.1.1,
     )
     refl
+command_named-words (verb.ProtectorLink protector) h = rw (label_of-label protector h) refl
 command_named-words (verb.PolicyNew policy protector secret options) h = policy_new_words policy protector secret options h
 command_named-words (verb.PolicyAdd policy protector secret added added_secret) h =
     rw (
@@ -238,6 +239,7 @@ verb_words-plain (verb.Protector protector secret) h =
     (IsPlain-label protector h.0, (IsPlain-new_secret_text secret h.1, tt))
 verb_words-plain (verb.ProtectorChange protector secret new_secret) h =
     (IsPlain-label protector h.0, (IsPlain-secret_text secret h.1.0, (IsPlain-new_secret_text new_secret h.1.1, tt)))
+verb_words-plain (verb.ProtectorLink protector) h = (IsPlain-label protector h, tt)
 verb_words-plain (verb.PolicyNew policy protector secret options) h =
     (IsPlain-label policy h.0, (IsPlain-label protector h.1.0, (IsPlain-secret_text secret h.1.1, options_plain options)))
 verb_words-plain (verb.PolicyAdd policy protector secret added added_secret) h =

@@ -46,6 +46,7 @@ IsAskable (verb.MetaPut name expected bytes) =
 IsAskable (verb.Protector protector secret) = IsLabel protector × IsNewSecret secret
 IsAskable (verb.ProtectorChange protector secret new) =
     IsLabel protector × (IsSecret secret × IsNewSecret new)
+IsAskable (verb.ProtectorLink protector) = IsLabel protector
 IsAskable (verb.PolicyNew policy protector secret options) =
     IsLabel policy × (IsLabel protector × IsSecret secret)
 IsAskable (verb.PolicyAdd policy protector secret added added_secret) =

@@ -46,6 +46,7 @@ form_of name.MetaGet = only verb.MetaGet record_of
 form_of name.MetaPut = meta_put
 form_of name.Protector = protector
 form_of name.ProtectorChange = protector_change
+form_of name.ProtectorLink = only verb.ProtectorLink label_of
 form_of name.PolicyNew = policy_new
 form_of name.PolicyAdd = policy_add
 form_of name.PolicyDrop = policy_drop

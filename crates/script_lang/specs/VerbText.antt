@@ -68,6 +68,7 @@ verb_words (verb.MetaPut name expected bytes) =
 verb_words (verb.Protector protector secret) = protector ∷ new_secret_text secret ∷ []
 verb_words (verb.ProtectorChange protector secret new) =
     protector ∷ secret_text secret ∷ new_secret_text new ∷ []
+verb_words (verb.ProtectorLink protector) = protector ∷ []
 verb_words (verb.PolicyNew policy protector secret options) =
     policy ∷ protector ∷ secret_text secret ∷ words_of_options options
 verb_words (verb.PolicyAdd policy protector secret added added_secret) =

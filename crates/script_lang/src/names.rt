@@ -35,6 +35,7 @@ pub enum CommandName {
     MetaPut,
     Protector,
     ProtectorChange,
+    ProtectorLink,
     PolicyNew,
     PolicyAdd,
     PolicyDrop,
@@ -46,7 +47,7 @@ pub enum CommandName {
 }
 
 // All names, those of plain calls first.
-const ALL_NAMES: [CommandName; 34] = [
+const ALL_NAMES: [CommandName; 35] = [
     CommandName::AddKey,
     CommandName::RemoveKey,
     CommandName::RemoveKeyAll,
@@ -73,6 +74,7 @@ const ALL_NAMES: [CommandName; 34] = [
     CommandName::MetaPut,
     CommandName::Protector,
     CommandName::ProtectorChange,
+    CommandName::ProtectorLink,
     CommandName::PolicyNew,
     CommandName::PolicyAdd,
     CommandName::PolicyDrop,
@@ -129,6 +131,7 @@ impl CommandName {
             CommandName::MetaPut => b"meta-put",
             CommandName::Protector => b"protector",
             CommandName::ProtectorChange => b"protector-change",
+            CommandName::ProtectorLink => b"protector-link",
             CommandName::PolicyNew => b"policy-new",
             CommandName::PolicyAdd => b"policy-add",
             CommandName::PolicyDrop => b"policy-drop",
@@ -180,6 +183,7 @@ impl Verb {
             Verb::MetaPut { .. } => CommandName::MetaPut,
             Verb::Protector { .. } => CommandName::Protector,
             Verb::ProtectorChange { .. } => CommandName::ProtectorChange,
+            Verb::ProtectorLink(_) => CommandName::ProtectorLink,
             Verb::PolicyNew { .. } => CommandName::PolicyNew,
             Verb::PolicyAdd { .. } => CommandName::PolicyAdd,
             Verb::PolicyDrop { .. } => CommandName::PolicyDrop,

@@ -101,6 +101,8 @@ pub enum Verb {
         secret: Secret,
         new_secret: NewSecret,
     },
+    /// To say that a protector lies on another mount, by a record in its name's place.
+    ProtectorLink(Label),
     /// To make a policy that a protector opens.
     PolicyNew {
         policy: Label,

@@ -118,6 +118,7 @@ fn write_words(alloc: Global, text: &mut Vec<u8>, verb: &Verb) -> Result<(), All
             push_secret(alloc, text, secret)?;
             push_new_secret(alloc, text, new_secret)
         }
+        Verb::ProtectorLink(protector) => push_label(text, protector),
         Verb::PolicyNew {
             policy,
             protector,

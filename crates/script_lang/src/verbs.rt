@@ -76,6 +76,7 @@ fn take_form(alloc: Global, name: CommandName, words: &mut Words<'_>) -> Result<
         CommandName::MetaPut => meta_put(alloc, words),
         CommandName::Protector => protector(alloc, words),
         CommandName::ProtectorChange => protector_change(alloc, words),
+        CommandName::ProtectorLink => Ok(Verb::ProtectorLink(words.label()?)),
         CommandName::PolicyNew => policy_new(alloc, words),
         CommandName::PolicyAdd => policy_add(alloc, words),
         CommandName::PolicyDrop => policy_drop(words),
