@@ -1,0 +1,58 @@
+-- The listing of an image, for somebody who has a raw key, or none.
+use Rattle.std.specs.Prelude.{◌≡◌, ◌↔◌, ◌==◌, ℕ, Bool, IsTrue, List, length, map, filter, Option, Some}
+use Rattle.std.specs.List.{find, flat_map}
+use Rattle.std.specs.Option.{option_map}
+use Rattle.disk_tree.specs.Nodes.{entries_of}
+use Rattle.disk_tree.specs.declared.node.Body.{Body}
+use Rattle.disk_tree.specs.declared.node.Body.TheVariants as stored
+use Rattle.image_lines.specs.Image.{Image, ImageNode}
+use Rattle.tree_listing.specs.Sights.{sight_of, word_seen, digest_seen}
+use Rattle.tree_listing.specs.ListingText.{ListedBody, Dir, File, Link, ListedNode, listing_text}
+
+-- ---- where entries lead
+
+-- an entry with the directory that has it
+abbrev pub PlacedEntry : Type 0
+PlacedEntry = ImageNode × (List ℕ × ℕ)
+
+abbrev pub placed_in : ImageNode → List PlacedEntry
+placed_in dir = map (λ e. (dir, e)) (entries_of dir.body)
+
+abbrev pub placed_entries : Image → List PlacedEntry
+placed_entries image = flat_map placed_in image
+
+-- the entry that leads to node n: in an image there is at most one
+abbrev pub entry_to : Image → ℕ → Option PlacedEntry
+entry_to image n = find (λ placed. placed.1.1 == n) (placed_entries image)
+
+-- reached from the root by entries
+pub data IsReached (image : Image) : ℕ → Type 0 where
+  root : IsReached image 0
+  step : (n : ℕ) (placed : PlacedEntry) → entry_to image n ≡ Some placed → IsReached image placed.0.number
+      → IsReached image n
+
+-- ---- how nodes are listed
+
+-- the parent's number, and the name as who sees the parent reads it
+abbrev pub place_seen : Option (List ℕ) → PlacedEntry → ℕ × List ℕ
+place_seen raw placed =
+    (placed.0.number, word_seen (sight_of raw placed.0.context) placed.0.number placed.1.0)
+
+abbrev pub body_seen : Option (List ℕ) → ℕ → Option (List ℕ) → Body → ListedBody
+body_seen raw n context (stored.Dir entries) = Dir (length entries)
+body_seen raw n context (stored.File blocks size) = File size (digest_seen (sight_of raw context) n blocks size)
+body_seen raw n context (stored.Link target) = Link (word_seen (sight_of raw context) n target)
+
+abbrev pub listed : Option (List ℕ) → Image → ImageNode → ListedNode
+listed raw image node = record {
+  number = node.number;
+  place = option_map (place_seen raw) (entry_to image node.number);
+  body = body_seen raw node.number node.context node.body;
+}
+
+-- the listing of an image with this raw key, or with none: a line for each node that is reached, in order of
+-- number
+pub record IsListing (image : Image) (raw : Option (List ℕ)) (text : List ℕ) : Type 0 where
+  pub reached : ℕ → Bool
+  pub exact : (n : ℕ) → IsTrue (reached n) ↔ IsReached image n
+  pub lines : text ≡ listing_text (map (listed raw image) (filter (λ node. reached node.number) image))
