@@ -30,7 +30,7 @@ or_false true b h = absurd (cc h)
 or_false false b h = (refl, h)
 
 -- where what is shown tells no want of memory, none was
-never_wants : (history : History) → list_any (λ (e : ShownEntry). is_want_of_memory e.reply) (shown_history history) ≡ false
+pub never_wants : (history : History) → list_any (λ (e : ShownEntry). is_want_of_memory e.reply) (shown_history history) ≡ false
     → All (λ (e : MountEntry). e.reply ≢ Refused refusal.NoMemory) history
 never_wants [] h = All-nil (λ (e : MountEntry). e.reply ≢ Refused refusal.NoMemory)
 never_wants (e ∷ es) h =

@@ -1,4 +1,6 @@
+pub mod DumpLemmas
 pub mod GenLemmas
+pub mod InspectLemmas
 pub mod StartLemmas
 pub mod ThreadLemmas
 pub mod TopLemmas

@@ -22,7 +22,7 @@ use Rattle.fsc_session.specs.Running.{RunnerView, runner_view, state_of}
 use Rattle.fsc_session.specs.Rotation.{Waiting, fresh, longest, rotation_steps}
 use Rattle.fsc_session.proofs.RunLemmas.{run_is_whole, notes_are_whole}
 use Rattle.fsc_session.proofs.LawLemmas.{played_from}
-use Rattle.fsc_tool.specs.Runs.{IsSerialRun}
+use Rattle.fsc_tool.specs.Runs.{IsRunBefore, IsSerialRun, TellsRun}
 use Rattle.fsc_tool.specs.Rotating.{InTurn, Rotating, fresh_runners, sections_of, told_by, noted_by}
 
 -- ---- before the first turn
@@ -244,3 +244,10 @@ module _ {M : Type 0} (leads : History → M → Type 0) (lawful : History → T
             ∙ ap (λ (w : ℕ). notes_of_section seed w r.section (by w ended.told)) own,
       ))
       ∙ ap (notes_by seed 0 script) ended.placed
+
+-- ---- without the machine
+
+pub told_alone : (Led : History → Type 0) (IsRun : List ℕ → List Section → History → Type 0) (seed : List ℕ) (script : List Section)
+    (told : PlacedShown) (notes : List Note) → TellsRun (IsRunBefore Led IsRun) seed script told notes → TellsRun IsRun seed script told notes
+told_alone Led IsRun seed script told notes ran =
+    record { history = ran.history; run = ran.run.0; in_place = ran.in_place; noted = ran.noted }

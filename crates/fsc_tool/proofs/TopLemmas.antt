@@ -18,7 +18,8 @@ use Rattle.fsc_tool.specs.Seed.{ComesFrom, IsSeedOf}
 use Rattle.fsc_tool.specs.Ends.{Ends}
 use Rattle.fsc_tool.specs.Replay.{Told, IsReplayable, IsOrNoMemory, IsReplay}
 use Rattle.fsc_tool.specs.Prepared.{IsPrepared, NoText}
-use Rattle.fsc_tool.specs.LogOfRun.{HasLog}
+use Rattle.fsc_tool.specs.LogOfRun.{IsLogOfRun}
+use Rattle.fsc_tool.specs.TextOfRun.{HasText}
 use Rattle.fsc_tool.specs.Written.{EndsLog}
 use Rattle.call_history.specs.Placed.{entries_of}
 use Rattle.reply_text.specs.Shown.{PlacedShown, shown_log}
@@ -34,12 +35,12 @@ told_whole None input bytes given ended = absurd given
 told_whole (Some rest) input bytes given ended =
     sym (let all : input ≡ bytes ++ rest = given in all ∙ ap (λ xs. bytes ++ xs) ended ∙ append-nil bytes)
 
-told_part : (new : Option (List ℕ)) (input bytes : List ℕ) → Consumes (Some input) new bytes → length bytes ≤ length input
+pub told_part : (new : Option (List ℕ)) (input bytes : List ℕ) → Consumes (Some input) new bytes → length bytes ≤ length input
 told_part None input bytes given = absurd given
 told_part (Some rest) input bytes given = omega (arith, ap length given, length-append bytes rest)
 
 -- a source that gave all that was left gave what it told
-gave_told : (old new : SourceState) (input bytes : List ℕ) → old.left ≡ Some input → GaveWhole old new bytes → bytes ≡ input
+pub gave_told : (old new : SourceState) (input bytes : List ℕ) → old.left ≡ Some input → GaveWhole old new bytes → bytes ≡ input
 gave_told old new input bytes told gave =
     told_whole new.left input bytes (subst (λ (left : Option (List ℕ)). Consumes left new.left bytes) told gave.given) gave.ended
 
@@ -73,9 +74,9 @@ same_script old new input bytes told gave = ap parsed_script (gave_told old new 
 own_seed : (seeding : Seeding) (old new : SeedState) (seed own : List ℕ) → seeding ≡ Given own → IsSeedOf seeding old new seed → new ≡ old
 own_seed seeding old new seed own is taken = (subst (λ (s : Seeding). ComesFrom s old new seed) is taken.given).1
 
-module _ (IsRun : List ℕ → List Section → History → Type 0) (Came : List ReadCall → Type 0) (seeding : Seeding) (a b : Outside) where
+module _ (IsRight : List ℕ → List Section → List ℕ → Type 0) (Came : List ReadCall → Type 0) (seeding : Seeding) (a b : Outside) where
   abbrev IsText : List ℕ → Type 0
-  IsText = HasLog IsRun Came seeding a b
+  IsText = HasText IsRight Came seeding a b
 
   unasked : (status : Status) → Ends IsText Came seeding a b status → (own : List ℕ) → seeding ≡ Given own → b.seeds ≡ a.seeds
   unasked Done h own said = own_seed seeding a.seeds b.seeds h.right.seed own said h.right.seeded
@@ -131,7 +132,7 @@ module _ (IsRun : List ℕ → List Section → History → Type 0) (Came : List
 
   -- ---- the theorem, from what each status means
 
-  pub replay_is : (status : Status) → Ends IsText Came seeding a b status → IsReplay IsRun Came seeding a b status
+  pub replay_is : (status : Status) → Ends IsText Came seeding a b status → IsReplay IsRight Came seeding a b status
   replay_is status h = record {
     ends = h;
     own_seed = unasked status h;
@@ -143,7 +144,7 @@ module _ (IsRun : List ℕ → List Section → History → Type 0) (Came : List
   -- ---- what a run does, from its parts
 
   -- a run that ended before its first call
-  pub unrun_ends : (status : Status) → Ends NoText Came seeding a b status → IsReplay IsRun Came seeding a b status
+  pub unrun_ends : (status : Status) → Ends NoText Came seeding a b status → IsReplay IsRight Came seeding a b status
   unrun_ends status h = replay_is status (ends status h)
     where
       ends : (status : Status) → Ends NoText Came seeding a b status → Ends IsText Came seeding a b status
@@ -158,7 +159,7 @@ module _ (IsRun : List ℕ → List Section → History → Type 0) (Came : List
 
   -- a run that found no memory for its calls
   pub want_ends : (script : List Section) (seed : List ℕ) → IsPrepared Came seeding a.source b.source a.seeds b.seeds script seed → b.sink ≡ a.sink
-      → IsReplay IsRun Came seeding a b NoMemory
+      → IsReplay IsRight Came seeding a b NoMemory
   want_ends script seed prepared unwritten = replay_is NoMemory (record {
     read = inr (prepared.input, prepared.read);
     quiet = prepared.read.quiet;
@@ -166,13 +167,13 @@ module _ (IsRun : List ℕ → List Section → History → Type 0) (Came : List
     unwritten = unwritten;
   })
 
-  -- a run that told these entries and notes
-  pub run_ends : (script : List Section) (seed : List ℕ) (told : PlacedShown) (notes : List Note) (status : Status)
-      → IsPrepared Came seeding a.source b.source a.seeds b.seeds script seed → TellsRun IsRun seed script told notes
-      → EndsLog (shown_log (entries_of told) ++ notes_text notes) a.sink b.sink status → IsReplay IsRun Came seeding a b status
-  run_ends script seed told notes status prepared ran h = ended status h
+  -- a run of which this text is right
+  pub text_ends : (script : List Section) (seed : List ℕ) (text : List ℕ) (status : Status)
+      → IsPrepared Came seeding a.source b.source a.seeds b.seeds script seed → IsRight seed script text
+      → EndsLog text a.sink b.sink status → IsReplay IsRight Came seeding a b status
+  text_ends script seed text status prepared is h = ended status h
     where
-      right : HasLog IsRun Came seeding a b (shown_log (entries_of told) ++ notes_text notes)
+      right : HasText IsRight Came seeding a b text
       right = record {
         input = prepared.input;
         read = prepared.read;
@@ -180,17 +181,27 @@ module _ (IsRun : List ℕ → List Section → History → Type 0) (Came : List
         spelled = prepared.spelled;
         seed = seed;
         seeded = prepared.seeded;
-        history = ran.history;
-        run = ran.run;
-        log = ap₂ (λ (lines : List ℕ) (ns : List Note). lines ++ notes_text ns) (told_log told ran.history ran.in_place) ran.noted;
+        right = is;
       }
 
-      ended : (status : Status) → EndsLog (shown_log (entries_of told) ++ notes_text notes) a.sink b.sink status → IsReplay IsRun Came seeding a b status
-      ended Done h = replay_is Done (record { text = _; right = right; written = h })
-      ended WriteFault h = replay_is WriteFault (record { text = _; right = right; written = h })
+      ended : (status : Status) → EndsLog text a.sink b.sink status → IsReplay IsRight Came seeding a b status
+      ended Done h = replay_is Done (record { text = text; right = right; written = h })
+      ended WriteFault h = replay_is WriteFault (record { text = text; right = right; written = h })
       ended NoMemory h = want_ends script seed prepared h
       ended Usage h = absurd h
       ended (BadLine line) h = absurd h
       ended ReadFault h = absurd h
       ended SeedFault h = absurd h
       ended TooLong h = absurd h
+
+-- a run that told these entries and notes
+pub run_ends : (IsRun : List ℕ → List Section → History → Type 0) (Came : List ReadCall → Type 0) (seeding : Seeding) (a b : Outside)
+    (script : List Section) (seed : List ℕ) (told : PlacedShown) (notes : List Note) (status : Status)
+    → IsPrepared Came seeding a.source b.source a.seeds b.seeds script seed → TellsRun IsRun seed script told notes
+    → EndsLog (shown_log (entries_of told) ++ notes_text notes) a.sink b.sink status → IsReplay (IsLogOfRun IsRun) Came seeding a b status
+run_ends IsRun Came seeding a b script seed told notes status prepared ran h =
+    text_ends (IsLogOfRun IsRun) Came seeding a b script seed (shown_log (entries_of told) ++ notes_text notes) status prepared (record {
+      history = ran.history;
+      run = ran.run;
+      log = ap₂ (λ (lines : List ℕ) (ns : List Note). lines ++ notes_text ns) (told_log told ran.history ran.in_place) ran.noted;
+    }) h

@@ -3,6 +3,8 @@ use Rattle.fsc_outside.specs.declared.input.InputFault.{InputFault}
 use Rattle.fsc_outside.specs.declared.input.InputFault.TheVariants as input
 use Rattle.script_lang.specs.declared.reader.ScriptFault.{ScriptFault}
 use Rattle.script_lang.specs.declared.reader.ScriptFault.TheVariants as script
+use Rattle.image_lines.specs.declared.fault.ImageFault.{ImageFault}
+use Rattle.image_lines.specs.declared.fault.ImageFault.TheVariants as image
 use Rattle.reply_text.specs.declared.status.Status.{Status}
 use Rattle.reply_text.specs.declared.status.Status.TheVariants.{BadLine, ReadFault, TooLong, NoMemory}
 
@@ -16,3 +18,8 @@ input_status input.NoMemory = NoMemory
 abbrev pub script_status : ScriptFault → Status
 script_status (script.BadLine line) = BadLine line
 script_status script.NoMemory = NoMemory
+
+-- and each fault of an image
+abbrev pub image_status : ImageFault → Status
+image_status (image.BadLine line) = BadLine line
+image_status image.NoMemory = NoMemory

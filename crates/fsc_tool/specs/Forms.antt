@@ -1,23 +1,31 @@
 -- What the words of the command line ask for. `replay` or `replay --serial`, alone or with `--seed HEX64`
--- behind; `gen NUMBER` or `gen NUMBER --summary`, where the number is a decimal numeral below 2^32.
+-- behind; `gen NUMBER` or `gen NUMBER --summary`, where the number is a decimal numeral below 2^32;
+-- `dump --seed HEX64`; `inspect`, alone or with `raw:HEX` behind.
 use Rattle.std.specs.Prelude.{ℕ, List, [], ◌∷◌, ◌^◌, codes, Option, Some, None, if◌then◌else◌}
 use Rattle.std.specs.Option.{option_map, option_and_then}
 use Rattle.std.specs.Str.{bytes_eq}
 use Rattle.text_words.specs.Digits.{hex_bytes_of_length}
 use Rattle.text_words.specs.Numbers.{number_below}
+use Rattle.script_words.specs.Keys.{key_ref_of}
+use Rattle.script_words.specs.declared.key_words.KeyRef.{KeyRef}
+use Rattle.script_words.specs.declared.key_words.KeyRef.TheVariants.{Raw}
 use Rattle.fsc_tool.specs.declared.form.Way.{Way}
 use Rattle.fsc_tool.specs.declared.form.Way.TheVariants.{InTurn, InThreads}
 use Rattle.fsc_tool.specs.declared.form.Seeding.{Seeding}
 use Rattle.fsc_tool.specs.declared.form.Seeding.TheVariants.{Given, Asked}
 use Rattle.fsc_tool.specs.declared.form.ToolForm.{ToolForm}
-use Rattle.fsc_tool.specs.declared.form.ToolForm.TheVariants.{Replay, Generate, Summarise}
+use Rattle.fsc_tool.specs.declared.form.ToolForm.TheVariants.{Replay, Generate, Summarise, Dump, Inspect}
 
--- where the seed comes from: no word, or `--seed` and 32 bytes in 64 digits of either case
+-- the seed that is given: `--seed` and 32 bytes in 64 digits of either case
+abbrev pub seed_given : List (List ℕ) → Option (List ℕ)
+seed_given (name ∷ digits ∷ []) =
+    if bytes_eq name (codes "--seed") then hex_bytes_of_length 32 digits else None
+seed_given _ = None
+
+-- where the seed comes from: no word, or a given one
 abbrev pub seeding_of : List (List ℕ) → Option Seeding
 seeding_of [] = Some Asked
-seeding_of (name ∷ digits ∷ []) =
-    if bytes_eq name (codes "--seed") then option_map Given (hex_bytes_of_length 32 digits) else None
-seeding_of _ = None
+seeding_of words = option_map Given (seed_given words)
 
 abbrev pub replayed : Way → Option Seeding → Option ToolForm
 replayed way None = None
@@ -41,12 +49,24 @@ abbrev pub generated_of : List (List ℕ) → Option ToolForm
 generated_of [] = None
 generated_of (number ∷ words) = option_and_then (generated_behind words) (number_below (2 ^ 32) number)
 
+-- behind `inspect`: no word, or `raw:` and a raw key of 32 to 64 bytes in digits of either case
+abbrev pub inspected_with : Option KeyRef → Option ToolForm
+inspected_with (Some (Raw raw)) = Some (Inspect (Some raw))
+inspected_with other = None
+
+abbrev pub inspected_of : List (List ℕ) → Option ToolForm
+inspected_of [] = Some (Inspect None)
+inspected_of (word ∷ []) = inspected_with (key_ref_of word)
+inspected_of _ = None
+
 -- what the words ask for, where they are a form
 abbrev pub form_of : List (List ℕ) → Option ToolForm
 form_of [] = None
 form_of (verb ∷ words) =
     if bytes_eq verb (codes "replay") then replay_of words
     else if bytes_eq verb (codes "gen") then generated_of words
+    else if bytes_eq verb (codes "dump") then option_map Dump (seed_given words)
+    else if bytes_eq verb (codes "inspect") then inspected_of words
     else None
 
 -- the same for a tool that starts no thread

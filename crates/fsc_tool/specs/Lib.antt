@@ -2,6 +2,8 @@ pub mod Ends
 pub mod Faults
 pub mod Forms
 pub mod Gen
+pub mod ImageOfRun
+pub mod Inspection
 pub mod Limits
 pub mod LogOfRun
 pub mod Outside
@@ -11,6 +13,7 @@ pub mod Rotating
 pub mod Runs
 pub mod Seed
 pub mod Summary
+pub mod TextOfRun
 pub mod Threaded
 pub mod Tool
 pub mod Written

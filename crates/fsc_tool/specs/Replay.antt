@@ -1,6 +1,5 @@
 -- The theorem of a replay: what holds of it, from what it met outside to what it leaves.
 use Rattle.std.specs.Prelude.{◌≡◌, ◌⊎◌, ℕ, List, Some, Err}
-use Rattle.mount_model.specs.History.{History}
 use Rattle.script_lang.specs.declared.commands.Section.{Section}
 use Rattle.script_lang.specs.Script.{parsed_script}
 use Rattle.fsc_outside.specs.Causes.{Rose}
@@ -11,8 +10,8 @@ use Rattle.reply_text.specs.declared.status.Status.TheVariants.{Done, BadLine, T
 use Rattle.fsc_tool.specs.declared.form.Seeding.{Seeding}
 use Rattle.fsc_tool.specs.declared.form.Seeding.TheVariants.{Given}
 use Rattle.fsc_tool.specs.Limits.{input_limits, IsLong}
-use Rattle.fsc_tool.specs.LogOfRun.{HasLog}
 use Rattle.fsc_tool.specs.Outside.{Outside}
+use Rattle.fsc_tool.specs.TextOfRun.{HasText}
 use Rattle.fsc_tool.specs.Ends.{Ends, IsScript}
 
 -- the source told this input beforehand, and no read failed
@@ -32,12 +31,12 @@ pub record IsReplayable (a b : Outside) (input : List ℕ) : Type 0 where
 abbrev pub IsOrNoMemory : Status → Status → Type 0
 IsOrNoMemory wanted status = (status ≡ wanted) ⊎ (status ≡ NoMemory)
 
--- a replay whose seed comes so, where IsRun says what makes a history a run of a script with a seed, and Came
--- by which calls of the source it became what it is
-pub record IsReplay (IsRun : List ℕ → List Section → History → Type 0) (Came : List ReadCall → Type 0)
+-- a replay whose seed comes so, where IsText says which text is one of a run of a script with a seed, and Came by
+-- which calls of the source it became what it is
+pub record IsReplay (IsText : List ℕ → List Section → List ℕ → Type 0) (Came : List ReadCall → Type 0)
     (seeding : Seeding) (a b : Outside) (status : Status) : Type 0 where
-  -- what the status means, with its cause and what was read; the log is of a history that is such a run
-  pub ends : Ends (HasLog IsRun Came seeding a b) Came seeding a b status
+  -- what the status means, with its cause and what was read; the text is one of such a run
+  pub ends : Ends (HasText IsText Came seeding a b) Came seeding a b status
   -- the seed source isn't asked where the words give a seed
   pub own_seed : (seed : List ℕ) → seeding ≡ Given seed → b.seeds ≡ a.seeds
   -- what a source that tells its bytes makes of the other statuses

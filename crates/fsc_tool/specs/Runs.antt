@@ -26,6 +26,11 @@ pub record IsSerialRun (lawful : History → Type 0)
   pub order : (after : List Waiting) × Reaches (rotation_steps seed script) history (Done after)
   pub serial : IsLegal history → NeverWantsMemory history → history ≡ serial_history seed script
 
+-- such a run, of whose history more is known: that a machine may stand after it
+abbrev pub IsRunBefore : (History → Type 0) → (List ℕ → List Section → History → Type 0)
+    → List ℕ → List Section → History → Type 0
+IsRunBefore Led IsRun seed script history = IsRun seed script history × Led history
+
 -- the entries are what is shown of one history, which is such a run, in order of place; and these are its
 -- notes
 pub record TellsRun (IsRun : List ℕ → List Section → History → Type 0)

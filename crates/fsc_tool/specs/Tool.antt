@@ -4,11 +4,15 @@ use Rattle.mount_model.specs.History.{History}
 use Rattle.fsc_outside.specs.Reads.{ReadCall}
 use Rattle.reply_text.specs.declared.status.Status.{Status}
 use Rattle.reply_text.specs.declared.status.Status.TheVariants.{Usage}
+use Rattle.fsc_tool.specs.declared.form.Seeding.TheVariants.{Given}
 use Rattle.fsc_tool.specs.declared.form.Way.TheVariants.{InTurn, InThreads}
 use Rattle.fsc_tool.specs.declared.form.ToolForm.{ToolForm}
-use Rattle.fsc_tool.specs.declared.form.ToolForm.TheVariants.{Replay, Generate, Summarise}
+use Rattle.fsc_tool.specs.declared.form.ToolForm.TheVariants.{Replay, Generate, Summarise, Dump, Inspect}
 use Rattle.fsc_tool.specs.Forms.{form_of, without_threads}
 use Rattle.fsc_tool.specs.Gen.{IsGenRun, IsScriptText, SummaryOfRun}
+use Rattle.fsc_tool.specs.ImageOfRun.{IsImageOfRun}
+use Rattle.fsc_tool.specs.Inspection.{IsInspection}
+use Rattle.fsc_tool.specs.LogOfRun.{IsLogOfRun}
 use Rattle.fsc_tool.specs.Outside.{Outside}
 use Rattle.fsc_tool.specs.Replay.{IsReplay}
 use Rattle.fsc_tool.specs.Runs.{IsLawfulRun, IsSerialRun}
@@ -19,12 +23,14 @@ abbrev pub IsRunIn : (History → Type 0) → (List ReadCall → Type 0) → Opt
     → Type 0
 IsRunIn lawful Came None a b status = (status ≡ Usage) × (b ≡ a) × Came []
 IsRunIn lawful Came (Some (Replay InTurn seeding)) a b status =
-    IsReplay (IsSerialRun lawful) Came seeding a b status
+    IsReplay (IsLogOfRun (IsSerialRun lawful)) Came seeding a b status
 IsRunIn lawful Came (Some (Replay InThreads seeding)) a b status =
-    IsReplay (IsLawfulRun lawful) Came seeding a b status
+    IsReplay (IsLogOfRun (IsLawfulRun lawful)) Came seeding a b status
 IsRunIn lawful Came (Some (Generate number)) a b status = IsGenRun (IsScriptText number) a b status × Came []
 IsRunIn lawful Came (Some (Summarise number)) a b status =
     IsGenRun (SummaryOfRun lawful number) a b status × Came []
+IsRunIn lawful Came (Some (Dump seed)) a b status = IsReplay IsImageOfRun Came (Given seed) a b status
+IsRunIn lawful Came (Some (Inspect raw)) a b status = IsInspection raw Came a b status
 
 -- a run in the form that the words are; Usage comes exactly where they are none
 pub record IsToolRun (lawful : History → Type 0) (Came : List ReadCall → Type 0) (words : List (List ℕ))

@@ -3,12 +3,14 @@
 ghost use Rattle.std.specs.Prelude.{◌≡◌, [], map, string_bytes};
 ghost use Rattle.text_words.specs.Digits.{hex_bytes_of_length};
 ghost use Rattle.fsc_tool.specs.Forms as spec;
-ghost use Rattle.fsc_tool.specs.Forms.{form_of, generated_behind, generated_of, replay_of, seeding_of};
-ghost use Rattle.fsc_tool.specs.Forms.{without_threads};
+ghost use Rattle.fsc_tool.specs.Forms.{form_of, generated_behind, generated_of, inspected_of, replay_of};
+ghost use Rattle.fsc_tool.specs.Forms.{seed_given, seeding_of, without_threads};
 
 use crate::seed::wipe_seeding;
 use byte_words::wipe;
+use fsc_keys::RawKey;
 use fsc_session::scrub_stack;
+use script_words::{KeyRef, read_key_ref};
 use std::alloc::Global;
 use std::mem;
 use text_words::{decimal_value, hex_bytes_into};
@@ -40,6 +42,10 @@ pub(crate) enum ToolForm {
     Generate(u32),
     /// To write the summary of a run of it.
     Summarise(u32),
+    /// To write the image of the mount that a run of the source's script with this seed leaves.
+    Dump([u8; 32]),
+    /// To list the image that the source gives, with this raw key or without one.
+    Inspect(Option<RawKey>),
 }
 
 // Writes what the words ask for into the caller's room; none where they are no form. Whatever else it moves a seed
@@ -70,6 +76,12 @@ fn form_of(words: &[String]) -> Option<ToolForm>
     }
     if words[0].as_str() == "gen" {
         return read_generated(&words[1..]);
+    }
+    if words[0].as_str() == "dump" {
+        return read_given_seed(&words[1..]).map(ToolForm::Dump);
+    }
+    if words[0].as_str() == "inspect" {
+        return read_inspected(&words[1..]);
     }
     None
 }
@@ -129,13 +141,20 @@ fn read_seeding(words: &[String]) -> Option<Seeding>
     if words.is_empty() {
         return Some(Seeding::Asked);
     }
+    read_given_seed(words).map(Seeding::Given)
+}
+
+// The seed that the words give.
+fn read_given_seed(words: &[String]) -> Option<[u8; 32]>
+    ensures { result ≡ seed_given (map string_bytes words.now) }
+{
     if words.len() != 2 {
         return None;
     }
     if words[0].as_str() != "--seed" {
         return None;
     }
-    read_seed(words[1].as_bytes()).map(Seeding::Given)
+    read_seed(words[1].as_bytes())
 }
 
 // The 32 bytes that 64 digits spell.
@@ -176,4 +195,20 @@ fn read_behind_number(words: &[String], number: u32) -> Option<ToolForm>
         return None;
     }
     Some(ToolForm::Summarise(number))
+}
+
+// The form that the words behind `inspect` make.
+fn read_inspected(words: &[String]) -> Option<ToolForm>
+    ensures { result ≡ inspected_of (map string_bytes words.now) }
+{
+    if words.is_empty() {
+        return Some(ToolForm::Inspect(None));
+    }
+    if words.len() != 1 {
+        return None;
+    }
+    match read_key_ref(words[0].as_bytes()) {
+        Some(KeyRef::Raw(raw)) => Some(ToolForm::Inspect(Some(raw))),
+        _ => None,
+    }
 }

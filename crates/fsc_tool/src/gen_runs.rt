@@ -3,13 +3,13 @@
 ghost use Rattle.std.specs.Prelude.{◌≡◌, [], IfOk};
 ghost use Rattle.fsc_tool.specs.Ends.{EndsUnread};
 ghost use Rattle.fsc_tool.specs.Gen.{IsScriptText, SummaryOfRun, zero_seed};
-ghost use Rattle.fsc_tool.specs.Written.{EndsLog};
 
 use crate::replay::{history_of, whole_log};
 use crate::rotation::run_in_rotation;
 use crate::summary::{summary_text, wants_memory};
+use crate::writing::write_text;
 use fsc_commands::OnOneThread;
-use fsc_outside::{Gate, Sink, write_all};
+use fsc_outside::{Gate, Sink};
 use item_list::Bytes;
 use load_gen::{generate, generate_script};
 use mount_shared::MountMachine;
@@ -40,16 +40,6 @@ pub(crate) fn run_summarising<K: Sink, G: Gate, M: MountMachine>(
     match summary_of(alloc, number, gate, machine) {
         Ok(text) => write_text(text, sink),
         Err(_) => Status::NoMemory,
-    }
-}
-
-// Writes a text into the sink, and tells how the run ends.
-fn write_text<K: Sink>(text: Bytes, sink: &mut K) -> Status
-    ensures { EndsLog text (K.state sink.old) (K.state sink.new) result }
-{
-    match write_all(sink, text.as_slice()) {
-        Ok(()) => Status::Done,
-        Err(_) => Status::WriteFault,
     }
 }
 

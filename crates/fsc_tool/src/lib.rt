@@ -1,8 +1,10 @@
 //! The tool: words, a source, a sink, a seed source and a machine in; a status and a log out.
 #![tactic(auto)]
 
+mod dump;
 mod form;
 mod gen_runs;
+mod inspect;
 mod limits;
 mod replay;
 mod rotation;
@@ -11,6 +13,7 @@ mod summary;
 mod threads;
 mod told;
 mod top;
+mod writing;
 
 use call_history::Entry;
 pub use limits::{MOST_INPUT_BYTES, MOST_INPUT_LINES};

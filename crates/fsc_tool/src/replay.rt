@@ -20,9 +20,10 @@ use crate::form::Seeding;
 use crate::limits::INPUT_LIMITS;
 use crate::seed::{take_seed, wipe_seeding};
 use crate::told::Told;
+use crate::writing::write_text;
 use byte_words::wipe;
 use call_history::Entry;
-use fsc_outside::{InputFault, SeedSource, Sink, Source, read_all, write_all};
+use fsc_outside::{InputFault, SeedSource, Sink, Source, read_all};
 use fsc_session::scrub_stack;
 use item_list::Bytes;
 use mount_model::Reply;
@@ -130,13 +131,13 @@ fn unseeded(alloc: Global, script: Script) -> Result<Box<Prepared>, Status>
 }
 
 // Overwrites the bytes that came in, in which the script's secrets stand as digits.
-fn wipe_input(input: Bytes) {
+pub(crate) fn wipe_input(input: Bytes) {
     let mut text = input.into_vec();
     wipe(text.as_mut_slice());
 }
 
 // How a run ends whose input isn't read.
-fn input_status(fault: InputFault) -> Status
+pub(crate) fn input_status(fault: InputFault) -> Status
     ensures { result ≡ input_status fault }
 {
     match fault {
@@ -165,10 +166,7 @@ pub(crate) fn finish<K: Sink>(alloc: Global, told: Told, sink: &mut K) -> Status
         Ok(log) => log,
         Err(_) => return Status::NoMemory,
     };
-    match write_all(sink, log.as_slice()) {
-        Ok(()) => Status::Done,
-        Err(_) => Status::WriteFault,
-    }
+    write_text(log, sink)
 }
 
 // The log of the entries, whose places are their numbers, and behind it the notes.

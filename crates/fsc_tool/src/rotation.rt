@@ -8,7 +8,7 @@ ghost use Rattle.fsc_session.specs.Asking.{AsksRightly};
 ghost use Rattle.fsc_session.specs.Running.{state_of};
 ghost use Rattle.fsc_session.specs.Rotation.{Waiting, longest, rounds_steps};
 ghost use Rattle.fsc_tool.specs.Rotating.{Rotating, TurnMade, fresh_runners, noted_by, sections_of, told_by};
-ghost use Rattle.fsc_tool.specs.Runs.{IsSerialRun, TellsRun};
+ghost use Rattle.fsc_tool.specs.Runs.{IsRunBefore, IsSerialRun, TellsRun};
 
 use crate::told::Told;
 use call_history::{MOST_PLACES, sort_by_place};
@@ -35,9 +35,28 @@ pub(crate) fn run_in_rotation<G: Gate, S: Stretches, M: MountMachine>(
     ensures { IfOk result (λ told. TellsRun (IsSerialRun M.lawful) seed.now script.now
         told.entries.items told.notes.items) }
 {
+    let (told, _machine) = rotate(alloc, script, seed, gate, stretches, machine)?;
+    Ok(told)
+}
+
+// The same, with the machine as the run leaves it.
+pub(crate) fn rotate<G: Gate, S: Stretches, M: MountMachine>(
+    alloc: Global,
+    script: &Script,
+    seed: &[u8; 32],
+    gate: &G,
+    stretches: &S,
+    machine: M,
+) -> Result<(Told, M), AllocError>
+    requires spelled { IsSpelled script.now }
+    requires ready { S.ready stretches.now }
+    requires leads { M.leads [] machine }
+    ensures { IfOk result (λ r. TellsRun (IsRunBefore (λ history. M.leads history r.1) (IsSerialRun M.lawful))
+        seed.now script.now r.0.entries.items r.0.notes.items) }
+{
     let sections = script.as_slice();
     let runners = fresh_runners(alloc, sections)?;
-    let (_mount, runners) = run_all(
+    let (mount, runners) = run_all(
         alloc,
         SerialMount::new(machine),
         runners,
@@ -49,7 +68,7 @@ pub(crate) fn run_in_rotation<G: Gate, S: Stretches, M: MountMachine>(
     scrub_stack();
     let mut told = told_by(alloc, runners)?;
     sort_by_place(&mut told.entries)?;
-    Ok(told)
+    Ok((told, mount.machine))
 }
 
 // The number of commands of the longest section.

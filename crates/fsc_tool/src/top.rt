@@ -4,13 +4,16 @@ ghost use Rattle.std.specs.Prelude.{◌≡◌, List, [], map, string_bytes};
 ghost use Rattle.std.specs.Option.{option_map_or};
 ghost use Rattle.fsc_outside.specs.Reads.{ReadCall};
 ghost use Rattle.fsc_tool.specs.Forms.{form_of};
+ghost use Rattle.fsc_tool.specs.LogOfRun.{IsLogOfRun};
 ghost use Rattle.fsc_tool.specs.Outside.{outside};
 ghost use Rattle.fsc_tool.specs.Replay.{IsReplay};
 ghost use Rattle.fsc_tool.specs.Runs.{IsLawfulRun, IsSerialRun};
 ghost use Rattle.fsc_tool.specs.Tool.{IsSerialToolRun, IsToolRun};
 
+use crate::dump::run_dumping;
 use crate::form::{Seeding, ToolForm, Way, leave_threads, read_form, wipe_words};
 use crate::gen_runs::{run_generating, run_summarising};
+use crate::inspect::run_inspecting;
 use crate::replay::{finish, prepare};
 use crate::rotation::run_in_rotation;
 use crate::threads::run_in_threads;
@@ -80,6 +83,8 @@ pub fn tool<
         Some(ToolForm::Summarise(number)) => {
             run_summarising(alloc, *number, sink, gate, machine)
         }
+        Some(ToolForm::Dump(seed)) => run_dumping(alloc, seed, source, sink, seeds, gate),
+        Some(ToolForm::Inspect(raw)) => run_inspecting(alloc, raw, source, sink),
     }
 }
 
@@ -118,6 +123,8 @@ pub fn tool_serial<S: Source, K: Sink, E: SeedSource, M: MountMachine>(
         Some(ToolForm::Summarise(number)) => {
             run_summarising(alloc, *number, sink, &OpenGate, machine)
         }
+        Some(ToolForm::Dump(seed)) => run_dumping(alloc, seed, source, sink, seeds, &OpenGate),
+        Some(ToolForm::Inspect(raw)) => run_inspecting(alloc, raw, source, sink),
     }
 }
 
@@ -135,7 +142,7 @@ fn replay_in_rotation<S: Source, K: Sink, E: SeedSource, G: Gate, M: MountMachin
     ensures { let before = outside (S.state source.old) (K.state sink.old) (E.state seeds.old) in
         let after = outside (S.state source.new) (K.state sink.new) (E.state seeds.new) in
         let came = λ (calls : List ReadCall). S.came source.old calls source.new in
-        IsReplay (IsSerialRun M.lawful) came seeding.old before after result }
+        IsReplay (IsLogOfRun (IsSerialRun M.lawful)) came seeding.old before after result }
 {
     let mut run = match prepare(alloc, seeding, source, seeds) {
         Ok(run) => run,
@@ -174,7 +181,7 @@ fn replay_in_threads<
     ensures { let before = outside (S.state source.old) (K.state sink.old) (E.state seeds.old) in
         let after = outside (S.state source.new) (K.state sink.new) (E.state seeds.new) in
         let came = λ (calls : List ReadCall). S.came source.old calls source.new in
-        IsReplay (IsLawfulRun M.lawful) came seeding.old before after result }
+        IsReplay (IsLogOfRun (IsLawfulRun M.lawful)) came seeding.old before after result }
 {
     let mut run = match prepare(alloc, seeding, source, seeds) {
         Ok(run) => run,

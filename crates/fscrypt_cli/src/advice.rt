@@ -2,6 +2,7 @@
 
 ghost use Rattle.std.specs.Prelude.{◌<◌, length};
 
+use crate::asked::Asked;
 use crate::bad_line::shown;
 use reply_text::Status;
 use std::io::IsTerminal;
@@ -23,15 +24,23 @@ const SEED_DIGITS: &str = "a seed is 64 hexadecimal digits";
 
 const DIGITS_OF_HALF_A_SEED: usize = 32;
 
+const RAW: &str = "raw:";
+
+const LEAST_KEY_DIGITS: usize = 64;
+
+const MOST_KEY_DIGITS: usize = 128;
+
 const NUMBER_OF_GEN: &str = "gen takes a number from 0 to 4294967295, without leading zeros";
 
-/// Tells on standard error that a script is waited for, where it comes from a terminal.
-pub(crate) fn tell_of_waiting(rt: &HostRuntime, words: &Vec<String>) {
-    let is_replay = words.len() > 0 && words[0].as_str() == "replay";
-    if is_replay && fault_of(words.as_slice()).is_none() && rt.stdin().is_terminal() {
-        let _ = eprintln!(rt;
-            "fsc: waiting for a script, a command a line, ended by Ctrl-D; or give it by < FILE"
-        );
+/// Tells on standard error that a script or an image is waited for, where it comes from a terminal.
+pub(crate) fn tell_of_waiting(rt: &HostRuntime, words: &Vec<String>, asked: Asked) {
+    let awaited = match asked.input() {
+        Some("script") => "a script, a command a line,",
+        Some(_) => "an image,",
+        None => return,
+    };
+    if fault_of(words.as_slice()).is_none() && rt.stdin().is_terminal() {
+        let _ = eprintln!(rt; "fsc: waiting for {awaited} ended by Ctrl-D; or give it by < FILE");
     }
 }
 
@@ -85,6 +94,8 @@ fn fault_of(words: &[String]) -> Option<WordFault> {
     match first.as_str() {
         "replay" => fault_of_replay(behind),
         "gen" => fault_of_gen(behind),
+        "dump" => fault_of_dump(behind),
+        "inspect" => fault_of_inspect(behind),
         "--help" | "--version" if behind.is_empty() => None,
         "--help" | "--version" => at(1, "nothing stands behind --help and --version"),
         "-h" | "-?" | "help" => at(0, "--help tells of the forms and commands"),
@@ -104,7 +115,7 @@ fn remedy_of_first(word: &str) -> &'static str {
     if is_path(word) {
         return SCRIPT_BY_INPUT;
     }
-    "a form begins with replay, gen, --help or --version"
+    "a form begins with replay, gen, dump, inspect, --help or --version"
 }
 
 // Whether the word looks like the name of a file.
@@ -179,6 +190,56 @@ fn remedy_of_option(word: &str) -> &'static str {
         return "replay has the options --serial and --seed HEX64, in this order";
     }
     SCRIPT_BY_INPUT
+}
+
+// The first word at fault behind `dump`.
+fn fault_of_dump(words: &[String]) -> Option<WordFault> {
+    match words {
+        [] => at(1, "dump takes a seed: fsc dump --seed HEX64"),
+        [option, ..] if option.as_str() != "--seed" => at(
+            1,
+            "dump takes a seed alone: fsc dump --seed HEX64",
+        ),
+        [_] => at(2, "64 hexadecimal digits stand behind --seed"),
+        [_, seed, ..] if !is_seed(seed.as_str()) => at(2, remedy_of_seed(seed.as_str())),
+        [_, _] => None,
+        [_, _, behind @ ..] => at(3, remedy_behind_seed(behind)),
+    }
+}
+
+// The first word at fault behind `inspect`.
+fn fault_of_inspect(words: &[String]) -> Option<WordFault> {
+    match words {
+        [] => None,
+        [key, ..] if !is_raw_key(key.as_str()) => at(1, remedy_of_raw_key(key.as_str())),
+        [_] => None,
+        _ => at(2, "nothing stands behind the key"),
+    }
+}
+
+fn is_raw_key(word: &str) -> bool {
+    let Some(digits) = word.as_bytes().get(RAW.len()..) else {
+        return false;
+    };
+    word.starts_with(RAW)
+        && digits.len() >= LEAST_KEY_DIGITS
+        && digits.len() <= MOST_KEY_DIGITS
+        && digits.len() % 2 == 0
+        && digits.iter().all(|byte| byte.is_ascii_hexdigit())
+}
+
+// What to do about a word in the place of a raw key.
+fn remedy_of_raw_key(word: &str) -> &'static str {
+    if word.starts_with("id:") {
+        return "an identifier opens nothing: give the key itself by raw:HEX";
+    }
+    if word.starts_with(RAW) {
+        return "a raw key is raw: and 64 to 128 hexadecimal digits, an even number";
+    }
+    if is_path(word) {
+        return "the image comes from standard input: fsc inspect < FILE";
+    }
+    "inspect takes a raw key, raw:HEX, or nothing"
 }
 
 // The first word at fault behind `gen`.

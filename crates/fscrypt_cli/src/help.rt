@@ -1,5 +1,6 @@
 //! What the program tells of itself, and behind a status what to do.
 
+use crate::asked::Asked;
 use crate::bad_line::{first_word, show_line};
 use crate::commands::GROUPS;
 use reply_text::Status;
@@ -18,6 +19,8 @@ log of it.
 
     fsc replay [--serial] [--seed HEX64]
     fsc gen NUMBER [--summary]
+    fsc dump --seed HEX64
+    fsc inspect [raw:HEX]
     fsc --help | --version
 
 The script comes from standard input. Its callers run in threads, and the log
@@ -26,6 +29,10 @@ instead. Without --seed the seed comes from the machine.
 
 gen writes the script that a number gives, from 0 to 4294967295. With --summary
 it runs that script in turns and writes entries, refused, busy and sha256.
+
+dump runs a script in turns, and writes the image of what then lies on the disk.
+inspect reads an image and lists its tree: with a raw key of 32 to 64 bytes in
+plain where that key encrypts it, else by the texts that stand for names.
 
 A script has a section for each of up to eight callers, which begins with
 `caller UID`, and in it a command a line. Words are parted by one space. A line
@@ -56,7 +63,7 @@ second of each section that has one, and so on. Callers count from 0.
 Exit statuses: 0 done, 2 usage, 3 a line at fault, 4 the input failed, 5 the
 output failed, 6 no seed, 7 the input is too long, 8 no memory.
 
-Documents: docs/FORMATS.md (scripts and logs), docs/ANSWERS.md (replies and
+Documents: docs/FORMATS.md (scripts, logs, images), docs/ANSWERS.md (replies and
 statuses), docs/LINUX.md (what differs from Linux), docs/fsc.1.
 
 Example, where SEED is 64 hexadecimal digits:
@@ -93,19 +100,35 @@ fn push_group(text: &mut String, title: &str, lines: &[&str]) -> Result<(), Allo
     Ok(())
 }
 
-/// Tells on standard error what to do about a status. The input is what the source gave, which may be
+/// Tells on standard error what to do about a status of a form. The input is what the source gave, which may be
 /// nothing.
-pub(crate) fn advise(rt: &HostRuntime, status: Status, input: &[u8]) {
+pub(crate) fn advise(rt: &HostRuntime, asked: Asked, status: Status, input: &[u8]) {
     let advice = match status {
         Status::Done => return,
+        Status::BadLine { .. } if asked == Asked::Listing =>
+            "docs/FORMATS.md tells of the lines of an image, under Images",
         Status::BadLine { .. } => return show_line(rt, input),
         Status::Usage => "a word of the command line is no text",
-        Status::ReadFault => "standard input failed: give the script by < FILE",
-        Status::WriteFault =>
-            "what was written is a beginning of the log; make room and run it again",
+        Status::ReadFault => return tell_of_input(rt, asked),
+        Status::WriteFault => return tell_of_output(rt, asked),
         Status::SeedFault => "the machine gave no seed: give one by --seed HEX64",
+        Status::TooLong if asked == Asked::Listing => "an image has at most 268435456 bytes",
         Status::TooLong => "a script has at most 1048576 bytes and 20000 lines",
         Status::NoMemory => "run it again where more memory is free",
     };
     let _ = eprintln!(rt; "fsc: {advice}");
+}
+
+// What to do where standard input failed.
+fn tell_of_input(rt: &HostRuntime, asked: Asked) {
+    let input = asked.input().unwrap_or("script");
+    let _ = eprintln!(rt; "fsc: standard input failed: give the {input} by < FILE");
+}
+
+// What to do where the output failed.
+fn tell_of_output(rt: &HostRuntime, asked: Asked) {
+    let output = asked.output();
+    let _ = eprintln!(rt;
+        "fsc: what was written is a beginning of the {output}; make room and run it again"
+    );
 }

@@ -77,10 +77,10 @@ impl KeptText {
 }
 
 // Puts bytes behind a text, which has room for the longest one, so that none is moved when more of it comes: a
-// move would leave its secrets in freed memory. False where there was no memory.
+// move would leave its secrets in freed memory. False where the text is longer than a script, or there was no memory.
 fn put_behind(text: &mut Vec<u8>, bytes: &[u8]) -> bool {
     let room = (MOST_INPUT_BYTES + 1).saturating_sub(text.len());
-    text.reserve_exact(room).is_ok() && text.extend_from_slice(bytes).is_ok()
+    bytes.len() <= room && text.reserve_exact(room).is_ok() && text.extend_from_slice(bytes).is_ok()
 }
 
 /// A source whose bytes are kept.

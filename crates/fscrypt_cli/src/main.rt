@@ -2,6 +2,7 @@
 #![tactic(auto)]
 
 mod advice;
+mod asked;
 mod bad_line;
 mod caused;
 mod commands;
@@ -11,6 +12,7 @@ mod lines;
 mod telling;
 
 use advice::{advise_words, tell_of_closed, tell_of_waiting};
+use asked::Asked;
 use byte_words::wipe;
 use caused::CausedSink;
 use fsc_outside::{RuntimeSeed, StdSource, write_all};
@@ -27,7 +29,7 @@ use telling::TellingGate;
 fn main(rt: HostRuntime) -> ExitCode {
     let mut words = match words_of(&rt) {
         Ok(words) => words,
-        Err(status) => return end(rt, status, &[]),
+        Err(status) => return end(rt, Asked::Other, status, &[]),
     };
     if words.len() == 1 {
         match words[0].as_str() {
@@ -36,10 +38,11 @@ fn main(rt: HostRuntime) -> ExitCode {
             _ => {}
         }
     }
+    let asked = Asked::of(words.as_slice());
     let Ok(mount) = Mount::new(rt.alloc()) else {
-        return end(rt, Status::NoMemory, &[]);
+        return end(rt, Asked::Other, Status::NoMemory, &[]);
     };
-    tell_of_waiting(&rt, &words);
+    tell_of_waiting(&rt, &words, asked);
     let is_terminal = rt.stderr().is_terminal();
     let kept = KeptText::new(rt.alloc(), is_terminal);
     let mut sink = CausedSink::over(rt.stdout());
@@ -56,18 +59,18 @@ fn main(rt: HostRuntime) -> ExitCode {
     match status {
         Status::Usage => advise_words(&rt, &words),
         Status::WriteFault if sink.is_closed() => tell_of_closed(&rt),
-        _ => return end_run(rt, status, kept),
+        _ => return end_run(rt, asked, status, kept),
     }
     kept.forget();
     ExitCode::from(status.number())
 }
 
 // The same as `end` for a run, whose input is shown where a line of it is at fault, and overwritten then.
-fn end_run(rt: HostRuntime, status: Status, kept: KeptText) -> ExitCode {
+fn end_run(rt: HostRuntime, asked: Asked, status: Status, kept: KeptText) -> ExitCode {
     let Some(mut text) = kept.into_text() else {
-        return end(rt, status, &[]);
+        return end(rt, asked, status, &[]);
     };
-    let code = end(rt, status, text.as_slice());
+    let code = end(rt, asked, status, text.as_slice());
     wipe(text.as_mut_slice());
     code
 }
@@ -89,7 +92,7 @@ fn words_of(rt: &HostRuntime) -> Result<Vec<String>, Status> {
 fn tell_help(rt: HostRuntime) -> ExitCode {
     match help_text(rt.alloc()) {
         Ok(text) => tell(rt, text.as_str()),
-        Err(_) => end(rt, Status::NoMemory, &[]),
+        Err(_) => end(rt, Asked::Other, Status::NoMemory, &[]),
     }
 }
 
@@ -100,17 +103,17 @@ fn tell(rt: HostRuntime, text: &str) -> ExitCode {
         return ExitCode::from(Status::Done.number());
     }
     if !sink.is_closed() {
-        return end(rt, Status::WriteFault, &[]);
+        return end(rt, Asked::Other, Status::WriteFault, &[]);
     }
     tell_of_closed(&rt);
     ExitCode::from(Status::WriteFault.number())
 }
 
 // Prints the status and what to do on standard error, unless the run is done, and ends with its number.
-fn end(rt: HostRuntime, status: Status, input: &[u8]) -> ExitCode {
+fn end(rt: HostRuntime, asked: Asked, status: Status, input: &[u8]) -> ExitCode {
     if status != Status::Done {
         let _ = eprintln!(rt; "{status}");
-        advise(&rt, status, input);
+        advise(&rt, asked, status, input);
     }
     ExitCode::from(status.number())
 }

@@ -1,0 +1,38 @@
+-- What an image is of.
+use Rattle.std.proofs.Common.{◌≡◌, ℕ, false, List, ap, ◌∙◌, subst}
+use Rattle.std.specs.List.{list_any}
+use Rattle.call_history.specs.Placed.{entries_of}
+use Rattle.call_history.proofs.Placing.{map-numbered}
+use Rattle.mount_model.specs.History.{NeverWantsMemory, is_want_of_memory, mount_after}
+use Rattle.mount_model.specs.Lawful.{KeysAgree}
+use Rattle.mount_shared.specs.StandsAfter.{StandsAfter}
+use Rattle.mount_state.specs.declared.state.MountState.{MountState}
+use Rattle.script_lang.specs.declared.commands.Section.{Section}
+use Rattle.reply_text.specs.Shown.{PlacedShown, ShownEntry, ShownHistory, shown_history}
+use Rattle.reply_text.specs.declared.notes.Note.{Note}
+use Rattle.image_lines.specs.ImageText.{image_text}
+use Rattle.tree_image.specs.Images.{image_of}
+use Rattle.tree_image.proofs.ImageLemmas.{images_agree}
+use Rattle.fsc_tool.specs.ImageOfRun.{IsImageOfRun, RanOnMount, image_after}
+use Rattle.fsc_tool.proofs.GenLemmas.{never_wants}
+
+-- the image of the disk that a run in rotation left
+pub image_is : (seed : List ℕ) (script : List Section) (told : PlacedShown) (notes : List Note) (state : MountState) (history : ShownHistory) (text : List ℕ)
+    → RanOnMount seed script told notes state → history ≡ entries_of told
+    → list_any (λ (e : ShownEntry). is_want_of_memory e.reply) history ≡ false → text ≡ image_text (image_of state.disk)
+    → IsImageOfRun seed script text
+image_is seed script told notes state history text ran listed none written =
+    let is : history ≡ shown_history ran.history = listed ∙ ap entries_of ran.in_place ∙ map-numbered 0 (shown_history ran.history) in
+    let no_want : NeverWantsMemory ran.history =
+    never_wants ran.history (subst (λ (h : ShownHistory). list_any (λ (e : ShownEntry). is_want_of_memory e.reply) h ≡ false) is none) in
+    let led : StandsAfter ran.history state = ran.run.1 in
+    let image : (agree : KeysAgree ran.history) → text ≡ image_after ran.history =
+    λ agree. written ∙ ap image_text (images_agree state.disk state.next_node (mount_after ran.history) (led.stands agree).tree) in
+    record {
+      history = ran.history;
+      run = ran.run.0;
+      no_want = no_want;
+      image = image;
+      fixed = λ agree. image agree ∙ ap image_after (((ran.run).0).serial (led.lawful.legal agree) no_want);
+      well = λ agree. (led.stands agree).well;
+    }

@@ -1,0 +1,34 @@
+-- The image of the mount that a run of a script leaves.
+use Rattle.std.specs.Prelude.{◌≡◌, ℕ, List}
+use Rattle.mount_model.specs.History.{History, NeverWantsMemory, mount_after}
+use Rattle.mount_model.specs.Lawful.{IsLawful, KeysAgree}
+use Rattle.mount_model.specs.WellFormed.{IsWellFormed}
+use Rattle.script_lang.specs.declared.commands.Section.{Section}
+use Rattle.mount_state.specs.declared.state.MountState.{MountState}
+use Rattle.mount_shared.specs.StandsAfter.{StandsAfter}
+use Rattle.reply_text.specs.Shown.{PlacedShown}
+use Rattle.reply_text.specs.declared.notes.Note.{Note}
+use Rattle.image_lines.specs.ImageText.{image_text}
+use Rattle.tree_image.specs.Images.{mount_image}
+use Rattle.fsc_session.specs.Serial.{serial_history}
+use Rattle.fsc_tool.specs.Runs.{IsRunBefore, IsSerialRun, TellsRun}
+
+-- the text of the image of the mount that a history leaves
+abbrev pub image_after : History → List ℕ
+image_after history = image_text (mount_image (mount_after history))
+
+-- what was told of a run in rotation on a mount of its own, and the state in which it left that mount
+abbrev pub RanOnMount : List ℕ → List Section → PlacedShown → List Note → MountState → Type 0
+RanOnMount seed script placed notes state =
+    TellsRun (IsRunBefore (λ history. StandsAfter history state) (IsSerialRun IsLawful)) seed script placed notes
+
+-- the text is the image of the mount that a run in rotation leaves in which no call wanted memory, where the raw keys
+-- agree that were added; then it is a function of script and seed
+pub record IsImageOfRun (seed : List ℕ) (script : List Section) (text : List ℕ) : Type 0 where
+  pub history : History
+  pub run : IsSerialRun IsLawful seed script history
+  pub no_want : NeverWantsMemory history
+  pub image : KeysAgree history → text ≡ image_after history
+  pub fixed : KeysAgree history → text ≡ image_after (serial_history seed script)
+  -- the mount is one, as the laws ask for
+  pub well : KeysAgree history → IsWellFormed (mount_after history)

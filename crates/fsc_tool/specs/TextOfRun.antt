@@ -1,0 +1,22 @@
+-- The text of a run of a script, from what the run met outside.
+use Rattle.std.specs.Prelude.{◌≡◌, ℕ, List, Ok}
+use Rattle.script_lang.specs.declared.commands.Section.{Section}
+use Rattle.script_lang.specs.Script.{parsed_script}
+use Rattle.fsc_outside.specs.Input.{ReadWhole}
+use Rattle.fsc_outside.specs.Reads.{ReadCall}
+use Rattle.fsc_tool.specs.declared.form.Seeding.{Seeding}
+use Rattle.fsc_tool.specs.Limits.{input_limits}
+use Rattle.fsc_tool.specs.Outside.{Outside}
+use Rattle.fsc_tool.specs.Seed.{IsSeedOf}
+
+-- the source gave an input within the limits, by the calls by which it came, that is this script, the run had
+-- this seed, and the text is one of a run of the script with the seed
+pub record HasText (IsText : List ℕ → List Section → List ℕ → Type 0)
+    (Came : List ReadCall → Type 0) (seeding : Seeding) (a b : Outside) (text : List ℕ) : Type 0 where
+  pub input : List ℕ
+  pub read : ReadWhole input_limits Came a.source b.source input
+  pub script : List Section
+  pub spelled : parsed_script input ≡ Ok script
+  pub seed : List ℕ
+  pub seeded : IsSeedOf seeding a.seeds b.seeds seed
+  pub right : IsText seed script text

@@ -1,0 +1,88 @@
+//! The run whose mount is written as an image. It makes its calls on a mount of its own.
+
+ghost use Rattle.std.specs.Prelude.{ℕ, List, IfOk};
+ghost use Rattle.fsc_outside.specs.Reads.{ReadCall};
+ghost use Rattle.script_lang.specs.Spelled.{IsSpelled};
+ghost use Rattle.script_lang.specs.declared.commands.Section.{Section};
+ghost use Rattle.fsc_tool.specs.ImageOfRun.{IsImageOfRun, RanOnMount};
+ghost use Rattle.fsc_tool.specs.Outside.{outside};
+ghost use Rattle.fsc_tool.specs.Replay.{IsReplay};
+ghost use Rattle.fsc_tool.specs.declared.form.Seeding.TheVariants.{Given};
+
+use crate::form::Seeding;
+use crate::replay::{history_of, prepare};
+use crate::rotation::rotate;
+use crate::summary::wants_memory;
+use crate::told::Told;
+use crate::writing::write_text;
+use byte_words::wipe;
+use fsc_commands::OnOneThread;
+use fsc_outside::{Gate, SeedSource, Sink, Source};
+use item_list::Bytes;
+use mount_shared::Mount;
+use reply_text::Status;
+use script_lang::Script;
+use std::alloc::{AllocError, Global};
+use tree_image::write_image;
+
+// A replay in rotation of the script that the source gives, with this seed, on a mount of its own: the image of
+// the mount that it leaves goes into the sink.
+pub(crate) fn run_dumping<S: Source, K: Sink, E: SeedSource, G: Gate>(
+    alloc: Global,
+    seed: &mut [u8; 32],
+    source: &mut S,
+    sink: &mut K,
+    seeds: &mut E,
+    gate: &G,
+) -> Status
+    ensures { let before = outside (S.state source.old) (K.state sink.old) (E.state seeds.old) in
+        let after = outside (S.state source.new) (K.state sink.new) (E.state seeds.new) in
+        let came = λ (calls : List ReadCall). S.came source.old calls source.new in
+        IsReplay IsImageOfRun came (Given seed.old) before after result }
+{
+    let mut seeding = Seeding::Given(*seed);
+    wipe(seed);
+    let mut run = match prepare(alloc, &mut seeding, source, seeds) {
+        Ok(run) => run,
+        Err(status) => return status,
+    };
+    let ran = run_on_mount(alloc, &run.script, &run.seed, gate);
+    run.wipe(alloc);
+    let (told, mount) = match ran {
+        Ok(ran) => ran,
+        Err(_) => return Status::NoMemory,
+    };
+    match image_of(alloc, told, mount) {
+        Ok(text) => write_text(text, sink),
+        Err(_) => Status::NoMemory,
+    }
+}
+
+// A run of the script in rotation on an empty mount, with the mount as it leaves it.
+fn run_on_mount<G: Gate>(
+    alloc: Global,
+    script: &Script,
+    seed: &[u8; 32],
+    gate: &G,
+) -> Result<(Told, Mount), AllocError>
+    requires { IsSpelled script.now }
+    ensures { IfOk result (λ r. RanOnMount seed.now script.now r.0.entries.items r.0.notes.items r.1.state) }
+{
+    let mount = Mount::new(alloc)?;
+    rotate(alloc, script, seed, gate, &OnOneThread, mount)
+}
+
+// The image of the mount that a run left. A run in which a call wanted memory has none: what it would show depends
+// on where memory was wanting.
+fn image_of(alloc: Global, told: Told, mount: Mount) -> Result<Bytes, AllocError>
+    ensures { IfOk result (λ text. (seed : List ℕ) (script : List Section)
+        → RanOnMount seed script told.entries.items told.notes.items mount.state
+        → IsImageOfRun seed script text) }
+{
+    let history = history_of(alloc, told.entries)?;
+    if wants_memory(history.as_slice()) {
+        return Err(AllocError);
+    }
+    let text = write_image(alloc, &mount.state.disk)?;
+    Ok(text)
+}

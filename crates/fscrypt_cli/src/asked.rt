@@ -1,0 +1,48 @@
+//! What a form reads from standard input, and writes.
+
+/// What standard input gives.
+#[derive(Clone, Copy, PartialEq, Eq)]
+pub(crate) enum Asked {
+    /// A script, of whose run the log is written.
+    Log,
+    /// A script, of whose run the image is written.
+    Image,
+    /// An image, which is listed.
+    Listing,
+    /// Nothing.
+    Other,
+}
+
+impl Asked {
+    /// What the first word asks for.
+    pub(crate) fn of(words: &[String]) -> Asked {
+        let [first, ..] = words else {
+            return Asked::Other;
+        };
+        match first.as_str() {
+            "replay" => Asked::Log,
+            "dump" => Asked::Image,
+            "inspect" => Asked::Listing,
+            _ => Asked::Other,
+        }
+    }
+
+    /// What standard input gives, if it is read.
+    pub(crate) fn input(self) -> Option<&'static str> {
+        match self {
+            Asked::Log | Asked::Image => Some("script"),
+            Asked::Listing => Some("image"),
+            Asked::Other => None,
+        }
+    }
+
+    /// What is written.
+    pub(crate) fn output(self) -> &'static str {
+        match self {
+            Asked::Log => "log",
+            Asked::Image => "image",
+            Asked::Listing => "listing",
+            Asked::Other => "text",
+        }
+    }
+}
