@@ -1,0 +1,4 @@
+pub mod BackLemmas
+pub mod CallerLemmas
+pub mod ListingLemmas
+pub mod NextLemmas

@@ -1,0 +1,45 @@
+-- The names of the last listing stand in the last entry that tells names.
+use Rattle.std.proofs.Common.{◌≡◌, ℕ, Bool, true, false, List, [], ◌∷◌, ◌++◌, Some, None, Option, refl, ap, sym, ◌∙◌}
+use Rattle.std.specs.Prelude.{is_some, unwrap_or}
+use Rattle.mount_model.specs.declared.reply.Reply.{Reply}
+use Rattle.mount_model.specs.declared.reply.Reply.TheVariants as reply
+use Rattle.reply_text.specs.Shown.{ShownEntry, PlacedShown}
+use Rattle.fsc_commands.specs.Steps.{names_after, names_told, names_in}
+use Rattle.fsc_commands.proofs.StepsLemmas.{names_in-append}
+
+after_told : (names : List (List ℕ)) (reply : Reply) → names_after names reply ≡ unwrap_or (names_told reply) names
+after_told names (reply.Names other more) = refl
+after_told names (reply.Added id) = refl
+after_told names (reply.Removed others busy) = refl
+after_told names (reply.Status state by_self users) = refl
+after_told names reply.Done = refl
+after_told names (reply.PolicyIs policy) = refl
+after_told names (reply.Stat kind node size encrypted keyed) = refl
+after_told names (reply.Opened number) = refl
+after_told names (reply.Content bytes) = refl
+after_told names (reply.Target bytes) = refl
+after_told names (reply.Held version bytes) = refl
+after_told names (reply.Stored version) = refl
+after_told names (reply.Refused refusal) = refl
+
+none_told : (names : List (List ℕ)) (told : Option (List (List ℕ))) → is_some told ≡ false → unwrap_or told names ≡ names
+none_told names None none = refl
+none_told names (Some listed) none = absurd (cc none)
+
+some_told : (names : List (List ℕ)) (told : Option (List (List ℕ))) → is_some told ≡ true → unwrap_or told names ≡ unwrap_or told []
+some_told names None some = absurd (cc some)
+some_told names (Some listed) some = refl
+
+-- an entry that tells none leaves them
+pub listing_before : (now before : PlacedShown) (x : ℕ × ShownEntry) → now ≡ before ++ x ∷ [] → is_some (names_told x.1.reply) ≡ false
+    → names_in before ≡ names_in now
+listing_before now before x is none =
+    sym (ap names_in is ∙ names_in-append before (x ∷ []) ∙ after_told (names_in before) x.1.reply
+    ∙ none_told (names_in before) (names_told x.1.reply) none)
+
+-- one that tells some tells the last of them
+pub listing_is : (now before : PlacedShown) (x : ℕ × ShownEntry) → now ≡ before ++ x ∷ [] → is_some (names_told x.1.reply) ≡ true
+    → names_in (x ∷ []) ≡ names_in now
+listing_is now before x is some =
+    after_told [] x.1.reply ∙ sym (some_told (names_in before) (names_told x.1.reply) some) ∙ sym (after_told (names_in before) x.1.reply)
+    ∙ sym (names_in-append before (x ∷ [])) ∙ sym (ap names_in is)

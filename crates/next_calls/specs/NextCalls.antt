@@ -1,0 +1,52 @@
+-- What a command does after the replies to its calls.
+use Rattle.std.specs.Prelude.{◌≡◌, ⊤, ℕ, List, [], ◌++◌, map, Option, Some, None}
+use Rattle.call_history.specs.Placed.{entries_of}
+use Rattle.mount_model.specs.declared.call.Call.{Call}
+use Rattle.mount_model.specs.declared.reply.Reply.{Reply}
+use Rattle.mount_model.specs.Fits.{Fits}
+use Rattle.mount_model.specs.History.{History}
+use Rattle.mount_model.specs.Port.{PlacedCalls}
+use Rattle.reply_text.specs.Shown.{PlacedShown, shown_calls}
+use Rattle.fsc_commands.specs.Steps.{Reaches, next_of}
+use Rattle.fsc_commands.specs.Steps.Steps.{Done}
+use Rattle.fsc_commands.specs.CommandSteps.{CommandSteps}
+use Rattle.next_calls.specs.declared.next.Next.{Next}
+use Rattle.next_calls.specs.declared.next.Next.TheVariants as next
+
+-- what each entry was replied
+abbrev pub replies_of : History → List Reply
+replies_of es = map (λ e. e.reply) es
+
+-- the same of what is shown of entries
+abbrev pub shown_replies : PlacedShown → List Reply
+shown_replies placed = map (λ x. x.1.reply) placed
+
+-- the caller's call; none where the command has ended
+abbrev pub call_told : ℕ → Next → Option (ℕ × Call)
+call_told caller (next.Call call) = Some (caller, call)
+call_told caller (next.Ended outcome) = None
+
+-- where steps have ended: the entries after which they have, of which the new list has what is shown, are all
+-- that can have had these replies
+abbrev pub EndsSo : CommandSteps → List Reply → PlacedShown → PlacedShown → Next → Type 0
+EndsSo steps replies old new (next.Call call) = new ≡ old
+EndsSo steps replies old new (next.Ended outcome) =
+    (made : PlacedCalls) × (new ≡ old ++ shown_calls made)
+    × ((told : History) (rest : CommandSteps) → replies_of told ≡ replies → Reaches steps told rest
+    → (told ≡ entries_of made) × (rest ≡ Done outcome))
+
+-- what steps do after any entries that had these replies: the call that comes next, or how they have ended
+pub record IsNext (caller : ℕ) (steps : CommandSteps) (replies : List Reply) (old new : PlacedShown)
+    (it : Next) : Type 0 where
+  pub call : (told : History) → replies_of told ≡ replies → next_of steps told ≡ call_told caller it
+  pub ends : EndsSo steps replies old new it
+
+-- a mount may be asked the call
+abbrev pub NextFits : Next → Type 0
+NextFits (next.Call call) = Fits call
+NextFits (next.Ended outcome) = ⊤
+
+-- the replies that are left of these
+abbrev pub replies_left : List Reply → Next → List Reply
+replies_left replies (next.Call call) = replies
+replies_left replies (next.Ended outcome) = []

@@ -1,0 +1,11 @@
+//! What a caller of a script asks for next, after what it was replied so far: each command is run on a port
+//! that answers just that.
+#![tactic(auto)]
+
+mod caller;
+mod next;
+mod remembering;
+
+pub use caller::Caller;
+pub use next::{Next, next_call};
+pub use remembering::Remembering;

@@ -1,0 +1,179 @@
+//! A way to stretch passphrases that remembers the last tags.
+
+ghost use Rattle.std.specs.Prelude.{◌≡◌, [], length, IsTrue};
+ghost use Rattle.argon_kdf.specs.Argon2id.{argon2id_tag};
+
+use argon_kdf::Costs;
+use byte_words::wipe;
+use fsc_commands::Stretches;
+use std::alloc::{AllocError, Global};
+use std::cell::RefCell;
+use std::marker::Model;
+
+// A password and a salt with the tag that Argon2id makes of them.
+#[derive(Drop)]
+struct Stretched {
+    costs: Costs,
+    password: Vec<u8>,
+    salt: Vec<u8>,
+    tag: Vec<u8>,
+    ghost right: { tag.items ≡ argon2id_tag costs password.items salt.items [] [] },
+    ghost sized: { length tag.items ≡ 32 },
+}
+
+/// A way to stretch passphrases that keeps the last two tags which it made, with what they were made of. A
+/// password and a salt of which one is kept is not stretched again. Two are enough for a command that is run
+/// again and again, since none opens more than two protectors.
+#[derive(Drop)]
+pub struct Remembering<'a, S: Stretches> {
+    way: &'a S,
+    last: RefCell<Option<Stretched>>,
+    before: RefCell<Option<Stretched>>,
+}
+
+impl<'a, S: Stretches> Model for Remembering<'a, S> {
+    ghost Value = { S };
+
+    ghost view = { λ r. r.way.now };
+}
+
+impl<'a, S: Stretches> Remembering<'a, S> {
+    /// It remembers none yet, and stretches in this way.
+    pub fn new(way: &'a S) -> Remembering<'a, S>
+        ensures { result ≡ way.now }
+    {
+        Remembering {
+            way,
+            last: RefCell::new(None),
+            before: RefCell::new(None),
+        }
+    }
+
+    /// Overwrites what is kept, and lets it go.
+    pub fn forget(self) {
+        replace_kept(&self.last, None);
+        replace_kept(&self.before, None);
+    }
+
+    // Keeps a tag in place of the one before the last, where there is memory for what it was made of.
+    fn keep(&self, alloc: Global, costs: &Costs, password: &[u8], salt: &[u8], tag: &[u8; 32])
+        requires { tag.now ≡ argon2id_tag costs.now password.now salt.now [] [] }
+    {
+        if let Ok(stretched) = stretched_of(alloc, costs, password, salt, tag) {
+            if let Ok(former) = self.last.try_replace(Some(stretched)) {
+                replace_kept(&self.before, former);
+            }
+        }
+    }
+}
+
+impl<'a, S: Stretches> Stretches for Remembering<'a, S> {
+    ghost ready = { λ way. S.ready way };
+
+    fn stretch(
+        &self,
+        alloc: Global,
+        costs: &Costs,
+        password: &[u8],
+        salt: &[u8],
+        tag: &mut [u8; 32],
+    ) -> Result<(), AllocError> {
+        if recalls(&self.last, costs, password, salt, tag) {
+            return Ok(());
+        }
+        if recalls(&self.before, costs, password, salt, tag) {
+            return Ok(());
+        }
+        self.way.stretch(alloc, costs, password, salt, tag)?;
+        self.keep(alloc, costs, password, salt, tag);
+        Ok(())
+    }
+}
+
+// Writes the tag that is kept, if one is, where it is that of this password and salt.
+fn recalls(
+    kept: &RefCell<Option<Stretched>>,
+    costs: &Costs,
+    password: &[u8],
+    salt: &[u8],
+    tag: &mut [u8; 32],
+) -> bool
+    ensures { IsTrue result → tag.new ≡ argon2id_tag costs.now password.now salt.now [] [] }
+{
+    let Ok(kept) = kept.try_borrow() else {
+        return false;
+    };
+    match &*kept {
+        Some(stretched) => recalled(stretched, costs, password, salt, tag),
+        None => false,
+    }
+}
+
+// Writes the tag, where it is that of this password and salt at these costs.
+fn recalled(
+    stretched: &Stretched,
+    costs: &Costs,
+    password: &[u8],
+    salt: &[u8],
+    tag: &mut [u8; 32],
+) -> bool
+    ensures { IsTrue result → tag.new ≡ argon2id_tag costs.now password.now salt.now [] [] }
+{
+    if stretched.costs == *costs
+        && stretched.password.as_slice() == password
+        && stretched.salt.as_slice() == salt
+    {
+        tag.copy_from_slice(stretched.tag.as_slice());
+        return true;
+    }
+    false
+}
+
+// What is kept of a stretch. Where there is no memory for it all, what was copied by then is overwritten.
+fn stretched_of(
+    alloc: Global,
+    costs: &Costs,
+    password: &[u8],
+    salt: &[u8],
+    tag: &[u8; 32],
+) -> Result<Stretched, AllocError>
+    requires { tag.now ≡ argon2id_tag costs.now password.now salt.now [] [] }
+{
+    let salt = Vec::from_slice(alloc, salt)?;
+    let mut tag = Vec::from_slice(alloc, tag)?;
+    match Vec::from_slice(alloc, password) {
+        Ok(password) => Ok(Stretched {
+            costs: *costs,
+            password,
+            salt,
+            tag,
+        }),
+        Err(_) => {
+            wipe(tag.as_mut_slice());
+            Err(AllocError)
+        }
+    }
+}
+
+// Keeps this, and overwrites what was kept before.
+fn replace_kept(kept: &RefCell<Option<Stretched>>, next: Option<Stretched>) {
+    match kept.try_replace(next) {
+        Ok(former) => overwrite(former),
+        Err(next) => overwrite(next),
+    }
+}
+
+// Writes zeros over the password and its tag.
+fn overwrite(stretched: Option<Stretched>) {
+    if let Some(
+        Stretched {
+            mut password,
+            mut tag,
+            ..
+        },
+    ) = stretched
+    {
+        wipe(password.as_mut_slice());
+        wipe(tag.as_mut_slice());
+    }
+}
