@@ -1,8 +1,8 @@
 -- What a caller stands for goes on by a reply.
-use Rattle.std.proofs.Common.{◌≡◌, ℕ, ◌+◌, ◌≤◌, List, [], ◌∷◌, ◌++◌, drop, length, Some, None, Option, refl, ap, sym, ◌∙◌, subst, append_assoc, append-nil, ⊎_elim}
+use Rattle.std.proofs.Common.{◌≡◌, ℕ, ◌+◌, ◌≤◌, List, [], ◌∷◌, ◌++◌, drop, length, reverse, Some, None, Option, Result, Ok, Err, OnOk, refl, ap, sym, ◌∙◌, subst, append_assoc, append-nil, ⊎_elim}
 use Rattle.std.specs.Prelude.{slice_get}
-use Rattle.std.proofs.lemmas.List.{map-append}
-use Rattle.std.proofs.lemmas.Option.{slice_get_cases}
+use Rattle.std.proofs.lemmas.List.{map-append, reverse-append}
+use Rattle.std.proofs.lemmas.Option.{slice_get_cases, slice_get_past}
 use Rattle.call_history.specs.Entries.{entry}
 use Rattle.call_history.specs.Placed.{entries_of}
 use Rattle.mount_model.specs.declared.call.Call.{Call}
@@ -26,7 +26,8 @@ use Rattle.fsc_session.specs.Stopping as stopping
 use Rattle.fsc_session.proofs.RunLemmas.{drop-at, run_goes_on, run_is_whole, notes_are_whole}
 use Rattle.fsc_session.proofs.StopLemmas.{is_begun}
 use Rattle.fsc_session.proofs.LawLemmas.{next_calls}
-use Rattle.next_calls.specs.NextCalls.{replies_of, EndsSo}
+use Rattle.next_calls.specs.NextCalls.{IsNext, EndsSo, replies_of, replies_left}
+use Rattle.next_calls.specs.declared.next.Next.{Next}
 use Rattle.next_calls.specs.declared.next.Next.TheVariants as next
 use Rattle.next_calls.specs.Callers.{CallerView, StandsIn, Awaits, caller_view, steps_of, steps_under_way}
 
@@ -231,3 +232,72 @@ stands_replied seed caller section n names replies notes call reply place placed
       replies = ap replies_of several ∙ map-append (λ (e : MountEntry). e.reply) (entries_of s.made) (entry caller call reply ∷ [])
           ∙ ap (λ (l : List Reply). l ++ reply ∷ []) s.replies;
     }
+
+-- ---- what a caller's functions do, in terms of its fields
+
+pub new_stands : (seed : List ℕ) (caller : ℕ) (section : Section) (listing : PlacedShown) (listed : List Reply) (notes : List Note) → listing ≡ [] → listed ≡ [] → notes ≡ []
+    → StandsIn seed (caller_view caller section 0 (names_in listing) (reverse listed) notes None) []
+new_stands seed caller section listing listed notes none unreplied unnoted =
+    subst (λ (l : PlacedShown). StandsIn seed (caller_view caller section 0 (names_in l) (reverse listed) notes None) []) (sym none)
+    (subst (λ (l : List Reply). StandsIn seed (caller_view caller section 0 [] (reverse l) notes None) []) (sym unreplied)
+    (subst (λ (l : List Note). StandsIn seed (caller_view caller section 0 [] [] l None) []) (sym unnoted) (stands_new seed caller section)))
+
+pub none_left : (seed : List ℕ) (caller : ℕ) (section : Section) (n : ℕ) (names : List (List ℕ)) (replies : List Reply) (notes : List Note)
+    (waiting after : Option Call) (self : CallerView) (placed : PlacedCalls) → caller_view caller section n names replies notes waiting ≡ self
+    → length section.commands ≤ n → after ≡ None → StandsIn seed self placed → Awaits seed (caller_view caller section n names replies notes after) placed
+none_left seed caller section n names replies notes waiting after self placed is past none so =
+    subst (λ (w : Option Call). Awaits seed (caller_view caller section n names replies notes w) placed) (sym none)
+    (awaits_none seed caller section n names replies notes waiting placed (subst (λ (v : CallerView). StandsIn seed v placed) (sym is) so) (slice_get_past section.commands n past))
+
+pub call_next : (seed : List ℕ) (caller : ℕ) (section : Section) (n : ℕ) (old new : PlacedShown) (listed left : List Reply) (notes : List Note)
+    (waiting after : Option Call) (self : CallerView) (placed : PlacedCalls) (command : Command) (it : Next) (call : Call)
+    → caller_view caller section n (names_in old) (reverse listed) notes waiting ≡ self → slice_get section.commands n ≡ Some command
+    → IsNext caller (command_steps seed caller section.uid n (names_in old) command.verb) (reverse listed) old new it → left ≡ replies_left listed it
+    → it ≡ next.Call call → after ≡ Some call → StandsIn seed self placed
+    → Awaits seed (caller_view caller section n (names_in new) (reverse left) notes after) placed
+call_next seed caller section n old new listed left notes waiting after self placed command it call is here next_is leaves call_is waits so =
+    let its : IsNext caller (command_steps seed caller section.uid n (names_in old) command.verb) (reverse listed) old new (next.Call call) =
+    subst (λ (i : Next). IsNext caller (command_steps seed caller section.uid n (names_in old) command.verb) (reverse listed) old new i) call_is next_is in
+    subst (λ (l : PlacedShown). Awaits seed (caller_view caller section n (names_in l) (reverse left) notes after) placed) (sym its.ends)
+    (subst (λ (l : List Reply). Awaits seed (caller_view caller section n (names_in old) (reverse l) notes after) placed) (sym (leaves ∙ ap (replies_left listed) call_is))
+    (subst (λ (w : Option Call). Awaits seed (caller_view caller section n (names_in old) (reverse listed) notes w) placed) (sym waits)
+    (awaits_call seed caller section n (names_in old) (reverse listed) notes waiting placed command call
+    (subst (λ (v : CallerView). StandsIn seed v placed) (sym is) so) here its.call)))
+
+pub command_ended : (seed : List ℕ) (caller : ℕ) (section : Section) (n : ℕ) (old between new : PlacedShown) (listed left : List Reply) (notes more : List Note)
+    (waiting : Option Call) (self : CallerView) (placed : PlacedCalls) (command : Command) (it : Next) (outcome : Option Outcome)
+    → caller_view caller section n (names_in old) (reverse listed) notes waiting ≡ self → slice_get section.commands n ≡ Some command
+    → IsNext caller (command_steps seed caller section.uid n (names_in old) command.verb) (reverse listed) old between it → left ≡ replies_left listed it
+    → it ≡ next.Ended outcome → names_in new ≡ names_in between → more ≡ notes ++ noted caller command outcome → StandsIn seed self placed
+    → StandsIn seed (caller_view caller section (n + 1) (names_in new) (reverse left) more waiting) placed
+command_ended seed caller section n old between new listed left notes more waiting self placed command it outcome is here next_is leaves end_is kept noting so =
+    let its : IsNext caller (command_steps seed caller section.uid n (names_in old) command.verb) (reverse listed) old between (next.Ended outcome) =
+    subst (λ (i : Next). IsNext caller (command_steps seed caller section.uid n (names_in old) command.verb) (reverse listed) old between i) end_is next_is in
+    subst (λ (l : List Reply). StandsIn seed (caller_view caller section (n + 1) (names_in new) (reverse l) more waiting) placed) (sym (leaves ∙ ap (replies_left listed) end_is))
+    (subst (λ (l : List Note). StandsIn seed (caller_view caller section (n + 1) (names_in new) [] l waiting) placed) (sym noting)
+    (stands_ended seed caller section n old between new (reverse listed) notes waiting placed command outcome
+    (subst (λ (v : CallerView). StandsIn seed v placed) (sym is) so) here its.ends kept))
+
+pub replied : (seed : List ℕ) (caller : ℕ) (section : Section) (n : ℕ) (names : List (List ℕ)) (listed more : List Reply) (notes : List Note)
+    (waiting : Option Call) (self : CallerView) (reply : Reply) → caller_view caller section n names (reverse listed) notes waiting ≡ self → more ≡ reply ∷ listed
+    → (placed : PlacedCalls) (place : ℕ) (call : Call) → Awaits seed self placed → self.waiting ≡ Some call
+    → StandsIn seed (caller_view caller section n names (reverse more) notes waiting) (placed ++ (place, entry self.caller call reply) ∷ [])
+replied seed caller section n names listed more notes waiting self reply is grown placed place call so waits =
+    let its : waiting ≡ Some call = ap (λ (v : CallerView). v.waiting) is ∙ waits in
+    let before : Awaits seed (caller_view caller section n names (reverse listed) notes (Some call)) placed =
+    subst (λ (w : Option Call). Awaits seed (caller_view caller section n names (reverse listed) notes w) placed) its
+    (subst (λ (v : CallerView). Awaits seed v placed) (sym is) so) in
+    let turned : reverse listed ++ reply ∷ [] ≡ reverse more = sym (ap reverse grown ∙ reverse-append (reply ∷ []) listed) in
+    subst (λ (who : ℕ). StandsIn seed (caller_view caller section n names (reverse more) notes waiting) (placed ++ (place, entry who call reply) ∷ []))
+    (ap (λ (v : CallerView). v.caller) is)
+    (subst (λ (l : List Reply). StandsIn seed (caller_view caller section n names l notes waiting) (placed ++ (place, entry caller call reply) ∷ [])) turned
+    (stands_replied seed caller section n names (reverse listed) notes call reply place placed waiting before))
+
+pub taken : {E : Type 0} (seed : List ℕ) (result : Result Unit E) (old between new : CallerView) (reply : Reply)
+    → OnOk result ((placed : PlacedCalls) → StandsIn seed between placed → Awaits seed new placed)
+    → ((placed : PlacedCalls) (place : ℕ) (call : Call) → Awaits seed old placed → old.waiting ≡ Some call
+    → StandsIn seed between (placed ++ (place, entry old.caller call reply) ∷ []))
+    → OnOk result ((placed : PlacedCalls) (place : ℕ) (call : Call) → Awaits seed old placed → old.waiting ≡ Some call
+    → Awaits seed new (placed ++ (place, entry old.caller call reply) ∷ []))
+taken seed (Err error) old between new reply goes stands = tt
+taken seed (Ok done) old between new reply goes stands = λ placed place call so waits. goes (placed ++ (place, entry old.caller call reply) ∷ []) (stands placed place call so waits)

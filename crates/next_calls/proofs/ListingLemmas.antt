@@ -1,5 +1,5 @@
 -- The names of the last listing stand in the last entry that tells names.
-use Rattle.std.proofs.Common.{◌≡◌, ℕ, Bool, true, false, List, [], ◌∷◌, ◌++◌, Some, None, Option, refl, ap, sym, ◌∙◌}
+use Rattle.std.proofs.Common.{◌≡◌, ℕ, true, false, List, [], ◌∷◌, ◌++◌, Some, None, Option, Result, Ok, Err, OnOk, refl, ap, sym, ◌∙◌}
 use Rattle.std.specs.Prelude.{is_some, unwrap_or}
 use Rattle.mount_model.specs.declared.reply.Reply.{Reply}
 use Rattle.mount_model.specs.declared.reply.Reply.TheVariants as reply
@@ -43,3 +43,9 @@ pub listing_is : (now before : PlacedShown) (x : ℕ × ShownEntry) → now ≡ 
 listing_is now before x is some =
     after_told [] x.1.reply ∙ sym (some_told (names_in before) (names_told x.1.reply) some) ∙ sym (after_told (names_in before) x.1.reply)
     ∙ sym (names_in-append before (x ∷ [])) ∙ sym (ap names_in is)
+
+-- so it may be kept alone
+pub alone_is : {E : Type 0} (result : Result Unit E) (old now before after : PlacedShown) (x : ℕ × ShownEntry) → names_in now ≡ names_in old → now ≡ before ++ x ∷ []
+    → is_some (names_told x.1.reply) ≡ true → OnOk result (after ≡ x ∷ []) → OnOk result (names_in after ≡ names_in old)
+alone_is (Err error) old now before after x same is some kept = tt
+alone_is (Ok done) old now before after x same is some kept = ap names_in kept ∙ listing_is now before x is some ∙ same

@@ -1,5 +1,7 @@
 -- A command's next call, from what a port of listed replies was asked.
-use Rattle.std.proofs.Common.{◌≡◌, ◌≢◌, ℕ, ◌+◌, ◌-◌, Bool, true, false, List, [], ◌∷◌, ◌++◌, drop, get_or, Some, None, refl, ap, sym, ◌∙◌, subst}
+use Rattle.std.proofs.Common.{◌≡◌, ◌≢◌, ℕ, ◌+◌, ◌-◌, ◌≤◌, Bool, true, false, List, [], ◌∷◌, ◌++◌, drop, take, reverse, length, get_or, Option, Some, None, Result, Ok, Err, IfOk, OnOk, refl, ap, sym, ◌∙◌, subst, arith, length-append}
+use Rattle.std.proofs.Math.Seq.{take-append_seam, drop-append_seam}
+use Rattle.std.proofs.lemmas.List.{length-map, length-reverse, reverse-reverse}
 use Rattle.call_history.specs.Placed.{entries_of}
 use Rattle.mount_model.specs.declared.call.Call.{Call}
 use Rattle.mount_model.specs.declared.reply.Reply.{Reply}
@@ -8,9 +10,15 @@ use Rattle.mount_model.specs.Port.{PlacedCalls}
 use Rattle.scripted_port.specs.Scripted.{ScriptedView, ScriptedCame, scripted, after_call, further_behind, kept_behind}
 use Rattle.scripted_port.specs.declared.port.Further.{Further}
 use Rattle.scripted_port.specs.declared.port.Further.TheVariants.{Unasked, Asked, Lost}
+use Rattle.reply_text.specs.Shown.{PlacedShown, ShownEntry, shown_calls}
+use Rattle.reply_text.specs.declared.outcome.Outcome.{Outcome}
+use Rattle.fsc_commands.specs.CommandSteps.{CommandSteps}
+use Rattle.fsc_commands.specs.Made.{Made}
 use Rattle.fsc_commands.specs.Steps.{Steps, Reaches, next_of}
 use Rattle.fsc_commands.specs.Steps.Steps.{Done, Ask}
-use Rattle.next_calls.specs.NextCalls.{replies_of}
+use Rattle.next_calls.specs.declared.next.Next.{Next}
+use Rattle.next_calls.specs.declared.next.Next.TheVariants as next
+use Rattle.next_calls.specs.NextCalls.{IsNext, replies_of, shown_replies, replies_left}
 
 behind_kept : (replies : List Reply) (further : Further) (call : Call) (lost : Bool) → further ≢ Unasked → further_behind replies further call lost ≡ further
 behind_kept [] Unasked call lost asked = absurd (asked refl)
@@ -106,3 +114,75 @@ replies_first (x ∷ xs) caller left place [] after call came asked = (replies_o
 replies_first (x ∷ xs) caller left place (r ∷ rs) after call came asked =
     let rest = replies_first xs caller (left - 1) (place + 1) rs after call came.2 asked in
     (rest.0, ap (λ (y : Reply). y ∷ replies_of (entries_of xs)) came.1.reply ∙ ap (λ (l : List Reply). r ∷ l) rest.1)
+
+-- ---- a command that was run on the port
+
+-- it has ended
+pub is_end : (port after : ScriptedView) (caller calls left before_left most : ℕ) (steps : CommandSteps) (replies : List Reply) (outcome : Option Outcome)
+    (old new : PlacedShown) → port ≡ scripted caller calls 0 replies Unasked → after.further ≡ Unasked
+    → Made (ScriptedCame port) after left before_left most steps outcome old new → IsNext caller steps replies old new (next.Ended outcome)
+is_end port after caller calls left before_left most steps replies outcome old new is none made =
+    let came : ScriptedCame (scripted caller calls 0 replies Unasked) made.made after = subst (λ (p : ScriptedView). ScriptedCame p made.made after) is made.came_by in
+    record {
+      call = λ told same. ended_none steps outcome made.made caller calls 0 replies after told came made.follows none same;
+      ends = (made.made, made.grown, λ told rest same to. ended_same steps outcome made.made caller calls 0 replies after told rest came made.follows none same to);
+    }
+
+replies_shown : (placed : PlacedCalls) → shown_replies (shown_calls placed) ≡ replies_of (entries_of placed)
+replies_shown [] = refl
+replies_shown (x ∷ xs) = ap (λ (l : List Reply). x.1.reply ∷ l) (replies_shown xs)
+
+-- a call was asked behind the listed replies: so they are those of the first entries
+pub first_replies : (port after : ScriptedView) (caller calls left before_left most : ℕ) (steps : CommandSteps) (replies : List Reply) (outcome : Option Outcome)
+    (old new : PlacedShown) (call : Call) → port ≡ scripted caller calls 0 replies Unasked → after.further ≡ Asked call
+    → Made (ScriptedCame port) after left before_left most steps outcome old new
+    → (made : PlacedCalls) × (new ≡ old ++ shown_calls made) × ((more : List Reply) × (shown_replies (shown_calls made) ≡ replies ++ more))
+first_replies port after caller calls left before_left most steps replies outcome old new call is asked made =
+    let came : ScriptedCame (scripted caller calls 0 replies Unasked) made.made after = subst (λ (p : ScriptedView). ScriptedCame p made.made after) is made.came_by in
+    let more = replies_first made.made caller calls 0 replies after call came asked in
+    (made.made, made.grown, (more.0, replies_shown made.made ∙ more.1))
+
+-- there are so many entries
+pub has_room : (port after : ScriptedView) (caller calls left before_left most : ℕ) (steps : CommandSteps) (listed : List Reply) (outcome : Option Outcome)
+    (old new : PlacedShown) (call : Call) (kept count : ℕ) → port ≡ scripted caller calls 0 (reverse listed) Unasked → after.further ≡ Asked call
+    → Made (ScriptedCame port) after left before_left most steps outcome old new → kept ≡ length old → count ≡ length listed → kept + count ≤ length new
+has_room port after caller calls left before_left most steps listed outcome old new call kept count is asked made all some =
+    let first = first_replies port after caller calls left before_left most steps (reverse listed) outcome old new call is asked made in
+    let grown = ap length first.1 ∙ length-append old (shown_calls first.0) in
+    let same = sym (length-map (shown_calls first.0) (λ (x : ℕ × ShownEntry). x.1.reply)) in
+    let shown = ap length first.2.1 ∙ length-append (reverse listed) first.2.0 in
+    let turned = length-reverse listed in
+    omega (arith, grown, same, shown, turned, all, some)
+
+-- its call comes next, and the entries are as before
+pub is_call : {E : Type 0} (result : Result Next E) (port after : ScriptedView) (caller calls left before_left most : ℕ) (steps : CommandSteps) (listed : List Reply)
+    (outcome : Option Outcome) (old grown new : PlacedShown) (call : Call) (kept : ℕ) → port ≡ scripted caller calls 0 (reverse listed) Unasked
+    → after.further ≡ Asked call → Made (ScriptedCame port) after left before_left most steps outcome old grown → kept ≡ length old
+    → IfOk result (λ it. it ≡ next.Call call) → OnOk result (new ≡ take kept grown) → IfOk result (IsNext caller steps (reverse listed) old new)
+is_call (Err error) port after caller calls left before_left most steps listed outcome old grown new call kept is asked made all call_is taken = tt
+is_call (Ok it) port after caller calls left before_left most steps listed outcome old grown new call kept is asked made all call_is taken =
+    let came : ScriptedCame (scripted caller calls 0 (reverse listed) Unasked) made.made after = subst (λ (p : ScriptedView). ScriptedCame p made.made after) is made.came_by in
+    subst (λ (n : Next). IsNext caller steps (reverse listed) old new n) (sym call_is) (record {
+      call = λ told same. further_is_next steps outcome made.made caller calls 0 (reverse listed) after call told came made.follows asked same;
+      ends = taken ∙ ap (λ (n : ℕ). take n grown) all ∙ ap (take (length old)) made.grown ∙ take-append_seam old (shown_calls made.made);
+    })
+
+-- and so are the replies
+pub same_listed : {E : Type 0} (result : Result Next E) (port after : ScriptedView) (caller calls left before_left most : ℕ) (steps : CommandSteps) (listed new : List Reply)
+    (outcome : Option Outcome) (old grown : PlacedShown) (call : Call) (kept count : ℕ) → port ≡ scripted caller calls 0 (reverse listed) Unasked
+    → after.further ≡ Asked call → Made (ScriptedCame port) after left before_left most steps outcome old grown → kept ≡ length old → count ≡ length listed
+    → IfOk result (λ it. it ≡ next.Call call) → OnOk result (reverse new ≡ take count (shown_replies (drop kept grown)))
+    → IfOk result (λ it. new ≡ replies_left listed it)
+same_listed (Err error) port after caller calls left before_left most steps listed new outcome old grown call kept count is asked made all some call_is taken = tt
+same_listed (Ok it) port after caller calls left before_left most steps listed new outcome old grown call kept count is asked made all some call_is taken =
+    let first = first_replies port after caller calls left before_left most steps (reverse listed) outcome old grown call is asked made in
+    let behind : drop kept grown ≡ shown_calls first.0 = ap (λ (n : ℕ). drop n grown) all ∙ ap (drop (length old)) first.1 ∙ drop-append_seam old (shown_calls first.0) in
+    let same : reverse new ≡ reverse listed =
+    taken ∙ ap (λ (l : PlacedShown). take count (shown_replies l)) behind ∙ ap (take count) first.2.1
+    ∙ ap (λ (n : ℕ). take n (reverse listed ++ first.2.0)) (some ∙ sym (length-reverse listed)) ∙ take-append_seam (reverse listed) first.2.0 in
+    subst (λ (n : Next). new ≡ replies_left listed n) (sym call_is)
+    (sym (reverse-reverse new) ∙ ap reverse same ∙ reverse-reverse listed)
+
+pub port_is : (port : ScriptedView) (caller calls : ℕ) (listed items : List Reply) → port ≡ scripted caller calls 0 (reverse listed) Unasked → listed ≡ items
+    → port ≡ scripted caller calls 0 (reverse items) Unasked
+port_is port caller calls listed items is same = is ∙ ap (λ (l : List Reply). scripted caller calls 0 (reverse l) Unasked) same

@@ -1,5 +1,5 @@
 -- A caller of a script whose entries are told one after another: what it stands for.
-use Rattle.std.specs.Prelude.{◌≡◌, ⊤, ℕ, List, [], ◌++◌, slice_get, Bool, true, false, Option, Some, None, option_map}
+use Rattle.std.specs.Prelude.{◌≡◌, ⊤, ℕ, ◌+◌, ◌<◌, length, List, ◌++◌, slice_get, Bool, true, false, Option, Some, None, option_map}
 use Rattle.call_history.specs.Placed.{entries_of}
 use Rattle.mount_model.specs.declared.call.Call.{Call}
 use Rattle.mount_model.specs.declared.reply.Reply.{Reply}
@@ -85,3 +85,8 @@ pub record Awaits (seed : List ℕ) (caller : CallerView) (placed : PlacedCalls)
 abbrev pub GoesOn : Bool → List ℕ → CallerView → PlacedCalls → Type 0
 GoesOn true seed caller placed = Awaits seed caller placed
 GoesOn false seed caller placed = StandsIn seed caller placed
+
+-- one command less is left
+pub record IsNearer (old new : CallerView) : Type 0 where
+  pub next : new.next ≡ old.next + 1
+  pub below : old.next < length old.section.commands

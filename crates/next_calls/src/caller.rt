@@ -1,20 +1,23 @@
 //! A caller of a script whose entries are told one after another.
 
-ghost use Rattle.std.specs.Prelude.{◌≡◌, [], ◌∷◌, ◌++◌, Some, IfOk, OnOk, ℕ, option_copied};
+ghost use Rattle.std.specs.Prelude.{◌≡◌, [], ◌∷◌, ◌++◌, Some, IfOk, OnOk, IsFalse, ℕ, option_copied};
 ghost use Rattle.call_history.specs.Entries.{entry};
 ghost use Rattle.mount_model.specs.declared.call.Call.{Call};
 ghost use Rattle.mount_model.specs.Port.{PlacedCalls};
 ghost use Rattle.fsc_session.specs.Asking.{AsksRightly};
-ghost use Rattle.next_calls.specs.Callers.{Awaits, WaitingFits};
+ghost use Rattle.fsc_session.specs.Session.{noted};
+ghost use Rattle.next_calls.specs.Callers.{Awaits, GoesOn, IsNearer, StandsIn, WaitingFits};
 
+use crate::listing::keep_last_listing;
 use crate::next::{Next, next_call};
 use fsc_commands::{EntryList, Stretches, Turn};
 use fsc_session::NoteList;
 use mount_model::{Call, Reply};
-use reply_text::Note;
-use script_lang::Section;
+use reply_text::{Note, Outcome};
+use script_lang::{Command, Section};
 use std::alloc::{AllocError, Global};
 use std::marker::Model;
+use std::mem;
 
 /// A caller of a script that is told reply after reply, with the call that it makes next. In clauses it is a
 /// `CallerView`; `Awaits seed caller placed` says which entries it was told.
@@ -34,7 +37,7 @@ pub struct Caller<'a> {
 }
 
 impl<'a> Model for Caller<'a> {
-    ghost use Rattle.std.specs.Prelude.{reverse};
+    ghost use Rattle.std.specs.Prelude.{◌≤◌, length, reverse};
     ghost use Rattle.fsc_commands.specs.Steps.{names_in};
     ghost use Rattle.fsc_session.specs.Asking.{AsksRightly};
     ghost use Rattle.next_calls.specs.Callers.{CallerView, WaitingFits, caller_view};
@@ -44,7 +47,8 @@ impl<'a> Model for Caller<'a> {
     ghost view = { λ c. caller_view c.caller c.section.now c.next (names_in c.listing)
         (reverse c.replies.items) c.notes c.waiting };
 
-    ghost invariant = { λ c. AsksRightly c.section.now × WaitingFits c.waiting };
+    ghost invariant = { λ c. AsksRightly c.section.now × (c.next ≤ length c.section.now.commands)
+        × WaitingFits c.waiting };
 }
 
 impl<'a> Caller<'a> {
@@ -63,7 +67,17 @@ impl<'a> Caller<'a> {
         ensures section { IfOk result (λ caller. caller.section ≡ section.now) }
         ensures awaits { IfOk result (λ caller. Awaits seed.now caller []) }
     {
-        Err(AllocError)
+        let mut caller = Caller {
+            caller: number,
+            section,
+            next: 0,
+            listing: EntryList::new(alloc),
+            replies: Vec::new(alloc),
+            notes: NoteList::new(alloc),
+            waiting: None,
+        };
+        caller.go_on(alloc, stretches, seed)?;
+        Ok(caller)
     }
 
     /// The call that it makes next, which a mount may be asked; none where all its commands have ended.
@@ -90,7 +104,8 @@ impl<'a> Caller<'a> {
             → Awaits seed.now self.old placed → self.old.waiting ≡ Some call
             → Awaits seed.now self.new (placed ++ (place, entry self.old.caller call reply) ∷ [])) }
     {
-        Err(AllocError)
+        self.replies.insert(0, reply)?;
+        self.go_on(alloc, stretches, seed)
     }
 
     /// The caller's number.
@@ -106,4 +121,92 @@ impl<'a> Caller<'a> {
     {
         self.notes.as_slice()
     }
+
+    // Goes on until it waits for a reply, or no command is left.
+    fn go_on<S: Stretches>(
+        &mut self,
+        alloc: Global,
+        stretches: &S,
+        seed: &[u8; 32],
+    ) -> Result<(), AllocError>
+        requires ready { S.ready stretches.now }
+        ensures caller { self.new.caller ≡ self.old.caller }
+        ensures section { self.new.section ≡ self.old.section }
+        ensures awaits { OnOk result ((placed : PlacedCalls) → StandsIn seed.now self.old placed
+            → Awaits seed.now self.new placed) }
+    {
+        'commands: while !self.step(alloc, stretches, seed)? {}
+        Ok(())
+    }
+
+    // Runs the command that is under way on its replies: true where it waits for a further one, or no command
+    // is left; false where the command has ended, and the next one is under way.
+    fn step<S: Stretches>(
+        &mut self,
+        alloc: Global,
+        stretches: &S,
+        seed: &[u8; 32],
+    ) -> Result<bool, AllocError>
+        requires ready { S.ready stretches.now }
+        ensures caller { self.new.caller ≡ self.old.caller }
+        ensures section { self.new.section ≡ self.old.section }
+        ensures goes_on { IfOk result (λ waits. (placed : PlacedCalls)
+            → StandsIn seed.now self.old placed → GoesOn waits seed.now self.new placed) }
+        ensures nearer { IfOk result (λ waits. IsFalse waits → IsNearer self.old self.new) }
+    {
+        let commands = self.section.commands.as_slice();
+        if self.next == commands.len() {
+            leave(mem::replace(&mut self.waiting, None));
+            return Ok(true);
+        }
+        let command = &commands[self.next];
+        let turn = Turn {
+            caller: self.caller,
+            uid: self.section.uid,
+            number: self.next,
+        };
+        let next = next_call(
+            alloc,
+            stretches,
+            seed,
+            turn,
+            &command.verb,
+            &mut self.listing,
+            &mut self.replies,
+        )?;
+        match next {
+            Next::Call(call) => {
+                leave(mem::replace(&mut self.waiting, Some(call)));
+                Ok(true)
+            }
+            Next::Ended(outcome) => {
+                keep_last_listing(alloc, &mut self.listing)?;
+                note(&mut self.notes, self.caller, command, outcome)?;
+                self.next += 1;
+                Ok(false)
+            }
+        }
+    }
 }
+
+// Puts the note of a command behind the others, if it has one.
+fn note(
+    notes: &mut NoteList,
+    caller: u32,
+    command: &Command,
+    outcome: Option<Outcome>,
+) -> Result<(), AllocError>
+    ensures { OnOk result (notes.new ≡ notes.old ++ noted caller command.now outcome) }
+{
+    if let Some(outcome) = outcome {
+        notes.push(Note {
+            caller,
+            line: command.line,
+            outcome,
+        })?;
+    }
+    Ok(())
+}
+
+// Lets it go: in a function of its own, since one with branches would let go of each variant in each of them.
+fn leave(_call: Option<Call>) {}

@@ -2,7 +2,9 @@
 //! that answers just that.
 #![tactic(auto)]
 
+mod back;
 mod caller;
+mod listing;
 mod next;
 mod remembering;
 

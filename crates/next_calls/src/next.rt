@@ -1,16 +1,20 @@
 //! What a command asks for next.
 
-ghost use Rattle.std.specs.Prelude.{◌≡◌, reverse, IfOk};
+ghost use Rattle.std.specs.Prelude.{◌≡◌, ◌+◌, ◌≤◌, length, take, drop, reverse, IfOk, OnOk};
 ghost use Rattle.script_lang.specs.Asked.{IsAskable};
 ghost use Rattle.fsc_commands.specs.Commands.{command_steps};
 ghost use Rattle.fsc_commands.specs.Steps.{names_in};
-ghost use Rattle.next_calls.specs.NextCalls.{IsNext, NextFits, replies_left};
+ghost use Rattle.next_calls.specs.NextCalls.{IsNext, NextFits, replies_left, shown_replies};
+ghost use Rattle.next_calls.specs.declared.next.Next.TheVariants as variants;
 
-use fsc_commands::{EntryList, Stretches, Turn};
+use crate::back::take_back;
+use fsc_commands::{EntryList, MOST_CALLS, Stretches, Turn, run_command};
 use mount_model::{Call, Reply};
 use reply_text::Outcome;
 use script_lang::Verb;
+use scripted_port::{Further, ScriptedPort};
 use std::alloc::{AllocError, Global};
+use std::mem;
 
 /// What a command does after the replies to its calls: it makes a call, or it has ended, with an outcome where
 /// it is a session's work.
@@ -41,5 +45,45 @@ pub fn next_call<S: Stretches>(
     ensures replies { IfOk result (λ next. replies.new.items ≡ replies_left replies.old.items next) }
     ensures fits { IfOk result NextFits }
 {
-    Err(AllocError)
+    let kept = entries.len();
+    let count = replies.len();
+    let listed = mem::replace(replies, Vec::new(alloc));
+    let mut port = ScriptedPort::new(alloc, turn.caller, MOST_CALLS, listed);
+    let outcome = run_command(alloc, &mut port, stretches, seed, turn, verb, entries)?;
+    match port.into_further() {
+        Further::Unasked => Ok(Next::Ended(outcome)),
+        Further::Asked(call) => call_behind(alloc, call, entries, kept, replies, count),
+        Further::Lost => Err(AllocError),
+    }
 }
+
+// The call comes next: the entries from the index `kept` on are taken away again, and the replies of the
+// first `count` of them are those that were listed.
+fn call_behind(
+    alloc: Global,
+    call: Call,
+    entries: &mut EntryList,
+    kept: usize,
+    replies: &mut Vec<Reply>,
+    count: usize,
+) -> Result<Next, AllocError>
+    requires { kept + count ≤ length entries.old }
+    ensures next { IfOk result (λ it. it ≡ variants.Call call) }
+    ensures kept { OnOk result (entries.new ≡ take kept entries.old) }
+    ensures replies { OnOk result (reverse replies.new.items
+        ≡ take count (shown_replies (drop kept entries.old))) }
+{
+    match take_back(alloc, entries, kept, count) {
+        Ok(listed) => {
+            *replies = listed;
+            Ok(Next::Call(call))
+        }
+        Err(error) => {
+            leave(call);
+            Err(error)
+        }
+    }
+}
+
+// Lets it go: in a function of its own, since one with branches would let go of each variant in each of them.
+fn leave(_call: Call) {}

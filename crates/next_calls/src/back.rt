@@ -1,0 +1,45 @@
+//! Entries that a run left behind others, taken away again, for their replies.
+
+ghost use Rattle.std.specs.Prelude.{◌≡◌, ◌+◌, ◌≤◌, length, take, drop, reverse, IfOk, OnOk};
+ghost use Rattle.next_calls.specs.NextCalls.{shown_replies};
+
+use call_history::Entry;
+use fsc_commands::EntryList;
+use mount_model::Reply;
+use reply_text::Shown;
+use std::alloc::{AllocError, Global};
+
+// Takes the entries from the index `kept` on away, and gives the replies of the first `count` of them, the
+// first one last.
+#[tactic(auto, using(crate::proofs::BackLemmas::shrunk_none, crate::proofs::BackLemmas::shrunk_more, crate::proofs::BackLemmas::taken_none, crate::proofs::BackLemmas::taken_kept, crate::proofs::BackLemmas::taken_replies))]
+pub(crate) fn take_back(
+    alloc: Global,
+    entries: &mut EntryList,
+    kept: usize,
+    count: usize,
+) -> Result<Vec<Reply>, AllocError>
+    requires { kept + count ≤ length entries.old }
+    ensures kept { OnOk result (entries.new ≡ take kept entries.old) }
+    ensures replies { IfOk result (λ replies. reverse replies.items
+        ≡ take count (shown_replies (drop kept entries.old))) }
+{
+    'further: while entries.len() > kept + count {
+        let_go(entries.pop());
+    }
+    let mut replies = Vec::new(alloc);
+    'listed: while entries.len() > kept {
+        if let Some((_, entry)) = entries.pop() {
+            replies.push(reply_of(entry))?;
+        }
+    }
+    Ok(replies)
+}
+
+// In a function of its own, since one with branches would let go of each variant in each of them.
+fn let_go(_placed: Option<(u64, Entry<Shown, Reply>)>) {}
+
+fn reply_of(entry: Entry<Shown, Reply>) -> Reply
+    ensures { result ≡ entry.reply }
+{
+    entry.reply
+}

@@ -1,0 +1,50 @@
+//! The names that a caller was last told.
+
+ghost use Rattle.std.specs.Prelude.{◌≡◌, [], ◌∷◌, OnOk, is_some};
+ghost use Rattle.fsc_commands.specs.Steps.{names_in, names_told};
+
+use call_history::Entry;
+use fsc_commands::EntryList;
+use mount_model::Reply;
+use reply_text::Shown;
+use std::alloc::{AllocError, Global};
+use std::mem;
+
+// Keeps the last of the entries that told names, if one did, and lets the others go.
+pub(crate) fn keep_last_listing(alloc: Global, entries: &mut EntryList) -> Result<(), AllocError>
+    ensures { OnOk result (names_in entries.new ≡ names_in entries.old) }
+{
+    'told: while let Some(placed) = entries.pop() {
+        if tells_names(&placed.1.reply) {
+            return keep_alone(alloc, entries, placed);
+        }
+        let_go(placed);
+    }
+    Ok(())
+}
+
+// Keeps this entry alone.
+fn keep_alone(
+    alloc: Global,
+    entries: &mut EntryList,
+    placed: (u64, Entry<Shown, Reply>),
+) -> Result<(), AllocError>
+    ensures { OnOk result (entries.new ≡ placed ∷ []) }
+{
+    let mut alone = EntryList::new(alloc);
+    alone.push(placed)?;
+    let_all_go(mem::replace(entries, alone));
+    Ok(())
+}
+
+// Whether a reply tells names.
+fn tells_names(reply: &Reply) -> bool
+    ensures { result ≡ is_some (names_told reply.now) }
+{
+    matches!(reply, Reply::Names { .. })
+}
+
+// In functions of their own, since one with branches would let go of each variant in each of them.
+fn let_go(_placed: (u64, Entry<Shown, Reply>)) {}
+
+fn let_all_go(_entries: EntryList) {}
