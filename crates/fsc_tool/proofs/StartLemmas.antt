@@ -3,8 +3,10 @@ use Rattle.std.proofs.Common.{◌≡◌, ◌≢◌, ℕ, zero, suc, ◌+◌, ◌
 use Rattle.std.specs.Prelude.{slice_get, All}
 use Rattle.std.specs.List.{fold}
 use Rattle.std.proofs.Math.Seq.{drop-cons}
+use Rattle.std.proofs.lemmas.List.Elements.{All-nil}
 use Rattle.std.proofs.lemmas.Option.{slice_get_past, slice_get_within, slice_get_cases, get_or_from_slice_get}
 use Rattle.call_history.specs.Entries.{by, entries_by}
+use Rattle.reply_text.specs.Ranges.{EntryIsInRange}
 use Rattle.reply_text.specs.Shown.{PlacedShown, shown_calls, shown_history}
 use Rattle.fsc_session.proofs.ShownRuns.{by-shown, numbered-shown}
 use Rattle.call_history.specs.Placed.{entries_of}
@@ -100,6 +102,7 @@ before_all leads seed whole script runners machine places is none asked led =
       given = none;
       count = length-fresh 0 script;
       led = led;
+      ranged = All-nil EntryIsInRange;
       each = λ j runner here. fresh_at seed j script runner asked here;
       others = λ caller none. refl;
       order = refl;
@@ -250,4 +253,4 @@ module _ {M : Type 0} (leads : History → M → Type 0) (lawful : History → T
 pub told_alone : (Led : History → Type 0) (IsRun : List ℕ → List Section → History → Type 0) (seed : List ℕ) (script : List Section)
     (told : PlacedShown) (notes : List Note) → TellsRun (IsRunBefore Led IsRun) seed script told notes → TellsRun IsRun seed script told notes
 told_alone Led IsRun seed script told notes ran =
-    record { history = ran.history; run = ran.run.0; in_place = ran.in_place; noted = ran.noted }
+    record { history = ran.history; run = ran.run.0; ranged = ran.ranged; in_place = ran.in_place; noted = ran.noted }

@@ -3,11 +3,12 @@ use Rattle.std.proofs.Common.{◌≡◌, ◌≢◌, ℕ, zero, suc, ◌+◌, ◌
 use Rattle.std.specs.Prelude.{slice_get, All}
 use Rattle.std.proofs.lemmas.Bool.{cases_Bool, leb-true, leb-false}
 use Rattle.std.proofs.lemmas.List.{take-append-drop}
-use Rattle.std.proofs.lemmas.List.Elements.{All-take, All-drop}
+use Rattle.std.proofs.lemmas.List.Elements.{All-nil, All-take, All-drop}
 use Rattle.std.proofs.lemmas.List.Sums.{sum_by-append}
 use Rattle.std.proofs.lemmas.Option.{slice_get_past}
 use Rattle.turn_lock.specs.Passes.{SharedView, under, over, lower_part, upper_part, with_other, first_pass}
 use Rattle.call_history.specs.Entries.{by, entries_by, numbered}
+use Rattle.reply_text.specs.Ranges.{EntryIsInRange}
 use Rattle.reply_text.specs.Shown.{PlacedShown, shown_calls, shown_history}
 use Rattle.fsc_session.proofs.ShownRuns.{by-shown, entries_by-shown}
 use Rattle.call_history.proofs.Placing.{by-append, by-by_other}
@@ -19,7 +20,9 @@ use Rattle.fsc_session.specs.Asking.{AsksRightly}
 use Rattle.reply_text.specs.declared.notes.Note.{Note}
 use Rattle.fsc_session.specs.Session.{IsRunOfCaller, IsRunOfSection, notes_of_section, notes_by, notes_of}
 use Rattle.fsc_session.proofs.NoteLemmas.{notes_by-alike, notes_by-append}
+use Rattle.fsc_tool.specs.InRange.{AreInRange}
 use Rattle.fsc_tool.specs.Runs.{IsLawfulRun, TellsRun}
+use Rattle.fsc_tool.proofs.RangeLemmas.{in_range_between}
 use Rattle.fsc_tool.specs.Threaded.{calls_needed, CanRun, RunFrom, HaveRun, AreHalves}
 
 -- ---- numbers below and above
@@ -105,9 +108,9 @@ one_from seed who section xs own ran = record {
 
 pub one_runs : (lawful : History → Type 0) (seed : List ℕ) (shared : SharedView) (old new : MountPass) (sections : List Section) (section : Section)
     (shown : PlacedShown) (entries : PlacedCalls) (notes : List Note) → CanRun shared old sections → length sections ≡ 1 → slice_get sections 0 ≡ Some section
-    → PassCame lawful old entries new → shown ≡ shown_calls entries → IsRunOfSection seed old.who section entries
+    → PassCame lawful old entries new → AreInRange entries → shown ≡ shown_calls entries → IsRunOfSection seed old.who section entries
     → notes ≡ notes_of_section seed old.who section entries → by new.who new.mine ≡ new.mine → HaveRun seed old sections new shown notes
-one_runs lawful seed shared old new sections section shown entries notes can one here came is ran are own =
+one_runs lawful seed shared old new sections section shown entries notes can one here came ranged is ran are own =
     let mine : new.mine ≡ entries = came.made ∙ ap (λ (l : PlacedCalls). l ++ entries) can.no_own in
     let past : new.past ≡ [] = came.same_past ∙ can.no_past in
     let all : new.past ++ new.mine ≡ entries = ap₂ (λ (a b : PlacedCalls). a ++ b) past mine in
@@ -118,6 +121,7 @@ one_runs lawful seed shared old new sections section shown entries notes can one
       same_high = came.same_high;
       run = subst (λ (s : List Section). RunFrom seed old.who s (new.past ++ new.mine)) (sym (one_section sections section one here))
           (subst (RunFrom seed old.who (section ∷ [])) (sym all) (one_from seed old.who section entries own' ran));
+      ranged = subst AreInRange (sym all) ranged;
       alike = λ c. ap (by c) is ∙ by-shown c entries ∙ ap (λ (l : PlacedCalls). shown_calls (by c l)) (sym all);
       noted = are
           ∙ ap (notes_of_section seed old.who section) (sym own' ∙ ap (by old.who) (sym all))
@@ -241,6 +245,7 @@ module _ (seed : List ℕ) (shared : SharedView) (old lower upper lower' upper' 
     same_caller = one.same_caller ∙ cut.lowest;
     same_high = two.same_high ∙ cut.highest;
     run = subst (λ (s : List Section). RunFrom seed old.who s own_of) (sym cut.whole) (record { each = each_both; none = none_both });
+    ranged = in_range_between lower'.past (upper'.past ++ upper'.mine) lower'.mine one.ranged two.ranged;
     alike = alike_both;
     noted = noted_both;
   })
@@ -279,8 +284,8 @@ module _ (lawful : History → Type 0) (seed : List ℕ) (script : List Section)
       ∙ ap (λ (w : ℕ). notes_by seed w script (new.past ++ new.mine)) first
       ∙ notes_by-alike seed 0 script (new.past ++ new.mine) (numbered 0 history) (λ i below. sym (callers (0 + i)))
 
-  pub tells_lawful : (placed : PlacedShown) → placed ≡ numbered 0 (shown_history history) → lawful history → TellsRun (IsLawfulRun lawful) seed script placed notes
-  tells_lawful placed in_place right = record { history = history; run = is_lawful right; in_place = in_place; noted = told_notes }
+  pub tells_lawful : (placed : PlacedShown) → placed ≡ numbered 0 (shown_history history) → lawful history → All EntryIsInRange history → TellsRun (IsLawfulRun lawful) seed script placed notes
+  tells_lawful placed in_place right ranged = record { history = history; run = is_lawful right; ranged = ranged; in_place = in_place; noted = told_notes }
 
 -- a script that nobody calls
 pub nobody_runs : (lawful : History → Type 0) (seed : List ℕ) (script : List Section) (placed : PlacedShown) (notes : List Note) → length script ≡ 0
@@ -288,6 +293,7 @@ pub nobody_runs : (lawful : History → Type 0) (seed : List ℕ) (script : List
 nobody_runs lawful seed [] placed notes none empty silent right = record {
   history = [];
   run = record { lawfully = right; callers = λ c. refl };
+  ranged = All-nil EntryIsInRange;
   in_place = empty;
   noted = silent;
 }

@@ -203,5 +203,6 @@ run_ends IsRun Came seeding a b script seed told notes status prepared ran h =
     text_ends (IsLogOfRun IsRun) Came seeding a b script seed (shown_log (entries_of told) ++ notes_text notes) status prepared (record {
       history = ran.history;
       run = ran.run;
+      ranged = ran.ranged;
       log = ap₂ (λ (lines : List ℕ) (ns : List Note). lines ++ notes_text ns) (told_log told ran.history ran.in_place) ran.noted;
     }) h

@@ -21,6 +21,7 @@ use Rattle.fsc_session.specs.Running.{HasRun, RunnerView, StepMakes, state_of}
 use Rattle.fsc_session.specs.Rotation.{Waiting, waiting, turn_of, turn_steps, round_steps, rounds_steps}
 use Rattle.fsc_commands.proofs.StepsLemmas.{entries_of-append, Reaches-on, Reaches-and_then, names_in-append, names_from-shown}
 use Rattle.fsc_tool.specs.Rotating.{InTurn, Rotating, TurnMade}
+use Rattle.fsc_tool.specs.RangeLaws.{are_in_range-append}
 
 -- ---- lists with one element changed
 
@@ -197,6 +198,7 @@ goes_on leads seed script whole last n i runners old new machine machine' places
       given = count ∙ ap (λ k. k + length turn.made) given ∙ sym (length-append told turn.made);
       count = length-set runners i new ∙ before.count;
       led = subst (λ h. leads h machine') (sym (entries_of-append told turn.made)) (turn.led (entries_of told) before.led);
+      ranged = are_in_range-append told turn.made before.ranged turn.ranged;
       each = λ j runner at. ⊎_elim
           (λ (same : i ≡ j).
           let is : new ≡ runner = let both = sym (get-set_same runners i new within) ∙ ap (slice_get (set runners i new)) same ∙ at in cc both in
@@ -237,6 +239,7 @@ restated leads seed script whole rest rest' turns turns' runners machine places 
   given = r.given;
   count = r.count;
   led = r.led;
+  ranged = r.ranged;
   each = λ j runner here. subst (λ t. InTurn seed script r.told t j runner) (as_many j (slice_get_within runners j runner here)) (r.each j runner here);
   others = r.others;
   order = subst (λ s. Reaches whole (entries_of r.told) s) same r.order;

@@ -5,9 +5,11 @@ pub mod Gen
 pub mod ImageOfRun
 pub mod Inspection
 pub mod Limits
+pub mod InRange
 pub mod LogOfRun
 pub mod Outside
 pub mod Prepared
+pub mod RangeLaws
 pub mod Replay
 pub mod Rotating
 pub mod Runs

@@ -11,6 +11,7 @@ use Rattle.fsc_commands.specs.Steps.{Steps, Reaches}
 use Rattle.fsc_session.specs.Asking.{AsksRightly}
 use Rattle.fsc_session.specs.Running.{RunnerView, runner_view, HasRun, StepMakes}
 use Rattle.fsc_session.specs.Rotation.{Waiting}
+use Rattle.fsc_tool.specs.InRange.{AreInRange}
 
 -- runner j is caller j of the script and had so many turns: the calls that it made are a run of the commands
 -- before its next, and it has what is shown of them
@@ -22,8 +23,8 @@ pub record InTurn (seed : List ℕ) (script : List Section) (told : PlacedCalls)
   pub next : runner.next ≡ min turns (length runner.section.commands)
   pub run : HasRun seed runner (by j told)
 
--- the machine stands after all entries so far, whose places count from 0, and so many are given; they are
--- the runners' alone; and after them the steps of the whole script have these left
+-- the machine stands after all entries so far, which are in range, whose places count from 0, and so many are
+-- given; they are the runners' alone; and after them the steps of the whole script have these left
 pub record Rotating {M : Type 0} (leads : History → M → Type 0) (seed : List ℕ) (script : List Section)
     (whole rest : Steps (List Waiting))
     (turns : ℕ → ℕ) (runners : List RunnerView) (machine : M) (places : ℕ) : Type 0 where
@@ -32,6 +33,7 @@ pub record Rotating {M : Type 0} (leads : History → M → Type 0) (seed : List
   pub given : places ≡ length told
   pub count : length runners ≡ length script
   pub led : leads (entries_of told) machine
+  pub ranged : AreInRange told
   pub each : (j : ℕ) (runner : RunnerView) → slice_get runners j ≡ Some runner
       → InTurn seed script told (turns j) j runner
   pub others : (caller : ℕ) → slice_get runners caller ≡ None → by caller told ≡ []
@@ -47,6 +49,7 @@ pub record TurnMade {M : Type 0} (leads : History → M → Type 0) (seed : List
   pub given : places' ≡ places + length made
   pub own : by old.caller made ≡ made
   pub led : (history : History) → leads history machine → leads (history ++ entries_of made) machine'
+  pub ranged : AreInRange made
   pub grown : new.entries ≡ old.entries ++ shown_calls made
   pub caller : new.caller ≡ old.caller
   pub section : new.section ≡ old.section

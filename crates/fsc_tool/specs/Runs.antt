@@ -1,8 +1,9 @@
 -- What a run of a script is: by callers that don't wait for one another, and in rotation.
-use Rattle.std.specs.Prelude.{◌≡◌, ℕ, List}
+use Rattle.std.specs.Prelude.{◌≡◌, ℕ, List, All}
 use Rattle.call_history.specs.Entries.{numbered}
 use Rattle.mount_model.specs.History.{History, IsLegal, NeverWantsMemory}
 use Rattle.script_lang.specs.declared.commands.Section.{Section}
+use Rattle.reply_text.specs.Ranges.{EntryIsInRange}
 use Rattle.reply_text.specs.Shown.{PlacedShown, shown_history}
 use Rattle.reply_text.specs.declared.notes.Note.{Note}
 use Rattle.fsc_commands.specs.Steps.{Reaches}
@@ -31,11 +32,12 @@ abbrev pub IsRunBefore : (History → Type 0) → (List ℕ → List Section →
     → List ℕ → List Section → History → Type 0
 IsRunBefore Led IsRun seed script history = IsRun seed script history × Led history
 
--- the entries are what is shown of one history, which is such a run, in order of place; and these are its
--- notes
+-- the entries are what is shown of one history, which is such a run and holds values of the program alone, in
+-- order of place; and these are its notes
 pub record TellsRun (IsRun : List ℕ → List Section → History → Type 0)
     (seed : List ℕ) (script : List Section) (placed : PlacedShown) (notes : List Note) : Type 0 where
   pub history : History
   pub run : IsRun seed script history
+  pub ranged : All EntryIsInRange history
   pub in_place : placed ≡ numbered 0 (shown_history history)
   pub noted : notes ≡ notes_of seed script history

@@ -10,6 +10,7 @@ use Rattle.reply_text.specs.declared.notes.Note.{Note}
 use Rattle.fsc_commands.specs.declared.TheConstants.{MOST_CALLS}
 use Rattle.fsc_session.specs.Asking.{AsksRightly}
 use Rattle.fsc_session.specs.Session.{IsRunOfCaller, notes_by}
+use Rattle.fsc_tool.specs.InRange.{AreInRange}
 
 -- the most calls that the commands of sections make
 abbrev pub calls_needed : List Section → ℕ
@@ -33,13 +34,14 @@ pub record RunFrom (seed : List ℕ) (who : ℕ) (sections : List Section) (plac
   pub none : (caller : ℕ) → caller < who → by caller placed ≡ []
 
 -- the callers of a pass ran their sections: what they were told is, caller by caller, what is shown of the
--- calls that the pass has now, which has the numbers that it had; and these are their notes
+-- calls that the pass has now, which are in range, and it has the numbers that it had; and these are their notes
 pub record HaveRun (seed : List ℕ) (old : MountPass) (sections : List Section)
     (new : MountPass) (told : PlacedShown) (notes : List Note) : Type 0 where
   pub same_table : new.table ≡ old.table
   pub same_caller : new.who ≡ old.who
   pub same_high : new.high ≡ old.high
   pub run : RunFrom seed old.who sections (new.past ++ new.mine)
+  pub ranged : AreInRange (new.past ++ new.mine)
   pub alike : (caller : ℕ) → by caller told ≡ shown_calls (by caller (new.past ++ new.mine))
   pub noted : notes ≡ notes_by seed old.who sections (new.past ++ new.mine)
 

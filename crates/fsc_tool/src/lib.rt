@@ -6,6 +6,7 @@ mod form;
 mod gen_runs;
 mod inspect;
 mod limits;
+mod ranged_port;
 mod replay;
 mod rotation;
 mod seed;

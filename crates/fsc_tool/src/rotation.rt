@@ -10,6 +10,7 @@ ghost use Rattle.fsc_session.specs.Rotation.{Waiting, longest, rounds_steps};
 ghost use Rattle.fsc_tool.specs.Rotating.{Rotating, TurnMade, fresh_runners, noted_by, sections_of, told_by};
 ghost use Rattle.fsc_tool.specs.Runs.{IsRunBefore, IsSerialRun, TellsRun};
 
+use crate::ranged_port::RangedPort;
 use crate::told::Told;
 use call_history::{MOST_PLACES, sort_by_place};
 use fsc_commands::{MOST_CALLS, Stretches};
@@ -176,12 +177,13 @@ fn take_turn<G: Gate, S: Stretches, M: MountMachine>(
     if let Some(number) = command {
         gate.before(caller, number as u64);
     }
-    let mut port = mount.port(runner.caller(), MOST_CALLS);
+    let port = mount.port(runner.caller(), MOST_CALLS);
+    let mut port = RangedPort::over(port);
     runner.step(alloc, &mut port, stretches, seed)?;
     if let Some(number) = command {
         gate.after(caller, number as u64);
     }
-    Ok(port.back())
+    Ok(port.back().back())
 }
 
 // All that the runners were told, runner after runner.

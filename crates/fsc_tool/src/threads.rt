@@ -9,6 +9,7 @@ ghost use Rattle.turn_lock.specs.Passes.{merged_entries};
 ghost use Rattle.fsc_tool.specs.Runs.{IsLawfulRun, TellsRun};
 ghost use Rattle.fsc_tool.specs.Threaded.{AreHalves, CanRun, HaveRun, calls_needed};
 
+use crate::ranged_port::RangedPort;
 use crate::told::Told;
 use call_history::{MOST_PLACES, sort_by_place};
 use fsc_commands::{MOST_CALLS, Stretches};
@@ -140,9 +141,10 @@ fn run_one<R: Wait, G: Gate, S: Stretches, M: MountMachine>(
     ensures { IfOk result (λ ran. HaveRun seed.now pass sections.now ran.0
         ran.1.entries.items ran.1.notes.items) }
 {
-    let mut port = SharedPort::new(rt, shared, pass);
+    let port = SharedPort::new(rt, shared, pass);
+    let mut port = RangedPort::over(port);
     let ran = run_caller(alloc, &mut port, gate, stretches, &sections[0], seed)?;
-    let pass = port.back();
+    let pass = port.back().back();
     // That its own entries are its caller's.
     let _caller = pass.who();
     Ok((pass, Told::of_caller(ran)))

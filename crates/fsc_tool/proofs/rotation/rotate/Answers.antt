@@ -39,6 +39,7 @@ returns g c =
             c.in_ok-mount.mount.places c.longest.result all ended whole),
         ended.led,
       );
+      ranged = ended.ranged;
       in_place = c.in_ok-sort_by_place.ensures (shown_history (entries_of ended.told))
           (λ caller. ap (λ told. by caller told) c.in_ok-told.ensures.entries
           ∙ told_history g.M.Machine.leads g.M.Machine.lawful g.met.M.Machine.leads_lawful c.args.seed.now (sections_of runners)

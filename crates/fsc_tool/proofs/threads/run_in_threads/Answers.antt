@@ -1,4 +1,4 @@
-use Rattle.std.proofs.Common.{◌≡◌, ℕ, zero, suc, ◌≤◌, ◌<◌, false, length, refl, sym, ap, subst, arith}
+use Rattle.std.proofs.Common.{◌≡◌, ℕ, zero, suc, ◌≤◌, ◌<◌, false, ◌++◌, length, refl, sym, ap, subst, arith}
 use Rattle.std.specs.Prelude.{All, ◌==◌}
 use Rattle.fsc_session.specs.Asking.{AsksRightly}
 use Rattle.fsc_session.proofs.Asked.{spelled-few, spelled-asked}
@@ -6,6 +6,7 @@ use Rattle.reply_text.specs.Shown.{shown_history}
 use Rattle.turn_lock.specs.Passes.{merged_entries}
 use Rattle.mount_shared.specs.SharedCalls.{MountPass}
 use Rattle.fsc_tool.specs.Threaded.{HaveRun}
+use Rattle.fsc_tool.proofs.RangeLemmas.{in_range-merged}
 use Rattle.fsc_tool.proofs.ThreadLemmas.{first_runs, tells_lawful, told_history}
 use Rattle.fsc_tool.proofs.threads.run_in_threads.Goals as goal
 
@@ -37,4 +38,4 @@ returns g c =
     c.sort_by_place.new.entries.items
     (c.in_ok-sort_by_place.ensures (shown_history history)
     (told_history g.M.Machine.lawful c.args.seed.now c.args.script.now old new told.entries.items told.notes.items history ran first c.end.ensures.callers))
-    c.end.ensures.lawful
+    c.end.ensures.lawful (in_range-merged (new.past ++ new.mine) ran.ranged)
