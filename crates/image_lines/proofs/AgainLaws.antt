@@ -1,35 +1,32 @@
 -- The lines of an image are at fault nowhere, and tell the image.
-use Rattle.std.proofs.Common.{◌≡◌, ℕ, ◌<◌, ◌≤◌, ◌+◌, ◌-◌, ◌^◌, ◌==◌, ◌&&◌, Bool, true, false, List, [], ◌∷◌, ◌++◌, length, map, Option, Some, None, refl, sym, ap, ◌∙◌, subst, arith, inl, inr, append_assoc, append-nil, length-append, nat_lt, suc}
-use Rattle.std.specs.Prelude.{is_some, is_none, All, IsTrue, ⊤, if◌then◌else◌}
+use Rattle.std.proofs.Common.{◌≡◌, ℕ, ◌<◌, ◌+◌, ◌-◌, ◌==◌, Bool, true, false, List, [], ◌∷◌, ◌++◌, length, map, Some, None, refl, sym, ap, ◌∙◌, arith, append_assoc, length-append, nat_lt, suc}
+use Rattle.std.specs.Prelude.{is_some, is_none}
 use Rattle.std.specs.List.{AllByRecursion, flat_map}
 use Rattle.std.specs.Option.{option_map}
 use Rattle.std.specs.Ordering.{nat_cmp, is_lt}
 use Rattle.std.specs.Cmp.Lexicographic.{slice_cmp}
-use Rattle.std.specs.declared.cmp.Ordering.{Ordering}
-use Rattle.std.specs.declared.cmp.Ordering.TheVariants.{Less, Equal, Greater}
-use Rattle.std.proofs.lemmas.Bool.{and_from, cases_Bool, eq-eqb, ne_eqb}
+use Rattle.std.specs.declared.cmp.Ordering.TheVariants.{Less}
+use Rattle.std.proofs.lemmas.Bool.{and_from, eq-eqb, ne_eqb}
 use Rattle.std.proofs.lemmas.List.Elements.{recursion_from_All}
 use Rattle.byte_words.specs.Bytes.{AreBytesOfLength}
 use Rattle.disk_tree.specs.Entries.{Entries}
 use Rattle.disk_tree.specs.Nodes.{IsDir}
 use Rattle.disk_tree.specs.declared.node.Body.{Body}
 use Rattle.disk_tree.specs.declared.node.Body.TheVariants as body
-use Rattle.image_lines.specs.declared.node_line.NodeKind.{NodeKind}
-use Rattle.image_lines.specs.declared.node_line.NodeKind.TheVariants.{Dir, File, Link}
 use Rattle.image_lines.specs.declared.node_line.NodeLine.{NodeLine}
 use Rattle.image_lines.specs.declared.place.Place.{Place}
 use Rattle.image_lines.specs.declared.place.Place.TheVariants.{AtHeader, AtRoot, InDir, Behind}
 use Rattle.image_lines.specs.Image.{Image, ImageNode}
 use Rattle.image_lines.specs.ImageText.{header, node_line, entry_line, block_line, kind_of, line_of, body_lines, node_lines}
-use Rattle.image_lines.specs.Rules.{IsEntry, IsBody, IsNode, HasGoodLines, is_entry_name, blocks_for}
-use Rattle.image_lines.specs.Lines.{◌>>=◌, passing, node_told, entry_told, block_told}
-use Rattle.image_lines.specs.Reading.{place_behind, behind_node, is_dir, is_root, next_node, next_entry, next_block, step, may_end, or_fault, line_fault_from}
-use Rattle.image_lines.specs.Reading.{while_some, entries_at, blocks_at, body_at, node_at, with_node_at, nodes_at}
+use Rattle.image_lines.specs.Rules.{IsEntry, IsBody, IsNode, HasGoodLines, blocks_for}
+use Rattle.image_lines.specs.Lines.{node_told, entry_told, block_told}
+use Rattle.image_lines.specs.Reading.{place_behind, behind_node, is_dir, is_root, next_node, step, may_end, or_fault, line_fault_from}
+use Rattle.image_lines.specs.Reading.{entries_at, blocks_at, body_at, node_at, with_node_at, nodes_at}
 use Rattle.image_lines.proofs.Telling.{passes}
 use Rattle.image_lines.proofs.LineLaws.{IsNodeLine, node_told_again, entry_told_again, block_told_again}
-use Rattle.image_lines.proofs.LineLaws.{node_is_no_entry, node_is_no_block, entry_is_no_node, block_is_no_node}
+use Rattle.image_lines.proofs.LineLaws.{node_is_no_entry, entry_is_no_node, block_is_no_node}
 use Rattle.image_lines.proofs.LineLaws.{node_line_is_free, entry_line_is_free, block_line_is_free}
-use Rattle.image_lines.proofs.Pieces.{AreLines, AreLines-append, is_free_of}
+use Rattle.image_lines.proofs.Pieces.{AreLines, AreLines-append}
 use Rattle.image_lines.proofs.Bodies.{AreEntries, AreNodes, entries_of_rules, nodes_from_lines, line_from_node, entry_line_from}
 use Rattle.image_lines.proofs.ReadingLaws.{lines_of}
 

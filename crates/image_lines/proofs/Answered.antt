@@ -1,5 +1,5 @@
 -- What reading answers, of the places of nodes and of the image.
-use Rattle.std.proofs.Common.{◌≡◌, ℕ, List, [], ◌∷◌, map, Option, Some, None, Result, Ok, Err, refl, sym, ap, ◌∙◌, subst, ◌⊎◌, inl, inr}
+use Rattle.std.proofs.Common.{◌≡◌, ℕ, List, [], ◌∷◌, map, Some, None, Result, Ok, Err, refl, sym, ap, ◌∙◌, subst, ◌⊎◌, inr}
 use Rattle.std.specs.List.Sorted.{IsStrictlySortedBy}
 use Rattle.std.specs.Ordering.{nat_cmp}
 use Rattle.text_words.specs.Lines.{pieces_of}
@@ -10,12 +10,12 @@ use Rattle.image_lines.specs.declared.place.Place.TheVariants.{AtHeader}
 use Rattle.image_lines.specs.Image.{Image, numbers_of}
 use Rattle.image_lines.specs.ImageText.{image_text}
 use Rattle.image_lines.specs.Rules.{IsImage}
-use Rattle.image_lines.specs.Reading.{child_fault, child_fault_from, image_read, line_fault, nodes_at, unless_fault}
+use Rattle.image_lines.specs.Reading.{child_fault, child_fault_from, image_read, line_fault, nodes_at}
 use Rattle.image_lines.specs.Places.{DoRise, IsFault, IsReadFault, node_of_place, numbers_at}
 use Rattle.image_lines.proofs.ReadingLaws.{told_from}
 use Rattle.image_lines.proofs.ImageLaws.{images_are_texts}
 
-same_numbers : (text : List ℕ) (places : List NodePlace) → numbers_of (map (node_of_place text) places) ≡ numbers_at places
+pub same_numbers : (text : List ℕ) (places : List NodePlace) → numbers_of (map (node_of_place text) places) ≡ numbers_at places
 same_numbers text [] = refl
 same_numbers text (p ∷ places) = ap (λ l. p.number ∷ l) (same_numbers text places)
 

@@ -1,6 +1,6 @@
 -- Where entries lead: no line is at fault exactly where the rules on children hold.
-use Rattle.std.proofs.Common.{◌≡◌, ◌≢◌, ℕ, ◌<◌, ◌+◌, ◌==◌, ◌&&◌, ◌||◌, Bool, true, false, not, List, [], ◌∷◌, ◌++◌, length, map, Option, Some, None, refl, sym, ap, ◌∙◌, subst, arith, inl, inr, append_assoc, nat_eq, get_or}
-use Rattle.std.specs.Prelude.{All, Contains, is_some, ⊤, if◌then◌else◌}
+use Rattle.std.proofs.Common.{◌≡◌, ◌≢◌, ℕ, ◌+◌, ◌==◌, ◌&&◌, Bool, true, false, not, List, [], ◌∷◌, ◌++◌, map, Option, Some, None, refl, sym, ap, ◌∙◌, subst, inl, inr, append_assoc, nat_eq, get_or}
+use Rattle.std.specs.Prelude.{Contains, is_some, ⊤}
 use Rattle.std.specs.List.{AllByRecursion, IsDistinct, list_any, flat_map}
 use Rattle.std.specs.Cmp.{nat_eq_equiv}
 use Rattle.std.proofs.lemmas.Bool.{and_parts, or_parts, or_from, cases_Bool, eqb-true, eq-eqb, ne_eqb}
@@ -10,9 +10,8 @@ use Rattle.disk_tree.specs.Entries.{Entries}
 use Rattle.disk_tree.specs.Nodes.{entries_of}
 use Rattle.disk_tree.specs.declared.node.Body.{Body}
 use Rattle.disk_tree.specs.declared.node.Body.TheVariants as body
-use Rattle.byte_words.specs.Bytes.{AreBytesOfLength}
 use Rattle.image_lines.specs.Image.{Image, ImageNode, numbers_of, all_entries, children_of}
-use Rattle.image_lines.specs.ImageText.{header, entry_line, block_line, body_lines, node_lines, node_line, line_of}
+use Rattle.image_lines.specs.ImageText.{header, entry_line, block_line, body_lines, node_lines, line_of}
 use Rattle.image_lines.specs.Rules.{IsEntry, IsBody, IsNode, HasGoodChildren}
 use Rattle.image_lines.specs.Lines.{entry_told}
 use Rattle.image_lines.specs.Reading.{may_lead_to, behind_entry, child_fault_from}

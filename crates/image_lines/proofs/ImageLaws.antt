@@ -1,11 +1,10 @@
 -- A text is read as an image exactly where it is the text of that image, and the image is one.
-use Rattle.std.proofs.Common.{◌≡◌, ℕ, List, [], ◌∷◌, ◌++◌, Option, Some, None, Result, Ok, Err, refl, sym, ap, ◌∙◌, subst}
-use Rattle.std.specs.Prelude.{◌↔◌}
+use Rattle.std.proofs.Common.{◌≡◌, ℕ, List, [], ◌∷◌, Option, Some, None, Result, Ok, refl, sym, ap, ◌∙◌, subst}
 use Rattle.std.specs.List.{flat_map}
 use Rattle.std.proofs.lemmas.List.Elements.{recursion_from_All}
 use Rattle.text_words.specs.Lines.{pieces_of}
 use Rattle.image_lines.specs.Image.{Image, numbers_of}
-use Rattle.image_lines.specs.ImageText.{header, ended, node_lines, image_text}
+use Rattle.image_lines.specs.ImageText.{header, node_lines, image_text}
 use Rattle.image_lines.specs.Rules.{IsNode, IsImage, HasGoodLines}
 use Rattle.image_lines.specs.declared.place.Place.TheVariants.{AtHeader}
 use Rattle.image_lines.specs.Reading.{ImagesAreTexts, child_fault, child_fault_from, image_read, line_fault, line_fault_from, nodes_at, unless_fault}

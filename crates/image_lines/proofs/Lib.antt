@@ -12,3 +12,4 @@ pub mod RoundLemmas
 pub mod SearchLemmas
 pub mod ChildRounds
 pub mod Answered
+pub mod NodeLemmas

@@ -1,6 +1,6 @@
 -- The lines of nodes, entries and blocks: each is read as what it spells, and no other line is.
-use Rattle.std.proofs.Common.{◌≡◌, ℕ, ◌<◌, ◌≤◌, ◌^◌, ◌*◌, ◌==◌, Bool, true, false, not, List, [], ◌∷◌, ◌++◌, length, Option, Some, None, refl, sym, ap, ◌∙◌, subst, arith, inl, inr}
-use Rattle.std.specs.Prelude.{codes, nat_le, nat_eq, is_some, is_none, IsTrue, ⊤, if◌then◌else◌}
+use Rattle.std.proofs.Common.{◌≡◌, ℕ, ◌<◌, ◌≤◌, ◌^◌, ◌*◌, ◌==◌, Bool, true, false, List, [], ◌∷◌, ◌++◌, length, Option, Some, None, refl, sym, ap, ◌∙◌, subst, arith, inl, inr}
+use Rattle.std.specs.Prelude.{codes, nat_le, nat_eq, is_some, is_none, IsTrue, ⊤}
 use Rattle.std.specs.List.{join_with_byte}
 use Rattle.std.specs.Option.{option_map}
 use Rattle.std.specs.Str.{bytes_eq}
@@ -21,11 +21,11 @@ use Rattle.image_lines.specs.declared.node_line.NodeKind.{NodeKind}
 use Rattle.image_lines.specs.declared.node_line.NodeKind.TheVariants.{Dir, File, Link}
 use Rattle.image_lines.specs.declared.node_line.NodeLine.{NodeLine}
 use Rattle.image_lines.specs.ImageText.{context_text, kind_text, node_line, entry_line, block_line}
-use Rattle.image_lines.specs.Rules.{IsContext, is_target, is_stored}
+use Rattle.image_lines.specs.Rules.{IsContext, is_target}
 use Rattle.image_lines.specs.Lines.{◌>>=◌, passing, behind, number_told, stored_told, is_context, context_told, file_told, link_told, kind_told}
 use Rattle.image_lines.specs.Lines.{node_of, node_of_words, entry_of_words, node_told, entry_told, block_told}
 use Rattle.image_lines.proofs.Pieces.{is_free_of, split_at, split_none}
-use Rattle.image_lines.proofs.Telling.{chose, went_on, was_mapped, passed, passes, same_bytes, behind_again, behind_found, digits_found, digits_again}
+use Rattle.image_lines.proofs.Telling.{chose, went_on, was_mapped, passed, passes, behind_again, behind_found, digits_found, digits_again}
 use Rattle.image_lines.proofs.Telling.{stored_found, stored_again, number_again, number_found, digits_are_free, number_is_free, free_of_both}
 
 -- ---- contexts

@@ -1,8 +1,7 @@
 -- What the lines of a text tell where none is at fault: the lines are those of the nodes that they tell, and the rules on lines hold.
-use Rattle.std.proofs.Common.{◌≡◌, ℕ, ◌<◌, ◌≤◌, ◌+◌, ◌-◌, ◌^◌, ◌==◌, ◌&&◌, Bool, true, false, List, [], ◌∷◌, ◌++◌, length, map, Option, Some, None, refl, sym, ap, ◌∙◌, subst, arith, add-one, inl, inr, append_assoc, nat_lt, suc}
-use Rattle.std.specs.Prelude.{is_some, is_none, All, IsTrue, ⊤, if◌then◌else◌}
+use Rattle.std.proofs.Common.{◌≡◌, ℕ, ◌+◌, ◌-◌, ◌==◌, ◌&&◌, Bool, true, false, List, [], ◌∷◌, ◌++◌, length, map, Option, Some, None, refl, sym, ap, ◌∙◌, subst, arith, inl, inr, append_assoc, nat_lt, suc}
+use Rattle.std.specs.Prelude.{is_some, is_none, if◌then◌else◌}
 use Rattle.std.specs.List.{AllByRecursion, flat_map}
-use Rattle.std.specs.Option.{option_map}
 use Rattle.std.specs.Ordering.{nat_cmp, is_lt}
 use Rattle.std.specs.Str.{bytes_eq}
 use Rattle.std.specs.Cmp.Lexicographic.{slice_cmp, same_text}
@@ -15,21 +14,19 @@ use Rattle.std.proofs.lemmas.List.Elements.{All-from_recursion}
 use Rattle.std.proofs.lemmas.Option.{same_Some}
 use Rattle.byte_words.specs.Bytes.{AreBytesOfLength}
 use Rattle.disk_tree.specs.Nodes.{IsDir}
-use Rattle.disk_tree.specs.declared.node.Body.{Body}
-use Rattle.disk_tree.specs.declared.node.Body.TheVariants as body
 use Rattle.image_lines.specs.declared.node_line.NodeKind.{NodeKind}
 use Rattle.image_lines.specs.declared.node_line.NodeKind.TheVariants.{Dir, File, Link}
 use Rattle.image_lines.specs.declared.node_line.NodeLine.{NodeLine}
 use Rattle.image_lines.specs.declared.place.Place.{Place}
 use Rattle.image_lines.specs.declared.place.Place.TheVariants.{AtHeader, AtRoot, InDir, Behind}
-use Rattle.image_lines.specs.Image.{Image, ImageNode}
+use Rattle.image_lines.specs.Image.{Image}
 use Rattle.image_lines.specs.ImageText.{header, node_line, entry_line, block_line, kind_of, line_of, body_lines, node_lines}
-use Rattle.image_lines.specs.Rules.{IsEntry, IsBody, IsNode, HasGoodLines, is_entry_name, blocks_for}
+use Rattle.image_lines.specs.Rules.{IsEntry, IsBody, IsNode, HasGoodLines, is_entry_name}
 use Rattle.image_lines.specs.Lines.{◌>>=◌, passing, node_told, entry_told, block_told}
-use Rattle.image_lines.specs.Reading.{place_behind, behind_node, is_dir, is_root, next_node, next_entry, next_block, step, may_end, or_fault, line_fault_from}
+use Rattle.image_lines.specs.Reading.{place_behind, behind_node, is_dir, is_root, next_node, next_entry, next_block, step, may_end, line_fault_from}
 use Rattle.image_lines.specs.Reading.{while_some, entries_at, blocks_at, body_at, node_at, with_node_at, nodes_at}
 use Rattle.image_lines.proofs.Telling.{chose, was_mapped, passed}
-use Rattle.image_lines.proofs.LineLaws.{IsKind, IsNodeLine, IsEntryLine, node_told_found, entry_told_found, block_told_found}
+use Rattle.image_lines.proofs.LineLaws.{IsKind, node_told_found, entry_told_found, block_told_found}
 use Rattle.image_lines.proofs.LineLaws.{node_is_no_entry, node_is_no_block, entry_is_no_node, block_is_no_node}
 use Rattle.image_lines.proofs.Bodies.{AreEntries, AreNodes, AreNodes-none, AreNodes-more, entries_from, lines_from_nodes}
 

@@ -1,5 +1,5 @@
 -- Reading line by line, as the code goes: one line of a text, and the rest.
-use Rattle.std.proofs.Common.{◌≡◌, ℕ, ◌<◌, ◌≤◌, ◌+◌, ◌-◌, ◌==◌, ◌&&◌, Bool, true, false, List, [], ◌∷◌, ◌++◌, length, map, take, drop, Option, Some, None, refl, sym, ap, ◌∙◌, subst, arith, append_assoc, append-nil, length-append}
+use Rattle.std.proofs.Common.{◌≡◌, ℕ, ◌<◌, ◌≤◌, ◌+◌, ◌-◌, ◌==◌, true, false, List, [], ◌∷◌, ◌++◌, length, map, drop, Option, Some, None, refl, sym, ap, ◌∙◌, arith, append_assoc, append-nil, length-append}
 use Rattle.std.specs.Prelude.{if◌then◌else◌}
 use Rattle.std.proofs.lemmas.Bool.{eqb-true}
 use Rattle.std.proofs.lemmas.List.{nil_from_length, map-append, drop_at, drop-drop}
@@ -7,10 +7,9 @@ use Rattle.text_words.specs.Lines.{pieces_of}
 use Rattle.image_lines.specs.declared.node_line.NodeLine.{NodeLine}
 use Rattle.image_lines.specs.declared.place.Place.{Place}
 use Rattle.image_lines.specs.declared.round_of_lines.NodePlace.{NodePlace}
-use Rattle.image_lines.specs.Image.{Image, ImageNode}
 use Rattle.image_lines.specs.Lines.{node_told}
 use Rattle.image_lines.specs.Reading.{step, may_end, or_fault, line_fault_from, nodes_at, node_at, with_node_at}
-use Rattle.image_lines.specs.Places.{node_of_place, node_or_none, first_node, place_told}
+use Rattle.image_lines.specs.Places.{node_of_place, place_told}
 use Rattle.image_lines.proofs.Pieces.{first_piece}
 
 -- ---- the line at fault

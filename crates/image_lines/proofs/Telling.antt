@@ -1,6 +1,6 @@
 -- What stands behind words, and numbers and digits: each is read from what it is spelled as, and from nothing else.
 use Rattle.std.proofs.Common.{◌≡◌, ℕ, ◌^◌, ◌*◌, ◌<◌, ◌≤◌, ◌==◌, Bool, true, false, ◌&&◌, not, List, [], ◌∷◌, ◌++◌, length, take, drop, Option, Some, None, Result, Ok, Err, refl, sym, ap, ◌∙◌, subst, arith}
-use Rattle.std.specs.Prelude.{codes, nat_le, nat_lt, if◌then◌else◌}
+use Rattle.std.specs.Prelude.{nat_le, nat_lt, if◌then◌else◌}
 use Rattle.std.specs.List.{list_all}
 use Rattle.std.specs.Result.{result_ok}
 use Rattle.std.specs.Char.{is_ascii_digit}
@@ -20,7 +20,7 @@ use Rattle.text_words.specs.Digits.{hex_bytes, hex_bytes_of_length, lower_hex_by
 use Rattle.text_words.specs.Numbers.{decimal_of, is_decimal}
 use Rattle.text_words.proofs.DigitLemmas.{lower_written, lower_every, spells}
 use Rattle.text_words.proofs.NumberLemmas.{number_below-decimal_of, decimal_of-number_below, test-from_IsDecimal, IsDecimal-decimal_of}
-use Rattle.byte_words.specs.Bytes.{AreBytes, AreBytesOfLength}
+use Rattle.byte_words.specs.Bytes.{AreBytes}
 use Rattle.image_lines.specs.Lines.{◌>>=◌, passing, behind, number_told, stored_told}
 use Rattle.image_lines.proofs.Pieces.{is_free_of}
 

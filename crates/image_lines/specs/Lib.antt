@@ -4,3 +4,4 @@ pub mod Rules
 pub mod Lines
 pub mod Reading
 pub mod Places
+pub mod Nodes

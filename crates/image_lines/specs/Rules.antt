@@ -1,6 +1,6 @@
 -- What an image is: rules on each node and on the order of nodes, and rules on where entries lead.
 use Rattle.std.specs.Prelude.{◌≡◌, ◌≢◌, ◌≤◌, ◌<◌, ◌^◌, ◌==◌, ◌&&◌, ◌||◌, ⊤}
-use Rattle.std.specs.Prelude.{ℕ, Bool, true, false, IsTrue, not, nat_le, nat_eq, List, [], ◌∷◌, map, length, codes}
+use Rattle.std.specs.Prelude.{ℕ, Bool, true, false, IsTrue, not, nat_le, nat_eq, List, [], ◌∷◌, length, codes}
 use Rattle.std.specs.Prelude.{Option, None, Some, is_some, All, Contains}
 use Rattle.std.specs.Int.{div_ceil}
 use Rattle.std.specs.List.{list_any, IsDistinct}

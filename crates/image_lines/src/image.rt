@@ -1,20 +1,25 @@
 //! An image, read from its text.
 
-ghost use Rattle.std.specs.Prelude.{◌≡◌, ◌≤◌, ◌⊎◌, Ok, Err, map, length, IfOk, IfErr};
+ghost use Rattle.std.specs.Prelude.{◌≡◌, ◌<◌, ◌≤◌, ◌⊎◌, Ok, Err, Some, map, length, drop, slice_get, IfOk, IfErr};
 ghost use Rattle.image_lines.specs.Image as tree;
+ghost use Rattle.image_lines.specs.Image.{numbers_of};
 ghost use Rattle.image_lines.specs.ImageText.{image_text};
 ghost use Rattle.image_lines.specs.Rules.{IsImage};
 ghost use Rattle.image_lines.specs.Reading.{image_read};
-ghost use Rattle.image_lines.specs.Places.{IsReadFault, node_of_place};
+ghost use Rattle.image_lines.specs.Nodes.{IsRestOf, node_in};
+ghost use Rattle.image_lines.specs.Places.{IsIndexOf, IsReadFault, node_of_place};
 ghost use Rattle.image_lines.specs.declared.fault.ImageFault.TheVariants.{NoMemory};
 ghost use Rattle.image_lines.specs.declared.TheConstants.{MOST_IMAGE_BYTES};
 
 use crate::MOST_IMAGE_BYTES;
 use crate::fault::ImageFault;
-use crate::round_of_children::check_children;
+use crate::lines::read_node_line;
+use crate::node_line::NodeLine;
+use crate::round_of_children::{check_children, index_of};
 use crate::round_of_lines::{NodePlace, node_places};
 use std::alloc::Global;
 use std::marker::Model;
+use text_words::next_line;
 
 /// An image, over the text from which it was read. Of each node it keeps 8 bytes besides: where the node
 /// stands. What the node is, and its entries and blocks, are read from the text when they are asked for.
@@ -25,17 +30,87 @@ pub struct Image<'a> {
 }
 
 impl<'a> Model for Image<'a> {
-    ghost use Rattle.std.specs.Prelude.{◌≡◌, List, map, Ok};
+    ghost use Rattle.std.specs.Prelude.{◌≡◌, ◌≤◌, List, length, map, Ok};
     ghost use Rattle.image_lines.specs.Image.{ImageNode};
     ghost use Rattle.image_lines.specs.Reading.{image_read};
     ghost use Rattle.image_lines.specs.Places.{node_of_place};
+    ghost use Rattle.image_lines.specs.declared.TheConstants.{MOST_IMAGE_BYTES};
 
     ghost Value = { List ImageNode };
 
     ghost view = { λ image. map (node_of_place image.text.now) image.places.items };
 
-    ghost invariant = { λ image. image_read image.text.now
-        ≡ Ok (map (node_of_place image.text.now) image.places.items) };
+    ghost invariant = { λ image. (length image.text.now ≤ MOST_IMAGE_BYTES) × (image_read image.text.now
+        ≡ Ok (map (node_of_place image.text.now) image.places.items)) };
+}
+
+/// A node of an image, where it stands in the text.
+#[derive(Clone, Copy)]
+pub struct NodeText<'a> {
+    /// What its own line tells.
+    pub line: NodeLine,
+    /// The text behind that line, which begins with the lines of its entries or blocks.
+    pub rest: &'a [u8],
+}
+
+impl<'a> Image<'a> {
+    /// The text from which the image was read.
+    pub fn text(&self) -> &'a [u8]
+        ensures text { result.now ≡ image_text self.now }
+        ensures short { length result.now ≤ MOST_IMAGE_BYTES }
+        ensures image { IsImage self.now }
+    {
+        self.text
+    }
+
+    /// How many nodes there are.
+    pub fn node_count(&self) -> usize
+        ensures { result ≡ length self.now }
+    {
+        self.places.len()
+    }
+
+    /// The node at this index, of those in order of number.
+    pub fn node(&self, index: usize) -> NodeText<'a>
+        requires { index < length self.now }
+        ensures node { slice_get self.now index ≡ Some (node_in result) }
+        ensures rest { IsRestOf (image_text self.now) result.rest.now }
+    {
+        let place = self.places[index];
+        let line = next_line(from_index(self.text, place.at as usize));
+        match read_node_line(line.bytes) {
+            Some(
+                NodeLine {
+                    number: _,
+                    context,
+                    kind,
+                },
+            ) => NodeText {
+                line: NodeLine {
+                    number: place.number,
+                    context,
+                    kind,
+                },
+                rest: line.rest,
+            },
+            None => unreachable!(),
+        }
+    }
+
+    /// The index of the node of this number.
+    pub fn index_of(&self, number: u32) -> Option<usize>
+        ensures { IsIndexOf (numbers_of self.now) number result }
+    {
+        index_of(self.places.as_slice(), number)
+    }
+}
+
+// The text from an index on.
+fn from_index(text: &[u8], at: usize) -> &[u8]
+    requires { at ≤ length text.now }
+    ensures { result.now ≡ drop at text.now }
+{
+    &text[at..]
 }
 
 /// Reads an image: of a text of at most `MOST_IMAGE_BYTES` bytes, that whose text it is. Else the line at

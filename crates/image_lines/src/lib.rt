@@ -13,7 +13,7 @@ mod rules;
 mod words;
 
 pub use fault::ImageFault;
-pub use image::{Image, read_image};
+pub use image::{Image, NodeText, read_image};
 pub use laws::images_are_texts;
 pub use lines::{read_block_line, read_entry_line, read_node_line};
 pub use node_line::{EntryLine, NodeKind, NodeLine, StoredBytes};

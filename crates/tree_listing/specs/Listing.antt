@@ -56,3 +56,8 @@ pub record IsListing (image : Image) (raw : Option (List ℕ)) (text : List ℕ)
   pub reached : ℕ → Bool
   pub exact : (n : ℕ) → IsTrue (reached n) ↔ IsReached image n
   pub lines : text ≡ listing_text (map (listed raw image) (filter (λ node. reached node.number) image))
+
+-- an image has one listing with a raw key, and one without
+abbrev pub ListingsAreOne : Type 0
+ListingsAreOne = (image : Image) (raw : Option (List ℕ)) (a b : List ℕ) → IsListing image raw a → IsListing image raw b
+    → a ≡ b

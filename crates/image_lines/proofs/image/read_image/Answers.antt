@@ -1,4 +1,4 @@
-use Rattle.std.proofs.Common.{◌≡◌, ◌⊎◌, Ok, Err, inl, inr}
+use Rattle.std.proofs.Common.{inl}
 use Rattle.std.proofs.lemmas.Result.{err_from_is_err_and}
 use Rattle.image_lines.proofs.Answered.{found_image, every_fault, every_found}
 use Rattle.image_lines.proofs.image.read_image.Goals as goal

@@ -1,8 +1,7 @@
-use Rattle.std.proofs.Common.{◌≡◌, sym, ap, ◌∙◌, subst}
-use Rattle.std.specs.List.Sorted.{IsStrictlySortedBy}
+use Rattle.std.proofs.Common.{sym, subst}
 use Rattle.std.proofs.lemmas.Result.{err_from_is_err_and}
 use Rattle.image_lines.specs.Places.{DoRise}
-use Rattle.image_lines.proofs.Answered.{places_rise, read_whole, child_refused, line_refused, whole_from, refused_from}
+use Rattle.image_lines.proofs.Answered.{places_rise, line_refused, whole_from, refused_from}
 use Rattle.image_lines.proofs.image.read_places.Goals as goal
 
 pub returns-in_err-places-clause-refused : goal.returns-in_err-places-clause-refused

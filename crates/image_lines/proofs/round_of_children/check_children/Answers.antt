@@ -1,4 +1,4 @@
-use Rattle.std.proofs.Common.{◌≡◌, ◌==◌, ◌∙◌, length, sym}
+use Rattle.std.proofs.Common.{◌∙◌, sym}
 use Rattle.image_lines.specs.Places.{numbers_at}
 use Rattle.image_lines.proofs.SearchLemmas.{length-numbers}
 use Rattle.image_lines.proofs.ChildRounds.{so_far-none, none_behind, goes_over, less_behind, went_over, stopped, at_end}

@@ -1,5 +1,4 @@
-use Rattle.std.proofs.Common.{◌≡◌, ◌==◌, ◌+◌, ◌-◌, ◌<◌, ◌≤◌, ◌++◌, refl, Option, Some, None, length, append-nil, sym, ap, ◌∙◌, subst, arith, map, drop}
-use Rattle.std.specs.Prelude.{if◌then◌else◌}
+use Rattle.std.proofs.Common.{◌≡◌, ◌==◌, ◌+◌, ◌-◌, ◌++◌, refl, length, append-nil, sym, ap, ◌∙◌, arith, map}
 use Rattle.text_words.specs.Lines.{pieces_of}
 use Rattle.image_lines.specs.Reading.{nodes_at}
 use Rattle.image_lines.specs.Places.{node_of_place}

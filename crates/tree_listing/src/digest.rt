@@ -1,0 +1,68 @@
+//! The digest of a file's contents, from the lines of its blocks.
+
+ghost use Rattle.std.specs.Prelude.{◌≡◌, ◌≤◌, Some, None, length, option_map};
+ghost use Rattle.sha2.specs.Sha256.{sha256};
+ghost use Rattle.mount_limits.specs.declared.TheConstants.{MOST_FILE_BYTES};
+ghost use Rattle.text_words.specs.Lines.{pieces_of};
+ghost use Rattle.data_crypt.specs.Blocks.{read_contents};
+ghost use Rattle.image_lines.specs.Reading.{blocks_at};
+ghost use Rattle.image_lines.specs.Rules.{blocks_for};
+ghost use Rattle.tree_listing.specs.Ciphers.{seal_by};
+ghost use Rattle.tree_listing.specs.Sights.{digest_seen, sight_of};
+
+use crate::cipher::ContentsCipher;
+use crate::ciphers::{contents_cipher, read, wipe_cipher};
+use crate::reader::Reader;
+use image_lines::read_block_line;
+use mount_limits::BLOCK_SIZE;
+use policy_ctx::CONTEXT_LEN;
+use sha2::{Digest, Sha256};
+use text_words::next_line;
+
+// The SHA-256 of the contents of a file of this number, size and context, where they are seen. The lines of
+// its blocks stand first in `lines`.
+pub(crate) fn digest_shown(
+    reader: &Option<Reader<'_>>,
+    number: u32,
+    context: &Option<[u8; CONTEXT_LEN]>,
+    size: u32,
+    lines: &[u8],
+) -> Option<[u8; 32]>
+    requires blocks { length (blocks_at (pieces_of lines.now)) ≡ blocks_for size }
+    requires small { size ≤ MOST_FILE_BYTES }
+    ensures { result ≡ digest_seen (sight_of reader.now context.now) number (blocks_at (pieces_of lines.now)) size }
+{
+    match context {
+        None => Some(digest_of(&None, size, lines)),
+        Some(context) => match reader {
+            Some(reader) if reader.opens(context) => {
+                let mut cipher = Some(contents_cipher(reader, context, number));
+                let digest = digest_of(&cipher, size, lines);
+                wipe_cipher(&mut cipher);
+                Some(digest)
+            }
+            _ => None,
+        },
+    }
+}
+
+// The SHA-256 of the contents of so many bytes whose blocks stand on the first lines.
+fn digest_of(cipher: &Option<ContentsCipher>, size: u32, lines: &[u8]) -> [u8; 32]
+    requires blocks { length (blocks_at (pieces_of lines.now)) ≡ blocks_for size }
+    requires small { size ≤ MOST_FILE_BYTES }
+    ensures { result ≡ sha256 (read_contents (seal_by cipher.now) size (blocks_at (pieces_of lines.now))) }
+{
+    let mut hasher = Sha256::new();
+    let mut rest = lines;
+    'blocks: for index in 0..size.div_ceil(BLOCK_SIZE as u32) {
+        let line = next_line(rest);
+        let Some(mut block) = read_block_line(line.bytes) else {
+            unreachable!();
+        };
+        read(cipher, index, &mut block);
+        let left = size as usize - BLOCK_SIZE * index as usize;
+        hasher.update(&block[..left.min(BLOCK_SIZE)]);
+        rest = line.rest;
+    }
+    hasher.finalize()
+}
