@@ -8,7 +8,13 @@ mod endings;
 #[cfg(test)]
 mod generated;
 #[cfg(test)]
+mod kinds;
+#[cfg(test)]
 mod outside;
+#[cfg(test)]
+mod replaced;
+#[cfg(test)]
+mod replies;
 #[cfg(test)]
 mod scripted;
 #[cfg(test)]
