@@ -12,6 +12,7 @@ pub mod PlaceLemmas
 pub mod MakeLemmas
 pub mod LinkLemmas
 pub mod ListedLemmas
+pub mod PageLemmas
 pub mod PolicyRules
 pub mod PolicyStands
 pub mod SetLemmas

@@ -1,17 +1,15 @@
 -- Names in the order of their bytes: of the same names there is one list in order.
-use Rattle.std.proofs.Common.{◌≡◌, ℕ, ◌+◌, ◌-◌, suc, ◌<◌, min, nat_lt, length, take, drop, ◌++◌, Some, Bool, true, false, cond, not, List, [], ◌∷◌, map, get_or, bytes_eq, inl, inr, ◌⊎◌, refl, sym, ap, subst, ◌∙◌, arith}
+use Rattle.std.proofs.Common.{◌≡◌, ℕ, ◌<◌, ◌++◌, Some, Bool, true, false, cond, not, List, [], ◌∷◌, map, bytes_eq, inl, inr, ◌⊎◌, refl, sym, ap, subst, ◌∙◌, arith}
 use Rattle.std.specs.Bool.{⊤}
 use Rattle.std.specs.List.{sum_by, AllZip}
-use Rattle.std.specs.List.Sorted.{IsPermutation, IsSortedBy}
 use Rattle.std.specs.declared.cmp.Ordering.{Ordering}
 use Rattle.std.specs.declared.cmp.Ordering.TheVariants.{Less, Equal, Greater}
 use Rattle.std.specs.Ordering.{nat_cmp, ordering_reverse, is_lt, is_gt, is_eq}
 use Rattle.std.specs.Cmp.{IsStrictWeakOrder}
 use Rattle.std.specs.Cmp.Lexicographic.{slice_cmp, nat_list_cmp_total}
-use Rattle.std.proofs.lemmas.Bool.{cases_Bool, cases_lt, lt-ltb, le-ltb}
-use Rattle.std.proofs.lemmas.List.{append-nil, drop_min, length-drop, take_all, take-append-le}
+use Rattle.std.proofs.lemmas.Bool.{cases_Bool}
+use Rattle.std.proofs.lemmas.List.{append-nil}
 use Rattle.std.proofs.lemmas.List.MinMax.{ranks_by}
-use Rattle.std.proofs.lemmas.List.Sorted.{sum_by-IsPermutation}
 use Rattle.std.proofs.lemmas.List.Sums.{sum_by-cons}
 use Rattle.std.proofs.lemmas.Map.Text.{is_eq-slice_cmp}
 use Rattle.std.proofs.lemmas.Slice.Eq.{bytes_eq-Decides}
@@ -28,7 +26,8 @@ use Rattle.disk_tree.specs.declared.node.StoredNode.{StoredNode}
 use Rattle.disk_tree.specs.declared.node.Body.TheVariants as stored
 use Rattle.disk_tree.specs.DiskTree.{children as stored_entries}
 use Rattle.disk_tree.specs.Entries.{Entries}
-use Rattle.mount_model.specs.LookAnswers.{put_in_order, in_order, listed, page_of}
+use Rattle.mount_model.specs.LookAnswers.{put_in_order, in_order, page_of}
+use Rattle.mount_model.specs.declared.reply.Reply.{Reply}
 use Rattle.mount_model.specs.declared.reply.Refusal.TheVariants.{NotDir}
 use Rattle.mount_model.specs.PlainMount.{PlainMount}
 use Rattle.mount_model.specs.Answered.{Answer, refused, told}
@@ -38,8 +37,9 @@ use Rattle.mount_state.specs.Stored.{stored_form}
 use Rattle.mount_state.specs.StandsFor.{TreeStands}
 use Rattle.mount_state.proofs.EntryLemmas.{children_stand, name_there}
 use Rattle.mount_names.specs.declared.reading.Reading.{Reading}
+use Rattle.mount_names.specs.declared.reading.Reading.TheVariants.{Plain}
 use Rattle.mount_names.specs.Shown.{ShowsAs}
-use Rattle.mount_names.specs.Listed.{IsShown, ShowsAll, page_at}
+use Rattle.mount_names.specs.Listed.{IsShown, page_at, TellsPage}
 use Rattle.mount_names.proofs.PlaceLemmas.{name_plain}
 
 -- ---- the order of names
@@ -74,19 +74,19 @@ not_itself x = elim (cases_Bool (below x x)) [
 
 -- ---- how often a name stands
 
-abbrev one : Name → Name → ℕ
+abbrev pub one : Name → Name → ℕ
 one z x = cond (bytes_eq z x) 1 0
 
-abbrev count : Name → List Name → ℕ
+abbrev pub count : Name → List Name → ℕ
 count z xs = sum_by (one z) xs
 
-at_head : (x : Name) (xs : List Name) → 0 < count x (x ∷ xs)
+pub at_head : (x : Name) (xs : List Name) → 0 < count x (x ∷ xs)
 at_head x xs =
     let parts = sum_by-cons (one x) x xs in
     let is : one x x ≡ 1 = ap (λ b. cond b 1 0) ((bytes_eq-Decides x x).1 refl) in
     omega arith
 
-head_or_behind : (z x : Name) (xs : List Name) → 0 < count z (x ∷ xs) → (z ≡ x) ⊎ (0 < count z xs)
+pub head_or_behind : (z x : Name) (xs : List Name) → 0 < count z (x ∷ xs) → (z ≡ x) ⊎ (0 < count z xs)
 head_or_behind z x xs there = elim (cases_Bool (bytes_eq z x)) [
   | inl is ↦ inl (same_name z x is)
   | inr other ↦ inr (
@@ -97,7 +97,7 @@ head_or_behind z x xs there = elim (cases_Bool (bytes_eq z x)) [
 
 -- ---- lists in order
 
-abbrev Rises : List Name → Type 0
+abbrev pub Rises : List Name → Type 0
 Rises [] = ⊤
 Rises (x ∷ xs) = ((z : Name) → 0 < count z xs → below z x ≡ false) × Rises xs
 
@@ -107,7 +107,7 @@ least x xs rises z there = elim (head_or_behind z x xs there) [
   | inr behind ↦ rises.0 z behind
 ]
 
-unique : (xs ys : List Name) → Rises xs → Rises ys → ((z : Name) → count z xs ≡ count z ys) → xs ≡ ys
+pub unique : (xs ys : List Name) → Rises xs → Rises ys → ((z : Name) → count z xs ≡ count z ys) → xs ≡ ys
 unique [] [] up too same = refl
 unique [] (y ∷ ys) up too same =
     let here = at_head y ys in
@@ -164,7 +164,7 @@ put_rises x (y ∷ ys) rises = by_case (put_rises x ys rises.1) (is_gt (slice_cm
       rises,
     )
 
-order_count : (z : Name) (xs : List Name) → count z (in_order xs) ≡ count z xs
+pub order_count : (z : Name) (xs : List Name) → count z (in_order xs) ≡ count z xs
 order_count z [] = refl
 order_count z (x ∷ xs) =
     let a = put_count z x (in_order xs) in
@@ -173,30 +173,9 @@ order_count z (x ∷ xs) =
     let d = order_count z xs in
     omega arith
 
-order_rises : (xs : List Name) → Rises (in_order xs)
+pub order_rises : (xs : List Name) → Rises (in_order xs)
 order_rises [] = tt
 order_rises (x ∷ xs) = put_rises x (in_order xs) (order_rises xs)
-
-sorted_rises : (xs : List Name) → IsSortedBy below xs → Rises xs
-sorted_rises [] up = tt
-sorted_rises (x ∷ []) up = ((λ z there. let none : count z [] ≡ 0 = refl in absurd (omega arith)), tt)
-sorted_rises (x ∷ y ∷ ys) up =
-    let rest : Rises (y ∷ ys) = sorted_rises (y ∷ ys) (λ k d low high.
-    let next : suc k + 1 ≡ suc (k + 1) = omega arith in
-    subst (λ (n : ℕ). below (get_or (x ∷ y ∷ ys) n d) (get_or (y ∷ ys) k d) ≡ false) next (up (suc k) d (omega arith) (omega (arith, high)))) in
-    let first : below y x ≡ false = up 0 x (omega arith) (omega arith) in (
-      (λ z there. elim (head_or_behind z y ys there) [
-        | inl same ↦ ap (λ w. below w x) same ∙ first
-        | inr behind ↦ order.chain z y x (rest.0 z behind) first
-      ]),
-      rest,
-    )
-
--- a sorted list of the names is the names in order
-pub in_order_is : (xs ys : List Name) → IsPermutation xs ys → IsSortedBy below ys → ys ≡ in_order xs
-in_order_is xs ys moved up =
-    unique ys (in_order xs) (sorted_rises ys up) (order_rises xs)
-    (λ z. sum_by-IsPermutation (one z) xs ys moved ∙ sym (order_count z xs))
 
 -- ---- the names as which entries are shown
 
@@ -218,6 +197,16 @@ module _ (reading : Reading) where
   each_shown store show (c ∷ cs) each =
       (each c.0 (name_front c cs), each_shown store show cs (λ name there. each name (name_behind c cs name there)))
 
+-- read plain, entries are shown as they are stored
+pub stored_as_shown : (es : Entries) (ns : List Name) → AllZip (λ e. ShowsAs Plain e.0) es ns → ns ≡ map (λ e. e.0) es
+stored_as_shown [] [] shows = refl
+stored_as_shown [] (n ∷ ns) shows = absurd shows
+stored_as_shown (e ∷ es) [] shows = absurd shows
+stored_as_shown (e ∷ es) (n ∷ ns) shows =
+    let first : n ≡ e.0 = shows.0.0 in
+    let rest : ns ≡ map (λ x. x.0) es = stored_as_shown es ns shows.1 in
+    λ i. first i ∷ rest i
+
 -- ---- what is told of a directory
 
 pub page_leaves : (m : PlainMount) (start d : ℕ) → (page_at m start d).mount ≡ m
@@ -233,12 +222,12 @@ module _ (m : PlainMount) (start d : ℕ) where
   pub at_dir : is_dir_at m.nodes d ≡ true → page_at m start d ≡ told m (page_of m d start)
   at_dir is = ap (λ b. cond (not b) (refused m NotDir) (told m (page_of m d start))) is
 
--- what entries of the directory are shown as, in order, is what is listed
-pub listed_is : (disk : Disk) (next : ℕ) (m : PlainMount) → IsWellFormed m → TreeStands disk next m → (d : ℕ) (reading : Reading)
+-- what tells the page of the directory's entries is what is answered there
+pub page_is : (disk : Disk) (next : ℕ) (m : PlainMount) → IsWellFormed m → TreeStands disk next m → (d start : ℕ) (reading : Reading)
     → ((name : Name) → IsPlain name → AreBytes name → ShowsAs reading (stored_form m.raws d (context_at m.nodes d) name) (shown m d name))
-    → (names : List Name) → ShowsAll reading (stored_entries disk d) names → names ≡ listed m d
-listed_is disk next m well tree d reading reads names all =
-    all (map (λ e. shown m d e.0) (children m.nodes d))
+    → (reply : Reply) → TellsPage reading (stored_entries disk d) start reply → reply ≡ page_of m d start
+page_is disk next m well tree d start reading reads reply tells =
+    tells (map (λ e. shown m d e.0) (children m.nodes d))
     (subst (λ (es : Entries). AllZip (λ e. ShowsAs reading e.0) es (map (λ e. shown m d e.0) (children m.nodes d))) (sym (children_stand disk next m well tree d))
     (each_shown reading (stored_form m.raws d (context_at m.nodes d)) (shown m d) (children m.nodes d)
     (λ name there. let is = name_there disk next m well tree d name there in reads name (name_plain name is) is.0.bytes)))
@@ -250,25 +239,6 @@ module _ (disk : Disk) (d : ℕ) (w : StoredNode) (es : Entries) (there : Some w
 
   pub entries_there : es ≡ stored_entries disk d
   entries_there = sym (ap entries_of is) ∙ ap entries_in there
-
--- ---- a page
-
-module _ {X : Type 0} where
-  pub rest_is : (xs : List X) (start n : ℕ) → n ≡ min start (length xs) → take (length xs - n) (drop n xs) ≡ drop start xs
-  rest_is xs start n is =
-      let size = length-drop n xs in
-      take_all (length xs - n) (drop n xs) (omega (arith, size)) ∙ (ap (λ k. drop k xs) is ∙ drop_min start xs)
-
-  pub whole_is : (new ys : List X) (len : ℕ) → len ≡ length new → take len (new ++ ys) ≡ new
-  whole_is new ys len is = ap (λ n. take n (new ++ ys)) is ∙ (take-append-le (length new) new ys (omega arith) ∙ take_all (length new) new (omega arith))
-
-  pub more_is : (xs : List X) (start most : ℕ) → nat_lt most (length (drop start xs)) ≡ nat_lt (start + most) (length xs)
-  more_is xs start most =
-      let size = length-drop start xs in
-      elim (cases_lt (start + most) (length xs)) [
-        | inl more ↦ lt-ltb most (length (drop start xs)) (omega (arith, size, more)) ∙ sym (lt-ltb (start + most) (length xs) more)
-        | inr few ↦ le-ltb most (length (drop start xs)) (omega (arith, size, few)) ∙ sym (le-ltb (start + most) (length xs) few)
-      ]
 
 pub nothing_left : (reading : Reading) (left es : Entries) (ns : List Name) → left ≡ []
     → ((rest : List Name) → AllZip (IsShown reading) left rest → AllZip (IsShown reading) es (ns ++ rest)) → AllZip (IsShown reading) es ns

@@ -1,14 +1,18 @@
 -- How the names of a directory are listed.
-use Rattle.std.specs.Prelude.{◌≡◌, ℕ, List, not, if◌then◌else◌}
+use Rattle.std.specs.Prelude.{◌≡◌, ℕ, ◌+◌, List, length, map, take, drop, not, nat_lt, if◌then◌else◌}
+use Rattle.std.specs.Borrow.{Bor}
+use Rattle.std.specs.List.{AllZip}
 use Rattle.plain_tree.specs.Nodes.{Name, is_dir_at}
 use Rattle.disk_tree.specs.Entries.{Entries}
 use Rattle.mount_model.specs.PlainMount.{PlainMount}
 use Rattle.mount_model.specs.Answered.{Answer, refused, told}
 use Rattle.mount_model.specs.LookAnswers.{in_order, page_of}
+use Rattle.mount_model.specs.declared.limits.TheConstants.{MOST_LISTED}
+use Rattle.mount_model.specs.declared.reply.Reply.{Reply}
+use Rattle.mount_model.specs.declared.reply.Reply.TheVariants.{Names}
 use Rattle.mount_model.specs.declared.reply.Refusal.TheVariants.{NotDir}
 use Rattle.mount_names.specs.declared.reading.Reading.{Reading}
 use Rattle.mount_names.specs.Shown.{ShowsAs}
-use Rattle.std.specs.List.{AllZip}
 
 -- what is answered at the directory d to a listing from `start` on
 abbrev pub page_at : PlainMount → ℕ → ℕ → Answer
@@ -18,7 +22,16 @@ page_at m start d = if not (is_dir_at m.nodes d) then refused m NotDir else told
 abbrev pub IsShown : Reading → List ℕ × ℕ → Name → Type 0
 IsShown reading e name = (other : Name) → ShowsAs reading e.0 other → name ≡ other
 
--- these are the names as which the entries are shown, in the order of their bytes
-abbrev pub ShowsAll : Reading → Entries → List Name → Type 0
-ShowsAll reading entries names =
-    (others : List Name) → AllZip (λ e. ShowsAs reading e.0) entries others → names ≡ in_order others
+-- the names that the references are to
+abbrev pub names_of : List (Bor Name) → List Name
+names_of names = map (λ name. name.now) names
+
+-- of these names, at most MOST_LISTED from number start on in the order of their bytes, and whether further ones follow
+abbrev pub page_from : ℕ → List Name → Reply
+page_from start names =
+    Names (take MOST_LISTED (drop start (in_order names))) (nat_lt (start + MOST_LISTED) (length (in_order names)))
+
+-- the reply is the page of the names as which the entries are shown
+abbrev pub TellsPage : Reading → Entries → ℕ → Reply → Type 0
+TellsPage reading entries start reply =
+    (names : List Name) → AllZip (λ e. ShowsAs reading e.0) entries names → reply ≡ page_from start names

@@ -10,6 +10,7 @@ mod looks;
 mod lookups;
 mod makes;
 mod moves;
+mod pages;
 mod places;
 mod policies;
 mod reading;

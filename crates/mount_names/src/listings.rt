@@ -1,20 +1,18 @@
 //! The names of a directory, a page at a time.
 
-ghost use Rattle.std.specs.Prelude.{◌≡◌, ◌+◌, ◌<◌, ◌≤◌, length, take, drop, nat_lt, IfOk};
+ghost use Rattle.std.specs.Prelude.{◌≡◌, ◌+◌, ◌≤◌, length, map, IfOk};
 ghost use Rattle.std.specs.List.{AllZip};
-ghost use Rattle.mount_model.specs.LookAnswers.{answer_to_list, in_order};
+ghost use Rattle.mount_model.specs.LookAnswers.{answer_to_list};
 ghost use Rattle.mount_model.specs.PlainMount.{PlainMount};
-ghost use Rattle.mount_model.specs.declared.limits.TheConstants.{MOST_LISTED};
 ghost use Rattle.mount_state.specs.Given.{IsGivenOrNoMemory, IsToldOrNoMemory, IsRefusedAsDue};
 ghost use Rattle.mount_state.specs.SameButKeys.{SameButKeys};
 ghost use Rattle.mount_state.specs.StandsFor.{StandsFor};
-ghost use Rattle.mount_names.specs.Listed.{IsShown, page_at, ShowsAll};
+ghost use Rattle.mount_names.specs.Listed.{IsShown, names_of, page_at, TellsPage};
 
+use crate::pages::page_of;
 use crate::reading::{Reading, reading_of};
 use disk_tree::{Body, DirEntries};
-use item_list::Bytes;
-use mount_model::limits::MOST_LISTED;
-use mount_model::{NameList, Path, Refusal, Reply};
+use mount_model::{Path, Refusal, Reply};
 use mount_state::{MountState, walked_node};
 use name_crypt::{MOST_NAME_BYTES, Steps};
 use short_bytes::Filled;
@@ -61,32 +59,41 @@ fn page_told(alloc: Global, state: &MountState, dir: u32, start: u32) -> Reply
         return Reply::Refused(Refusal::NotDir);
     };
     let mut reading = reading_of(state, dir);
-    let listed = names_in_order(alloc, &reading, entries);
+    let page = page_read(alloc, &reading, entries, start);
     reading.wipe();
-    match listed {
-        Ok(names) => page_of(alloc, &names, start),
+    match page {
+        Ok(told) => told,
         Err(_) => Reply::Refused(Refusal::NoMemory),
     }
 }
 
-// The names as which the entries are shown, in the order of their bytes.
-fn names_in_order(
+// The page of the names as which the entries are shown. Those of a plain directory are its stored names.
+fn page_read(
     alloc: Global,
     reading: &Reading,
     entries: &DirEntries,
-) -> Result<Vec<Filled<MOST_NAME_BYTES>>, AllocError>
-    ensures { IfOk result (λ names. ShowsAll reading.now entries.now names.items) }
+    start: u32,
+) -> Result<Reply, AllocError>
+    ensures { IfOk result (TellsPage reading.now entries.now start) }
 {
-    let mut names = shown_names(alloc, reading, entries)?;
-    sort(&mut names);
-    Ok(names)
+    if let Reading::Plain = reading {
+        let mut names = stored_names(alloc, entries)?;
+        return page_of(alloc, &mut names, start);
+    }
+    let shown = shown_names(alloc, reading, entries)?;
+    let mut names = names_among(alloc, &shown)?;
+    page_of(alloc, &mut names, start)
 }
 
-// Puts the names in the order of their bytes.
-fn sort(names: &mut [Filled<MOST_NAME_BYTES>])
-    ensures { names.new ≡ in_order names.old }
+// The names as which the entries are stored, where they lie, in the order of the entries.
+fn stored_names(alloc: Global, entries: &DirEntries) -> Result<Vec<&[u8]>, AllocError>
+    ensures { IfOk result (λ names. names_of names.items ≡ map (λ e. e.0) entries.now) }
 {
-    names.sort_unstable_by(|a, b| a.bytes().cmp(b.bytes()));
+    let mut names = Vec::with_capacity(alloc, entries.len())?;
+    'each: for entry in entries.iter() {
+        names.push(entry.0.as_slice())?;
+    }
+    Ok(names)
 }
 
 // The names as which the entries are shown, in the order of the entries.
@@ -104,30 +111,13 @@ fn shown_names(
     Ok(names)
 }
 
-// The names from `start` on, of at most `MOST_LISTED`, and whether further ones follow.
-fn page_of(alloc: Global, names: &[Filled<MOST_NAME_BYTES>], start: u32) -> Reply
-    ensures { IsToldOrNoMemory (Reply.Names (take MOST_LISTED (drop start names.now))
-        (nat_lt (start + MOST_LISTED) (length names.now))) result }
+// References to the names, in their order.
+fn names_among(alloc: Global, shown: &[Filled<MOST_NAME_BYTES>]) -> Result<Vec<&[u8]>, AllocError>
+    ensures { IfOk result (λ names. names_of names.items ≡ shown.now) }
 {
-    let from = (start as usize).min(names.len());
-    let rest = &names[from..];
-    let count = MOST_LISTED.min(rest.len());
-    match copied(alloc, &rest[..count]) {
-        Ok(names) => Reply::Names {
-            names,
-            more: rest.len() > MOST_LISTED,
-        },
-        Err(_) => Reply::Refused(Refusal::NoMemory),
+    let mut names = Vec::with_capacity(alloc, shown.len())?;
+    'each: for name in shown {
+        names.push(name.bytes())?;
     }
-}
-
-// The names in memory of their own.
-fn copied(alloc: Global, names: &[Filled<MOST_NAME_BYTES>]) -> Result<NameList, AllocError>
-    ensures { IfOk result (λ list. list ≡ names.now) }
-{
-    let mut list = NameList::new(alloc);
-    for name in names {
-        list.push(Bytes::from_vec(Vec::from_slice(alloc, name.bytes())?))?;
-    }
-    Ok(list)
+    Ok(names)
 }

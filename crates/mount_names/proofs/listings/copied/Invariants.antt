@@ -1,6 +1,0 @@
--- The names that were copied already.
-use Rattle.std.proofs.Common.{◌≡◌, take}
-use Rattle.mount_names.proofs.listings.copied.Given as goal
-
-abbrev pub invariant-loop-name : goal.invariant-loop-name
-invariant-loop-name l = l.list ≡ take l.name-index l.names
