@@ -13,6 +13,7 @@ pub mod MakeLemmas
 pub mod LinkLemmas
 pub mod ListedLemmas
 pub mod PageLemmas
+pub mod PackedLemmas
 pub mod PolicyRules
 pub mod PolicyStands
 pub mod SetLemmas

@@ -1,5 +1,5 @@
 -- Names in the order of their bytes: of the same names there is one list in order.
-use Rattle.std.proofs.Common.{◌≡◌, ℕ, ◌<◌, ◌++◌, Some, Bool, true, false, cond, not, List, [], ◌∷◌, map, bytes_eq, inl, inr, ◌⊎◌, refl, sym, ap, subst, ◌∙◌, arith}
+use Rattle.std.proofs.Common.{drop, ◌≡◌, ℕ, ◌<◌, ◌++◌, Some, Bool, true, false, cond, not, List, [], ◌∷◌, map, bytes_eq, inl, inr, ◌⊎◌, refl, sym, ap, subst, ◌∙◌, arith}
 use Rattle.std.specs.Bool.{⊤}
 use Rattle.std.specs.List.{sum_by, AllZip}
 use Rattle.std.specs.declared.cmp.Ordering.{Ordering}
@@ -8,7 +8,7 @@ use Rattle.std.specs.Ordering.{nat_cmp, ordering_reverse, is_lt, is_gt, is_eq}
 use Rattle.std.specs.Cmp.{IsStrictWeakOrder}
 use Rattle.std.specs.Cmp.Lexicographic.{slice_cmp, nat_list_cmp_total}
 use Rattle.std.proofs.lemmas.Bool.{cases_Bool}
-use Rattle.std.proofs.lemmas.List.{append-nil}
+use Rattle.std.proofs.lemmas.List.{append_assoc, append-nil}
 use Rattle.std.proofs.lemmas.List.MinMax.{ranks_by}
 use Rattle.std.proofs.lemmas.List.Sums.{sum_by-cons}
 use Rattle.std.proofs.lemmas.Map.Text.{is_eq-slice_cmp}
@@ -39,7 +39,7 @@ use Rattle.mount_state.proofs.EntryLemmas.{children_stand, name_there}
 use Rattle.mount_names.specs.declared.reading.Reading.{Reading}
 use Rattle.mount_names.specs.declared.reading.Reading.TheVariants.{Plain}
 use Rattle.mount_names.specs.Shown.{ShowsAs}
-use Rattle.mount_names.specs.Listed.{IsShown, page_at, TellsPage}
+use Rattle.mount_names.specs.Listed.{page_at, TellsPage}
 use Rattle.mount_names.proofs.PlaceLemmas.{name_plain}
 
 -- ---- the order of names
@@ -180,16 +180,34 @@ order_rises (x ∷ xs) = put_rises x (in_order xs) (order_rises xs)
 -- ---- the names as which entries are shown
 
 module _ (reading : Reading) where
-  pub all_same : (es : Entries) (ns others : List Name) → AllZip (IsShown reading) es ns → AllZip (λ e. ShowsAs reading e.0) es others → ns ≡ others
-  all_same [] [] [] each shows = refl
-  all_same [] [] (o ∷ os) each shows = absurd shows
-  all_same [] (n ∷ ns) os each shows = absurd each
-  all_same (e ∷ es) [] os each shows = absurd each
-  all_same (e ∷ es) (n ∷ ns) [] each shows = absurd shows
-  all_same (e ∷ es) (n ∷ ns) (o ∷ os) each shows =
-      let first : n ≡ o = each.0 o shows.0 in
-      let rest : ns ≡ os = all_same es ns os each.1 shows.1 in
-      λ i. first i ∷ rest i
+  -- with what the entries that are left are shown as, what is shown already is all
+  abbrev pub StillShown : Entries → List Name → List Name → Type 0
+  StillShown left done all = (rest : List Name) × AllZip (λ e. ShowsAs reading e.0) left rest × (done ++ rest ≡ all)
+
+  pub first_shown : (es left : Entries) (done all : List Name) → left ≡ es → done ≡ [] → AllZip (λ e. ShowsAs reading e.0) es all → StillShown left done all
+  first_shown es left done all is none shows =
+      (all, subst (λ (x : Entries). AllZip (λ e. ShowsAs reading e.0) x all) (sym is) shows, ap (λ (xs : List Name). xs ++ all) none)
+
+  pub next_shown : (e : List ℕ × ℕ) (before left : Entries) (done more all : List Name) → before ≡ e ∷ left
+      → ((name : Name) → ShowsAs reading e.0 name → more ≡ done ++ name ∷ []) → StillShown before done all → StillShown left more all
+  next_shown e [] left done more all is put still = absurd (cc)
+  next_shown e (f ∷ before) left done more all is put ([], shows, same) = absurd shows
+  next_shown e (f ∷ before) left done more all is put ((n ∷ ns), shows, same) =
+      let here : f ≡ e = ap (λ (xs : Entries). head_of f xs) is in
+      let behind : before ≡ left = ap (λ (xs : Entries). drop 1 xs) is in (
+        ns,
+        subst (λ (xs : Entries). AllZip (λ x. ShowsAs reading x.0) xs ns) behind shows.1,
+        ap (λ (xs : List Name). xs ++ ns) (put n (subst (λ (x : List ℕ × ℕ). ShowsAs reading x.0 n) here shows.0)) ∙ (append_assoc done (n ∷ []) ns ∙ same),
+      )
+    where
+      head_of : List ℕ × ℕ → Entries → List ℕ × ℕ
+      head_of d [] = d
+      head_of d (x ∷ xs) = x
+
+  pub all_shown : (left : Entries) (done all : List Name) → left ≡ [] → StillShown left done all → done ≡ all
+  all_shown [] done all none ([], shows, is) = sym (append-nil done) ∙ is
+  all_shown [] done all none ((n ∷ ns), shows, is) = absurd shows
+  all_shown (e ∷ left) done all some still = absurd (cc)
 
   pub each_shown : (store show : Name → List ℕ) (cs : Children) → ((name : Name) → IsNameOf cs name → ShowsAs reading (store name) (show name))
       → AllZip (λ e. ShowsAs reading e.0) (stored_children store cs) (map (λ e. show e.0) cs)
@@ -239,8 +257,3 @@ module _ (disk : Disk) (d : ℕ) (w : StoredNode) (es : Entries) (there : Some w
 
   pub entries_there : es ≡ stored_entries disk d
   entries_there = sym (ap entries_of is) ∙ ap entries_in there
-
-pub nothing_left : (reading : Reading) (left es : Entries) (ns : List Name) → left ≡ []
-    → ((rest : List Name) → AllZip (IsShown reading) left rest → AllZip (IsShown reading) es (ns ++ rest)) → AllZip (IsShown reading) es ns
-nothing_left reading left es ns none all =
-    subst (AllZip (IsShown reading) es) (append-nil ns) (all [] (subst (λ (x : Entries). AllZip (IsShown reading) x []) (sym none) tt))

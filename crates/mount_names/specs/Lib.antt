@@ -2,6 +2,7 @@ pub mod Shown
 pub mod SameButTree
 pub mod Made
 pub mod Listed
+pub mod Packed
 pub mod Encrypted
 pub mod Found
 pub mod Removed

@@ -18,10 +18,6 @@ use Rattle.mount_names.specs.Shown.{ShowsAs}
 abbrev pub page_at : PlainMount → ℕ → ℕ → Answer
 page_at m start d = if not (is_dir_at m.nodes d) then refused m NotDir else told m (page_of m d start)
 
--- the name as which the entry's stored name is shown, where there is one
-abbrev pub IsShown : Reading → List ℕ × ℕ → Name → Type 0
-IsShown reading e name = (other : Name) → ShowsAs reading e.0 other → name ≡ other
-
 -- the names that the references are to
 abbrev pub names_of : List (Bor Name) → List Name
 names_of names = map (λ name. name.now) names

@@ -10,6 +10,7 @@ mod looks;
 mod lookups;
 mod makes;
 mod moves;
+mod packed_names;
 mod pages;
 mod places;
 mod policies;

@@ -1,21 +1,23 @@
 //! The names of a directory, a page at a time.
 
-ghost use Rattle.std.specs.Prelude.{◌≡◌, ◌+◌, ◌≤◌, length, map, IfOk};
+ghost use Rattle.std.specs.Prelude.{◌≡◌, ◌+◌, ◌≤◌, List, length, map, IfOk};
 ghost use Rattle.std.specs.List.{AllZip};
 ghost use Rattle.mount_model.specs.LookAnswers.{answer_to_list};
 ghost use Rattle.mount_model.specs.PlainMount.{PlainMount};
 ghost use Rattle.mount_state.specs.Given.{IsGivenOrNoMemory, IsToldOrNoMemory, IsRefusedAsDue};
 ghost use Rattle.mount_state.specs.SameButKeys.{SameButKeys};
 ghost use Rattle.mount_state.specs.StandsFor.{StandsFor};
-ghost use Rattle.mount_names.specs.Listed.{IsShown, names_of, page_at, TellsPage};
+ghost use Rattle.mount_names.specs.Listed.{names_of, page_at, TellsPage};
+ghost use Rattle.mount_names.specs.Shown.{ShowsAs};
+ghost use Rattle.plain_tree.specs.Nodes.{Name};
 
+use crate::packed_names::PackedNames;
 use crate::pages::page_of;
-use crate::reading::{Reading, reading_of};
+use crate::reading::{Reading, push_shown, reading_of};
 use disk_tree::{Body, DirEntries};
 use mount_model::{Path, Refusal, Reply};
 use mount_state::{MountState, walked_node};
-use name_crypt::{MOST_NAME_BYTES, Steps};
-use short_bytes::Filled;
+use name_crypt::Steps;
 use std::alloc::{AllocError, Global};
 use std::sync::ledger::Ledger;
 
@@ -81,7 +83,7 @@ fn page_read(
         return page_of(alloc, &mut names, start);
     }
     let shown = shown_names(alloc, reading, entries)?;
-    let mut names = names_among(alloc, &shown)?;
+    let mut names = shown.references(alloc)?;
     page_of(alloc, &mut names, start)
 }
 
@@ -101,23 +103,13 @@ fn shown_names(
     alloc: Global,
     reading: &Reading,
     entries: &DirEntries,
-) -> Result<Vec<Filled<MOST_NAME_BYTES>>, AllocError>
-    ensures { IfOk result (λ names. AllZip (IsShown reading.now) entries.now names.items) }
+) -> Result<PackedNames, AllocError>
+    ensures { IfOk result (λ shown. (names : List Name)
+        → AllZip (λ e. ShowsAs reading.now e.0) entries.now names → shown ≡ names) }
 {
-    let mut names = Vec::with_capacity(alloc, entries.len())?;
+    let mut shown = PackedNames::new(alloc, entries.len())?;
     'each: for entry in entries.iter() {
-        names.push(reading.shown(entry.0.as_slice()))?;
+        push_shown(&mut shown, reading, entry.0.as_slice())?;
     }
-    Ok(names)
-}
-
-// References to the names, in their order.
-fn names_among(alloc: Global, shown: &[Filled<MOST_NAME_BYTES>]) -> Result<Vec<&[u8]>, AllocError>
-    ensures { IfOk result (λ names. names_of names.items ≡ shown.now) }
-{
-    let mut names = Vec::with_capacity(alloc, shown.len())?;
-    'each: for name in shown {
-        names.push(name.bytes())?;
-    }
-    Ok(names)
+    Ok(shown)
 }

@@ -1,6 +1,6 @@
 //! How the names of a directory, and the target of a symlink, are read.
 
-ghost use Rattle.std.specs.Prelude.{◌≡◌, ◌≢◌, ◌≤◌, ℕ, List, [], length};
+ghost use Rattle.std.specs.Prelude.{◌≡◌, ◌≢◌, ◌≤◌, ℕ, List, [], ◌∷◌, ◌++◌, length, OnOk};
 ghost use Rattle.name_crypt.specs.Plain.{IsStored};
 ghost use Rattle.name_crypt.specs.StoredName.{plain_name};
 ghost use Rattle.name_crypt.specs.NoKeyText.{nokey_text_of};
@@ -9,9 +9,11 @@ ghost use Rattle.mount_names.specs.Wiped.{wiped};
 
 use crate::ciphers::cipher_of;
 use crate::contexts::context_of;
+use crate::packed_names::PackedNames;
 use mount_state::MountState;
 use name_crypt::{MOST_NAME_BYTES, NameCipher, StoredName, names_come_back, nokey_text};
 use short_bytes::Filled;
+use std::alloc::AllocError;
 
 /// How stored names are read: as they are, deciphered, or by their no-key texts.
 #[derive(Drop)]
@@ -59,6 +61,41 @@ impl Reading {
             Reading::Keyed(cipher) => deciphered(cipher, stored),
             Reading::Locked => text_of(stored),
         }
+    }
+}
+
+// Puts the name as which stored bytes are shown, which some name is stored as, behind the others. Of bytes that
+// are no stored name it puts none of their bytes.
+pub(crate) fn push_shown(
+    names: &mut PackedNames,
+    reading: &Reading,
+    stored: &[u8],
+) -> Result<(), AllocError>
+    ensures { (name : List ℕ) → ShowsAs reading.now stored.now name
+        → OnOk result (names.new ≡ names.old ++ name ∷ []) }
+{
+    match reading {
+        Reading::Plain => names.push(stored),
+        Reading::Keyed(cipher) => push_deciphered(names, cipher, stored),
+        Reading::Locked => names.push(text_of(stored).bytes()),
+    }
+}
+
+// Puts the name of a stored one behind the others; its no-key text where it is deciphered to none.
+fn push_deciphered(
+    names: &mut PackedNames,
+    cipher: &NameCipher,
+    stored: &[u8],
+) -> Result<(), AllocError>
+    ensures { IsStored stored.now → plain_name cipher.now.key cipher.now.start stored.now ≢ []
+        → OnOk result (names.new ≡ names.old ++ plain_name cipher.now.key cipher.now.start stored.now ∷ []) }
+{
+    let Ok(name) = StoredName::read(stored) else {
+        return names.push(&[]);
+    };
+    match cipher.decrypt(&name) {
+        Ok(plain) => names.push(plain.bytes()),
+        Err(_) => names.push(nokey_text(&name).bytes()),
     }
 }
 

@@ -4,7 +4,7 @@ use Rattle.std.specs.List.{AllZip}
 use Rattle.mount_names.specs.declared.reading.Reading.{Reading}
 use Rattle.mount_names.specs.Shown.{ShowsAs}
 use Rattle.mount_names.specs.Listed.{names_of, page_from, TellsPage}
-use Rattle.mount_names.proofs.ListedLemmas.{all_same, stored_as_shown}
+use Rattle.mount_names.proofs.ListedLemmas.{stored_as_shown}
 use Rattle.mount_names.proofs.listings.page_read.Goals as goal
 
 pub returns-in-Plain : goal.returns-in-Plain
@@ -19,9 +19,8 @@ returns-in-Plain c =
 pub returns : goal.returns
 returns c =
     let start = c.args.start in
-    let shown = c.in_ok-shown.shown.items in
-    let told : names_of c.deref_mut-2.result.now ≡ shown
-    = ap names_of c.deref_mut-2.ensures.value ∙ (c.in_ok-names-2.ensures ∙ c.deref.ensures.value) in
+    let told : names_of c.deref_mut-2.result.now ≡ c.in_ok-shown.shown
+    = ap names_of c.deref_mut-2.ensures.value ∙ c.in_ok-names-2.ensures in
     IfOk-weaker c.page_of-2.result (λ told. told ≡ page_from start (names_of c.deref_mut-2.result.now)) (TellsPage c.args.reading.now c.args.entries.now start)
-    (λ reply is. λ others shows. is ∙ ap (page_from start) (told ∙ all_same c.args.reading.now c.args.entries.now shown others c.in_ok-shown.ensures shows))
+    (λ reply is. λ others shows. is ∙ ap (page_from start) (told ∙ c.in_ok-shown.ensures others shows))
     c.page_of-2.ensures

@@ -1,9 +1,11 @@
--- What is shown already, with what each entry that is left is shown as, is what all are shown as.
-use Rattle.std.proofs.Common.{List, ◌++◌}
+-- What is shown already, with what the entries that are left are shown as, is what all are shown as.
+use Rattle.std.proofs.Common.{List}
 use Rattle.std.specs.List.{AllZip}
 use Rattle.plain_tree.specs.Nodes.{Name}
-use Rattle.mount_names.specs.Listed.{IsShown}
+use Rattle.mount_names.specs.Shown.{ShowsAs}
+use Rattle.mount_names.proofs.ListedLemmas.{StillShown}
 use Rattle.mount_names.proofs.listings.shown_names.Given as goal
 
 abbrev pub invariant-each : goal.invariant-each
-invariant-each l = (rest : List Name) → AllZip (IsShown l.reading) l.entry-iterator rest → AllZip (IsShown l.reading) l.entries (l.names.items ++ rest)
+invariant-each l =
+    (all : List Name) → AllZip (λ e. ShowsAs l.reading e.0) l.entries all → StillShown l.reading l.entry-iterator l.shown all
