@@ -1,7 +1,7 @@
 // A plain mount in memory, in C and without proof, to set the mount's calls on names beside: `mkdir`, `unlink`,
-// `stat-warm`, `stat-cold`, `rename`, `list-plain`, `list-encrypted`, and `mkdir-NAMES`, `unlink-NAMES` and
-// `stat-NAMES` among so many names. The words NAME COUNT make these calls so often, and print the sum of what
-// was told.
+// `stat-warm`, `stat-round`, `stat-cold`, `rename`, `list-plain`, `list-encrypted`, and `mkdir-NAMES`,
+// `unlink-NAMES` and `stat-NAMES` among so many names. The words NAME COUNT make these calls so often, and print
+// the sum of what was told.
 //
 // Nodes stand in an array, and each directory has a hash table of its names as they are stored. Names are
 // enciphered by the shuffles of aes_shuffles.h in CBC with ciphertext stealing, under a key that is drawn by
@@ -19,7 +19,7 @@
 #include <string.h>
 
 enum { MOST_NAME = 255, MOST_SPELLED = 149, MOST_PARTS = 32, MOST_ENTRIES = 4096, MOST_NODES = 65536, PAGE = 128 };
-enum { CONTEXT = 40, POLICY = 24, ID = 16, RUN_NAMES = 64, FEW = 128, PAGE_START = 2048 };
+enum { CONTEXT = 40, POLICY = 24, ID = 16, RUN_NAMES = 64, ROUND_NAMES = 320, FEW = 128, PAGE_START = 2048 };
 
 typedef enum { OK, EXISTS, NOT_FOUND, NOT_DIR, IS_DIR, NOT_EMPTY, NO_KEY, INVAL, TOO_LONG, XDEV, NO_SPACE } fault;
 
@@ -561,6 +561,19 @@ static void look(bool cold, uint32_t names, long count) {
         }
 }
 
+// more names than the other mount caches, one after the other
+static void look_round(long count) {
+    struct path paths[ROUND_NAMES];
+    set_up(true, ROUND_NAMES);
+    for (uint32_t at = 0; at < ROUND_NAMES; at++) paths[at] = numbered(at);
+    for (long run = 0; run < count; run++)
+        for (int at = 0; at < ROUND_NAMES; at++) {
+            struct stat told;
+            need(stat_at(&paths[at], &told));
+            sum += told.node + told.size;
+        }
+}
+
 static void move_there_and_back(long count) {
     struct path paths[RUN_NAMES];
     set_up(true, FEW);
@@ -628,6 +641,7 @@ int main(int argc, char **argv) {
     if (!strcmp(name, "mkdir")) make_and_take(DIR, FEW, count);
     else if (!strcmp(name, "unlink")) make_and_take(FIL, FEW, count);
     else if (!strcmp(name, "stat-warm")) look(false, FEW, count);
+    else if (!strcmp(name, "stat-round")) look_round(count);
     else if (!strcmp(name, "stat-cold")) look(true, FEW, count);
     else if (!strcmp(name, "rename")) move_there_and_back(count);
     else if (!strcmp(name, "list-plain")) tell_names(false, count);

@@ -1,5 +1,5 @@
 -- A state in which a handle was closed stands for the mount in which it was.
-use Rattle.std.proofs.Common.{◌≡◌, ℕ, Bool, true, false, cond, ◌||◌, List, [], eqb, unwrap_or, Option, Some, None, option_map, inl, inr, refl, sym, ap, subst, ◌∙◌}
+use Rattle.std.proofs.Common.{◌≡◌, ℕ, Bool, true, false, cond, ◌||◌, List, [], Contains, eqb, unwrap_or, Option, Some, None, option_map, inl, inr, refl, sym, ap, subst, ◌∙◌}
 use Rattle.std.proofs.lemmas.Bool.{cases_Bool, cases_eq, eqb-true, true≢false}
 use Rattle.policy_ctx.specs.declared.policy.KeyId.{KeyId}
 use Rattle.policy_ctx.specs.declared.policy.Context.{Context}
@@ -13,7 +13,7 @@ use Rattle.key_ring.specs.Holding.{Holding, secret_of}
 use Rattle.key_ring.specs.Modes.{Modes, mode_at}
 use Rattle.key_ring.specs.declared.mode_key.ModeKey.{ModeKey}
 use Rattle.inode_refs.specs.Cached.{KeyMap}
-use Rattle.plain_tree.specs.Nodes.{Node, Nodes, context_in, context_at, is_named, is_named_in}
+use Rattle.plain_tree.specs.Nodes.{Node, Nodes, context_in, context_at, children, children_in, entry, is_named, is_named_in}
 use Rattle.plain_tree.specs.Facts.{AgreesBy}
 use Rattle.plain_tree.proofs.AgreeLemmas.{agree_removed}
 use Rattle.disk_tree.specs.DiskTree.{Disk}
@@ -26,14 +26,19 @@ use Rattle.mount_model.specs.WellFormed.{IsWellFormed}
 use Rattle.mount_model.proofs.WellSteps.{step_well}
 use Rattle.mount_state.specs.Contexts.{kind_in}
 use Rattle.mount_state.specs.Contexts.{context_in as stored_context}
+use Rattle.std.specs.Map.{lookup}
+use Rattle.std.specs.Str.{bytes_eq}
+use Rattle.dentry_cache.specs.Names.{Pair, NameList}
+use Rattle.mount_state.specs.CachedNames.{NamesStand}
 use Rattle.mount_state.specs.Handles.{Handles}
 use Rattle.mount_state.specs.Stored.{stored_node}
 use Rattle.mount_state.specs.StandsFor.{StandsFor, TreeStands, CachesStand}
 use Rattle.mount_state.specs.StandsFor.{kind_in as plain_kind}
 use Rattle.mount_state.specs.declared.state.MountState.{MountState}
-use Rattle.mount_files.specs.Closed.{is_lasting, disk_left, modes_left_by}
+use Rattle.mount_files.specs.Closed.{is_lasting, disk_left, modes_left_by, names_left}
 use Rattle.mount_files.specs.Closed.{is_named_in as is_named_on}
 use Rattle.mount_files.specs.Opened.{SameButClosed, ClosesOne}
+use Rattle.mount_files.proofs.CachedRules.{fewer_names}
 use Rattle.mount_files.proofs.ClosedLemmas.{left_was}
 use Rattle.mount_files.proofs.ModeCounts.{released, each_released}
 
@@ -128,6 +133,27 @@ module _ (old new : MountState) (m : PlainMount) (caller handle n : ℕ) (st : S
         (sym (ap (λ (x : Modes). mode_at x id kind) closes.modes) ∙ there);
   }
 
+  names_stand : NamesStand new.names (with_closed m caller handle n).nodes
+  names_stand = record {
+    entries = λ pair held.
+        let was : Contains old.names.pairs pair =
+        fewer (subst (λ (x : NameList). Contains x.pairs pair) closes.names held) in
+        entry_left (is_named m.nodes n) (has_handle (without_handle caller handle m.handles) n) refl pair (st.names.entries pair was);
+  }
+    where
+      fewer : {pair : Pair} → Contains (names_left old.disk old.ring.claims old.names (has_handle new.handles.live n) n).pairs pair → Contains old.names.pairs pair
+      fewer {pair} held = fewer_names old.disk old.ring.claims old.names new.handles.live n pair held
+
+      -- a node without name has no entries
+      entry_left : (named on : Bool) → is_named m.nodes n ≡ named → (pair : Pair) → entry m.nodes pair.0.dir pair.0.name ≡ Some pair.1
+          → entry (cond (named || on) m.nodes (remove m.nodes n)) pair.0.dir pair.0.name ≡ Some pair.1
+      entry_left true on is pair leads = leads
+      entry_left false true is pair leads = leads
+      entry_left false false is pair leads =
+          ap (λ o. lookup (bytes_eq pair.0.name) (children_in o)) (remove_other m.nodes n pair.0.dir (λ same.
+          let bad : None ≡ Some pair.1 = sym (ap (lookup (bytes_eq pair.0.name)) (ap (children m.nodes) same ∙ st.well.nodes.tree.names.nameless n is)) ∙ leads in absurd (cc)))
+          ∙ leads
+
   pub closed_stands : node_of m.handles caller handle ≡ Some n → StandsFor new (with_closed m caller handle n)
   closed_stands it = record {
     well = close_well m caller handle n st.well it;
@@ -138,5 +164,6 @@ module _ (old new : MountState) (m : PlainMount) (caller handle n : ℕ) (st : S
     };
     handles = record { live = live_is; opened = ap (λ (h : Handles). h.opened) closes.handles ∙ st.handles.opened };
     caches = caches_stand;
+    names = names_stand;
     records = same.meta ∙ st.records;
   }

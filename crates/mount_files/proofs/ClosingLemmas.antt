@@ -17,7 +17,10 @@ use Rattle.mount_state.specs.Held.{HoldsNothing, is_busy, key_state}
 use Rattle.mount_state.specs.Safe.{IsSafe}
 use Rattle.mount_state.proofs.RuleLemmas.{nothing_held, no_mode_key}
 use Rattle.mount_state.proofs.UserLemmas.{some_from, users_from, pins_tell}
-use Rattle.mount_files.specs.Closed.{disk_left, keys_left, modes_left}
+use Rattle.dentry_cache.specs.Names.{NameList}
+use Rattle.mount_state.specs.CachedNames.{NamesForget}
+use Rattle.mount_files.specs.Closed.{disk_left, keys_left, modes_left, names_left}
+use Rattle.mount_files.proofs.CachedRules.{closed_names, names_on}
 use Rattle.mount_files.proofs.ClosedLemmas.{after, closed_rule, closed_is_safe}
 use Rattle.mount_files.proofs.HandleCounts.{left_length, one_here, node_held, pins_here}
 
@@ -76,6 +79,10 @@ module _ (disk : Disk) (claims : ClaimSet) (cache : Cache) (modes : Modes) (hand
     pub keys_are : last.keys ≡ keys_left disk claims cache.keys (has_handle left.live node) node
     keys_are = ap (λ (c : Cache). c.keys) cache_left
 
+    pub names_are : (names now : NameList) → now ≡ names_left disk claims names (not (is_unpinned last node)) node
+        → now ≡ names_left disk claims names (has_handle left.live node) node
+    names_are names now is = is ∙ ap (λ b. names_left disk claims names b node) last_held
+
     module _ (disk_now : Disk) (disk_is : disk_now ≡ disk_left disk (not (is_unpinned last node)) node) where
       pub disk_now_is : disk_now ≡ disk_left disk (has_handle left.live node) node
       disk_now_is = disk_is ∙ ap (λ b. disk_left disk b node) last_held
@@ -86,6 +93,11 @@ module _ (disk : Disk) (claims : ClaimSet) (cache : Cache) (modes : Modes) (hand
           (subst (λ (c : Cache). Forgets (disk_left disk (has_handle left.live node) node) claims c modes_now left.live) (sym cache_left)
           (subst (λ (x : Modes). Forgets (disk_left disk (has_handle left.live node) node) claims result x left.live) (sym modes_are)
           (closed_rule disk claims cache modes handles.live left.live rule node lost fewer in_use)))
+
+      pub names_forget : (names now : NameList) → NamesForget disk claims names handles.live → now ≡ names_left disk claims names (not (is_unpinned last node)) node
+          → NamesForget disk_now claims now left.live
+      names_forget names now remembers is =
+          names_on _ disk_now claims _ now left.live disk_now_is (names_are names now is) (closed_names disk claims names handles.live left.live remembers node lost)
 
       pub safe_left : (next : ℕ) → IsSafe disk next handles.live → IsSafe disk_now next left.live
       safe_left next safe =
@@ -99,9 +111,10 @@ absent_parts true busy is = absurd (cc)
 absent_parts false true is = absurd (cc)
 absent_parts false false is = (refl, refl)
 
-pub absent_gone : (disk : Disk) (ring : Holding) (cache : Cache) (modes : Modes) (live : HandleList) → Forgets disk ring.claims cache modes live
-    → HoldsClaimedSecrets ring → AreUsed modes → (id : KeyId) → key_state disk ring.claims live id ≡ Absent → HoldsNothing ring cache modes id
-absent_gone disk ring cache modes live rule exact used id is =
+pub absent_gone : (disk : Disk) (ring : Holding) (cache : Cache) (modes : Modes) (names : NameList) (live : HandleList) → Forgets disk ring.claims cache modes live
+    → NamesForget disk ring.claims names live → HoldsClaimedSecrets ring → AreUsed modes
+    → (id : KeyId) → key_state disk ring.claims live id ≡ Absent → HoldsNothing disk ring cache modes names id
+absent_gone disk ring cache modes names live rule remembers exact used id is =
     let parts = absent_parts (is_present ring.claims id) (is_busy disk live id) is in
-    nothing_held disk ring cache modes live rule id (exact id ∙ parts.0) parts.0 parts.1
+    nothing_held disk ring cache modes live rule id names remembers (exact id ∙ parts.0) parts.0 parts.1
     (no_mode_key disk ring cache modes live rule id used parts.1)

@@ -8,6 +8,7 @@ mod HandleCounts
 mod ModeCounts
 mod ContextUses
 mod OpenedLemmas
+mod CachedRules
 mod ClosedLemmas
 mod ClosingLemmas
 mod NeedLemmas

@@ -25,9 +25,13 @@ use Rattle.mount_model.specs.WellFormed.{IsWellFormed}
 use Rattle.mount_model.proofs.OpenLemmas.{opened_well}
 use Rattle.mount_model.proofs.WalkLemmas.{walked_reached}
 use Rattle.mount_state.specs.Given.{IsGivenOrNoMemory}
+use Rattle.dentry_cache.specs.Names.{NameList}
+use Rattle.mount_state.specs.CachedNames.{NamesStand}
 use Rattle.mount_state.specs.Handles.{Handles, is_full}
+use Rattle.dentry_cache.specs.Names.{NameList}
+use Rattle.mount_state.specs.CachedNames.{NamesStand}
 use Rattle.mount_state.specs.Handles.{with_handle as with_new}
-use Rattle.mount_state.specs.SameButKeys.{SameButKeys}
+use Rattle.mount_state.specs.SameButCaches.{SameButCaches}
 use Rattle.mount_state.specs.Stored.{stored_node, stored_body}
 use Rattle.mount_state.specs.StandsFor.{StandsFor, TreeStands, HandlesStand, CachesStand}
 use Rattle.mount_state.specs.declared.state.MountState.{MountState}
@@ -123,8 +127,8 @@ walked_there m path n well is =
 -- ---- the state stands
 
 pub opened_stands : (old new : MountState) (m : PlainMount) (caller n : ℕ) → StandsFor old m → OpensOne old new caller n
-    → CachesStand new.inodes new.modes m → IsWellFormed (with_handle m caller n) → StandsFor new (with_handle m caller n)
-opened_stands old new m caller n st opens caches well = record {
+    → CachesStand new.inodes new.modes m → new.names ≡ old.names → IsWellFormed (with_handle m caller n) → StandsFor new (with_handle m caller n)
+opened_stands old new m caller n st opens caches names well = record {
   well = well;
   tree = record {
     nodes = subst (λ (d : Disk). AgreesBy (stored_node m.raws) m.nodes d) (sym opens.same.disk) st.tree.nodes;
@@ -141,11 +145,12 @@ opened_stands old new m caller n st opens caches well = record {
         ∙ (λ i. insert (st.handles.opened i) caller (opens_of (st.handles.opened i) caller + 1));
   };
   caches = record { file_keys = caches.file_keys; mode_keys = caches.mode_keys };
+  names = subst (λ (x : NameList). NamesStand x m.nodes) (sym names) st.names;
   records = opens.same.meta ∙ st.records;
 }
 
-pub kept_stands : (old new : MountState) (m : PlainMount) → StandsFor old m → SameButKeys old new → CachesStand new.inodes new.modes m → StandsFor new m
-kept_stands old new m st same caches = record {
+pub kept_stands : (old new : MountState) (m : PlainMount) → StandsFor old m → SameButCaches old new → CachesStand new.inodes new.modes m → new.names ≡ old.names → StandsFor new m
+kept_stands old new m st same caches names = record {
   well = st.well;
   tree = record {
     nodes = subst (λ (d : Disk). AgreesBy (stored_node m.raws) m.nodes d) (sym same.disk) st.tree.nodes;
@@ -160,6 +165,7 @@ kept_stands old new m st same caches = record {
     opened = ap (λ (h : Handles). h.opened) same.handles ∙ st.handles.opened;
   };
   caches = caches;
+  names = subst (λ (x : NameList). NamesStand x m.nodes) (sym names) st.names;
   records = same.meta ∙ st.records;
 }
 
@@ -172,7 +178,7 @@ opened_given m caller n answer number new is count st = inl (
 )
 
 -- the handle that is opened behind a walk is the one more
-pub opened_after : (old walked new : MountState) (caller : ℕ) (reply : Reply) → SameButKeys old walked → OpensAsTold walked new caller reply → OpensAsTold old new caller reply
+pub opened_after : (old walked new : MountState) (caller : ℕ) (reply : Reply) → SameButCaches old walked → OpensAsTold walked new caller reply → OpensAsTold old new caller reply
 opened_after old walked new caller reply same told = record {
   node = told.node;
   one = record {
@@ -185,6 +191,7 @@ opened_after old walked new caller reply same told = record {
       pins = tt;
       handles = tt;
       modes = tt;
+      names = tt;
     };
     handles = told.one.handles ∙ ap (λ (hs : Handles). with_new hs caller told.node) same.handles;
   };

@@ -34,6 +34,11 @@ use Rattle.mount_model.proofs.NodesWell.{written_well}
 use Rattle.mount_model.proofs.HandlesWell.{written_open}
 use Rattle.mount_state.specs.Contexts.{has_own, has_shared, same_kind, is_of_kind}
 use Rattle.mount_state.specs.Contexts as disk
+use Rattle.dentry_cache.specs.Names.{NameList}
+use Rattle.plain_tree.proofs.EditedLemmas.{edited_entry, leaves_contents}
+use Rattle.mount_state.specs.CachedNames.{NamesForget, NamesStand, is_dir, is_dir_in}
+use Rattle.mount_state.specs.Held.{is_keyed_under}
+use Rattle.mount_state.proofs.CachedLemmas.{forget_when}
 use Rattle.mount_state.specs.Discipline.{Forgets}
 use Rattle.mount_state.specs.Handles.{Handles, users}
 use Rattle.mount_state.specs.Safe.{IsSafe}
@@ -66,6 +71,12 @@ kind_left seal at (x ∷ xs) (stored.Dir entries) = refl
 kind_left seal at (x ∷ xs) (stored.File blocks size) = refl
 kind_left seal at (x ∷ xs) (stored.Link target) = refl
 
+dir_left : (seal : Option Seal) (at : ℕ) (bytes : List ℕ) (b : StoredBody) → is_dir (body_written seal at bytes b) ≡ is_dir b
+dir_left seal at [] b = refl
+dir_left seal at (x ∷ xs) (stored.Dir entries) = refl
+dir_left seal at (x ∷ xs) (stored.File blocks size) = refl
+dir_left seal at (x ∷ xs) (stored.Link target) = refl
+
 module _ (on_disk : Disk) (file : ℕ) (seal : Option Seal) (at : ℕ) (bytes : List ℕ) where
   contexts : (n : ℕ) → disk.context_in (get (disk_written on_disk file seal at bytes) n) ≡ disk.context_in (get on_disk n)
   contexts = read_changed disk.context_in on_disk file (on_body (body_written seal at bytes)) (λ v. refl)
@@ -93,6 +104,13 @@ module _ (on_disk : Disk) (file : ℕ) (seal : Option Seal) (at : ℕ) (bytes : 
     };
     pins = rule.pins;
   }
+
+  pub written_names : (claims : ClaimSet) (names : NameList) (live : HandleList) → NamesForget on_disk claims names live
+      → NamesForget (disk_written on_disk file seal at bytes) claims names live
+  written_names claims names live rule = forget_when on_disk (disk_written on_disk file seal at bytes) claims claims live live names rule (λ pair held dir keyed. (
+    read_changed is_dir_in on_disk file (on_body (body_written seal at bytes)) (λ v. dir_left seal at bytes v.body) pair.0.dir ∙ dir,
+    ap (is_keyed_under claims live pair.0.dir) (contexts pair.0.dir) ∙ keyed,
+  ))
 
   pub written_safe : (next : ℕ) (live : HandleList) → IsSafe on_disk next live → IsSafe (disk_written on_disk file seal at bytes) next live
   written_safe next live safe = record {
@@ -158,6 +176,13 @@ module _ (old : MountState) (m : PlainMount) (st : StandsFor old m) (file offset
     mode_keys = st.caches.mode_keys;
   }
 
+  names_after : NamesStand old.names (written m.nodes file (with_bytes offset bytes))
+  names_after = record {
+    entries = λ pair held.
+        edited_entry m.nodes file (on_contents (with_bytes offset bytes)) (leaves_contents (with_bytes offset bytes)) pair.0.dir pair.0.name
+        ∙ st.names.entries pair held;
+  }
+
   module _ (seal : Option Seal) (seal_is : seal ≡ seal_of m.raws file (context_at m.nodes file)) (key : IsKeyOfBytes seal) where
     tree_after : AgreesBy (stored_node m.raws) (written m.nodes file (with_bytes offset bytes)) (disk_written old.disk file seal offset bytes)
     tree_after = agree_edited (stored_node m.raws) m.nodes old.disk st.tree.nodes file (on_contents (with_bytes offset bytes)) (on_body (body_written seal offset bytes))
@@ -186,6 +211,7 @@ module _ (old : MountState) (m : PlainMount) (st : StandsFor old m) (file offset
       };
       caches = subst (λ (x : Cache). CachesStand x new.modes after) (sym (same_cache old.inodes new.inodes same.keys same.pins))
           (subst (λ (x : Modes). CachesStand old.inodes x after) (sym same.modes) caches_after);
+      names = subst (λ (x : NameList). NamesStand x after.nodes) (sym same.names) names_after;
       records = same.meta ∙ st.records;
     }
 
@@ -208,5 +234,6 @@ unwritten_stands old m st new is same = record {
   };
   caches = subst (λ (x : Cache). CachesStand x new.modes m) (sym (same_cache old.inodes new.inodes same.keys same.pins))
       (subst (λ (x : Modes). CachesStand old.inodes x m) (sym same.modes) st.caches);
+  names = subst (λ (x : NameList). NamesStand x m.nodes) (sym same.names) st.names;
   records = same.meta ∙ st.records;
 }

@@ -1,5 +1,5 @@
 -- What goes where a handle is closed.
-use Rattle.std.specs.Prelude.{ℕ, Bool, true, false, ◌&&◌, ◌||◌, ◌==◌, List, Option, Some, None, if◌then◌else◌}
+use Rattle.std.specs.Prelude.{ℕ, Bool, true, false, not, ◌&&◌, ◌||◌, ◌==◌, List, Option, Some, None, if◌then◌else◌}
 use Rattle.number_map.specs.Numbered.{get, remove}
 use Rattle.user_claims.specs.Claims.{ClaimSet, is_present}
 use Rattle.policy_ctx.specs.Context.{id_in, is_by_mode_in}
@@ -8,6 +8,8 @@ use Rattle.key_ring.specs.Modes.{Modes, of_kind, with_kind, without_user}
 use Rattle.inode_refs.specs.Cached.{KeyMap}
 use Rattle.disk_tree.specs.DiskTree.{Disk}
 use Rattle.disk_tree.specs.declared.node.StoredNode.{StoredNode}
+use Rattle.dentry_cache.specs.Names.{NameList, dir_forgotten}
+use Rattle.mount_state.specs.CachedNames.{is_dir_at}
 use Rattle.mount_state.specs.Contexts.{context_in, kind_in}
 
 abbrev pub is_named_in : Option StoredNode → Bool
@@ -31,6 +33,12 @@ is_key_due claims (Some context) = is_present claims (id_in context)
 abbrev pub keys_left : Disk → ClaimSet → KeyMap → Bool → ℕ → KeyMap
 keys_left disk claims keys held node =
     if held || (is_lasting disk node && is_key_due claims (context_in (get disk node))) then keys else remove keys node
+
+-- a directory's names stay where its key would
+abbrev pub names_left : Disk → ClaimSet → NameList → Bool → ℕ → NameList
+names_left disk claims names held node =
+    if held || (is_lasting disk node && is_key_due claims (context_in (get disk node))) || not (is_dir_at disk node)
+    then names else dir_forgotten names node
 
 -- the mode key that the node uses has one user less
 abbrev pub modes_left_by : Modes → KeyKind → Option (List ℕ) → Modes

@@ -10,9 +10,9 @@ use Rattle.mount_model.specs.declared.reply.Reply.{Reply}
 use Rattle.mount_model.specs.declared.reply.Reply.TheVariants.{Opened}
 use Rattle.mount_model.specs.FileAnswers.{is_link_at, is_out_of_handles, opened_on}
 use Rattle.mount_state.specs.Handles.{with_handle, without}
-use Rattle.mount_state.specs.SameBut.{SameBut, Disk, CachedKeys, Pins, OpenHandles, ModeKeys}
+use Rattle.mount_state.specs.SameBut.{SameBut, Disk, CachedKeys, Pins, OpenHandles, ModeKeys, CachedNames}
 use Rattle.mount_state.specs.declared.state.MountState.{MountState}
-use Rattle.mount_files.specs.Closed.{disk_left, keys_left, modes_left}
+use Rattle.mount_files.specs.Closed.{disk_left, keys_left, modes_left, names_left}
 
 -- ---- OpenNode
 
@@ -30,9 +30,9 @@ open_told m caller n =
     if is_out_of_handles m caller then refused m NoSpace else
     opened_on m caller n
 
--- nothing differs but what is open, and which keys are cached for it
+-- nothing differs but what is open, which keys are cached for it, and which names are
 abbrev pub SameButOpen : MountState → MountState → Type 0
-SameButOpen old new = SameBut (CachedKeys ∷ Pins ∷ OpenHandles ∷ ModeKeys ∷ []) old new
+SameButOpen old new = SameBut (CachedKeys ∷ Pins ∷ OpenHandles ∷ ModeKeys ∷ CachedNames ∷ []) old new
 
 -- the caller has a new handle on the node
 pub record OpensOne (old new : MountState) (caller node : ℕ) : Type 0 where
@@ -47,9 +47,9 @@ pub record OpensAsTold (old new : MountState) (caller : ℕ) (reply : Reply) : T
 
 -- ---- Close
 
--- nothing differs but what is open, which keys are cached for it, and the nodes
+-- nothing differs but what is open, which keys are cached for it, which names are, and the nodes
 abbrev pub SameButClosed : MountState → MountState → Type 0
-SameButClosed old new = SameBut (Disk ∷ CachedKeys ∷ Pins ∷ OpenHandles ∷ ModeKeys ∷ []) old new
+SameButClosed old new = SameBut (Disk ∷ CachedKeys ∷ Pins ∷ OpenHandles ∷ ModeKeys ∷ CachedNames ∷ []) old new
 
 -- the caller's handle of this number, which is on the node, is closed, and with it goes what it needed
 pub record ClosesOne (old new : MountState) (caller number node : ℕ) : Type 0 where
@@ -58,3 +58,5 @@ pub record ClosesOne (old new : MountState) (caller number node : ℕ) : Type 0 
   pub keys : new.inodes.keys
       ≡ keys_left old.disk old.ring.claims old.inodes.keys (has_handle new.handles.live node) node
   pub modes : new.modes ≡ modes_left old.disk old.modes node
+  pub names : new.names
+      ≡ names_left old.disk old.ring.claims old.names (has_handle new.handles.live node) node

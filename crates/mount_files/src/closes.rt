@@ -1,6 +1,6 @@
 //! Closing a handle.
 
-ghost use Rattle.std.specs.Prelude.{◌≡◌, ◌<◌, ◌≤◌, ◌==◌, ◌||◌, ℕ, true, not, Some, IfSome, None};
+ghost use Rattle.std.specs.Prelude.{◌≡◌, ◌<◌, ◌≤◌, ◌==◌, ◌&&◌, ◌||◌, ℕ, true, not, Some, IfSome, None};
 ghost use Rattle.number_map.specs.Numbered.{get};
 ghost use Rattle.policy_ctx.specs.Context.{id_in};
 ghost use Rattle.policy_ctx.specs.declared.policy.KeyId.{KeyId};
@@ -12,16 +12,19 @@ ghost use Rattle.mount_model.specs.declared.reply.KeyState.TheVariants.{Absent};
 ghost use Rattle.mount_model.specs.ClaimHistory.{is_refused};
 ghost use Rattle.mount_model.specs.FileAnswers.{answer_to_close, with_closed};
 ghost use Rattle.mount_model.specs.PlainMount.{PlainMount, node_of};
+ghost use Rattle.mount_state.specs.CachedNames.{is_dir_at};
 ghost use Rattle.mount_state.specs.Contexts.{context_in, kind_of, uses_mode};
 ghost use Rattle.mount_state.specs.Given.{IsGiven};
 ghost use Rattle.mount_state.specs.Held.{HoldsNothing, key_state};
-ghost use Rattle.mount_state.specs.SameButKeys.{SameButKeys};
+ghost use Rattle.mount_state.specs.SameButCaches.{SameButCaches};
 ghost use Rattle.mount_state.specs.StandsFor.{StandsFor};
 ghost use Rattle.mount_files.specs.Closed.{is_lasting, is_key_due, disk_left, keys_left, modes_left};
+ghost use Rattle.mount_files.specs.Closed.{names_left};
 ghost use Rattle.mount_files.specs.Opened.{ClosesOne, SameButClosed};
 
 use crate::needs::kind_of;
-use disk_tree::{DiskTree, StoredNode};
+use dentry_cache::NameCache;
+use disk_tree::{Body, DiskTree, StoredNode};
 use fsc_keys::KeyId;
 use inode_refs::InodeCache;
 use key_ring::{KeyRing, ModeKeys};
@@ -30,8 +33,9 @@ use mount_state::MountState;
 use policy_ctx::{CONTEXT_LEN, id_in, is_by_mode};
 
 /// Closes the caller's handle of this number. With a node's last handle its key goes where no user has a
-/// claim on the master key, under flag 8 the mode key where no other handle uses it, and the node itself
-/// where it has no name; the root never goes. What goes of keys is overwritten.
+/// claim on the master key, and with it a directory's cached names; under flag 8 the mode key where no other
+/// handle uses it; and the node itself where it has no name; the root never goes. What goes of keys is
+/// overwritten.
 ///
 /// BadHandle exactly where the caller has no such handle. It takes no memory.
 pub fn close(state: &mut MountState, caller: u32, handle: u32) -> Reply
@@ -39,11 +43,11 @@ pub fn close(state: &mut MountState, caller: u32, handle: u32) -> Reply
         → result ≡ Reply.Refused Refusal.BadHandle }
     ensures closed { IfSome (node_of state.old.handles.live caller handle) (λ node.
         (result ≡ Reply.Done) × ClosesOne state.old state.new caller handle node) }
-    ensures refused { is_refused result ≡ true → SameButKeys state.old state.new }
+    ensures refused { is_refused result ≡ true → SameButCaches state.old state.new }
     ensures same { SameButClosed state.old state.new }
     ensures gone { (id : KeyId)
         → key_state state.new.disk state.new.ring.claims state.new.handles.live id ≡ Absent
-        → HoldsNothing state.new.ring state.new.inodes state.new.modes id }
+        → HoldsNothing state.new.disk state.new.ring state.new.inodes state.new.modes state.new.names id }
     ensures stands { (m : PlainMount) → StandsFor state.old m
         → IsGiven (answer_to_close m caller handle) result state.new }
 {
@@ -59,7 +63,7 @@ pub fn close(state: &mut MountState, caller: u32, handle: u32) -> Reply
 // That of a key that is absent nothing is held.
 fn hold_what_is_needed(state: &MountState)
     ensures { (id : KeyId) → key_state state.now.disk state.now.ring.claims state.now.handles.live id ≡ Absent
-        → HoldsNothing state.now.ring state.now.inodes state.now.modes id }
+        → HoldsNothing state.now.disk state.now.ring state.now.inodes state.now.modes state.now.names id }
 {
     let _exact = state.ring.claims();
     let _used = state.modes.users_of(&KeyId([0; 16]));
@@ -76,6 +80,13 @@ fn close_on(state: &mut MountState, caller: u32, handle: u32, node: u32)
     state.inodes.unpin(node);
     release_mode(&state.disk, &mut state.modes, node);
     forget_key(&state.disk, &state.ring, &mut state.inodes, node);
+    forget_names(
+        &state.disk,
+        &state.ring,
+        &state.inodes,
+        &mut state.names,
+        node,
+    );
     forget_node(&mut state.disk, &state.inodes, node);
 }
 
@@ -103,13 +114,47 @@ fn forget_key(disk: &DiskTree, ring: &KeyRing, inodes: &mut InodeCache, node: u3
       keys = keys_left disk.now ring.now.claims inodes.old.keys (not (is_unpinned inodes.old node)) node;
     } }
 {
-    if inodes.pins(node) > 0 {
-        return;
-    }
-    if is_lasting(disk, node) && is_key_due(disk, ring, node) {
+    if is_key_kept(disk, ring, inodes, node) {
         return;
     }
     inodes.drop_key(node);
+}
+
+// Forgets the names of a directory where its key is forgotten.
+fn forget_names(
+    disk: &DiskTree,
+    ring: &KeyRing,
+    inodes: &InodeCache,
+    names: &mut NameCache,
+    node: u32,
+)
+    ensures { names.new ≡ names_left disk.now ring.now.claims names.old (not (is_unpinned inodes.now node)) node }
+{
+    if is_key_kept(disk, ring, inodes, node) || !is_dir(disk, node) {
+        return;
+    }
+    names.forget_dir(node);
+}
+
+// Whether the node's key stays: the node has pins, or it is to stay and its key is due.
+fn is_key_kept(disk: &DiskTree, ring: &KeyRing, inodes: &InodeCache, node: u32) -> bool
+    ensures { result ≡ (not (is_unpinned inodes.now node)
+        || (is_lasting disk.now node && is_key_due ring.now.claims (context_in (get disk.now node)))) }
+{
+    inodes.pins(node) > 0 || (is_lasting(disk, node) && is_key_due(disk, ring, node))
+}
+
+// Whether the number is that of a directory.
+fn is_dir(disk: &DiskTree, node: u32) -> bool
+    ensures { result ≡ is_dir_at disk.now node }
+{
+    match disk.node(node) {
+        Some(stored) => match stored.body {
+            Body::Dir(_) => true,
+            Body::File { .. } | Body::Link(_) => false,
+        },
+        None => false,
+    }
 }
 
 // Forgets the node, where it has no pins and isn't to stay.

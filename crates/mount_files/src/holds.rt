@@ -5,7 +5,7 @@ ghost use Rattle.number_map.specs.Numbered.{get, remove};
 ghost use Rattle.inode_refs.specs.Cached.{pins_of, with_pins, given};
 ghost use Rattle.mount_model.specs.PlainMount.{PlainMount, opens_of};
 ghost use Rattle.mount_state.specs.Handles.{is_full, with_handle};
-ghost use Rattle.mount_state.specs.SameButKeys.{SameButKeys};
+ghost use Rattle.mount_state.specs.SameButCaches.{SameButCaches};
 ghost use Rattle.mount_state.specs.StandsFor.{StandsFor, CachesStand};
 ghost use Rattle.mount_files.specs.Needs.{IsOwnNeed, IsSharedNeed, IsNeedIn};
 ghost use Rattle.mount_files.specs.Opened.{OpensOne};
@@ -29,7 +29,8 @@ pub(crate) fn open_own(
     requires need { IsOwnNeed state.old.disk state.old.inodes node key }
     ensures number { IfOk result (λ number. number ≡ opens_of state.old.handles.opened caller) }
     ensures opened { OnOk result (OpensOne state.old state.new caller node) }
-    ensures kept { OnErr result (SameButKeys state.old state.new) }
+    ensures kept { OnErr result (SameButCaches state.old state.new) }
+    ensures names { state.new.names ≡ state.old.names }
     ensures caches { (m : PlainMount) → StandsFor state.old m → IsNeedIn m node (Own key)
         → CachesStand state.new.inodes state.new.modes m }
 {
@@ -58,7 +59,8 @@ pub(crate) fn open_shared(
     requires need { IsSharedNeed state.old.disk node id kind key }
     ensures number { IfOk result (λ number. number ≡ opens_of state.old.handles.opened caller) }
     ensures opened { OnOk result (OpensOne state.old state.new caller node) }
-    ensures kept { OnErr result (SameButKeys state.old state.new) }
+    ensures kept { OnErr result (SameButCaches state.old state.new) }
+    ensures names { state.new.names ≡ state.old.names }
     ensures caches { (m : PlainMount) → StandsFor state.old m → IsNeedIn m node (Shared id kind key)
         → CachesStand state.new.inodes state.new.modes m }
 {

@@ -8,7 +8,7 @@ ghost use Rattle.mount_model.specs.PlainMount.{PlainMount, opens_of};
 ghost use Rattle.mount_state.specs.Given.{IsGivenOrNoMemory};
 ghost use Rattle.mount_state.specs.Handles.{is_full};
 ghost use Rattle.mount_state.specs.Held.{is_keyed};
-ghost use Rattle.mount_state.specs.SameButKeys.{SameButKeys};
+ghost use Rattle.mount_state.specs.SameButCaches.{SameButCaches};
 ghost use Rattle.mount_state.specs.StandsFor.{StandsFor, CachesStand};
 ghost use Rattle.mount_files.specs.Opened.{is_link_body, open_told, OpensAsTold, OpensOne, SameButOpen};
 
@@ -28,7 +28,8 @@ use std::sync::ledger::Ledger;
 ///
 /// Refused as the walk is, then Inval for a symlink, NoKey where the node's key isn't at hand, and NoSpace
 /// where `MOST_HANDLES` handles are open or the caller opened `MOST_OPENS`; NoMemory in place of an answer
-/// that is no refusal. After a refusal all is as before, but for which keys of nodes are cached.
+/// that is no refusal. After a refusal all is as before, but for which keys of nodes and which
+/// names are cached.
 pub fn open_node<L: Ledger>(
     alloc: Global,
     state: &mut MountState,
@@ -42,7 +43,7 @@ pub fn open_node<L: Ledger>(
         → is_refused (answer_to_open m caller path.now).reply ≡ true
         → result ≡ (answer_to_open m caller path.now).reply }
     ensures opened { is_refused result ≡ false → OpensAsTold state.old state.new caller result }
-    ensures refused { is_refused result ≡ true → SameButKeys state.old state.new }
+    ensures refused { is_refused result ≡ true → SameButCaches state.old state.new }
     ensures same { SameButOpen state.old state.new }
     ensures ticks { steps.new ≤ steps.old + length path.now }
 {
@@ -59,7 +60,7 @@ fn open_at(alloc: Global, state: &mut MountState, caller: u32, node: u32) -> Rep
     ensures denied { (m : PlainMount) → StandsFor state.old m → is_some (get m.nodes node) ≡ true
         → is_refused (open_told m caller node).reply ≡ true → result ≡ (open_told m caller node).reply }
     ensures opened { is_refused result ≡ false → OpensAsTold state.old state.new caller result }
-    ensures refused { is_refused result ≡ true → SameButKeys state.old state.new }
+    ensures refused { is_refused result ≡ true → SameButCaches state.old state.new }
     ensures same { SameButOpen state.old state.new }
 {
     let Some(stored) = state.disk.node(node) else {
@@ -92,7 +93,8 @@ fn open_keyed(
     requires room { is_full state.old.handles caller ≡ false }
     ensures number { IfOk result (λ number. number ≡ opens_of state.old.handles.opened caller) }
     ensures opened { OnOk result (OpensOne state.old state.new caller node) }
-    ensures kept { OnErr result (SameButKeys state.old state.new) }
+    ensures kept { OnErr result (SameButCaches state.old state.new) }
+    ensures names { state.new.names ≡ state.old.names }
     ensures caches { (m : PlainMount) → StandsFor state.old m → CachesStand state.new.inodes state.new.modes m }
 {
     match need_of(state, node) {

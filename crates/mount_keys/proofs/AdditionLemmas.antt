@@ -33,6 +33,8 @@ use Rattle.mount_model.specs.KeyAnswers.{is_raw_key, is_over_quota, with_key, ad
 use Rattle.mount_model.specs.Lawful.{AgreesWith}
 use Rattle.mount_model.proofs.KeyLemmas.{raw_in-with_raw, HasKeys-with_key}
 use Rattle.mount_model.proofs.AddedLemmas.{HasNodes-with_raw}
+use Rattle.dentry_cache.specs.Names.{NameList}
+use Rattle.mount_state.specs.CachedNames.{NamesStand}
 use Rattle.mount_state.specs.Handles.{Handles}
 use Rattle.mount_state.specs.Held.{is_busy, key_state}
 use Rattle.mount_state.specs.Stored.{stored_node}
@@ -177,6 +179,7 @@ module _ (s : MountState) (m : PlainMount) (st : StandsFor s m) (used : AreUsed 
     caches = subst (λ (cache : Cache). CachesStand cache new.modes (with_key m uid raw)) (sym (same_cache s.inodes new.inodes same.keys same.pins))
         (subst (λ (modes : Modes). CachesStand s.inodes modes (with_key m uid raw)) (sym same.modes)
         (added_caches raw agrees uid));
+    names = subst (λ (names : NameList). NamesStand names m.nodes) (sym same.names) st.names;
     records = same.meta ∙ st.records;
   }
 

@@ -20,7 +20,12 @@ use Rattle.inode_refs.specs.Cached.{all_evicted}
 use Rattle.inode_refs.specs.declared.node_key.NodeKey.{NodeKey}
 use Rattle.disk_tree.specs.DiskTree.{Disk}
 use Rattle.mount_model.specs.PlainMount.{HandleList, has_handle}
+use Rattle.number_map.specs.Numbered.{get}
+use Rattle.dentry_cache.specs.Names.{NameList}
+use Rattle.mount_state.specs.CachedNames.{NamesForget}
+use Rattle.mount_state.specs.Contexts.{context_in}
 use Rattle.mount_state.specs.Discipline.{Forgets}
+use Rattle.mount_state.proofs.CachedLemmas.{forget_when, keyed_more}
 use Rattle.mount_state.proofs.UserLemmas.{pins_tell}
 
 -- ---- what is left of a map
@@ -192,3 +197,36 @@ added_rule disk old new cache modes live rule (Ok x) id uid ok err =
     claimed_rule disk old.claims cache modes live rule id uid new.claims ok
 added_rule disk old new cache modes live rule (Err e) id uid ok err =
     subst (λ (ring : Holding). Forgets disk ring.claims cache modes live) (sym err) rule
+
+-- ---- names
+
+module _ (disk : Disk) (claims : ClaimSet) (names : NameList) (live : HandleList)
+    (rule : NamesForget disk claims names live) where
+  -- with more claims each directory that was keyed is so still
+  pub more_names : (after : ClaimSet) → ((q : KeyId) → is_present claims q ≡ true → is_present after q ≡ true)
+      → NamesForget disk after names live
+  more_names after more = forget_when disk disk claims after live live names rule (λ pair held dir keyed. (
+    dir,
+    keyed_more claims after live live pair.0.dir more (λ handle. handle)
+        (context_in (get disk pair.0.dir)) keyed,
+  ))
+
+  -- so it is where claims on one key alone went, and some are left
+  pub left_names : (id : KeyId) (after : ClaimSet)
+      → ((q : KeyId) → same_id id q ≡ false → is_present after q ≡ is_present claims q)
+      → is_present after id ≡ true → NamesForget disk after names live
+  left_names id after others some = more_names after (λ q there. elim (cases_Bool (same_id id q)) [
+    | inl same ↦ ap (is_present after) (sym (same_id-eq id q same)) ∙ some
+    | inr apart ↦ others q apart ∙ there
+  ])
+
+pub added_names : {T E : Type 0} (disk : Disk) (old new : Holding) (names : NameList) (live : HandleList)
+    → NamesForget disk old.claims names live → (r : Result T E) (id : KeyId) (uid : ℕ)
+    → OnOk r (new.claims ≡ with_claim old.claims id uid) → OnErr r (new ≡ old)
+    → NamesForget disk new.claims names live
+added_names disk old new names live rule (Ok x) id uid ok err =
+    more_names disk old.claims names live rule new.claims (λ q there.
+    ap (λ (cs : ClaimSet). is_present cs q) ok
+    ∙ (is_present-with_claim old.claims id uid q ∙ or_left (is_present old.claims q) (same_id id q) there))
+added_names disk old new names live rule (Err e) id uid ok err =
+    subst (λ (ring : Holding). NamesForget disk ring.claims names live) (sym err) rule

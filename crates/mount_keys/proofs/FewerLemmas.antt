@@ -1,5 +1,5 @@
 -- With fewer claims, secrets and cached keys a state stands for the mount with these claims.
-use Rattle.std.proofs.Common.{◌≡◌, ℕ, Bool, true, false, cond, List, Some, None, is_some, sym, ap, subst}
+use Rattle.std.proofs.Common.{◌≡◌, ℕ, Bool, true, false, cond, not, ◌&&◌, List, [], Contains, Some, None, is_some, refl, sym, ap, subst}
 use Rattle.std.proofs.Common.{◌∙◌}
 use Rattle.std.specs.FinMap as map
 use Rattle.policy_ctx.specs.declared.policy.KeyId.{KeyId}
@@ -16,11 +16,14 @@ use Rattle.disk_tree.specs.DiskTree.{Disk}
 use Rattle.mount_model.specs.PlainMount.{PlainMount}
 use Rattle.mount_model.specs.WellFormed.{HasKeys}
 use Rattle.mount_model.proofs.KeyLemmas.{HasKeys-without_claim, HasKeys-without_id}
+use Rattle.dentry_cache.specs.Names.{NameList, with_pairs, HoldsNoMore}
+use Rattle.dentry_cache.proofs.NameLemmas.{none_held}
 use Rattle.mount_state.specs.Handles.{Handles}
 use Rattle.mount_state.specs.Held.{HoldsNothing, is_busy}
 use Rattle.mount_state.specs.Stored.{stored_node}
 use Rattle.mount_state.specs.StandsFor.{StandsFor}
 use Rattle.mount_state.specs.declared.state.MountState.{MountState}
+use Rattle.mount_state.proofs.CachedLemmas.{stand_fewer}
 use Rattle.mount_state.proofs.RuleLemmas.{nothing_held}
 use Rattle.mount_keys.specs.Taken.{SameButKeyed, LosesClaim, LosesAllClaims, keys_left}
 use Rattle.mount_keys.proofs.EvictionLemmas.{evicted_was, evicted_absent}
@@ -31,8 +34,9 @@ pub fewer_stand : (old new : MountState) (m : PlainMount) (claims : ClaimSet) �
     → new.ring.claims ≡ claims
     → ((id : KeyId) (raw : List ℕ) → secret_of new.ring id ≡ Some raw → secret_of old.ring id ≡ Some raw)
     → ((n : ℕ) (k : NodeKey) → key_at new.inodes n ≡ Some k → key_at old.inodes n ≡ Some k)
+    → HoldsNoMore old.names new.names
     → StandsFor new (record m { claims = claims })
-fewer_stand old new m claims st same well are secrets cached = record {
+fewer_stand old new m claims st same well are secrets cached names = record {
   well = record { keys = well; nodes = st.well.nodes; handles = st.well.handles; records = st.well.records };
   tree = record {
     nodes = subst (λ (d : Disk). AgreesBy (stored_node m.raws) m.nodes d) (sym same.disk) st.tree.nodes;
@@ -48,6 +52,7 @@ fewer_stand old new m claims st same well are secrets cached = record {
     mode_keys = λ id kind mode there. st.caches.mode_keys id kind mode
         (sym (ap (λ (x : Modes). mode_at x id kind) same.modes) ∙ there);
   };
+  names = stand_fewer m.nodes old.names new.names st.names names;
   records = same.meta ∙ st.records;
 }
 
@@ -61,6 +66,16 @@ kept_was cache claims id n k = by (is_present claims id)
     by true there = there
     by false there = evicted_was cache id n k there
 
+names_were : (names : NameList) (b : Bool) → HoldsNoMore names (cond b (with_pairs names []) names)
+names_were names true = λ pair held. absurd (none_held (with_pairs names []) refl pair held)
+names_were names false = λ pair held. held
+
+fewer_names : (old new left : NameList) → new ≡ left → HoldsNoMore old left → HoldsNoMore old new
+fewer_names old new left is fewer = λ pair held. fewer pair (subst (λ (n : NameList). Contains n.pairs pair) is held)
+
+pub no_names_more : (old new : NameList) → new ≡ with_pairs old [] → HoldsNoMore old new
+no_names_more old new is = fewer_names old new (with_pairs old []) is (names_were old true)
+
 pub lost_stand : (old new : MountState) (m : PlainMount) (uid : ℕ) (id : KeyId) → StandsFor old m
     → SameButKeyed old new → LosesClaim old new uid id
     → StandsFor new (record m { claims = without_claim m.claims id uid })
@@ -72,6 +87,8 @@ lost_stand old new m uid id st same lost =
     (sym (ap (λ (x : SecretMap). map.get x q) lost.secrets) ∙ there))
     (λ n k there. kept_was old.inodes new.ring.claims id n k
     (sym (ap (λ (x : KeyMap). map.get x n) lost.cached) ∙ there))
+    (fewer_names old.names new.names _ lost.names
+    (names_were old.names (is_present old.ring.claims id && not (is_present new.ring.claims id))))
 
 pub cleared_stand : (old new : MountState) (m : PlainMount) (id : KeyId) → StandsFor old m
     → SameButKeyed old new → LosesAllClaims old new id
@@ -83,6 +100,7 @@ cleared_stand old new m id st same lost =
     (λ q raw there. removed_was old.ring.secrets id q raw
     (sym (ap (λ (x : SecretMap). map.get x q) lost.secrets) ∙ there))
     (λ n k there. evicted_was old.inodes id n k (sym (ap (λ (x : KeyMap). map.get x n) lost.cached) ∙ there))
+    (no_names_more old.names new.names lost.names)
 
 -- a key without a claim has none to lose, and nothing that goes with it
 pub loses_none : (s : MountState) (uid : ℕ) (id : KeyId) → HoldsClaimedSecrets s.ring
@@ -93,6 +111,7 @@ loses_none s uid id exact absent = record {
       ∙ removed_absent s.ring.secrets id (exact id ∙ absent));
   cached = sym (ap (λ b. cond b s.inodes.keys (evicted s.inodes id)) absent
       ∙ evicted_absent s.disk s.ring.claims s.inodes s.modes s.handles.live s.forgets id absent);
+  names = sym (ap (λ b. cond (b && not (is_present s.ring.claims id)) (with_pairs s.names []) s.names) absent);
 }
 
 -- ---- nothing is held
@@ -101,20 +120,20 @@ module _ (old new : MountState) (id : KeyId) (same : SameButKeyed old new)
     (idle : is_busy old.disk old.handles.live id ≡ false)
     (modeless : (kind : KeyKind) → mode_at old.modes id kind ≡ None) where
   nothing_left : is_some (secret_of new.ring id) ≡ false → is_present new.ring.claims id ≡ false
-      → HoldsNothing new.ring new.inodes new.modes id
+      → HoldsNothing new.disk new.ring new.inodes new.modes new.names id
   nothing_left secret absent =
-      nothing_held new.disk new.ring new.inodes new.modes new.handles.live new.forgets id secret absent
+      nothing_held new.disk new.ring new.inodes new.modes new.handles.live new.forgets id new.names new.remembers secret absent
       ((λ i. is_busy (same.disk i) (ap (λ (h : Handles). h.live) same.handles i) id) ∙ idle)
       (λ kind. ap (λ (x : Modes). mode_at x id kind) same.modes ∙ modeless kind)
 
   pub lost_nothing : (uid : ℕ) → LosesClaim old new uid id → is_present new.ring.claims id ≡ false
-      → HoldsNothing new.ring new.inodes new.modes id
+      → HoldsNothing new.disk new.ring new.inodes new.modes new.names id
   lost_nothing uid lost absent =
       nothing_left (ap (λ (x : SecretMap). is_some (map.get x id))
       (lost.secrets ∙ ap (λ b. cond b old.ring.secrets (map.remove old.ring.secrets id)) absent)
       ∙ ap is_some (removed_none old.ring.secrets id)) absent
 
-  pub cleared_nothing : LosesAllClaims old new id → HoldsNothing new.ring new.inodes new.modes id
+  pub cleared_nothing : LosesAllClaims old new id → HoldsNothing new.disk new.ring new.inodes new.modes new.names id
   cleared_nothing lost =
       nothing_left (ap (λ (x : SecretMap). is_some (map.get x id)) lost.secrets
       ∙ ap is_some (removed_none old.ring.secrets id))

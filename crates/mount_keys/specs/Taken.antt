@@ -1,12 +1,13 @@
 -- What the calls on keys change of a state, and what stays.
-use Rattle.std.specs.Prelude.{◌≡◌, ℕ, List, [], ◌∷◌, if◌then◌else◌}
+use Rattle.std.specs.Prelude.{◌≡◌, ℕ, List, [], ◌∷◌, not, ◌&&◌, if◌then◌else◌}
 use Rattle.std.specs.FinMap as map
 use Rattle.policy_ctx.specs.declared.policy.KeyId.{KeyId}
 use Rattle.fsc_keys.specs.Keys.{key_id_of}
 use Rattle.user_claims.specs.Claims.{ClaimSet, is_present, with_claim, without_claim, without_id}
 use Rattle.key_ring.specs.Holding.{secrets_left}
 use Rattle.inode_refs.specs.Cached.{Cache, KeyMap, evicted}
-use Rattle.mount_state.specs.SameBut.{SameBut, Ring, CachedKeys}
+use Rattle.dentry_cache.specs.Names.{NameList, with_pairs}
+use Rattle.mount_state.specs.SameBut.{SameBut, Ring, CachedKeys, CachedNames}
 use Rattle.mount_state.specs.declared.state.MountState.{MountState}
 
 -- ---- what stays
@@ -15,9 +16,9 @@ use Rattle.mount_state.specs.declared.state.MountState.{MountState}
 abbrev pub SameButRing : MountState → MountState → Type 0
 SameButRing old new = SameBut (Ring ∷ []) old new
 
--- nothing differs but claims with their secrets, and which keys of nodes are cached
+-- nothing differs but claims with their secrets, and which keys of nodes and which names are cached
 abbrev pub SameButKeyed : MountState → MountState → Type 0
-SameButKeyed old new = SameBut (Ring ∷ CachedKeys ∷ []) old new
+SameButKeyed old new = SameBut (Ring ∷ CachedKeys ∷ CachedNames ∷ []) old new
 
 -- ---- what comes and goes
 
@@ -31,14 +32,21 @@ pub record GainsClaim (old new : MountState) (uid : ℕ) (raw : List ℕ) : Type
 abbrev pub keys_left : Cache → ClaimSet → KeyId → KeyMap
 keys_left cache claims id = if is_present claims id then cache.keys else evicted cache id
 
--- the user has no claim on the key, and with the last one went what was drawn from it
+-- the cached names once the claims before are those after: with the last one on the key all names go
+abbrev pub names_left : NameList → ClaimSet → ClaimSet → KeyId → NameList
+names_left names before after id =
+    if is_present before id && not (is_present after id) then with_pairs names [] else names
+
+-- the user has no claim on the key, and with the last one went what was drawn from it, and all cached names
 pub record LosesClaim (old new : MountState) (uid : ℕ) (id : KeyId) : Type 0 where
   pub claims : new.ring.claims ≡ without_claim old.ring.claims id uid
   pub secrets : new.ring.secrets ≡ secrets_left old.ring.secrets new.ring.claims id
   pub cached : new.inodes.keys ≡ keys_left old.inodes new.ring.claims id
+  pub names : new.names ≡ names_left old.names old.ring.claims new.ring.claims id
 
 -- no user has one
 pub record LosesAllClaims (old new : MountState) (id : KeyId) : Type 0 where
   pub claims : new.ring.claims ≡ without_id old.ring.claims id
   pub secrets : new.ring.secrets ≡ map.remove old.ring.secrets id
   pub cached : new.inodes.keys ≡ evicted old.inodes id
+  pub names : new.names ≡ with_pairs old.names []

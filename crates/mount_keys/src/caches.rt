@@ -1,24 +1,26 @@
 //! Letting go of what is kept for speed alone.
 
-ghost use Rattle.std.specs.Prelude.{◌≡◌};
+ghost use Rattle.std.specs.Prelude.{◌≡◌, []};
 ghost use Rattle.inode_refs.specs.Cached.{all_evicted};
 ghost use Rattle.mount_model.specs.PlainMount.{PlainMount};
 ghost use Rattle.mount_model.specs.Answered.{done};
 ghost use Rattle.mount_state.specs.Given.{IsGiven};
-ghost use Rattle.mount_state.specs.SameButKeys.{SameButKeys};
+ghost use Rattle.mount_state.specs.SameButCaches.{SameButCaches};
 ghost use Rattle.mount_state.specs.StandsFor.{StandsFor};
 
 use mount_model::Reply;
 use mount_state::MountState;
 
-/// Overwrites and drops the cached keys of all nodes without a handle, and no others. It takes no memory,
-/// and is never refused.
+/// Overwrites and drops the cached keys of all nodes without a handle, and no others, and forgets all cached
+/// names. It takes no memory, and is never refused.
 pub fn drop_caches(state: &mut MountState) -> Reply
     ensures told { result ≡ Reply.Done }
     ensures dropped { state.new.inodes.keys ≡ all_evicted state.old.inodes }
-    ensures same { SameButKeys state.old state.new }
+    ensures names { state.new.names.pairs ≡ [] }
+    ensures same { SameButCaches state.old state.new }
     ensures stands { (m : PlainMount) → StandsFor state.old m → IsGiven (done m) result state.new }
 {
     state.inodes.evict_all_unpinned();
+    state.names.forget_all();
     Reply::Done
 }

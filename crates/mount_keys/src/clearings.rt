@@ -15,7 +15,7 @@ use mount_model::{KeyId, Refusal, Reply};
 use mount_state::MountState;
 
 /// Takes every user's claim on the key away, with its secret and each cached key that was drawn from it
-/// and that no handle needs; all of these are overwritten.
+/// and that no handle needs; all of these are overwritten. All cached names go.
 ///
 /// Access for any user but 0, then NoKey where the key is absent. Told is whether a handle still needs the
 /// key. Where none does, nothing of it is held. It takes no memory.
@@ -25,7 +25,7 @@ pub fn remove_key_all(state: &mut MountState, uid: u32, id: &KeyId) -> Reply
     ensures taken { is_refused result ≡ false → LosesAllClaims state.old state.new id.now }
     ensures same { SameButKeyed state.old state.new }
     ensures gone { result ≡ Reply.Removed false false
-        → HoldsNothing state.new.ring state.new.inodes state.new.modes id.now }
+        → HoldsNothing state.new.disk state.new.ring state.new.inodes state.new.modes state.new.names id.now }
     ensures stands { (m : PlainMount) → StandsFor state.old m
         → IsGiven (answer_to_remove_key_all m uid id.now) result state.new }
 {
@@ -50,4 +50,5 @@ fn take_all_claims(state: &mut MountState, id: &KeyId)
 {
     state.ring.clear(id);
     state.inodes.evict_unpinned(id);
+    state.names.forget_all();
 }

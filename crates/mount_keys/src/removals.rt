@@ -16,7 +16,7 @@ use mount_model::{KeyId, Refusal, Reply};
 use mount_state::MountState;
 
 /// The user gives up the claim on the key. With the last claim the secret is overwritten and dropped, and
-/// so is each cached key that was drawn from it and that no handle needs.
+/// so is each cached key that was drawn from it and that no handle needs; and all cached names go.
 ///
 /// NoKey where some user has a claim on the key and this one hasn't, and where the key is absent. Told is
 /// whether another claim is left, and where none is, whether a handle still needs the key. Where neither
@@ -27,7 +27,7 @@ pub fn remove_key(state: &mut MountState, uid: u32, id: &KeyId) -> Reply
     ensures taken { is_refused result ≡ false → LosesClaim state.old state.new uid id.now }
     ensures same { SameButKeyed state.old state.new }
     ensures gone { result ≡ Reply.Removed false false
-        → HoldsNothing state.new.ring state.new.inodes state.new.modes id.now }
+        → HoldsNothing state.new.disk state.new.ring state.new.inodes state.new.modes state.new.names id.now }
     ensures stands { (m : PlainMount) → StandsFor state.old m
         → IsGiven (answer_to_remove_key m uid id.now) result state.new }
 {
@@ -60,5 +60,6 @@ fn take_claim(state: &mut MountState, uid: u32, id: &KeyId) -> bool
         return true;
     }
     state.inodes.evict_unpinned(id);
+    state.names.forget_all();
     false
 }

@@ -17,7 +17,7 @@ use mount_state::MountState;
 pub fn key_status(state: &MountState, uid: u32, id: &KeyId) -> Reply
     ensures told { result ≡ told_of_status state.now uid id.now }
     ensures gone { (by_self : Bool) (users : ℕ) → result ≡ Reply.Status Absent by_self users
-        → HoldsNothing state.now.ring state.now.inodes state.now.modes id.now }
+        → HoldsNothing state.now.disk state.now.ring state.now.inodes state.now.modes state.now.names id.now }
     ensures stands { (m : PlainMount) → StandsFor state.now m
         → IsGiven (answer_to_key_status m uid id.now) result state.now }
 {

@@ -6,6 +6,8 @@ pub mod EditLemmas
 pub mod HeldLemmas
 pub mod AgreeLemmas
 pub mod DiskRules
+pub mod CachedRules
+pub mod CachedStands
 pub mod LenLemmas
 pub mod ClashLemmas
 pub mod PlaceLemmas

@@ -1,5 +1,5 @@
 -- A state in which a node was made stands for the mount in which it was.
-use Rattle.std.proofs.Common.{◌≡◌, ◌≢◌, ℕ, ◌+◌, true, false, List, [], Option, Some, None, option_map, inl, refl, sym, ap, subst, ◌∙◌}
+use Rattle.std.proofs.Common.{◌≡◌, ◌≢◌, ℕ, ◌+◌, true, false, List, [], Contains, Option, Some, None, option_map, inl, refl, sym, ap, subst, ◌∙◌}
 use Rattle.policy_ctx.specs.Context.{context_bytes}
 use Rattle.std.proofs.lemmas.Bool.{true≢false}
 use Rattle.number_map.specs.Numbered.{get, insert}
@@ -15,6 +15,8 @@ use Rattle.disk_tree.specs.declared.node.Body.{Body as StoredBody}
 use Rattle.key_ring.specs.Holding.{Holding, secret_of}
 use Rattle.key_ring.specs.Modes.{Modes}
 use Rattle.policy_ctx.specs.declared.policy.Context.{Context}
+use Rattle.dentry_cache.specs.Names.{Pair, NameList}
+use Rattle.mount_state.specs.CachedNames.{NamesStand, is_dir_in}
 use Rattle.mount_state.specs.Handles.{Handles}
 use Rattle.mount_model.specs.declared.reply.Reply.TheVariants.{Done}
 use Rattle.mount_model.specs.ClaimHistory.{is_refused}
@@ -37,6 +39,7 @@ use Rattle.mount_names.specs.Places.{Place}
 use Rattle.mount_state.specs.Given.{IsGivenOrNoMemory, IsRefusedAsDue}
 use Rattle.mount_names.specs.Made.{IsPlaceAt}
 use Rattle.mount_names.proofs.AgreeLemmas.{made_agrees}
+use Rattle.mount_names.proofs.CachedStands.{names_made}
 use Rattle.mount_names.proofs.DiskRules.{none_at_next, unheld}
 use Rattle.mount_names.proofs.EditLemmas.{read_changed, read_inserted}
 use Rattle.mount_names.proofs.HeldLemmas.{IsHeld, by_key, caches_alike}
@@ -86,6 +89,10 @@ module _ (old : MountState) (m : PlainMount) (st : StandsFor old m) (path : Path
   cached_before n held same =
       unheld old.disk old.next_node old.ring.claims old.inodes old.modes old.handles.live old.forgets old.safe old.next_node lacks n held (same ∙ sym st.tree.next)
 
+  remembered_before : (pair : Pair) → Contains old.names.pairs pair → (pair.0.dir ≢ m.next)
+  remembered_before pair held same =
+      true≢false (sym (old.remembers.there pair held) ∙ ap is_dir_in (ap (get old.disk) (same ∙ sym st.tree.next) ∙ lacks))
+
   alike : {A : Type 0} (read : Option Node → A) → ((g : Children → Children) (v : Node) → read (Some (on_children g v)) ≡ read (Some v)) → (n : ℕ) → (n ≢ m.next)
       → read (get (made m.nodes d name m.next fresh) n) ≡ read (get m.nodes n)
   alike read leaves n differ =
@@ -102,9 +109,9 @@ module _ (old : MountState) (m : PlainMount) (st : StandsFor old m) (path : Path
       })
 
   pub made_stands : (new : MountState) (w : StoredNode) → new.disk ≡ entered (insert old.disk old.next_node w) place.dir place.stored old.next_node
-      → new.next_node ≡ old.next_node + 1 → new.ring ≡ old.ring → new.meta ≡ old.meta → new.inodes ≡ old.inodes → new.handles ≡ old.handles → new.modes ≡ old.modes
+      → new.next_node ≡ old.next_node + 1 → new.ring ≡ old.ring → new.meta ≡ old.meta → new.inodes ≡ old.inodes → new.handles ≡ old.handles → new.modes ≡ old.modes → new.names ≡ old.names
       → w ≡ stored_node m.raws m.next fresh → IsWellFormed after → StandsFor new after
-  made_stands new w disk next ring meta inodes handles modes w_is well = record {
+  made_stands new w disk next ring meta inodes handles modes names w_is well = record {
     well = well;
     tree = record {
       nodes = subst (λ (x : Disk). AgreesBy (stored_node m.raws) (made m.nodes d name m.next fresh) x)
@@ -123,6 +130,8 @@ module _ (old : MountState) (m : PlainMount) (st : StandsFor old m) (path : Path
           contexts = λ n key is. alike context_in (λ g v. refl) n (cached_before n (by_key old.inodes old.handles.live n key is));
           kinds = λ n key is. alike plain_kind (λ g v. kind_left g v.body) n (cached_before n (by_key old.inodes old.handles.live n key is));
         }) st.caches));
+    names = subst (λ (x : NameList). NamesStand x after.nodes) (sym names)
+        (names_made old.names m.nodes d name m.next fresh (parent_ok m path d at.led).dir at.there.free remembered_before st.names);
     records = meta ∙ st.records;
   }
 

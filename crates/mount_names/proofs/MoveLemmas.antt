@@ -36,6 +36,7 @@ use Rattle.mount_model.specs.WellFormed.{IsWellFormed}
 use Rattle.mount_model.specs.Carried.{IsPath}
 use Rattle.mount_model.specs.declared.call.Op.TheVariants as op
 use Rattle.mount_model.proofs.WellSteps.{step_well}
+use Rattle.mount_state.specs.CachedNames.{NamesForget, NamesStand}
 use Rattle.mount_state.specs.Stored.{stored_node, stored_form}
 use Rattle.mount_state.specs.StandsFor.{StandsFor, CachesStand}
 use Rattle.mount_state.specs.StandsFor.{kind_in as plain_kind}
@@ -49,6 +50,8 @@ use Rattle.mount_names.proofs.AgreeLemmas.{put_agrees, taken_agrees}
 use Rattle.mount_state.specs.Discipline.{Forgets}
 use Rattle.mount_state.specs.Safe.{IsSafe}
 use Rattle.disk_tree.specs.declared.fault.DiskFault.{DiskFault}
+use Rattle.dentry_cache.specs.Names.{NameList}
+use Rattle.mount_names.proofs.CachedRules.{moved_names, names_on}
 use Rattle.mount_names.proofs.DiskRules.{moved_rule, moved_safe}
 use Rattle.mount_names.proofs.EditLemmas.{read_changed}
 use Rattle.mount_names.proofs.FoundLemmas.{stored_apart, ok_entry, no_entry}
@@ -207,8 +210,8 @@ module _ (old : MountState) (m : PlainMount) (st : StandsFor old m) (e : Entry) 
       place.dir place.stored new_name e.number form_left
 
   pub moved_stands : (new : MountState) → SameButTree old new → new.next_node ≡ old.next_node → new.disk ≡ disk.moved old.disk e.dir e.stored place.dir place.stored e.number → new.inodes ≡ old.inodes
-      → IsWellFormed (with_moved m e.dir name place.dir new_name e.number) → StandsFor new (with_moved m e.dir name place.dir new_name e.number)
-  moved_stands new same next disk_is inodes well =
+      → NamesStand new.names after_move → IsWellFormed (with_moved m e.dir name place.dir new_name e.number) → StandsFor new (with_moved m e.dir name place.dir new_name e.number)
+  moved_stands new same next disk_is inodes names well =
       nodes_stand old new m after_move st same next
       (subst (λ (x : Disk). AgreesBy (stored_node m.raws) after_move x) (sym disk_is) agree_after)
       (subst (λ (x : Cache). CachesStand x old.modes (with_nodes m after_move)) (sym inodes)
@@ -216,7 +219,7 @@ module _ (old : MountState) (m : PlainMount) (st : StandsFor old m) (e : Entry) 
         contexts = λ n key there. read_moved context_in context_left_so m.nodes e.dir name place.dir new_name e.number n;
         kinds = λ n key there. read_moved plain_kind kind_left_so m.nodes e.dir name place.dir new_name e.number n;
       }) st.caches))
-      well
+      names well
 
 pub rename_well : (m : PlainMount) (path new_path : PathParts) → IsWellFormed m → IsPath path → IsPath new_path → IsWellFormed (answer_to_rename m path new_path).mount
 rename_well m path new_path well fits new_fits =
@@ -383,3 +386,8 @@ module _ (s : MountState) (e : Entry) (place : Place) (new : Disk) (from to : Li
   moved_is_safe (Ok t) so kept = subst (λ (x : Disk). IsSafe x s.next_node s.handles.live) (sym (move_seen s.disk new e place from to from_is to_is there so))
       (moved_safe s.disk s.next_node s.ring.claims s.inodes s.modes s.handles.live s.forgets s.safe e.dir e.stored place.dir place.stored e.number)
   moved_is_safe (Err f) so kept = subst (λ (x : Disk). IsSafe x s.next_node s.handles.live) (sym kept) s.safe
+
+  pub moved_forgets : {T : Type 0} (names : NameList) → NamesForget s.disk s.ring.claims names s.handles.live → (r : Result T DiskFault) → OnOk r MovedSo → OnErr r (new ≡ s.disk) → NamesForget new s.ring.claims names s.handles.live
+  moved_forgets names rule (Ok t) so kept = names_on _ new s.ring.claims names s.handles.live (move_seen s.disk new e place from to from_is to_is there so)
+      (moved_names s.disk s.ring.claims names s.handles.live rule e.dir e.stored place.dir place.stored e.number)
+  moved_forgets names rule (Err f) so kept = names_on s.disk new s.ring.claims names s.handles.live kept rule

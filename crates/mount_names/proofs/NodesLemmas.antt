@@ -7,6 +7,7 @@ use Rattle.plain_tree.specs.Facts.{AgreesBy}
 use Rattle.number_map.specs.Numbered.{get}
 use Rattle.key_ring.specs.Holding.{Holding, secret_of}
 use Rattle.key_ring.specs.Modes.{Modes}
+use Rattle.mount_state.specs.CachedNames.{NamesStand}
 use Rattle.mount_state.specs.Handles.{Handles}
 use Rattle.mount_model.specs.PlainMount.{PlainMount}
 use Rattle.mount_model.specs.WellFormed.{IsWellFormed}
@@ -21,8 +22,8 @@ abbrev pub with_nodes : PlainMount → Nodes → PlainMount
 with_nodes m nodes = record m { nodes = nodes }
 
 pub nodes_stand : (old new : MountState) (m : PlainMount) (nodes : Nodes) → StandsFor old m → SameButTree old new → new.next_node ≡ old.next_node
-    → AgreesBy (stored_node m.raws) nodes new.disk → CachesStand new.inodes old.modes (with_nodes m nodes) → IsWellFormed (with_nodes m nodes) → StandsFor new (with_nodes m nodes)
-nodes_stand old new m nodes st same next agree caches well = record {
+    → AgreesBy (stored_node m.raws) nodes new.disk → CachesStand new.inodes old.modes (with_nodes m nodes) → NamesStand new.names nodes → IsWellFormed (with_nodes m nodes) → StandsFor new (with_nodes m nodes)
+nodes_stand old new m nodes st same next agree caches names well = record {
   well = well;
   tree = record { nodes = agree; next = next ∙ st.tree.next };
   keys = record {
@@ -31,6 +32,7 @@ nodes_stand old new m nodes st same next agree caches well = record {
   };
   handles = record { live = ap (λ (h : Handles). h.live) same.handles ∙ st.handles.live; opened = ap (λ (h : Handles). h.opened) same.handles ∙ st.handles.opened };
   caches = subst (λ (x : Modes). CachesStand new.inodes x (with_nodes m nodes)) (sym same.modes) caches;
+  names = names;
   records = same.meta ∙ st.records;
 }
 

@@ -25,6 +25,9 @@ use Rattle.mount_model.specs.Sealed.{raw_for, node_key}
 use Rattle.mount_model.specs.WellFormed.{IsWellFormed}
 use Rattle.mount_state.specs.Contexts as disk
 use Rattle.mount_state.specs.Contexts.{is_of_kind}
+use Rattle.dentry_cache.specs.Names.{NameList}
+use Rattle.plain_tree.proofs.EditedLemmas.{edited_entry, leaves_context}
+use Rattle.mount_state.specs.CachedNames.{NamesStand}
 use Rattle.mount_state.specs.Handles.{Handles, handles_on}
 use Rattle.mount_state.specs.NamesKey.{drawn_key}
 use Rattle.mount_state.specs.Stored.{stored_node, stored_body}
@@ -128,8 +131,8 @@ module _ (old : MountState) (m : PlainMount) (st : StandsFor old m) (d : ℕ) (c
   -- ---- the whole
 
   pub policy_stands : (new : MountState) → new.disk ≡ changed old.disk d (stored.with_context (context_bytes c)) → new.next_node ≡ old.next_node
-      → new.ring ≡ old.ring → new.meta ≡ old.meta → new.handles ≡ old.handles → CachesStand new.inodes new.modes after → IsWellFormed after → StandsFor new after
-  policy_stands new disk_is next ring meta handles caches well = record {
+      → new.ring ≡ old.ring → new.meta ≡ old.meta → new.handles ≡ old.handles → CachesStand new.inodes new.modes after → new.names ≡ old.names → IsWellFormed after → StandsFor new after
+  policy_stands new disk_is next ring meta handles caches names well = record {
     well = well;
     tree = record {
       nodes = subst (λ (x : Disk). AgreesBy (stored_node m.raws) (encrypted m.nodes d c) x) (sym disk_is) policy_agrees;
@@ -141,6 +144,9 @@ module _ (old : MountState) (m : PlainMount) (st : StandsFor old m) (d : ℕ) (c
     };
     handles = record { live = ap (λ (h : Handles). h.live) handles ∙ st.handles.live; opened = ap (λ (h : Handles). h.opened) handles ∙ st.handles.opened };
     caches = caches;
+    names = subst (λ (x : NameList). NamesStand x after.nodes) (sym names) (record {
+      entries = λ pair held. edited_entry m.nodes d (with_context c) (leaves_context c) pair.0.dir pair.0.name ∙ st.names.entries pair held;
+    });
     records = meta ∙ st.records;
   }
 

@@ -23,6 +23,7 @@ use Rattle.mount_model.specs.WellFormed.{IsWellFormed}
 use Rattle.mount_model.specs.Carried.{IsPath}
 use Rattle.mount_model.specs.declared.call.Op.TheVariants as op
 use Rattle.mount_model.proofs.WellSteps.{step_well}
+use Rattle.mount_state.specs.CachedNames.{NamesStand}
 use Rattle.mount_state.specs.Stored.{stored_node}
 use Rattle.mount_state.specs.StandsFor.{StandsFor, CachesStand}
 use Rattle.mount_state.specs.StandsFor.{kind_in as plain_kind}
@@ -67,8 +68,8 @@ module _ (old : MountState) (m : PlainMount) (st : StandsFor old m) (e : Entry) 
 
   module _ (new : MountState) (same : SameButTree old new) (next : new.next_node ≡ old.next_node) (well : IsWellFormed (without_name m e.dir name e.number)) where
     -- it stays for its handles
-    pub kept_stands : has_handle old.handles.live e.number ≡ true → new.disk ≡ on_disk → new.inodes ≡ old.inodes → StandsFor new (without_name m e.dir name e.number)
-    kept_stands held disk inodes =
+    pub kept_stands : has_handle old.handles.live e.number ≡ true → new.disk ≡ on_disk → new.inodes ≡ old.inodes → NamesStand new.names after_drop → StandsFor new (without_name m e.dir name e.number)
+    kept_stands held disk inodes names =
         let left = nodes_left true (ap (λ (hs : HandleList). has_handle hs e.number) (sym st.handles.live) ∙ held) in
         subst (StandsFor new) (sym left)
         (nodes_stand old new m after_drop st same next
@@ -78,12 +79,13 @@ module _ (old : MountState) (m : PlainMount) (st : StandsFor old m) (e : Entry) 
           contexts = λ n key there. read_dropped context_in context_left_so m.nodes e.dir name e.number n;
           kinds = λ n key there. read_dropped plain_kind kind_left_so m.nodes e.dir name e.number n;
         }) st.caches))
+        names
         (subst IsWellFormed left well))
 
     -- it goes
     pub gone_stands : has_handle old.handles.live e.number ≡ false → new.disk ≡ remove on_disk e.number → new.inodes ≡ record old.inodes { keys = remove old.inodes.keys e.number }
-        → StandsFor new (without_name m e.dir name e.number)
-    gone_stands free disk inodes =
+        → NamesStand new.names (gone after_drop e.number) → StandsFor new (without_name m e.dir name e.number)
+    gone_stands free disk inodes names =
         let left = nodes_left false (ap (λ (hs : HandleList). has_handle hs e.number) (sym st.handles.live) ∙ free) in
         let fewer : Cache = record old.inodes { keys = remove old.inodes.keys e.number } in
         subst (StandsFor new) (sym left)
@@ -95,6 +97,7 @@ module _ (old : MountState) (m : PlainMount) (st : StandsFor old m) (e : Entry) 
           contexts = λ n key there. read_removed context_in after_drop e.number n (key_left n key there).0 ∙ read_dropped context_in context_left_so m.nodes e.dir name e.number n;
           kinds = λ n key there. read_removed plain_kind after_drop e.number n (key_left n key there).0 ∙ read_dropped plain_kind kind_left_so m.nodes e.dir name e.number n;
         }) (fewer_stand old.inodes fewer old.modes m (λ n key there. (key_left n key there).1) st.caches)))
+        names
         (subst IsWellFormed left well))
       where
         key_left : (n : ℕ) (key : NodeKey) → key_at (record old.inodes { keys = remove old.inodes.keys e.number }) n ≡ Some key → (n ≢ e.number) × (key_at old.inodes n ≡ Some key)

@@ -19,7 +19,7 @@ use Rattle.mount_names.specs.Places.{Entry, Place}
 use Rattle.mount_names.specs.Found.{form_in, entry_found, or_not_found}
 use Rattle.mount_state.specs.Given.{IsGivenOrNoMemory, IsRefusedAsDue}
 use Rattle.mount_names.specs.Made.{HasByteKey}
-use Rattle.mount_names.specs.Removed.{IsEntryOf}
+use Rattle.mount_names.specs.Removed.{IsEntryOf, IsFoundBy}
 
 -- ---- where it comes from
 
@@ -82,15 +82,17 @@ pub record IsTargetAt (m : PlainMount) (e : Entry) (path : PathParts) (place : P
 
 -- ---- what is left
 
--- the entry is moved to the place
-abbrev pub Moves : MountState → MountState → Entry → Place → Reply → Type 0
-Moves old new e place reply = (m : PlainMount) (name new_name : Name) → StandsFor old m → IsEntryOf m name e
-    → IsNewName m place.dir new_name place → IsWellFormed (with_moved m e.dir name place.dir new_name e.number)
+-- the entry, whose name was found by this part, is moved to the place
+abbrev pub Moves : MountState → MountState → Entry → Name → Place → Reply → Type 0
+Moves old new e part place reply = (m : PlainMount) (name new_name : Name) → StandsFor old m
+    → IsEntryOf m name e → IsFoundBy m e.dir part name → IsNewName m place.dir new_name place
+    → IsWellFormed (with_moved m e.dir name place.dir new_name e.number)
     → IsGivenOrNoMemory m (done (with_moved m e.dir name place.dir new_name e.number)) reply new
 
 -- the entry is moved to the end of the path, as the call answers
-abbrev pub Renames : MountState → MountState → Entry → PathParts → Reply → Type 0
-Renames old new e path reply = (m : PlainMount) (name : Name) → StandsFor old m → IsPath path → IsEntryOf m name e
+abbrev pub Renames : MountState → MountState → Entry → Name → PathParts → Reply → Type 0
+Renames old new e part path reply = (m : PlainMount) (name : Name) → StandsFor old m → IsPath path
+    → IsEntryOf m name e → IsFoundBy m e.dir part name
     → IsWellFormed (answer_to_move_from m path e.dir name e.number).mount
     → IsGivenOrNoMemory m (answer_to_move_from m path e.dir name e.number) reply new
 

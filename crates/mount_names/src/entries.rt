@@ -1,6 +1,6 @@
 //! The entry of a directory that is shown as a part, or has it as its name: the name as it is stored, and its node.
 
-ghost use Rattle.std.specs.Prelude.{◌≡◌, ◌+◌, ◌≤◌, true, Some, length, IfOk, IsTrue};
+ghost use Rattle.std.specs.Prelude.{◌≡◌, ◌+◌, ◌≤◌, true, Some, length, IfOk, IsTrue, OnOk};
 ghost use Rattle.std.specs.Prelude.{option_copied, option_map};
 ghost use Rattle.std.specs.Map.{lookup_entry};
 ghost use Rattle.disk_tree.specs.Nodes.{entries_of};
@@ -8,9 +8,9 @@ ghost use Rattle.number_map.specs.Numbered.{get};
 ghost use Rattle.plain_tree.specs.Nodes.{is_dir_at};
 ghost use Rattle.mount_model.specs.PlainMount.{PlainMount};
 ghost use Rattle.mount_model.specs.States.{is_keyed};
-ghost use Rattle.mount_model.specs.Walk.{found};
+ghost use Rattle.mount_model.specs.Walk.{found, last_part};
 ghost use Rattle.mount_state.specs.Led.{is_shown_as, is_text_of};
-ghost use Rattle.mount_state.specs.SameButKeys.{SameButKeys, StaysFor};
+ghost use Rattle.mount_state.specs.SameButCaches.{SameButCaches, StaysFor};
 ghost use Rattle.mount_state.specs.StandsFor.{StandsFor};
 ghost use Rattle.mount_names.specs.Found.{IsEntryOn, IsStoredFor, entry_found, entry_end, or_not_found};
 ghost use Rattle.mount_names.specs.Moved.{source_in};
@@ -58,8 +58,9 @@ pub(crate) fn entry_at<'a, L: Ledger>(
     requires blank { IsBlank room.old }
     ensures value { (m : PlainMount) → StandsFor state.old m → result ≡ entry_end m path.now }
     ensures there { IfOk result (IsEntryOn state.old.disk) }
+    ensures short { OnOk result (length (last_part path.now) ≤ MOST_NAME_BYTES) }
     ensures stands { StaysFor state.old state.new }
-    ensures same { SameButKeys state.old state.new }
+    ensures same { SameButCaches state.old state.new }
     ensures ticks { steps.new ≤ steps.old + length path.now }
 {
     let last = path.len() - 1;

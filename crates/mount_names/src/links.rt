@@ -4,7 +4,7 @@ ghost use Rattle.std.specs.Prelude.{◌+◌, ◌≤◌, length};
 ghost use Rattle.number_map.specs.Numbered.{get};
 ghost use Rattle.mount_model.specs.PlainMount.{PlainMount};
 ghost use Rattle.mount_model.specs.LookAnswers.{answer_to_read_link, target_told};
-ghost use Rattle.mount_state.specs.SameButKeys.{SameButKeys};
+ghost use Rattle.mount_state.specs.SameButCaches.{SameButCaches};
 ghost use Rattle.mount_state.specs.StandsFor.{StandsFor};
 ghost use Rattle.mount_state.specs.Given.{IsGivenOrNoMemory, IsToldOrNoMemory, IsRefusedAsDue};
 
@@ -30,7 +30,7 @@ pub fn read_link<L: Ledger>(
         → IsGivenOrNoMemory m (answer_to_read_link m path.now) result state.new }
     ensures due { (m : PlainMount) → StandsFor state.old m
         → IsRefusedAsDue (answer_to_read_link m path.now) result }
-    ensures same { SameButKeys state.old state.new }
+    ensures same { SameButCaches state.old state.new }
     ensures ticks { steps.new ≤ steps.old + length path.now }
 {
     match walked_node(alloc, state, path, steps) {

@@ -5,7 +5,7 @@ ghost use Rattle.std.specs.List.{AllZip};
 ghost use Rattle.mount_model.specs.LookAnswers.{answer_to_list};
 ghost use Rattle.mount_model.specs.PlainMount.{PlainMount};
 ghost use Rattle.mount_state.specs.Given.{IsGivenOrNoMemory, IsToldOrNoMemory, IsRefusedAsDue};
-ghost use Rattle.mount_state.specs.SameButKeys.{SameButKeys};
+ghost use Rattle.mount_state.specs.SameButCaches.{SameButCaches};
 ghost use Rattle.mount_state.specs.StandsFor.{StandsFor};
 ghost use Rattle.mount_names.specs.Listed.{names_of, page_at, TellsPage};
 ghost use Rattle.mount_names.specs.Shown.{ShowsAs};
@@ -39,7 +39,7 @@ pub fn list<L: Ledger>(
         → IsGivenOrNoMemory m (answer_to_list m path.now start) result state.new }
     ensures due { (m : PlainMount) → StandsFor state.old m
         → IsRefusedAsDue (answer_to_list m path.now start) result }
-    ensures same { SameButKeys state.old state.new }
+    ensures same { SameButCaches state.old state.new }
     ensures ticks { steps.new ≤ steps.old + length path.now }
 {
     match walked_node(alloc, state, path, steps) {

@@ -8,7 +8,7 @@ ghost use Rattle.mount_model.specs.LookAnswers as look;
 ghost use Rattle.mount_model.specs.LookAnswers.{answer_to_stat};
 ghost use Rattle.mount_model.specs.PolicyAnswers as policy;
 ghost use Rattle.mount_model.specs.PolicyAnswers.{answer_to_get_policy};
-ghost use Rattle.mount_state.specs.SameButKeys.{SameButKeys};
+ghost use Rattle.mount_state.specs.SameButCaches.{SameButCaches};
 ghost use Rattle.mount_state.specs.StandsFor.{StandsFor};
 ghost use Rattle.mount_state.specs.Stored.{stored_body};
 ghost use Rattle.mount_state.specs.Given.{IsGiven};
@@ -36,7 +36,7 @@ pub fn stat<L: Ledger>(
 ) -> Reply
     ensures stands { (m : PlainMount) → StandsFor state.old m
         → IsGiven (answer_to_stat m path.now) result state.new }
-    ensures same { SameButKeys state.old state.new }
+    ensures same { SameButCaches state.old state.new }
     ensures ticks { steps.new ≤ steps.old + length path.now }
 {
     match walked_node(alloc, state, path, steps) {
@@ -57,7 +57,7 @@ pub fn get_policy<L: Ledger>(
 ) -> Reply
     ensures stands { (m : PlainMount) → StandsFor state.old m
         → IsGiven (answer_to_get_policy m path.now) result state.new }
-    ensures same { SameButKeys state.old state.new }
+    ensures same { SameButCaches state.old state.new }
     ensures ticks { steps.new ≤ steps.old + length path.now }
 {
     match walked_node(alloc, state, path, steps) {

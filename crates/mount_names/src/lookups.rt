@@ -1,10 +1,12 @@
 //! Looking one part up in a directory.
 
-ghost use Rattle.std.specs.Prelude.{◌≡◌, ◌+◌, ◌≤◌, false, length};
+ghost use Rattle.std.specs.Prelude.{◌≡◌, ◌+◌, ◌≤◌, false, length, IfSome, IsSome};
+ghost use Rattle.dentry_cache.specs.Names.{cached};
 ghost use Rattle.disk_tree.specs.DiskTree.{IsDirAt};
 ghost use Rattle.mount_model.specs.PlainMount.{PlainMount};
+ghost use Rattle.mount_state.specs.CachedNames.{FillsNames};
 ghost use Rattle.mount_state.specs.Led.{led_to};
-ghost use Rattle.mount_state.specs.SameButKeys.{SameButKeys, StaysFor};
+ghost use Rattle.mount_state.specs.SameButCaches.{SameButCaches, StaysFor};
 ghost use Rattle.mount_state.specs.StandsFor.{StandsFor};
 ghost use Rattle.mount_names.specs.Shown.{enciphers};
 ghost use Rattle.name_crypt.specs.declared.limits.TheConstants.{MOST_NAME_BYTES};
@@ -19,7 +21,9 @@ use std::sync::ledger::Ledger;
 /// keyed, by its no-key text where it is locked. `None` exactly where no entry is shown so.
 ///
 /// The part has at most `MOST_NAME_BYTES` bytes. At most one name is encrypted, and none where the
-/// directory has no policy or is locked; nothing is deciphered.
+/// name is cached, or the directory has no policy or is locked; nothing is deciphered. A name that led to a
+/// node in a keyed directory with a policy is cached from then on, unless there was no memory for it, which is
+/// counted.
 pub fn lookup<L: Ledger>(
     alloc: Global,
     state: &mut MountState,
@@ -31,16 +35,16 @@ pub fn lookup<L: Ledger>(
     requires short { length part.now ≤ MOST_NAME_BYTES }
     ensures value { (m : PlainMount) → StandsFor state.old m → result ≡ led_to m dir part.now }
     ensures stands { StaysFor state.old state.new }
-    ensures same { SameButKeys state.old state.new }
+    ensures same { SameButCaches state.old state.new }
     ensures ticks { steps.new ≤ steps.old + 1 }
     ensures untouched { enciphers state.old dir ≡ false → steps.new ≡ steps.old }
+    ensures hit { IsSome (cached state.old.names dir part.now) → steps.new ≡ steps.old }
+    ensures filled { IfSome result (FillsNames state.old.disk state.old.ring.claims state.old.handles.live
+        state.old.names state.new.names dir part.now) }
 {
     let node = state.disk.node(dir)?;
     if node.context.is_none() {
         return state.entry_by_name(dir, part.bytes());
-    }
-    if !state.keyed(dir) {
-        return state.entry_by_text(dir, part.bytes());
     }
     entry_of(alloc, state, dir, part.bytes(), steps).ok()
 }

@@ -9,7 +9,7 @@ ghost use Rattle.mount_model.specs.Carried.{IsPath};
 ghost use Rattle.mount_model.specs.ClaimHistory.{is_refused};
 ghost use Rattle.mount_model.specs.NameAnswers.{answer_to_make, inherited};
 ghost use Rattle.mount_model.specs.PlainMount.{PlainMount};
-ghost use Rattle.mount_state.specs.SameButKeys.{SameButKeys};
+ghost use Rattle.mount_state.specs.SameButCaches.{SameButCaches};
 ghost use Rattle.mount_state.specs.StandsFor.{StandsFor};
 ghost use Rattle.mount_state.specs.Given.{IsGivenOrNoMemory, IsRefusedAsDue};
 ghost use Rattle.mount_names.specs.Made.{MakesAt};
@@ -40,7 +40,7 @@ pub fn mkdir<L: Ledger>(
         → IsGivenOrNoMemory m (answer_to_make m path.now nonce.now (node.Dir [])) result state.new }
     ensures due { (m : PlainMount) → StandsFor state.old m → IsPath path.now
         → IsRefusedAsDue (answer_to_make m path.now nonce.now (node.Dir [])) result }
-    ensures refused { is_refused result ≡ true → SameButKeys state.old state.new }
+    ensures refused { is_refused result ≡ true → SameButCaches state.old state.new }
     ensures same { SameButTree state.old state.new }
     ensures ticks { steps.new ≤ steps.old + length path.now }
 {
@@ -63,7 +63,7 @@ pub fn create<L: Ledger>(
         → IsGivenOrNoMemory m (answer_to_make m path.now nonce.now (node.File [])) result state.new }
     ensures due { (m : PlainMount) → StandsFor state.old m → IsPath path.now
         → IsRefusedAsDue (answer_to_make m path.now nonce.now (node.File [])) result }
-    ensures refused { is_refused result ≡ true → SameButKeys state.old state.new }
+    ensures refused { is_refused result ≡ true → SameButCaches state.old state.new }
     ensures same { SameButTree state.old state.new }
     ensures ticks { steps.new ≤ steps.old + length path.now }
 {
@@ -103,7 +103,7 @@ pub(crate) fn make(
     requires room { state.old.next_node + 1 < 2 ^ 32 }
     requires no_blocks { blocks_of body ≡ [] }
     ensures stands { MakesAt state.old state.new place.now nonce.now body result }
-    ensures refused { is_refused result ≡ true → SameButKeys state.old state.new }
+    ensures refused { is_refused result ≡ true → SameButCaches state.old state.new }
     ensures same { SameButTree state.old state.new }
 {
     let number = state.next_node;

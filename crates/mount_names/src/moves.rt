@@ -1,13 +1,14 @@
 //! The call that moves a name: within a directory, or to another one.
 
-ghost use Rattle.std.specs.Prelude.{◌≡◌, ◌+◌, ◌≤◌, true, Some, length, IfErr, IfOk};
+ghost use Rattle.std.specs.Prelude.{◌≡◌, ◌+◌, ◌≤◌, true, Some, length, IfErr, IfOk, OnOk};
 ghost use Rattle.disk_tree.specs.DiskTree.{IsDirAt};
 ghost use Rattle.plain_tree.specs.Nodes.{Name};
 ghost use Rattle.mount_model.specs.Carried.{IsPath};
 ghost use Rattle.mount_model.specs.ClaimHistory.{is_refused};
 ghost use Rattle.mount_model.specs.PlainMount.{PlainMount};
 ghost use Rattle.mount_model.specs.RenameAnswer.{answer_to_rename};
-ghost use Rattle.mount_state.specs.SameButKeys.{SameButKeys, StaysFor};
+ghost use Rattle.mount_model.specs.Walk.{last_part};
+ghost use Rattle.mount_state.specs.SameButCaches.{SameButCaches, StaysFor};
 ghost use Rattle.mount_state.specs.StandsFor.{StandsFor};
 ghost use Rattle.mount_names.specs.Found.{IsEntryOn};
 ghost use Rattle.mount_state.specs.Given.{IsGivenOrNoMemory, IsRefusedAsDue};
@@ -21,7 +22,7 @@ use crate::places::Place;
 use crate::stored_names::NameRoom;
 use crate::targets::target_in;
 use mount_model::{Path, Refusal, Reply};
-use mount_state::{MountState, walked_parent, walked_parent_past};
+use mount_state::{MountState, last_bytes, walked_parent, walked_parent_past};
 use name_crypt::{MOST_NAME_BYTES, Steps};
 use std::alloc::Global;
 use std::sync::ledger::Ledger;
@@ -45,7 +46,7 @@ pub fn rename<L: Ledger>(
         → IsGivenOrNoMemory m (answer_to_rename m old_path.now new_path.now) result state.new }
     ensures due { (m : PlainMount) → StandsFor state.old m → IsPath old_path.now → IsPath new_path.now
         → IsRefusedAsDue (answer_to_rename m old_path.now new_path.now) result }
-    ensures refused { is_refused result ≡ true → SameButKeys state.old state.new }
+    ensures refused { is_refused result ≡ true → SameButCaches state.old state.new }
     ensures same { SameButTree state.old state.new }
     ensures ticks { steps.new ≤ steps.old + length old_path.now + length new_path.now }
 {
@@ -54,30 +55,32 @@ pub fn rename<L: Ledger>(
     }
     let mut room = [0; MOST_NAME_BYTES];
     match source_at(alloc, state, old_path, &mut room, steps) {
-        Ok(entry) => rename_entry(alloc, state, &entry, new_path, steps),
+        Ok(entry) => rename_entry(alloc, state, &entry, last_bytes(old_path), new_path, steps),
         Err(refusal) => Reply::Refused(refusal),
     }
 }
 
-// Moves the entry to the end of the new path.
+// Moves the entry, whose name was found by the part, to the end of the new path.
 fn rename_entry<L: Ledger>(
     alloc: Global,
     state: &mut MountState,
     entry: &Entry,
+    part: &[u8],
     new_path: &Path,
     steps: &mut Steps<L>,
 ) -> Reply
     requires some { 1 ≤ length new_path.now }
     requires there { IsEntryOn state.old.disk entry.now }
-    ensures stands { Renames state.old state.new entry.now new_path.now result }
+    requires short { length part.now ≤ MOST_NAME_BYTES }
+    ensures stands { Renames state.old state.new entry.now part.now new_path.now result }
     ensures due { RefusesAsDue state.old entry.now new_path.now result }
-    ensures refused { is_refused result ≡ true → SameButKeys state.old state.new }
+    ensures refused { is_refused result ≡ true → SameButCaches state.old state.new }
     ensures same { SameButTree state.old state.new }
     ensures ticks { steps.new ≤ steps.old + length new_path.now }
 {
     let mut room = [0; MOST_NAME_BYTES];
     match target_at(alloc, state, entry, new_path, &mut room, steps) {
-        Ok(place) => move_to(alloc, state, entry, &place),
+        Ok(place) => move_to(alloc, state, entry, part, &place),
         Err(refusal) => Reply::Refused(refusal),
     }
 }
@@ -94,8 +97,9 @@ fn source_at<'a, L: Ledger>(
     requires blank { IsBlank room.old }
     ensures value { (m : PlainMount) → StandsFor state.old m → result ≡ source_end m path.now }
     ensures there { IfOk result (IsEntryOn state.old.disk) }
+    ensures short { OnOk result (length (last_part path.now) ≤ MOST_NAME_BYTES) }
     ensures stands { StaysFor state.old state.new }
-    ensures same { SameButKeys state.old state.new }
+    ensures same { SameButCaches state.old state.new }
     ensures ticks { steps.new ≤ steps.old + length path.now }
 {
     let last = path.len() - 1;
@@ -127,7 +131,7 @@ fn target_at<'a, L: Ledger>(
         → IsPath path.now → IsEntryOf m old entry.now → IsTargetAt m entry.now path.now place) }
     ensures dir { IfOk result (λ place. IsDirAt state.new.disk place.dir) }
     ensures stands { StaysFor state.old state.new }
-    ensures same { SameButKeys state.old state.new }
+    ensures same { SameButCaches state.old state.new }
     ensures ticks { steps.new ≤ steps.old + length path.now }
 {
     let last = path.len() - 1;
@@ -140,19 +144,30 @@ fn target_at<'a, L: Ledger>(
     }
 }
 
-// Moves the entry to its new place, or leaves it where it is.
-fn move_to(alloc: Global, state: &mut MountState, entry: &Entry, place: &Place) -> Reply
+// Moves the entry, whose name was found by the part, to its new place, and forgets where the name led; or
+// leaves it where it is.
+fn move_to(
+    alloc: Global,
+    state: &mut MountState,
+    entry: &Entry,
+    part: &[u8],
+    place: &Place,
+) -> Reply
     requires dir { IsDirAt state.old.disk place.now.dir }
     requires there { IsEntryOn state.old.disk entry.now }
-    ensures stands { Moves state.old state.new entry.now place.now result }
-    ensures refused { is_refused result ≡ true → SameButKeys state.old state.new }
+    requires short { length part.now ≤ MOST_NAME_BYTES }
+    ensures stands { Moves state.old state.new entry.now part.now place.now result }
+    ensures refused { is_refused result ≡ true → SameButCaches state.old state.new }
     ensures same { SameButTree state.old state.new }
 {
     match state
         .disk
         .move_entry(alloc, entry.dir, entry.stored, place.dir, place.stored)
     {
-        Ok(()) => Reply::Done,
+        Ok(()) => {
+            state.names.forget(entry.dir, part);
+            Reply::Done
+        }
         Err(_) => Reply::Refused(Refusal::NoMemory),
     }
 }

@@ -8,7 +8,7 @@ ghost use Rattle.mount_model.specs.Carried.{IsPath};
 ghost use Rattle.mount_model.specs.NameAnswers as plain;
 ghost use Rattle.mount_model.specs.PlainMount.{PlainMount};
 ghost use Rattle.mount_model.specs.WellFormed.{IsName};
-ghost use Rattle.mount_state.specs.SameButKeys.{SameButKeys, StaysFor};
+ghost use Rattle.mount_state.specs.SameButCaches.{SameButCaches, StaysFor};
 ghost use Rattle.mount_state.specs.StandsFor.{StandsFor};
 ghost use Rattle.mount_names.specs.Made.{IsPlaceAt, IsPlaceOf, IsRefusedAt, IsRefusedIn};
 ghost use Rattle.mount_names.specs.Places.{IsBlank};
@@ -59,7 +59,7 @@ pub(crate) fn place_at<'a, L: Ledger>(
     ensures short { IfOk result (λ _. long ≡ false) }
     ensures room { IfOk result (λ _. state.new.next_node + 1 < 2 ^ 32) }
     ensures stands { StaysFor state.old state.new }
-    ensures same { SameButKeys state.old state.new }
+    ensures same { SameButCaches state.old state.new }
     ensures ticks { steps.new ≤ steps.old + length path.now }
 {
     if path.is_empty() {

@@ -3,6 +3,7 @@
 ghost use Rattle.std.specs.Prelude.{◌≡◌, ◌+◌, ◌<◌, ◌≤◌, ◌^◌, true, length, None, is_none};
 ghost use Rattle.std.specs.Prelude.{OnOk, OnErr, if◌then◌else◌};
 ghost use Rattle.number_map.specs.Numbered as map;
+ghost use Rattle.user_claims.specs.Claims.{is_present};
 ghost use Rattle.inode_refs.specs.Cached.{pins_of};
 ghost use Rattle.key_ring.specs.Modes.{users_of};
 ghost use Rattle.disk_tree.specs.DiskTree.{IsDirAt};
@@ -13,7 +14,7 @@ ghost use Rattle.mount_model.specs.PolicyAnswers as policy;
 ghost use Rattle.mount_model.specs.PolicyAnswers.{answer_to_set_policy, is_same_policy};
 ghost use Rattle.mount_state.specs.Contexts.{context_in};
 ghost use Rattle.mount_state.specs.Given.{IsGivenOrNoMemory, IsRefusedAsDue};
-ghost use Rattle.mount_state.specs.SameButKeys.{SameButKeys};
+ghost use Rattle.mount_state.specs.SameButCaches.{SameButCaches};
 ghost use Rattle.mount_state.specs.StandsFor.{StandsFor};
 ghost use Rattle.mount_names.specs.Encrypted.{EncryptsAt, EncryptsOpen, SetsAt, answer_to_set_at};
 ghost use Rattle.mount_names.specs.Encrypted.{keys_with, modes_with};
@@ -53,7 +54,7 @@ pub fn set_policy<L: Ledger>(
         → IsGivenOrNoMemory m (answer_to_set_policy m uid path.now policy.now nonce.now) result state.new }
     ensures due { (m : PlainMount) → StandsFor state.old m
         → IsRefusedAsDue (answer_to_set_policy m uid path.now policy.now nonce.now) result }
-    ensures refused { is_refused result ≡ true → SameButKeys state.old state.new }
+    ensures refused { is_refused result ≡ true → SameButCaches state.old state.new }
     ensures same { SameButPolicies state.old state.new }
     ensures ticks { steps.new ≤ steps.old + length path.now }
 {
@@ -75,7 +76,7 @@ fn set_at(
     ensures stands { SetsAt state.old state.new uid number policy.now nonce.now result }
     ensures due { (m : PlainMount) → StandsFor state.old m
         → IsRefusedAsDue (answer_to_set_at m uid policy.now nonce.now number) result }
-    ensures refused { is_refused result ≡ true → SameButKeys state.old state.new }
+    ensures refused { is_refused result ≡ true → SameButCaches state.old state.new }
     ensures same { SameButPolicies state.old state.new }
 {
     if !state.disk.is_dir(number) {
@@ -126,7 +127,7 @@ fn encrypt(alloc: Global, state: &mut MountState, uid: u32, dir: u32, context: &
     ensures stands { EncryptsAt state.old state.new uid dir context.now result }
     ensures due { (m : PlainMount) → StandsFor state.old m
         → IsRefusedAsDue (policy.answer_to_encrypt m uid dir context.now None) result }
-    ensures refused { is_refused result ≡ true → SameButKeys state.old state.new }
+    ensures refused { is_refused result ≡ true → SameButCaches state.old state.new }
     ensures same { SameButPolicies state.old state.new }
 {
     if state.disk.entry_count(dir) > 0 {
@@ -156,8 +157,9 @@ fn encrypt_open(
     requires plain { context_in (map.get state.old.disk dir) ≡ None }
     requires pins { handles ≡ pins_of state.old.inodes dir }
     requires some { 1 ≤ handles }
+    requires present { is_present state.old.ring.claims context.now.policy.id ≡ true }
     ensures stands { EncryptsOpen state.old state.new dir context.now result }
-    ensures refused { is_refused result ≡ true → SameButKeys state.old state.new }
+    ensures refused { is_refused result ≡ true → SameButCaches state.old state.new }
     ensures same { SameButPolicies state.old state.new }
 {
     let Some(key) = drawn_key(state, context) else {
@@ -206,7 +208,8 @@ fn hold_key(
 
 // Whether the user may use the key: user 0 where it is present, another user by a claim.
 fn may_use(state: &MountState, uid: u32, id: &KeyId) -> bool
-    ensures { (m : PlainMount) → StandsFor state.now m → result ≡ policy.may_use m uid id.now }
+    ensures stands { (m : PlainMount) → StandsFor state.now m → result ≡ policy.may_use m uid id.now }
+    ensures present { result ≡ true → is_present state.now.ring.claims id.now ≡ true }
 {
     if uid == 0 {
         return state.ring.claims().count_of_id(id) > 0;

@@ -1,11 +1,12 @@
 //! The calls that take a name away: of a file or a symlink, and of an empty directory.
 
 ghost use Rattle.std.specs.Prelude.{◌≡◌, ◌+◌, ◌≤◌, true, false, length};
+ghost use Rattle.dentry_cache.specs.Names.{HoldsNoneIn};
 ghost use Rattle.mount_model.specs.Carried.{IsPath};
 ghost use Rattle.mount_model.specs.ClaimHistory.{is_refused};
 ghost use Rattle.mount_model.specs.NameAnswers.{answer_to_unlink, answer_to_rmdir};
 ghost use Rattle.mount_model.specs.PlainMount.{PlainMount, has_handle};
-ghost use Rattle.mount_state.specs.SameButKeys.{SameButKeys};
+ghost use Rattle.mount_state.specs.SameButCaches.{SameButCaches};
 ghost use Rattle.mount_state.specs.StandsFor.{StandsFor};
 ghost use Rattle.mount_names.specs.Found.{IsEntryOn};
 ghost use Rattle.mount_state.specs.Given.{IsGiven};
@@ -14,7 +15,7 @@ ghost use Rattle.mount_names.specs.SameButTree.{SameButTree};
 
 use crate::entries::{Entry, entry_at};
 use mount_model::{Path, Refusal, Reply};
-use mount_state::MountState;
+use mount_state::{MountState, last_bytes};
 use name_crypt::{MOST_NAME_BYTES, Steps};
 use std::alloc::Global;
 use std::sync::ledger::Ledger;
@@ -33,7 +34,7 @@ pub fn unlink<L: Ledger>(
 ) -> Reply
     ensures stands { (m : PlainMount) → StandsFor state.old m → IsPath path.now
         → IsGiven (answer_to_unlink m path.now) result state.new }
-    ensures refused { is_refused result ≡ true → SameButKeys state.old state.new }
+    ensures refused { is_refused result ≡ true → SameButCaches state.old state.new }
     ensures same { SameButTree state.old state.new }
     ensures ticks { steps.new ≤ steps.old + length path.now }
 {
@@ -42,7 +43,7 @@ pub fn unlink<L: Ledger>(
     }
     let mut room = [0; MOST_NAME_BYTES];
     match entry_at(alloc, state, path, &mut room, steps) {
-        Ok(entry) => unlink_entry(state, &entry),
+        Ok(entry) => unlink_entry(state, &entry, last_bytes(path)),
         Err(refusal) => Reply::Refused(refusal),
     }
 }
@@ -59,7 +60,7 @@ pub fn rmdir<L: Ledger>(
 ) -> Reply
     ensures stands { (m : PlainMount) → StandsFor state.old m → IsPath path.now
         → IsGiven (answer_to_rmdir m path.now) result state.new }
-    ensures refused { is_refused result ≡ true → SameButKeys state.old state.new }
+    ensures refused { is_refused result ≡ true → SameButCaches state.old state.new }
     ensures same { SameButTree state.old state.new }
     ensures ticks { steps.new ≤ steps.old + length path.now }
 {
@@ -68,30 +69,32 @@ pub fn rmdir<L: Ledger>(
     }
     let mut room = [0; MOST_NAME_BYTES];
     match entry_at(alloc, state, path, &mut room, steps) {
-        Ok(entry) => remove_dir(state, &entry),
+        Ok(entry) => remove_dir(state, &entry, last_bytes(path)),
         Err(refusal) => Reply::Refused(refusal),
     }
 }
 
 // Drops the entry, where it leads to no directory.
-fn unlink_entry(state: &mut MountState, entry: &Entry) -> Reply
-    requires { IsEntryOn state.old.disk entry.now }
-    ensures stands { Unlinks state.old state.new entry.now result }
-    ensures refused { is_refused result ≡ true → SameButKeys state.old state.new }
+fn unlink_entry(state: &mut MountState, entry: &Entry, part: &[u8]) -> Reply
+    requires there { IsEntryOn state.old.disk entry.now }
+    requires short { length part.now ≤ MOST_NAME_BYTES }
+    ensures stands { Unlinks state.old state.new entry.now part.now result }
+    ensures refused { is_refused result ≡ true → SameButCaches state.old state.new }
     ensures same { SameButTree state.old state.new }
 {
     if state.disk.is_dir(entry.number) {
         return Reply::Refused(Refusal::IsDir);
     }
-    drop_entry(state, entry);
+    drop_entry(state, entry, part);
     Reply::Done
 }
 
 // Drops the entry, where it leads to an empty directory.
-fn remove_dir(state: &mut MountState, entry: &Entry) -> Reply
-    requires { IsEntryOn state.old.disk entry.now }
-    ensures stands { RemovesDir state.old state.new entry.now result }
-    ensures refused { is_refused result ≡ true → SameButKeys state.old state.new }
+fn remove_dir(state: &mut MountState, entry: &Entry, part: &[u8]) -> Reply
+    requires there { IsEntryOn state.old.disk entry.now }
+    requires short { length part.now ≤ MOST_NAME_BYTES }
+    ensures stands { RemovesDir state.old state.new entry.now part.now result }
+    ensures refused { is_refused result ≡ true → SameButCaches state.old state.new }
     ensures same { SameButTree state.old state.new }
 {
     let Some(node) = state.disk.node(entry.number) else {
@@ -103,16 +106,21 @@ fn remove_dir(state: &mut MountState, entry: &Entry) -> Reply
     if node.body.entry_count() > 0 {
         return Reply::Refused(Refusal::NotEmpty);
     }
-    drop_entry(state, entry);
+    state.names.forget_dir(entry.number);
+    drop_entry(state, entry, part);
     Reply::Done
 }
 
-// Takes the name away; where no handle is on the node, its cached key goes, and then the node.
-fn drop_entry(state: &mut MountState, entry: &Entry)
-    requires { IsEntryOn state.old.disk entry.now }
-    ensures stands { Drops state.old state.new entry.now }
+// Takes the name away, which was found by the part, and forgets where it led; where no handle is on the node,
+// its cached key goes, and then the node.
+fn drop_entry(state: &mut MountState, entry: &Entry, part: &[u8])
+    requires there { IsEntryOn state.old.disk entry.now }
+    requires short { length part.now ≤ MOST_NAME_BYTES }
+    requires none { HoldsNoneIn state.old.names entry.now.number }
+    ensures stands { Drops state.old state.new entry.now part.now }
     ensures same { SameButTree state.old state.new }
 {
+    state.names.forget(entry.dir, part);
     let number = entry.number;
     if state.inodes.pins(number) > 0 {
         state.disk.drop_entry(entry.dir, entry.stored);

@@ -8,7 +8,7 @@ ghost use Rattle.mount_model.specs.ClaimHistory.{is_refused};
 ghost use Rattle.mount_model.specs.NameAnswers.{answer_to_make, lacks_key};
 ghost use Rattle.mount_model.specs.PlainMount.{PlainMount};
 ghost use Rattle.mount_state.specs.Given.{IsGivenOrNoMemory, IsRefusedAsDue};
-ghost use Rattle.mount_state.specs.SameButKeys.{SameButKeys};
+ghost use Rattle.mount_state.specs.SameButCaches.{SameButCaches};
 ghost use Rattle.mount_state.specs.StandsFor.{StandsFor};
 ghost use Rattle.mount_state.specs.Stored.{stored_form};
 ghost use Rattle.mount_names.specs.Made.{LinksAt};
@@ -45,7 +45,7 @@ pub fn symlink<L: Ledger>(
         → IsGivenOrNoMemory m (answer_to_make m path.now nonce.now (node.Link target.now)) result state.new }
     ensures due { (m : PlainMount) → StandsFor state.old m → IsPath path.now → IsTarget target.now
         → IsRefusedAsDue (answer_to_make m path.now nonce.now (node.Link target.now)) result }
-    ensures refused { is_refused result ≡ true → SameButKeys state.old state.new }
+    ensures refused { is_refused result ≡ true → SameButCaches state.old state.new }
     ensures same { SameButTree state.old state.new }
     ensures ticks { steps.new ≤ steps.old + length path.now + 1 }
 {
@@ -69,7 +69,7 @@ fn link_at<L: Ledger>(
     requires dir { IsDirAt state.old.disk place.now.dir }
     requires room { state.old.next_node + 1 < 2 ^ 32 }
     ensures stands { LinksAt state.old state.new place.now nonce.now target.now result }
-    ensures refused { is_refused result ≡ true → SameButKeys state.old state.new }
+    ensures refused { is_refused result ≡ true → SameButCaches state.old state.new }
     ensures same { SameButTree state.old state.new }
     ensures ticks { steps.new ≤ steps.old + 1 }
 {

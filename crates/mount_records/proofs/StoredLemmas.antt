@@ -21,6 +21,8 @@ use Rattle.mount_model.specs.Answered.{Answer, refused}
 use Rattle.mount_model.specs.RecordAnswers.{stored, answer_to_meta_store}
 use Rattle.mount_model.specs.WellFormed.{HasRecords}
 use Rattle.mount_model.proofs.RecordLemmas.{HasRecords-stored}
+use Rattle.dentry_cache.specs.Names.{NameList}
+use Rattle.mount_state.specs.CachedNames.{NamesStand}
 use Rattle.mount_state.specs.Handles.{Handles}
 use Rattle.mount_state.specs.Stored.{stored_node}
 use Rattle.mount_state.specs.StandsFor.{StandsFor, KeysStand, HandlesStand, CachesStand}
@@ -114,6 +116,7 @@ module _ (old new : MountState) (m : PlainMount) (st : StandsFor old m) (same : 
         (subst (λ (modes : Modes). CachesStand old.inodes modes (record m { records = records }))
         (sym same.modes)
         (record { file_keys = st.caches.file_keys; mode_keys = st.caches.mode_keys }));
+    names = subst (λ (names : NameList). NamesStand names m.nodes) (sym same.names) st.names;
     records = are;
   }
 

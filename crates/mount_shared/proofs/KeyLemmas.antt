@@ -25,7 +25,7 @@ use Rattle.mount_state.specs.declared.state.MountState.{MountState}
 use Rattle.mount_model.specs.KeyReplies.{added_unless}
 use Rattle.mount_keys.specs.Told.{is_over_quota, add_fault, removal_by, clearing_by, told_of_removal, told_of_clearing, told_of_status}
 use Rattle.mount_state.specs.SameBut.{IsSame}
-use Rattle.mount_state.specs.SameButKeys.{SameButKeys}
+use Rattle.mount_state.specs.SameButCaches.{SameButCaches}
 use Rattle.mount_keys.specs.Taken.{GainsClaim, LosesClaim, LosesAllClaims, SameButKeyed}
 use Rattle.mount_shared.specs.Made.{IsMade}
 use Rattle.mount_shared.proofs.MadeLemmas.{call_with, all_kept, takes_some, step_given, step_given_or_none, made_given}
@@ -163,7 +163,7 @@ module _ (old new : MountState) (caller : ℕ) (call : Call) (reply : Reply) whe
     -- ---- KeyStatus
 
     pub made_key_status : call.op ≡ KeyStatus id → reply ≡ told_of_status old call.uid id → new.ring ≡ old.ring
-        → (is_refused reply ≡ true → SameButKeys old new)
+        → (is_refused reply ≡ true → SameButCaches old new)
         → ((m : PlainMount) → StandsFor old m → IsGiven (answer_to_key_status m call.uid id) reply new)
         → IsMade old (entry caller call reply) new
     made_key_status is told same keeps stands =

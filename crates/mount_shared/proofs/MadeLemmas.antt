@@ -17,7 +17,7 @@ use Rattle.mount_model.specs.Lawful.{TellsBy}
 use Rattle.mount_model.proofs.StepLemmas.{mount_left-step}
 use Rattle.mount_state.specs.Given.{IsGiven, IsGivenOrNoMemory, IsRefusedAsDue}
 use Rattle.mount_state.specs.SameBut.{IsSame}
-use Rattle.mount_state.specs.SameButKeys.{SameButKeys}
+use Rattle.mount_state.specs.SameButCaches.{SameButCaches}
 use Rattle.mount_state.specs.StandsFor.{StandsFor}
 use Rattle.mount_state.specs.declared.state.MountState.{MountState}
 use Rattle.mount_shared.specs.Made.{IsStepOf, IsMade}
@@ -53,8 +53,8 @@ same_either false cs = refl
 abbrev pub call_with : ℕ → Op → Call
 call_with uid o = record { uid = uid; op = o }
 
--- what differs in nothing differs in nothing but cached keys
-pub all_kept : (old new : MountState) → IsSame old new → SameButKeys old new
+-- what differs in nothing differs in nothing but cached keys and names
+pub all_kept : (old new : MountState) → IsSame old new → SameButCaches old new
 all_kept old new same = record {
   disk = same.disk;
   next_node = same.next_node;
@@ -64,15 +64,16 @@ all_kept old new same = record {
   pins = same.pins;
   handles = same.handles;
   modes = same.modes;
+  names = tt;
 }
 
 -- a state differs from itself in nothing
-pub itself : (s : MountState) → SameButKeys s s
-itself s = record { disk = refl; next_node = refl; ring = refl; meta = refl; keys = tt; pins = refl; handles = refl; modes = refl }
+pub itself : (s : MountState) → SameButCaches s s
+itself s = record { disk = refl; next_node = refl; ring = refl; meta = refl; keys = tt; pins = refl; handles = refl; modes = refl; names = tt }
 
--- after a refusal nothing differs but cached keys
+-- after a refusal nothing differs but cached keys and names
 abbrev pub Keeps : MountState → MountState → Reply → Type 0
-Keeps old new reply = is_refused reply ≡ true → SameButKeys old new
+Keeps old new reply = is_refused reply ≡ true → SameButCaches old new
 
 -- of an operation that takes no memory, none is wanting
 abbrev pub IsSure : Op → Reply → Type 0

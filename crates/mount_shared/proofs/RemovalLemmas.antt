@@ -4,7 +4,6 @@ use Rattle.std.specs.Prelude.{not, ◌==◌, if◌then◌else◌}
 use Rattle.policy_ctx.specs.declared.policy.KeyId.{KeyId}
 use Rattle.user_claims.specs.Claims.{ClaimSet, has_claim, is_present, without_claim}
 use Rattle.mount_model.specs.declared.call.Op.TheVariants.{RemoveKey, RemoveKeyAll}
-use Rattle.mount_model.specs.declared.reply.Reply.{Reply}
 use Rattle.mount_model.specs.declared.reply.Reply.TheVariants.{Removed, Refused}
 use Rattle.mount_model.specs.declared.reply.Refusal.TheVariants.{NoKey, Access}
 use Rattle.mount_model.specs.KeyAnswers.{removal_told}

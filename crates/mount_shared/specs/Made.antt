@@ -9,7 +9,7 @@ use Rattle.mount_model.specs.History.{MountEntry, mount_left}
 use Rattle.mount_model.specs.ClaimHistory.{is_refused, claims_left}
 use Rattle.mount_model.specs.Lawful.{KeyAgrees, TellsClaim}
 use Rattle.mount_state.specs.Given.{IsRefusedAsDue}
-use Rattle.mount_state.specs.SameButKeys.{SameButKeys}
+use Rattle.mount_state.specs.SameButCaches.{SameButCaches}
 use Rattle.mount_state.specs.StandsFor.{StandsFor}
 use Rattle.mount_state.specs.declared.state.MountState.{MountState}
 
@@ -26,8 +26,8 @@ pub record IsMade (old : MountState) (e : MountEntry) (new : MountState) : Type 
   -- in any case the claims change as the entry says, and what it tells of them is so
   pub claims : new.ring.claims ≡ claims_left old.ring.claims e
   pub told : TellsClaim old.ring.claims e
-  -- after a refusal nothing differs but which keys of nodes are cached
-  pub refused : is_refused e.reply ≡ true → SameButKeys old new
+  -- after a refusal nothing differs but which keys of nodes and which names are cached
+  pub refused : is_refused e.reply ≡ true → SameButCaches old new
   -- a call that takes no memory never wants any
   pub sure : takes_memory e.call.op ≡ false → e.reply ≢ Refused NoMemory
   -- where the answer is a refusal, the reply is that one, also where there is no memory

@@ -11,7 +11,8 @@ use Rattle.mount_state.specs.declared.state.MountState.{MountState}
 -- of a key that is told Absent nothing is held
 abbrev pub AbsentIsGone : MountState → Op → Reply → Type 0
 AbsentIsGone s (KeyStatus id) reply =
-    (by_self : Bool) (users : ℕ) → reply ≡ Status Absent by_self users → HoldsNothing s.ring s.inodes s.modes id
+    (by_self : Bool) (users : ℕ) → reply ≡ Status Absent by_self users
+    → HoldsNothing s.disk s.ring s.inodes s.modes s.names id
 AbsentIsGone s op reply = ⊤
 
 -- where no claim is left, busy is told exactly where some handle is on a node whose context names the key

@@ -10,7 +10,7 @@ ghost use Rattle.mount_model.specs.Lawful.{IsLawful};
 ghost use Rattle.mount_model.specs.PlainMount.{PlainMount};
 ghost use Rattle.mount_model.specs.Step.{takes_memory};
 ghost use Rattle.mount_state.specs.Given.{IsRefusedAsDue};
-ghost use Rattle.mount_state.specs.SameButKeys.{SameButKeys};
+ghost use Rattle.mount_state.specs.SameButCaches.{SameButCaches};
 ghost use Rattle.mount_state.specs.StandsFor.{StandsFor};
 ghost use Rattle.mount_shared.specs.Lends.{LendsBlocks};
 ghost use Rattle.mount_shared.specs.Made.{IsMade};
@@ -48,9 +48,9 @@ impl Mount {
     /// Answers the caller's call. What comes is the reply, or for a Read what is left to be deciphered
     /// once the turn is given back.
     ///
-    /// Whatever raw keys were added: after a refusal all but cached keys is as before, removing keys, a status,
-    /// closing and dropping caches never want memory, a close is refused exactly where the caller has no such
-    /// handle, and of records it is told what they are. Where the state stands for a mount whose answer
+    /// Whatever raw keys were added: after a refusal all but cached keys and names is as before, removing keys,
+    /// a status, closing and dropping caches never want memory, a close is refused exactly where the caller has
+    /// no such handle, and of records it is told what they are. Where the state stands for a mount whose answer
     /// is a refusal, the reply is that one, also where there is no memory.
     pub fn answer(&mut self, caller: u32, call: &Call) -> Lent
         requires { Fits call.now }
@@ -60,7 +60,7 @@ impl Mount {
         ensures lends { LendsBlocks self.old.state caller call.now.op result }
         ensures closes { ClosesOwn self.old.state caller call.now.op (reply_of result) }
         ensures records { TellsRecords self.old.state call.now.op (reply_of result) }
-        ensures refused { is_refused (reply_of result) ≡ true → SameButKeys self.old.state self.new.state }
+        ensures refused { is_refused (reply_of result) ≡ true → SameButCaches self.old.state self.new.state }
         ensures sure { takes_memory call.now.op ≡ false → reply_of result ≢ Reply.Refused Refusal.NoMemory }
         ensures due { (m : PlainMount) → StandsFor self.old.state m
             → IsRefusedAsDue (answer_of m caller call.now) (reply_of result) }
@@ -96,7 +96,7 @@ impl Machine for Mount {
         ensures lends { LendsBlocks self.old.state who call.now.op result }
         ensures closes { ClosesOwn self.old.state who call.now.op (reply_of result) }
         ensures records { TellsRecords self.old.state call.now.op (reply_of result) }
-        ensures refused { is_refused (reply_of result) ≡ true → SameButKeys self.old.state self.new.state }
+        ensures refused { is_refused (reply_of result) ≡ true → SameButCaches self.old.state self.new.state }
         ensures sure { takes_memory call.now.op ≡ false → reply_of result ≢ Reply.Refused Refusal.NoMemory }
         ensures due { (m : PlainMount) → StandsFor self.old.state m
             → IsRefusedAsDue (answer_of m who call.now) (reply_of result) }

@@ -16,7 +16,9 @@ pub(crate) enum Kernel {
     Unlink(NameCount),
     /// Names are looked up, where there are so many.
     Stat(NameCount),
-    /// The same, when all that is kept for speed was let go.
+    /// More names are looked up than are cached.
+    StatRound,
+    /// Names are looked up, when all that is kept for speed was let go.
     StatCold,
     Rename,
     ListPlain,
@@ -39,6 +41,7 @@ impl Kernel {
             "mkdir" => Some(Kernel::Mkdir(FEW)),
             "unlink" => Some(Kernel::Unlink(FEW)),
             "stat-warm" => Some(Kernel::Stat(FEW)),
+            "stat-round" => Some(Kernel::StatRound),
             "stat-cold" => Some(Kernel::StatCold),
             "rename" => Some(Kernel::Rename),
             "list-plain" => Some(Kernel::ListPlain),
@@ -78,6 +81,7 @@ impl Kernel {
             Kernel::Mkdir(names) => work::make_and_take_dirs(alloc, names)?,
             Kernel::Unlink(names) => work::make_and_take_files(alloc, names)?,
             Kernel::Stat(names) => work::look(alloc, names)?,
+            Kernel::StatRound => work::look_round(alloc)?,
             Kernel::StatCold => work::look_cold(alloc)?,
             Kernel::Rename => work::move_there_and_back(alloc)?,
             Kernel::ListPlain => work::tell_names(alloc, work::plain_top(alloc, MOST)?)?,

@@ -15,7 +15,7 @@ use std::{env, io};
 
 const USAGE: &str = "\
 mount_speed NAME COUNT; names: \
-    mkdir, unlink, stat-warm, stat-cold, rename, list-plain, list-encrypted, \
+    mkdir, unlink, stat-warm, stat-round, stat-cold, rename, list-plain, list-encrypted, \
     mkdir-NAMES, unlink-NAMES, stat-NAMES (to 4096), read-4096, write-4096, write-1, open-close, \
     status-4096, status-anew, shared-status-1, shared-status-2, shared-status-4, \
     shared-read-1, shared-read-2, shared-read-4";

@@ -9,6 +9,9 @@ use std::alloc::{AllocError, Global};
 /// The names of a run.
 const RUN_NAMES: u32 = 64;
 
+/// More names than a mount caches.
+const ROUND_NAMES: u32 = 320;
+
 /// As many names as a directory may have, and files as may be open.
 pub(crate) const MOST: u32 = 4096;
 
@@ -54,6 +57,17 @@ pub(crate) fn look(alloc: Global, names: NameCount) -> Result<Work, AllocError> 
     let mut run = Vec::new(alloc);
     for number in 0..RUN_NAMES {
         run.push(stat(alloc, number, names)?)?;
+    }
+    Ok(Work { before, run })
+}
+
+/// Tells what each of more names leads to than are cached, one after the other, so that none is cached.
+pub(crate) fn look_round(alloc: Global) -> Result<Work, AllocError> {
+    let before = encrypted_top(alloc, ROUND_NAMES)?;
+    let mut run = Vec::new(alloc);
+    for number in 0..ROUND_NAMES {
+        let path = numbered_path(alloc, number)?;
+        run.push(call(Op::Stat { path }))?;
     }
     Ok(Work { before, run })
 }

@@ -15,6 +15,8 @@ use Rattle.key_ring.specs.Modes.{Modes, no_modes, mode_at}
 use Rattle.key_ring.specs.declared.mode_key.ModeKey.{ModeKey}
 use Rattle.inode_refs.specs.Cached.{Cache, no_cache, key_at}
 use Rattle.inode_refs.specs.declared.node_key.NodeKey.{NodeKey}
+use Rattle.dentry_cache.specs.Names.{NameList, no_names}
+use Rattle.dentry_cache.proofs.NameLemmas.{none_held}
 use Rattle.plain_tree.specs.Nodes.{Nodes}
 use Rattle.plain_tree.specs.Changes.{first_nodes}
 use Rattle.plain_tree.specs.Facts.{AgreesBy}
@@ -23,6 +25,7 @@ use Rattle.disk_tree.specs.DiskTree.{Disk, first_disk, root}
 use Rattle.mount_model.specs.PlainMount.{Raws, HandleList, empty_mount}
 use Rattle.mount_model.proofs.FirstMount.{empty_well}
 use Rattle.mount_state.specs.Handles.{Handles, no_handles}
+use Rattle.mount_state.specs.CachedNames.{NamesForget}
 use Rattle.mount_state.specs.Discipline.{Forgets}
 use Rattle.mount_state.specs.Safe.{IsSafe}
 use Rattle.mount_state.specs.Stored.{stored_node}
@@ -79,6 +82,13 @@ module _ (disk : Disk) (disk_is : disk ≡ first_disk) (live : HandleList) (live
         there = λ node held. absurd (true≢false (sym held));
       }))
 
+-- no name is cached
+pub none_remembered : (disk : Disk) (claims : ClaimSet) (names : NameList) (live : HandleList) → names.pairs ≡ [] → NamesForget disk claims names live
+none_remembered disk claims names live none = record {
+  there = λ pair held. absurd (none_held names none pair held);
+  keyed = λ pair held. absurd (none_held names none pair held);
+}
+
 -- ---- it stands for the empty mount
 
 no_nodes : Nodes
@@ -94,8 +104,8 @@ first_agree : (raws : Raws) → AgreesBy (stored_node raws) first_nodes first_di
 first_agree raws = agree_inserted (stored_node raws) empty empty (none_agree raws) 0 _ root refl
 
 pub first_stands : (s : MountState) → s.disk ≡ first_disk → s.next_node ≡ 1 → s.ring.claims ≡ no_claims → s.ring.secrets ≡ map.empty → s.meta ≡ []
-    → s.inodes ≡ no_cache → s.handles ≡ no_handles → s.modes ≡ no_modes → StandsFor s empty_mount
-first_stands s disk next claims secrets meta inodes handles modes = record {
+    → s.inodes ≡ no_cache → s.handles ≡ no_handles → s.modes ≡ no_modes → s.names ≡ no_names → StandsFor s empty_mount
+first_stands s disk next claims secrets meta inodes handles modes names = record {
   well = empty_well;
   tree = record {
     nodes = subst (λ (d : Disk). AgreesBy (stored_node empty_mount.raws) first_nodes d) (sym disk) (first_agree empty_mount.raws);
@@ -110,5 +120,6 @@ first_stands s disk next claims secrets meta inodes handles modes = record {
     file_keys = λ node key c there _. absurd (no_key node key (ap (λ (x : Cache). key_at x node) (sym inodes) ∙ there));
     mode_keys = λ id kind mode there. absurd (no_mode id kind mode (ap (λ (x : Modes). mode_at x id kind) (sym modes) ∙ there));
   };
+  names = record { entries = λ pair held. absurd (none_held s.names (ap (λ (x : NameList). x.pairs) names) pair held) };
   records = meta;
 }

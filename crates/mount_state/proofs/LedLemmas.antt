@@ -48,7 +48,7 @@ entries_stored raws n None = refl
 entries_stored raws n (Some v) = entries_of_node raws n v.named v.context v.body
 
 -- the value of the entry that is found
-value_found : (test : Name → Bool) (cs : Children) → lookup test cs ≡ option_map (λ (e : Name × ℕ). e.1) (lookup_entry test cs)
+pub value_found : (test : Name → Bool) (cs : Children) → lookup test cs ≡ option_map (λ (e : Name × ℕ). e.1) (lookup_entry test cs)
 value_found test [] = refl
 value_found test (c ∷ cs) = elim (test c.0) as (λ b. cond b (Some c.1) (lookup test cs) ≡ option_map (λ (e : Name × ℕ). e.1) (cond b (Some c) (lookup_entry test cs))) [
   | true ↦ refl

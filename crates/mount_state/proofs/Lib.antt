@@ -10,5 +10,6 @@ pub mod KeyedLemmas
 pub mod ContextLemmas
 pub mod EntryLemmas
 pub mod KeepLemmas
+pub mod CachedLemmas
 pub mod WalkLemmas
 pub mod PassedLemmas

@@ -1,5 +1,5 @@
 -- The status is Absent exactly where nothing of the key is held.
-use Rattle.std.proofs.Common.{◌≡◌, ℕ, ◌<◌, ◌≤◌, true, false, not, eqb, ◌&&◌, List, Option, Some, None, is_some, inl, inr, refl, sym, ap, subst, ◌∙◌, arith}
+use Rattle.std.proofs.Common.{◌≡◌, ℕ, ◌<◌, ◌≤◌, true, false, not, eqb, ◌&&◌, ◌||◌, List, Option, Some, None, is_some, inl, inr, refl, sym, ap, subst, ◌∙◌, arith}
 use Rattle.std.specs.Option.{option_map_or}
 use Rattle.std.proofs.lemmas.Bool.{cases_Bool, cases_lt, or_cases, and_parts, true≢false, eq-eqb, eqb-true}
 use Rattle.policy_ctx.specs.declared.policy.KeyId.{KeyId}
@@ -18,11 +18,13 @@ use Rattle.inode_refs.specs.Cached.{users_of as inode_users}
 use Rattle.inode_refs.specs.declared.node_key.NodeKey.{NodeKey}
 use Rattle.inode_refs.proofs.UserLemmas.{one_user}
 use Rattle.inode_refs.proofs.UserLemmas.{some_user as cached_user}
+use Rattle.dentry_cache.specs.Names.{NameList}
 use Rattle.disk_tree.specs.DiskTree.{Disk}
 use Rattle.mount_model.specs.PlainMount.{HandleList, has_handle}
 use Rattle.mount_state.specs.Contexts.{context_in, kind_in, names_id, has_own, has_shared, same_kind, names_key, uses_own, uses_mode}
+use Rattle.mount_state.specs.CachedNames.{NamesForget}
 use Rattle.mount_state.specs.Discipline.{Forgets}
-use Rattle.mount_state.specs.Held.{HoldsNothing, is_busy}
+use Rattle.mount_state.specs.Held.{HoldsNothing, is_busy, is_keyed, is_keyed_under}
 use Rattle.mount_state.proofs.UserLemmas.{one_on, some_from, users_from, some_user}
 
 -- ---- contexts
@@ -148,9 +150,26 @@ module _ (disk : Disk) (ring : Holding) (cache : Cache) (modes : Modes) (live : 
           let count : users_in (of_kind modes kind) id ≡ mode.users = λ i. option_users (is i) in
           absurd (true≢false (sym (mode_busy kind (omega arith)) ∙ idle))
 
-  pub nothing_held : is_some (secret_of ring id) ≡ false → is_present ring.claims id ≡ false → is_busy disk live id ≡ false
-      → ((kind : KeyKind) → mode_at modes id kind ≡ None) → HoldsNothing ring cache modes id
-  nothing_held secret absent idle modeless = record {
+  -- a directory whose context names a key without a claim, and that no handle needs, isn't keyed
+  not_keyed : is_present ring.claims id ≡ false → is_busy disk live id ≡ false → (node : ℕ) → names_key disk node id ≡ true → is_keyed disk ring.claims live node ≡ false
+  not_keyed absent idle node named = by_context (context_in (get disk node)) refl
+    where
+      no_handle : has_handle live node ≡ false
+      no_handle = elim (cases_Bool (has_handle live node)) [
+        | inl held ↦ absurd (true≢false (sym (busy_with node held named) ∙ idle))
+        | inr none ↦ none
+      ]
+
+      by_context : (o : Option (List ℕ)) → context_in (get disk node) ≡ o → is_keyed_under ring.claims live node o ≡ false
+      by_context None is = absurd (true≢false (sym named ∙ ap (names_id id) is))
+      by_context (Some context) is =
+          let same : id_in context ≡ id = same_id-eq (id_in context) id (sym (ap (names_id id) is) ∙ named) in
+          ap (λ (k : KeyId). is_present ring.claims k || has_handle live node) same
+          ∙ (ap (λ b. b || has_handle live node) absent ∙ no_handle)
+
+  pub nothing_held : (names : NameList) → NamesForget disk ring.claims names live → is_some (secret_of ring id) ≡ false → is_present ring.claims id ≡ false
+      → is_busy disk live id ≡ false → ((kind : KeyKind) → mode_at modes id kind ≡ None) → HoldsNothing disk ring cache modes names id
+  nothing_held names remembers secret absent idle modeless = record {
     secret = is_none (secret_of ring id) secret;
     file_keys = λ node key there. elim (cases_Bool (same_id key.id id)) [
       | inl same ↦
@@ -163,10 +182,14 @@ module _ (disk : Disk) (ring : Holding) (cache : Cache) (modes : Modes) (live : 
       | inr other ↦ other
     ];
     mode_keys = modeless;
+    plain_names = λ pair held. elim (cases_Bool (names_key disk pair.0.dir id)) [
+      | inl named ↦ absurd (true≢false (sym (remembers.keyed pair held) ∙ not_keyed absent idle pair.0.dir named))
+      | inr other ↦ other
+    ];
   }
 
-  pub held_not_busy : HoldsNothing ring cache modes id → is_busy disk live id ≡ false
-  held_not_busy nothing = elim (cases_Bool (is_busy disk live id)) [
+  pub held_not_busy : (names : NameList) → HoldsNothing disk ring cache modes names id → is_busy disk live id ≡ false
+  held_not_busy names nothing = elim (cases_Bool (is_busy disk live id)) [
     | inl busy ↦ let one = one_on (λ n. names_key disk n id) live busy in absurd (needed one.0 one.1.0 one.1.1)
     | inr idle ↦ idle
   ]

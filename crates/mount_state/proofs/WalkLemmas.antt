@@ -10,7 +10,7 @@ use Rattle.mount_model.specs.declared.reply.Refusal.{Refusal}
 use Rattle.mount_model.specs.PlainMount.{PlainMount}
 use Rattle.mount_state.specs.declared.state.MountState.{MountState}
 use Rattle.mount_state.specs.SameBut.{IsSame}
-use Rattle.mount_state.specs.SameButKeys.{SameButKeys}
+use Rattle.mount_state.specs.SameButCaches.{SameButCaches}
 use Rattle.mount_model.specs.Walk.{PathParts, Walked, looked_in, stepped, walked_on, walked_from, walked, parent, parent_parts, last_part}
 
 same_part : (a b : Name) → Some a ≡ Some b → a ≡ b
@@ -49,10 +49,10 @@ same_cache old new keys pins = λ i. record { keys = keys i; pins = pins i }
 
 -- a state differs from itself in nothing
 pub itself : (s : MountState) → IsSame s s
-itself s = record { disk = refl; next_node = refl; ring = refl; meta = refl; keys = refl; pins = refl; handles = refl; modes = refl }
+itself s = record { disk = refl; next_node = refl; ring = refl; meta = refl; keys = refl; pins = refl; handles = refl; modes = refl; names = refl }
 
 -- what two walks change, one after the other
-pub same_then : {a b c : MountState} → SameButKeys a b → SameButKeys b c → SameButKeys a c
+pub same_then : {a b c : MountState} → SameButCaches a b → SameButCaches b c → SameButCaches a c
 same_then first second = record {
   disk = second.disk ∙ first.disk;
   next_node = second.next_node ∙ first.next_node;
@@ -62,4 +62,5 @@ same_then first second = record {
   pins = second.pins ∙ first.pins;
   handles = second.handles ∙ first.handles;
   modes = second.modes ∙ first.modes;
+  names = tt;
 }

@@ -1,5 +1,5 @@
 -- What a state holds of a master key, and what its status is.
-use Rattle.std.specs.Prelude.{◌≡◌, ℕ, Bool, true, false, List, Option, Some, None, ◌||◌, if◌then◌else◌}
+use Rattle.std.specs.Prelude.{◌≡◌, ℕ, Bool, true, false, List, Contains, Option, Some, None, ◌||◌, if◌then◌else◌}
 use Rattle.std.specs.List.{list_any}
 use Rattle.policy_ctx.specs.declared.policy.KeyId.{KeyId}
 use Rattle.policy_ctx.specs.KeyIds.{same_id}
@@ -10,6 +10,7 @@ use Rattle.key_ring.specs.Holding.{Holding, secret_of}
 use Rattle.key_ring.specs.Modes.{Modes, mode_at}
 use Rattle.inode_refs.specs.Cached.{Cache, key_at}
 use Rattle.inode_refs.specs.declared.node_key.NodeKey.{NodeKey}
+use Rattle.dentry_cache.specs.Names.{Pair, NameList}
 use Rattle.policy_ctx.specs.Context.{id_in}
 use Rattle.disk_tree.specs.DiskTree.{Disk}
 use Rattle.mount_model.specs.PlainMount.{HandleList, has_handle}
@@ -17,11 +18,14 @@ use Rattle.mount_model.specs.declared.reply.KeyState.{KeyState}
 use Rattle.mount_model.specs.declared.reply.KeyState.TheVariants.{Absent, Present, Incomplete}
 use Rattle.mount_state.specs.Contexts.{names_key, context_in}
 
--- neither the key's secret is held, nor a file key or a mode key that was drawn from it
-pub record HoldsNothing (ring : Holding) (cache : Cache) (modes : Modes) (id : KeyId) : Type 0 where
+-- neither the key's secret is held, nor a file key or a mode key that was drawn from it, nor a plain name of
+-- a directory whose context names it
+pub record HoldsNothing (disk : Disk) (ring : Holding) (cache : Cache) (modes : Modes) (names : NameList)
+    (id : KeyId) : Type 0 where
   pub secret : secret_of ring id ≡ None
   pub file_keys : (node : ℕ) (key : NodeKey) → key_at cache node ≡ Some key → same_id key.id id ≡ false
   pub mode_keys : (kind : KeyKind) → mode_at modes id kind ≡ None
+  pub plain_names : (pair : Pair) → Contains names.pairs pair → names_key disk pair.0.dir id ≡ false
 
 -- some handle is on a node whose context names the key
 abbrev pub is_busy : Disk → HandleList → KeyId → Bool

@@ -3,6 +3,7 @@ pub mod KeptHandles
 pub mod Contexts
 pub mod Discipline
 pub mod Held
+pub mod CachedNames
 pub mod Safe
 pub mod Stored
 pub mod StandsFor
@@ -10,6 +11,6 @@ pub mod Led
 pub mod NamesKey
 pub mod NamesCipher
 pub mod SameBut
-pub mod SameButKeys
+pub mod SameButCaches
 pub mod Given
 pub mod Passed

@@ -1,6 +1,5 @@
 -- What a call leaves of a state as it was: each part but those that it may change.
 use Rattle.std.specs.Prelude.{◌≡◌, ⊤, Bool, true, false, List, [], ◌∷◌, ◌||◌}
-use Rattle.inode_refs.specs.Cached.{Cache}
 use Rattle.mount_state.specs.declared.state.MountState.{MountState}
 
 -- the parts of a state; of what is cached for nodes the keys and the pins are one each
@@ -13,6 +12,7 @@ pub data Part : Type 0 where
   Pins : Part
   OpenHandles : Part
   ModeKeys : Part
+  CachedNames : Part
 
 abbrev pub same_part : Part → Part → Bool
 same_part Disk Disk = true
@@ -23,6 +23,7 @@ same_part CachedKeys CachedKeys = true
 same_part Pins Pins = true
 same_part OpenHandles OpenHandles = true
 same_part ModeKeys ModeKeys = true
+same_part CachedNames CachedNames = true
 same_part a b = false
 
 abbrev pub is_among : List Part → Part → Bool
@@ -43,6 +44,7 @@ pub record SameBut (changing : List Part) (old new : MountState) : Type 0 where
   pub pins : Unless (is_among changing Pins) (new.inodes.pins ≡ old.inodes.pins)
   pub handles : Unless (is_among changing OpenHandles) (new.handles ≡ old.handles)
   pub modes : Unless (is_among changing ModeKeys) (new.modes ≡ old.modes)
+  pub names : Unless (is_among changing CachedNames) (new.names ≡ old.names)
 
 -- nothing differs at all
 abbrev pub IsSame : MountState → MountState → Type 0

@@ -20,6 +20,7 @@ use Rattle.mount_model.specs.Sealed.{node_key}
 use Rattle.mount_model.specs.WellFormed.{IsWellFormed}
 use Rattle.mount_state.specs.Handles.{Handles}
 use Rattle.mount_state.specs.Stored.{stored_node}
+use Rattle.mount_state.specs.CachedNames.{NamesStand}
 use Rattle.mount_state.specs.declared.state.MountState.{MountState}
 
 -- ---- the tree
@@ -70,4 +71,5 @@ pub record StandsFor (s : MountState) (m : PlainMount) : Type 0 where
   pub keys : KeysStand s.ring m
   pub handles : HandlesStand s.handles m
   pub caches : CachesStand s.inodes s.modes m
+  pub names : NamesStand s.names m.nodes
   pub records : s.meta ≡ m.records

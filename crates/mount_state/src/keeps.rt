@@ -6,7 +6,7 @@ ghost use Rattle.policy_ctx.specs.declared.policy.Context.{Context};
 ghost use Rattle.policy_ctx.specs.Context.{context_bytes, HasSizes};
 ghost use Rattle.disk_tree.specs.DiskTree.{IsDirAt};
 ghost use Rattle.mount_state.specs.Contexts.{context_in};
-ghost use Rattle.mount_state.specs.SameButKeys.{SameButKeys, StaysFor};
+ghost use Rattle.mount_state.specs.SameButCaches.{SameButCaches, StaysFor};
 
 use crate::state::MountState;
 use disk_tree::DiskTree;
@@ -18,7 +18,8 @@ use std::alloc::Global;
 // there is no memory for it, it isn't cached.
 pub(crate) fn keep_key(alloc: Global, state: &mut MountState, dir: u32)
     requires { IsDirAt state.old.disk dir }
-    ensures same { SameButKeys state.old state.new }
+    ensures same { SameButCaches state.old state.new }
+    ensures names { state.new.names ≡ state.old.names }
     ensures stands { StaysFor state.old state.new }
 {
     if state.inodes.key_of(dir).is_some() {

@@ -19,4 +19,4 @@ pub use keyed::start_of;
 pub use laws::a_state_is_its_parts;
 pub use mount_model::{Handle, KeyId, KeyState, Path, Refusal};
 pub use state::MountState;
-pub use walk::{entry_of, walked_node, walked_parent, walked_parent_past};
+pub use walk::{entry_of, last_bytes, walked_node, walked_parent, walked_parent_past};

@@ -12,6 +12,7 @@ ghost use Rattle.mount_state.specs.Held.{HoldsNothing, is_busy, key_state, is_ke
 ghost use Rattle.mount_state.specs.StandsFor.{StandsFor};
 
 use super::{HandleTable, KeyId, KeyState, MountState};
+use dentry_cache::NameCache;
 use disk_tree::{DiskTree, StoredNode};
 use inode_refs::InodeCache;
 use key_ring::{KeyRing, ModeKeys};
@@ -36,15 +37,17 @@ impl MountState {
             inodes: InodeCache::new(alloc),
             handles: HandleTable::new(alloc),
             modes: ModeKeys::new(alloc),
+            names: NameCache::new(alloc)?,
         })
     }
 
     /// Whether the mount holds the key: Present where some user has a claim on it, else Incomplete
     /// where something open needs it, else Absent. It is Absent exactly where nothing of the key is
-    /// held: no secret, no file key, no mode key.
+    /// held: no secret, no file key, no mode key, and no plain name of a directory under it.
     pub fn status(&self, id: &KeyId) -> KeyState
         ensures value { result ≡ key_state self.now.disk self.now.ring.claims self.now.handles.live id.now }
-        ensures absent { result ≡ KeyState.Absent ↔ HoldsNothing self.now.ring self.now.inodes self.now.modes id.now }
+        ensures absent { result ≡ KeyState.Absent ↔ HoldsNothing self.now.disk self.now.ring self.now.inodes
+            self.now.modes self.now.names id.now }
         ensures stands { (m : PlainMount) → StandsFor self.now m → result ≡ plain.key_state_of m id.now }
     {
         if self.is_present(id) {

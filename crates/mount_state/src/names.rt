@@ -1,34 +1,84 @@
-//! Looking a part up in a directory, as its names are stored and shown.
+//! Looking a part up in a directory, as its names are stored and shown; a name that led to a node is cached.
 
-ghost use Rattle.std.specs.Prelude.{◌≡◌, ◌+◌, ◌≤◌};
+ghost use Rattle.std.specs.Prelude.{◌≡◌, ◌+◌, ◌≤◌, true, false, None, length, IfSome, IsSome};
+ghost use Rattle.number_map.specs.Numbered as map;
+ghost use Rattle.dentry_cache.specs.Names.{cached};
+ghost use Rattle.disk_tree.specs.DiskTree.{IsDirAt};
+ghost use Rattle.mount_state.specs.CachedNames.{FillsNames};
+ghost use Rattle.mount_state.specs.Contexts.{context_in};
+ghost use Rattle.mount_state.specs.Held.{is_keyed};
 ghost use Rattle.mount_state.specs.Led.{Leads};
+ghost use Rattle.mount_state.specs.SameButCaches.{SameButCaches, StaysFor};
 
+use crate::keeps::keep_key;
 use crate::state::MountState;
-use name_crypt::{Steps, is_plain};
+use name_crypt::{MOST_NAME_BYTES, Steps, is_plain};
+use std::alloc::Global;
 use std::sync::ledger::Ledger;
 
+// The node to which the part leads in a directory with a policy: the one that is cached for the name, else the
+// one that is found, which is then cached, as the key of the directory's names is.
+pub(crate) fn number_kept<L: Ledger>(
+    alloc: Global,
+    state: &mut MountState,
+    dir: u32,
+    part: &[u8],
+    steps: &mut Steps<L>,
+) -> Option<u32>
+    requires dir { IsDirAt state.old.disk dir }
+    requires short { length part.now ≤ MOST_NAME_BYTES }
+    ensures found { Leads state.old dir part.now result }
+    ensures stands { StaysFor state.old state.new }
+    ensures same { SameButCaches state.old state.new }
+    ensures ticks { steps.new ≤ steps.old + 1 }
+    ensures hit { IsSome (cached state.old.names dir part.now) → steps.new ≡ steps.old }
+    ensures locked { is_keyed state.old.disk state.old.ring.claims state.old.handles.live dir ≡ false
+        → steps.new ≡ steps.old }
+    ensures filled { IfSome result (FillsNames state.old.disk state.old.ring.claims state.old.handles.live
+        state.old.names state.new.names dir part.now) }
+{
+    if let Some(number) = state.names.find(dir, part) {
+        return Some(number);
+    }
+    keep_key(alloc, state, dir);
+    let (found, by_key) = number_of(state, dir, part, steps);
+    let number = found?;
+    if !by_key {
+        return Some(number);
+    }
+    let _counted = state.names.keep(dir, part, number).is_ok();
+    Some(number)
+}
+
 // The node to which the part leads in the directory: plain where it has no policy, by one encryption
-// where its key is at hand, else by the part as a no-key text, and nothing is deciphered.
+// where its key is at hand, else by the part as a no-key text, and nothing is deciphered. And whether it was
+// looked up by that encryption.
 pub(crate) fn number_of<L: Ledger>(
     state: &MountState,
     dir: u32,
     part: &[u8],
     steps: &mut Steps<L>,
-) -> Option<u32>
-    ensures found { Leads state.now dir part.now result }
+) -> (Option<u32>, bool)
+    ensures found { Leads state.now dir part.now result.0 }
+    ensures keyed { result.1 ≡ true → is_keyed state.now.disk state.now.ring.claims state.now.handles.live dir ≡ true }
+    ensures by_key { IsSome (context_in (map.get state.now.disk dir)) → IsSome result.0
+        → is_keyed state.now.disk state.now.ring.claims state.now.handles.live dir ≡ true → result.1 ≡ true }
+    ensures plain { context_in (map.get state.now.disk dir) ≡ None → steps.new ≡ steps.old }
+    ensures locked { is_keyed state.now.disk state.now.ring.claims state.now.handles.live dir ≡ false
+        → steps.new ≡ steps.old }
     ensures ticks { steps.new ≤ steps.old + 1 }
 {
     let Some(node) = state.disk.node(dir) else {
-        return None;
+        return (None, false);
     };
     let Some(context) = &node.context else {
-        return node.body.find(part);
+        return (node.body.find(part), false);
     };
     if !state.keyed_under(dir, context) {
-        return state.entry_by_text(dir, part);
+        return (state.entry_by_text(dir, part), false);
     }
     if !is_plain(part) {
-        return None;
+        return (None, false);
     }
-    state.entry_in(dir, node, part, steps)
+    (state.entry_in(dir, node, part, steps), true)
 }

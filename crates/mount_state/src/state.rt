@@ -1,16 +1,19 @@
 //! The state of a mount, and what it keeps by its type.
 
+ghost use Rattle.mount_state.specs.CachedNames.{NamesForget};
 ghost use Rattle.mount_state.specs.Discipline.{Forgets};
 ghost use Rattle.mount_state.specs.Safe.{IsSafe};
 
 use super::HandleTable;
+use dentry_cache::NameCache;
 use disk_tree::DiskTree;
 use inode_refs::InodeCache;
 use key_ring::{KeyRing, ModeKeys};
 use meta_files::MetaFiles;
 
 /// All that a mount holds: what lies on the disk, claims with their secrets, records, cached keys with
-/// pins, open handles, and mode keys. No value of it exists that holds more of a master key than it may.
+/// pins, open handles, mode keys, and cached names. No value of it exists that holds more of a master key, or
+/// more plain names under it, than it may.
 #[derive(Drop)]
 pub struct MountState {
     /// The stored nodes.
@@ -27,6 +30,9 @@ pub struct MountState {
     pub handles: HandleTable,
     /// The mode keys.
     pub modes: ModeKeys,
+    /// The cached names, each with the node that it leads to.
+    pub names: NameCache,
     pub ghost forgets: { Forgets disk ring.claims inodes modes handles.live },
+    pub ghost remembers: { NamesForget disk ring.claims names handles.live },
     pub ghost safe: { IsSafe disk next_node handles.live },
 }

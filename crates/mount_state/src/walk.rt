@@ -1,16 +1,22 @@
 //! Where paths lead, in the stored tree.
 
-ghost use Rattle.std.specs.Prelude.{◌≡◌, ◌+◌, ◌-◌, ◌≤◌, Ok, Err, take, length, IfErr, IfOk, OnOk};
+ghost use Rattle.std.specs.Prelude.{◌≡◌, ◌+◌, ◌-◌, ◌≤◌, false, None, Ok, Err, take, length};
+ghost use Rattle.std.specs.Prelude.{IfErr, IfOk, IsSome, OnOk};
+ghost use Rattle.number_map.specs.Numbered as map;
+ghost use Rattle.dentry_cache.specs.Names.{cached};
 ghost use Rattle.disk_tree.specs.DiskTree.{IsDirAt};
 ghost use Rattle.mount_model.specs.PlainMount.{PlainMount};
 ghost use Rattle.mount_model.specs.Walk.{looked_in, stepped, walked, parent, last_part};
 ghost use Rattle.mount_model.specs.Walk.{is_at_or_above};
+ghost use Rattle.mount_state.specs.CachedNames.{FillsNames};
+ghost use Rattle.mount_state.specs.Contexts.{context_in};
+ghost use Rattle.mount_state.specs.Held.{is_keyed};
 ghost use Rattle.mount_state.specs.Passed.{passes, with_past};
-ghost use Rattle.mount_state.specs.SameButKeys.{SameButKeys, StaysFor};
+ghost use Rattle.mount_state.specs.SameButCaches.{SameButCaches, StaysFor};
 ghost use Rattle.mount_state.specs.StandsFor.{StandsFor};
 
 use crate::keeps::keep_key;
-use crate::names::number_of;
+use crate::names::{number_kept, number_of};
 use crate::state::MountState;
 use mount_model::limits::MOST_NAME_BYTES;
 use mount_model::{Path, Refusal};
@@ -22,8 +28,9 @@ use std::sync::ledger::Ledger;
 /// else its no-key text.
 ///
 /// NotDir where the number is no directory's, then NameTooLong for a part of more than
-/// `MOST_NAME_BYTES` bytes, then NotFound. At most one name is encrypted, and where the key is absent
-/// none, nor is any deciphered.
+/// `MOST_NAME_BYTES` bytes, then NotFound. At most one name is encrypted, and where the name is cached or
+/// the key is absent none, nor is any deciphered. A name of a directory with a policy is cached once it led
+/// to a node.
 pub fn entry_of<L: Ledger>(
     alloc: Global,
     state: &mut MountState,
@@ -33,15 +40,20 @@ pub fn entry_of<L: Ledger>(
 ) -> Result<u32, Refusal>
     ensures value { (m : PlainMount) → StandsFor state.old m → result ≡ stepped m dir part.now }
     ensures stands { StaysFor state.old state.new }
-    ensures same { SameButKeys state.old state.new }
+    ensures same { SameButCaches state.old state.new }
     ensures ticks { steps.new ≤ steps.old + 1 }
+    ensures hit { IsSome (cached state.old.names dir part.now) → steps.new ≡ steps.old }
+    ensures locked { is_keyed state.old.disk state.old.ring.claims state.old.handles.live dir ≡ false
+        → steps.new ≡ steps.old }
+    ensures filled { IfOk result (FillsNames state.old.disk state.old.ring.claims state.old.handles.live
+        state.old.names state.new.names dir part.now) }
 {
-    if let Err(refusal) = directory_kept(alloc, state, dir, part) {
-        return Err(refusal);
-    }
-    match number_of(state, dir, part, steps) {
-        Some(number) => Ok(number),
-        None => Err(Refusal::NotFound),
+    match directory_for(state, dir, part) {
+        Ok(true) => number_kept(alloc, state, dir, part, steps).ok_or(Refusal::NotFound),
+        Ok(false) => number_of(state, dir, part, steps)
+            .0
+            .ok_or(Refusal::NotFound),
+        Err(refusal) => Err(refusal),
     }
 }
 
@@ -55,7 +67,7 @@ pub fn walked_node<L: Ledger>(
 ) -> Result<u32, Refusal>
     ensures value { (m : PlainMount) → StandsFor state.old m → result ≡ walked m path.now }
     ensures stands { StaysFor state.old state.new }
-    ensures same { SameButKeys state.old state.new }
+    ensures same { SameButCaches state.old state.new }
     ensures ticks { steps.new ≤ steps.old + length path.now }
 {
     walked_parts(alloc, state, path, path.len(), steps)
@@ -71,16 +83,14 @@ pub fn walked_parent<L: Ledger>(
     steps: &mut Steps<L>,
 ) -> Result<u32, Refusal>
     ensures value { (m : PlainMount) → StandsFor state.old m → result ≡ parent m path.now }
+    ensures short { OnOk result (length (last_part path.now) ≤ MOST_NAME_BYTES) }
     ensures stands { StaysFor state.old state.new }
-    ensures same { SameButKeys state.old state.new }
+    ensures same { SameButCaches state.old state.new }
     ensures ticks { steps.new ≤ steps.old + (length path.now - 1) }
 {
     let before = path.len().saturating_sub(1);
     match walked_parts(alloc, state, path, before, steps) {
-        Ok(dir) => match path.part(before) {
-            Some(part) => directory_kept(alloc, state, dir, part.bytes()),
-            None => directory_kept(alloc, state, dir, b""),
-        },
+        Ok(dir) => directory_kept(alloc, state, dir, last_bytes(path)),
         Err(refusal) => Err(refusal),
     }
 }
@@ -97,7 +107,7 @@ pub fn walked_parent_past<L: Ledger>(
     ensures value { (m : PlainMount) → StandsFor state.old m
         → result ≡ with_past (is_at_or_above m node path.now) (parent m path.now) }
     ensures stands { StaysFor state.old state.new }
-    ensures same { SameButKeys state.old state.new }
+    ensures same { SameButCaches state.old state.new }
     ensures ticks { steps.new ≤ steps.old + (length path.now - 1) }
 {
     let before = path.len().saturating_sub(1);
@@ -110,8 +120,8 @@ pub fn walked_parent_past<L: Ledger>(
     }
 }
 
-// The path's last part; no bytes where it has none.
-fn last_bytes(path: &Path) -> &[u8]
+/// The path's last part; no bytes where it has none.
+pub fn last_bytes(path: &Path) -> &[u8]
     ensures { result.now ≡ last_part path.now }
 {
     match path.part(path.len().saturating_sub(1)) {
@@ -134,7 +144,7 @@ fn walked_past<L: Ledger>(
     ensures value { (m : PlainMount) → StandsFor state.old m
         → result ≡ with_past (passes m 0 (take count path.now) node) (walked m (take count path.now)) }
     ensures stands { StaysFor state.old state.new }
-    ensures same { SameButKeys state.old state.new }
+    ensures same { SameButCaches state.old state.new }
     ensures ticks { steps.new ≤ steps.old + count }
 {
     let mut at = 0;
@@ -165,7 +175,7 @@ fn walked_parts<L: Ledger>(
     requires { count ≤ length path.now }
     ensures value { (m : PlainMount) → StandsFor state.old m → result ≡ walked m (take count path.now) }
     ensures stands { StaysFor state.old state.new }
-    ensures same { SameButKeys state.old state.new }
+    ensures same { SameButCaches state.old state.new }
     ensures ticks { steps.new ≤ steps.old + count }
 {
     let mut node = 0;
@@ -190,8 +200,9 @@ fn directory_kept(
 ) -> Result<u32, Refusal>
     ensures value { (m : PlainMount) → StandsFor state.old m → result ≡ looked_in m dir part.now }
     ensures dir { OnOk result (IsDirAt state.old.disk dir) }
+    ensures short { OnOk result (length part.now ≤ MOST_NAME_BYTES) }
     ensures stands { StaysFor state.old state.new }
-    ensures same { SameButKeys state.old state.new }
+    ensures same { SameButCaches state.old state.new }
 {
     match directory_for(state, dir, part) {
         Ok(true) => {
@@ -203,13 +214,14 @@ fn directory_kept(
     }
 }
 
-// Whether the directory has a policy, where the part may be looked up in it. That it has spares a step, and
-// no clause says it.
+// Whether the directory has a policy, where the part may be looked up in it.
 fn directory_for(state: &MountState, dir: u32, part: &[u8]) -> Result<bool, Refusal>
     ensures found { IfOk result (λ _. (m : PlainMount) → StandsFor state.now m → looked_in m dir part.now ≡ Ok dir) }
     ensures refused { IfErr result (λ refusal. (m : PlainMount) → StandsFor state.now m
         → looked_in m dir part.now ≡ Err refusal) }
     ensures dir { OnOk result (IsDirAt state.now.disk dir) }
+    ensures short { OnOk result (length part.now ≤ MOST_NAME_BYTES) }
+    ensures plain { result ≡ Ok false → context_in (map.get state.now.disk dir) ≡ None }
 {
     let Some(node) = state.disk.node(dir) else {
         return Err(Refusal::NotDir);

@@ -2,6 +2,8 @@
 #![tactic(auto)]
 
 #[cfg(test)]
+mod cached_names;
+#[cfg(test)]
 mod calls;
 #[cfg(test)]
 mod claims;
@@ -9,6 +11,8 @@ mod claims;
 mod contents;
 #[cfg(test)]
 mod disk;
+#[cfg(test)]
+mod encrypted_dir;
 #[cfg(test)]
 mod handles;
 #[cfg(test)]

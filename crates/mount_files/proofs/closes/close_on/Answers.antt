@@ -1,6 +1,6 @@
 use Rattle.std.proofs.Common.{refl, sym, ap, ◌∙◌}
 use Rattle.mount_model.specs.PlainMount.{HandleList, node_of}
-use Rattle.mount_files.proofs.ClosingLemmas.{pins_due, in_use, keys_are, disk_now_is, rule_left, safe_left}
+use Rattle.mount_files.proofs.ClosingLemmas.{pins_due, in_use, keys_are, names_are, disk_now_is, rule_left, names_forget, safe_left}
 use Rattle.mount_files.proofs.CloseStands.{closed_stands}
 use Rattle.mount_files.proofs.closes.close_on.Goals as goal
 
@@ -24,6 +24,10 @@ invariant_of-state c =
           s.forgets c.requires c.close.ensures.left c.close.ensures.one
           c.unpin.new.self c.forget_key.new.inodes c.unpin.ensures c.forget_key.ensures
           c.forget_node.new.disk c.forget_node.ensures c.release_mode.new.modes c.release_mode.ensures;
+      remembers = names_forget s.disk s.ring.claims s.inodes s.modes s.handles c.close.new.self c.args.caller c.args.handle c.args.node
+          s.forgets c.requires c.close.ensures.left c.close.ensures.one
+          c.unpin.new.self c.forget_key.new.inodes c.unpin.ensures c.forget_key.ensures
+          c.forget_node.new.disk c.forget_node.ensures s.names c.forget_names.new.names s.remembers c.forget_names.ensures;
       safe = safe_left s.disk s.ring.claims s.inodes s.modes s.handles c.close.new.self c.args.caller c.args.handle c.args.node
           s.forgets c.requires c.close.ensures.left c.close.ensures.one
           c.unpin.new.self c.forget_key.new.inodes c.unpin.ensures c.forget_key.ensures
@@ -43,10 +47,14 @@ returns-clause-closed c =
           s.forgets c.requires c.close.ensures.left c.close.ensures.one
           c.unpin.new.self c.forget_key.new.inodes c.unpin.ensures c.forget_key.ensures;
       modes = c.release_mode.ensures;
+      names = names_are s.disk s.ring.claims s.inodes s.modes s.handles c.close.new.self c.args.caller c.args.handle c.args.node
+          s.forgets c.requires c.close.ensures.left c.close.ensures.one
+          c.unpin.new.self c.forget_key.new.inodes c.unpin.ensures c.forget_key.ensures
+          s.names c.forget_names.new.names c.forget_names.ensures;
     }
 
 pub returns-clause-same : goal.returns-clause-same
-returns-clause-same c = record { disk = tt; next_node = refl; ring = refl; meta = refl; keys = tt; pins = tt; handles = tt; modes = tt }
+returns-clause-same c = record { disk = tt; next_node = refl; ring = refl; meta = refl; keys = tt; pins = tt; handles = tt; modes = tt; names = tt }
 
 pub returns-clause-stands : goal.returns-clause-stands
 returns-clause-stands c = λ m st.

@@ -1,3 +1,4 @@
+use Rattle.mount_files.proofs.CachedRules.{names_opened}
 use Rattle.mount_files.proofs.PinnedLemmas.{own_rule, own_safe, own_caches}
 use Rattle.mount_files.proofs.holds.open_own.Goals as goal
 
@@ -8,6 +9,8 @@ invariant_of-state c =
       forgets = own_rule s.disk s.ring.claims s.next_node s.inodes s.handles c.args.caller c.args.node c.requires.room c.requires.there
           c.open_pinned.new.inodes c.open_pinned.new.handles s.modes s.forgets c.args.key c.requires.need c.open_pinned.result
           c.open_pinned.ensures.pinned c.open_pinned.ensures.opened c.open_pinned.ensures.inodes c.open_pinned.ensures.handles;
+      remembers = names_opened s.disk s.ring.claims s.names s.handles c.open_pinned.new.handles c.args.caller c.args.node s.remembers c.open_pinned.result
+          c.open_pinned.ensures.opened c.open_pinned.ensures.handles;
       safe = own_safe s.disk s.ring.claims s.next_node s.inodes s.handles c.args.caller c.args.node c.requires.room c.requires.there
           c.open_pinned.new.inodes c.open_pinned.new.handles s.safe c.open_pinned.result
           c.open_pinned.ensures.opened c.open_pinned.ensures.handles;

@@ -6,6 +6,7 @@ use Rattle.mount_state.specs.Discipline.{Forgets}
 use Rattle.mount_state.specs.Handles.{Handles}
 use Rattle.mount_state.specs.Safe.{IsSafe}
 use Rattle.mount_state.specs.StandsFor.{CachesStand}
+use Rattle.mount_files.proofs.CachedRules.{names_opened}
 use Rattle.mount_files.proofs.ModeCounts.{held, released, held_back, held_some}
 use Rattle.mount_files.proofs.PinnedLemmas.{modes_fit, shared_opened, opened_with, safe_opened, shared_caches}
 use Rattle.mount_files.proofs.holds.open_shared.Goals as goal
@@ -25,6 +26,8 @@ invariant_of-state-in-Ok-1 c =
           (subst (λ (h : Handles). Forgets s.disk s.ring.claims (opened_with s.disk s.ring.claims s.next_node s.inodes s.handles c.args.caller c.args.node c.requires.room c.requires.there None) (held s.modes c.args.id c.args.kind c.args.key) h.live) (sym c.in-Ok.ensures.opened)
           (shared_opened s.disk s.ring.claims s.next_node s.inodes s.handles c.args.caller c.args.node c.requires.room c.requires.there s.modes s.forgets
           c.args.id c.args.kind c.args.key c.requires.need)));
+      remembers = names_opened s.disk s.ring.claims s.names s.handles c.open_pinned.new.handles c.args.caller c.args.node s.remembers c.open_pinned.result
+          c.open_pinned.ensures.opened c.open_pinned.ensures.handles;
       safe = subst (λ (h : Handles). IsSafe s.disk s.next_node h.live) (sym c.in-Ok.ensures.opened)
           (safe_opened s.disk s.ring.claims s.next_node s.inodes s.handles c.args.caller c.args.node c.requires.room c.requires.there s.safe);
     }
@@ -45,6 +48,8 @@ invariant_of-state-in-Err c =
       forgets = subst (λ (x : Modes). Forgets s.disk s.ring.claims c.open_pinned.new.inodes x c.open_pinned.new.handles.live) (sym back)
           (subst (λ (x : Cache). Forgets s.disk s.ring.claims x s.modes c.open_pinned.new.handles.live) (sym c.in-Err.ensures.inodes)
           (subst (λ (h : Handles). Forgets s.disk s.ring.claims s.inodes s.modes h.live) (sym c.in-Err.ensures.handles) s.forgets));
+      remembers = names_opened s.disk s.ring.claims s.names s.handles c.open_pinned.new.handles c.args.caller c.args.node s.remembers c.open_pinned.result
+          c.open_pinned.ensures.opened c.open_pinned.ensures.handles;
       safe = subst (λ (h : Handles). IsSafe s.disk s.next_node h.live) (sym c.in-Err.ensures.handles) s.safe;
     }
 
@@ -68,6 +73,7 @@ returns-in-Err-clause-kept c =
       handles = c.in-Err.ensures.handles;
       modes = c.release.ensures ∙ ap (λ (x : Modes). released x c.args.id c.args.kind) hold
           ∙ held_back s.modes c.users_of-used.ensures.used c.args.id c.args.kind c.args.key;
+      names = tt;
     }
 
 pub returns-in-Err-clause-caches : goal.returns-in-Err-clause-caches

@@ -20,7 +20,7 @@ returns-in-Ok-clause-stands c = λ m st there.
     opened_given m c.args.caller c.args.node (open_told m c.args.caller c.args.node) c.in-Ok.number _
     (told_opened m c.args.caller c.args.node link keyed room)
     (c.in-Ok.ensures.number ∙ ap (λ (o : Numbered ℕ). opens_of o c.args.caller) st.handles.opened)
-    (opened_stands s _ m c.args.caller c.args.node st c.in-Ok.ensures.opened (c.in-Ok.ensures.caches m st)
+    (opened_stands s _ m c.args.caller c.args.node st c.in-Ok.ensures.opened (c.in-Ok.ensures.caches m st) c.in-Ok.ensures.names
     (open_well m c.args.caller c.args.node st.well there link room))
 
 pub returns-in-Ok-clause-opened : goal.returns-in-Ok-clause-opened

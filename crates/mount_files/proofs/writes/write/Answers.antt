@@ -6,13 +6,14 @@ use Rattle.file_disk.specs.Keys.{seal_of}
 use Rattle.file_disk.specs.Bodies.{disk_written}
 use Rattle.mount_model.specs.declared.reply.Refusal.TheVariants.{NoSpace}
 use Rattle.mount_model.specs.FileAnswers.{answer_to_write}
+use Rattle.mount_state.specs.CachedNames.{NamesForget}
 use Rattle.mount_state.specs.Discipline.{Forgets}
 use Rattle.mount_state.specs.Safe.{IsSafe}
 use Rattle.mount_files.specs.Written.{IsWrittenTo}
 use Rattle.mount_files.proofs.OpenLemmas.{file_at}
 use Rattle.mount_files.proofs.SealLemmas.{seal_is}
 use Rattle.mount_files.proofs.RoomLemmas.{room_left, lacks_room}
-use Rattle.mount_files.proofs.WrittenLemmas.{on_either, written_rule, written_safe, written_stands, unwritten_stands, after}
+use Rattle.mount_files.proofs.WrittenLemmas.{on_either, written_rule, written_names, written_safe, written_stands, unwritten_stands, after}
 use Rattle.mount_files.proofs.WriteLemmas.{write_refused, write_full, write_done, given_refusal, told_refusal, given_done, not_refused, some_bytes, not_full}
 use Rattle.mount_files.proofs.writes.write.Goals as goal
 
@@ -46,6 +47,8 @@ invariant_of-state c =
     record {
       forgets = on_either (λ (d : Disk). Forgets d s.ring.claims s.inodes s.modes s.handles.live) c.write_file.result c.write_file.ensures.written c.write_file.ensures.kept
           (written_rule s.disk c.in-Ok.file seal c.args.offset xs s.ring.claims s.inodes s.modes s.handles.live s.forgets) s.forgets;
+      remembers = on_either (λ (d : Disk). NamesForget d s.ring.claims s.names s.handles.live) c.write_file.result c.write_file.ensures.written c.write_file.ensures.kept
+          (written_names s.disk c.in-Ok.file seal c.args.offset xs s.ring.claims s.names s.handles.live s.remembers) s.remembers;
       safe = on_either (λ (d : Disk). IsSafe d s.next_node s.handles.live) c.write_file.result c.write_file.ensures.written c.write_file.ensures.kept
           (written_safe s.disk c.in-Ok.file seal c.args.offset xs s.next_node s.handles.live s.safe) s.safe;
     }
@@ -63,7 +66,7 @@ returns-in-Ok-write_file-clause-stands c = λ m st.
     (ap (answer_to_write m c.args.caller c.args.handle c.args.offset) (sym c.as_slice-piece.ensures)
     ∙ write_done s m st c.args.caller c.args.handle c.args.offset xs file c.in-Ok.ensures.held c.in-Ok.ensures.file small room) _
     (written_stands s m st file c.args.offset xs seal (seal_is s m st file is_open seal c.in-Ok-key_of.ensures.sealed) c.in-Ok-key_of.ensures.ranged _
-    c.in-Ok-write_file.ensures.written (record { disk = tt; next_node = refl; ring = refl; meta = refl; keys = refl; pins = refl; handles = refl; modes = refl })
+    c.in-Ok-write_file.ensures.written (record { disk = tt; next_node = refl; ring = refl; meta = refl; keys = refl; pins = refl; handles = refl; modes = refl; names = refl })
     c.slice_is_bytes.ensures small room)
 
 pub returns-in-Ok-write_file-clause-refused : goal.returns-in-Ok-write_file-clause-refused
@@ -97,7 +100,7 @@ returns-in-Err-NoSpace-clause-stands c = λ m st.
     given_refusal s m st c.args.caller c.args.handle c.args.offset c.args.bytes.now NoSpace
     (ap (answer_to_write m c.args.caller c.args.handle c.args.offset) (sym c.as_slice-piece.ensures)
     ∙ write_full s m st c.args.caller c.args.handle c.args.offset xs file c.in-Ok.ensures.held c.in-Ok.ensures.file small lacks) _
-    (unwritten_stands s m st _ c.in-Err-NoSpace.ensures.kept (record { disk = tt; next_node = refl; ring = refl; meta = refl; keys = refl; pins = refl; handles = refl; modes = refl }))
+    (unwritten_stands s m st _ c.in-Err-NoSpace.ensures.kept (record { disk = tt; next_node = refl; ring = refl; meta = refl; keys = refl; pins = refl; handles = refl; modes = refl; names = refl }))
 
 pub returns-in-Err-NoSpace-clause-refused : goal.returns-in-Err-NoSpace-clause-refused
 returns-in-Err-NoSpace-clause-refused c = λ m st _.

@@ -1,7 +1,7 @@
 use Rattle.std.proofs.Common.{◌≤◌, length, inl, refl, sym, subst, ◌∙◌}
 use Rattle.fsc_keys.specs.Keys.{key_id_of}
 use Rattle.fsc_keys.specs.declared.raw_key.TheConstants.{LEAST_RAW_KEY_BYTES, MOST_RAW_KEY_BYTES}
-use Rattle.mount_keys.proofs.EvictionLemmas.{added_rule}
+use Rattle.mount_keys.proofs.EvictionLemmas.{added_rule, added_names}
 use Rattle.mount_keys.proofs.AdditionLemmas.{added_gives, added_present}
 use Rattle.mount_keys.proofs.additions.add_key.Goals as goal
 
@@ -10,6 +10,9 @@ invariant_of-state c =
     let s = c.args.state.now in
     record {
       forgets = added_rule s.disk s.ring c.add-added.new.self s.inodes s.modes s.handles.live s.forgets
+          c.add-added.result (key_id_of c.in-Ok.key) c.args.uid c.add-added.ensures.claimed
+          c.add-added.ensures.kept;
+      remembers = added_names s.disk s.ring c.add-added.new.self s.names s.handles.live s.remembers
           c.add-added.result (key_id_of c.in-Ok.key) c.args.uid c.add-added.ensures.claimed
           c.add-added.ensures.kept;
       safe = s.safe;
@@ -25,7 +28,7 @@ returns-in-Ok-added-clause-stands c = λ m st agrees.
     c.args.raw.now c.in-Ok-added.id (agrees refl)
     (c.in-Ok.ensures.value ∙ c.as_slice.ensures) range.0 range.1 c.in-Ok-added.ensures.id
     (λ over. let none = sym c.in-Ok-added.is ∙ c.add-added.ensures.quota.1 over in cc none)
-    (record { disk = refl; next_node = refl; ring = tt; meta = refl; keys = refl; pins = refl; handles = refl; modes = refl })
+    (record { disk = refl; next_node = refl; ring = tt; meta = refl; keys = refl; pins = refl; handles = refl; modes = refl; names = refl })
     (record { claims = c.in-Ok-added.ensures.claimed; secrets = c.in-Ok-added.ensures.secret }))
 
 pub returns-in-Ok-added-clause-present : goal.returns-in-Ok-added-clause-present

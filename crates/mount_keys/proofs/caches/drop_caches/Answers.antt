@@ -1,7 +1,8 @@
-use Rattle.std.proofs.Common.{refl, sym, ap, ◌∙◌}
+use Rattle.std.proofs.Common.{rules, refl, sym, ap, ◌∙◌}
 use Rattle.inode_refs.specs.Cached.{Cache, key_at}
+use Rattle.mount_state.proofs.FirstLemmas.{none_remembered}
 use Rattle.mount_keys.proofs.EvictionLemmas.{all_evicted_rule, all_evicted_was}
-use Rattle.mount_keys.proofs.FewerLemmas.{fewer_stand}
+use Rattle.mount_keys.proofs.FewerLemmas.{fewer_stand, no_names_more}
 use Rattle.mount_keys.proofs.caches.drop_caches.Goals as goal
 
 pub invariant_of-state : goal.invariant_of-state
@@ -10,6 +11,7 @@ invariant_of-state c =
     record {
       forgets = all_evicted_rule s.disk s.ring.claims s.inodes s.modes s.handles.live s.forgets
           c.evict_all_unpinned.new.self c.evict_all_unpinned.ensures;
+      remembers = none_remembered s.disk s.ring.claims _ s.handles.live (search rules);
       safe = s.safe;
     }
 
@@ -28,8 +30,10 @@ returns-clause-stands c = λ m st.
                 c.evict_all_unpinned.ensures;
             handles = refl;
             modes = refl;
+            names = tt;
           })
           st.well.keys st.keys.claims (λ id raw there. there)
           (λ n k there. all_evicted_was s.inodes n k (sym
-          (ap (λ (x : Cache). key_at x n) c.evict_all_unpinned.ensures) ∙ there)),
+          (ap (λ (x : Cache). key_at x n) c.evict_all_unpinned.ensures) ∙ there))
+          (no_names_more s.names c.forget_all.new.self c.forget_all.ensures),
     )

@@ -1,6 +1,7 @@
-use Rattle.std.proofs.Common.{ap, ◌∙◌}
+use Rattle.std.proofs.Common.{rules, ap, ◌∙◌}
 use Rattle.user_claims.specs.Claims.{ClaimSet, is_present}
 use Rattle.user_claims.proofs.PresentLemmas.{is_present-without_id_other}
+use Rattle.mount_state.proofs.FirstLemmas.{none_remembered}
 use Rattle.mount_keys.proofs.EvictionLemmas.{evicted_rule}
 use Rattle.mount_keys.proofs.clearings.take_all_claims.Goals as goal
 
@@ -13,5 +14,6 @@ invariant_of-state c =
           (λ q apart. ap (λ (cs : ClaimSet). is_present cs q) c.clear.ensures.claims
           ∙ is_present-without_id_other s.ring.claims c.args.id.now q apart)
           c.evict_unpinned.new.self c.evict_unpinned.ensures;
+      remembers = none_remembered s.disk c.clear.new.self.claims _ s.handles.live (search rules);
       safe = s.safe;
     }

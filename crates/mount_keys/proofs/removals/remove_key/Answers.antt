@@ -89,5 +89,5 @@ returns-then-count_of_id-eq0-clause-stands c = λ m st.
     let s = c.args.state.now in
     removal_gives s m st c.args.uid c.args.id.now s false c.is_busy-busy.result (needed_told c)
     (lost_stand s s m c.args.uid c.args.id.now st (record
-    { disk = refl; next_node = refl; ring = tt; meta = refl; keys = tt; pins = refl; handles = refl; modes = refl })
+    { disk = refl; next_node = refl; ring = tt; meta = refl; keys = tt; pins = refl; handles = refl; modes = refl; names = tt })
     (loses_none s c.args.uid c.args.id.now c.claims.ensures.secrets (absent c)))

@@ -7,7 +7,8 @@ use Rattle.disk_tree.specs.declared.node.StoredNode.{StoredNode}
 use Rattle.mount_state.specs.Discipline.{Forgets}
 use Rattle.mount_state.specs.Safe.{IsSafe}
 use Rattle.mount_names.specs.Places.{Place}
-use Rattle.mount_names.proofs.DiskRules.{made_rule, made_safe}
+use Rattle.mount_names.proofs.DiskRules.{made_rule, made_safe, none_at_next}
+use Rattle.mount_names.proofs.CachedRules.{made_names, names_on}
 use Rattle.mount_names.proofs.MakeLemmas.{made_node, made_stands, made_given, well_after}
 use Rattle.mount_names.proofs.makes.make.Goals as goal
 
@@ -21,6 +22,10 @@ invariant_of-state c =
       forgets = subst (λ (x : Disk). Forgets x s.ring.claims s.inodes s.modes s.handles.live) (sym added)
           (made_rule s.disk s.next_node s.ring.claims s.inodes s.modes s.handles.live s.forgets s.safe
           (record { context = c.stored_context.result; named = true; body = c.args.body }) c.args.place.now.dir c.args.place.now.stored);
+      remembers = names_on _ c.add_named.new.self s.ring.claims s.names s.handles.live added
+          (made_names s.disk s.ring.claims s.names s.handles.live s.remembers s.next_node
+          (none_at_next s.disk s.next_node s.ring.claims s.inodes s.modes s.handles.live s.forgets s.safe)
+          (record { context = c.stored_context.result; named = true; body = c.args.body }) c.args.place.now.dir c.args.place.now.stored);
       safe = subst (λ (x : Disk). IsSafe x (s.next_node + 1) s.handles.live) (sym added)
           (made_safe s.disk s.next_node s.ring.claims s.inodes s.modes s.handles.live s.forgets s.safe
           (record { context = c.stored_context.result; named = true; body = c.args.body }) c.args.place.now.dir c.args.place.now.stored);
@@ -33,6 +38,6 @@ returns-in-Ok-clause-stands c = λ m path body st at short stored well.
     let added : c.add_named.new.self ≡ entered (insert s.disk s.next_node node) c.args.place.now.dir c.args.place.now.stored s.next_node
     = c.in-Ok.ensures.added ∙ ap (λ (x : Place). entered (insert s.disk s.next_node node) x.dir x.stored s.next_node) c.place.view_is in
     made_given c.args.state.now m st path c.args.place.now at c.args.nonce.now body short _
-    (made_stands c.args.state.now m st path c.args.place.now at c.args.nonce.now body _ _ added refl refl refl refl refl refl
+    (made_stands c.args.state.now m st path c.args.place.now at c.args.nonce.now body _ _ added refl refl refl refl refl refl refl
     (made_node c.args.state.now m st path c.args.place.now at c.args.nonce.now body c.args.body stored _ (λ i. record { context = (c.stored_context.ensures ∙ ap (λ (o : Option Context). option_map context_bytes o) c.context_of_new.ensures) i; named = true; body = c.args.body }))
     (well_after c.args.state.now m st path c.args.place.now at c.args.nonce.now body short well))

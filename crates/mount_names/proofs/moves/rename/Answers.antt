@@ -2,10 +2,11 @@ use Rattle.std.proofs.Common.{◌≡◌, false, ◌||◌, cond, sym, ap, subst, 
 use Rattle.mount_model.specs.Answered.{Answer, refused, at_node}
 use Rattle.mount_model.specs.declared.reply.Refusal.TheVariants.{Inval}
 use Rattle.mount_model.specs.RenameAnswer.{answer_to_rename, answer_to_rename_in}
-use Rattle.mount_model.specs.Walk.{is_root, last_part, parent}
+use Rattle.mount_model.specs.Walk.{is_root, found, last_part, parent}
 use Rattle.mount_state.specs.Given.{IsGivenOrNoMemory, IsRefusedAsDue}
 use Rattle.mount_model.specs.WellFormed.{IsWellFormed}
 use Rattle.mount_names.proofs.MoveLemmas.{source_refused, source_at, rename_is, rename_well, refused_so, due_refused}
+use Rattle.mount_names.proofs.CachedStands.{found_by}
 use Rattle.mount_names.proofs.PlaceLemmas.{some_parts}
 use Rattle.mount_names.proofs.moves.rename.Goals as goal
 
@@ -19,6 +20,7 @@ returns-in-Ok-clause-stands g c = λ m st fits new_fits.
     let is = rename_is m path new_path named c.in-Ok.entry from in
     subst (λ (a : Answer). IsGivenOrNoMemory m a c.rename_entry.result c.rename_entry.new.state) (sym is)
     (c.rename_entry.ensures.stands m from.name (c.in-Ok.ensures.stands m st) new_fits from.of
+    (found_by m c.in-Ok.entry.dir c.last_bytes.result.now from.name c.in-Ok.entry.number (ap (found m c.in-Ok.entry.dir) c.last_bytes.ensures ∙ from.found_so))
     (subst IsWellFormed (ap (λ (a : Answer). a.mount) is) (rename_well m path new_path st.well fits new_fits)))
 
 pub returns-in-Ok-clause-due : goal.returns-in-Ok-clause-due

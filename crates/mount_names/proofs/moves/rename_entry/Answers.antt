@@ -4,12 +4,12 @@ use Rattle.mount_names.proofs.MoveLemmas.{moved_is, moved_given, moved_well, tar
 use Rattle.mount_names.proofs.moves.rename_entry.Goals as goal
 
 pub returns-in-Ok-clause-stands : goal.returns-in-Ok-clause-stands
-returns-in-Ok-clause-stands g c = λ m name st fits of well.
+returns-in-Ok-clause-stands g c = λ m name st fits of by_part well.
     let e = c.args.entry.now in
     let path = c.args.new_path.now in
     let at = c.in-Ok.ensures.placed m name st fits of in
     moved_given m e name path c.in-Ok.place at c.move_to.result c.move_to.new.state
-    (c.move_to.ensures.stands m name (last_part path) (c.in-Ok.ensures.stands m st) of at.named (moved_well m e name path c.in-Ok.place at well))
+    (c.move_to.ensures.stands m name (last_part path) (c.in-Ok.ensures.stands m st) of by_part at.named (moved_well m e name path c.in-Ok.place at well))
 
 pub returns-in-Ok-clause-due : goal.returns-in-Ok-clause-due
 returns-in-Ok-clause-due g c = λ m name st fits of.
@@ -19,7 +19,7 @@ returns-in-Ok-clause-due g c = λ m name st fits of.
     due_done (after_moving m e name path c.in-Ok.place at) (answer_to_move_from m path e.dir name e.number) c.move_to.result (moved_is m e name path c.in-Ok.place at)
 
 pub returns-in-Err-clause-stands : goal.returns-in-Err-clause-stands
-returns-in-Err-clause-stands g c = λ m name st fits of well.
+returns-in-Err-clause-stands g c = λ m name st fits of by_part well.
     let e = c.args.entry.now in
     let path = c.args.new_path.now in
     refused_so m (answer_to_move_from m path e.dir name e.number) c.in-Err.refusal

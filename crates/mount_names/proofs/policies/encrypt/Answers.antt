@@ -16,6 +16,7 @@ use Rattle.mount_state.proofs.UserLemmas.{pins_tell}
 use Rattle.mount_names.specs.Encrypted.{with_policy}
 use Rattle.mount_names.proofs.LenLemmas.{entries_len}
 use Rattle.mount_names.proofs.ReadLemmas.{dir_read}
+use Rattle.mount_names.proofs.CachedRules.{policy_names, names_on}
 use Rattle.mount_names.proofs.PolicyRules.{policy_safe, unheld_rule}
 use Rattle.mount_names.proofs.PolicyStands.{unheld_caches, policy_stands}
 use Rattle.mount_names.proofs.SetLemmas.{set_done, done_given, used_present, none_left}
@@ -31,6 +32,9 @@ invariant_of-state c =
     record {
       forgets = subst (λ (x : Disk). Forgets x s.ring.claims s.inodes s.modes s.handles.live) (sym disk_is)
           (unheld_rule s.disk s.next_node c.args.dir c.args.context.now c.requires.dir c.requires.plain s.ring.claims s.inodes s.modes s.handles.live s.forgets free);
+      remembers = names_on _ c.set_context.new.self s.ring.claims s.names s.handles.live disk_is
+          (policy_names s.disk s.ring.claims s.names s.handles.live s.remembers c.args.dir c.args.context.now c.requires.dir c.requires.sized
+          (c.may_use.ensures.present c.if-not-may_use.false));
       safe = subst (λ (x : Disk). IsSafe x s.next_node s.handles.live) (sym disk_is)
           (policy_safe s.disk s.next_node c.args.dir c.args.context.now c.requires.dir c.requires.plain s.handles.live s.safe);
     }
@@ -43,13 +47,13 @@ returns-then-handles-eq0-clause-stands c = λ m st well.
     let is_dir = dir_read s.disk s.next_node m st.tree c.args.dir c.requires.dir in
     let len_is : c.entry_count.result ≡ length (children m.nodes c.args.dir) = c.entry_count.ensures ∙ entries_len s.disk s.next_node m st.well st.tree c.args.dir in
     let empty : eqb (length (children m.nodes c.args.dir)) 0 ≡ true = eq-eqb _ _ (omega (arith, len_is, c.if-entry_count-gt0.false)) in
-    let may : may_use m c.args.uid c.args.context.now.policy.id ≡ true = sym (c.may_use.ensures m st) ∙ c.if-not-may_use.false in
+    let may : may_use m c.args.uid c.args.context.now.policy.id ≡ true = sym (c.may_use.ensures.stands m st) ∙ c.if-not-may_use.false in
     let answer = set_done m c.args.uid c.args.dir c.args.context.now empty may in
     done_given m (with_policy m c.args.dir c.args.context.now) _ Done _ answer
     (inl (
       refl,
       policy_stands s m st c.args.dir c.args.context.now is_dir (none_left (children m.nodes c.args.dir) empty) _ disk_is refl refl refl refl
-          (unheld_caches s m st c.args.dir c.args.context.now is_dir (none_left (children m.nodes c.args.dir) empty) c.requires.dir c.requires.plain)
+          (unheld_caches s m st c.args.dir c.args.context.now is_dir (none_left (children m.nodes c.args.dir) empty) c.requires.dir c.requires.plain) refl
           (subst IsWellFormed (ap (λ (a : Answer). a.mount) answer) well),
     ))
 
@@ -58,7 +62,7 @@ returns-clause-stands c = λ m st well.
     let s = c.args.state.now in
     let len_is : c.entry_count.result ≡ length (children m.nodes c.args.dir) = c.entry_count.ensures ∙ entries_len s.disk s.next_node m st.well st.tree c.args.dir in
     let empty : eqb (length (children m.nodes c.args.dir)) 0 ≡ true = eq-eqb _ _ (omega (arith, len_is, c.if-entry_count-gt0.false)) in
-    let may : may_use m c.args.uid c.args.context.now.policy.id ≡ true = sym (c.may_use.ensures m st) ∙ c.if-not-may_use.false in
+    let may : may_use m c.args.uid c.args.context.now.policy.id ≡ true = sym (c.may_use.ensures.stands m st) ∙ c.if-not-may_use.false in
     let answer = set_done m c.args.uid c.args.dir c.args.context.now empty may in
     done_given m (with_policy m c.args.dir c.args.context.now) _ c.encrypt_open.result _ answer
     (c.encrypt_open.ensures.stands m st (none_left (children m.nodes c.args.dir) empty) (used_present m c.args.uid c.args.dir c.args.context.now c.args.context.now.policy.id may)

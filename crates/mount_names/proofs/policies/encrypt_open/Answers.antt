@@ -10,6 +10,7 @@ use Rattle.mount_state.specs.Safe.{IsSafe}
 use Rattle.mount_state.proofs.UserLemmas.{pins_tell}
 use Rattle.mount_names.specs.Encrypted.{with_policy}
 use Rattle.mount_names.proofs.ReadLemmas.{dir_read}
+use Rattle.mount_names.proofs.CachedRules.{policy_names, names_on}
 use Rattle.mount_names.proofs.PolicyRules.{rule_of, policy_safe, open_rule, users_fit}
 use Rattle.mount_names.proofs.PolicyStands.{caches_of, open_caches, policy_stands}
 use Rattle.mount_names.proofs.policies.encrypt_open.Goals as goal
@@ -31,6 +32,8 @@ invariant_of-state c =
       forgets = rule_of _ _ _ _ _ _ s.ring.claims s.handles.live disk_is c.in-Ok.ensures.inodes c.in-Ok.ensures.modes
           (open_rule s.disk s.next_node c.args.dir c.args.context.now c.requires.dir c.requires.plain s.ring.claims s.inodes s.modes s.handles.live s.forgets
           c.in-Some.key c.in-Some.ensures.kind c.requires.sized held c.args.handles count);
+      remembers = names_on _ c.set_context.new.self s.ring.claims s.names s.handles.live disk_is
+          (policy_names s.disk s.ring.claims s.names s.handles.live s.remembers c.args.dir c.args.context.now c.requires.dir c.requires.sized c.requires.present);
       safe = subst (λ (x : Disk). IsSafe x s.next_node s.handles.live) (sym disk_is)
           (policy_safe s.disk s.next_node c.args.dir c.args.context.now c.requires.dir c.requires.plain s.handles.live s.safe);
     }
@@ -48,5 +51,5 @@ returns-in-Ok-clause-stands c = λ m st empty present well.
       policy_stands s m st c.args.dir c.args.context.now is_dir empty _ disk_is refl refl refl refl
           (caches_of _ _ _ _ (with_policy m c.args.dir c.args.context.now) c.in-Ok.ensures.inodes c.in-Ok.ensures.modes
           (open_caches s m st c.args.dir c.args.context.now is_dir empty c.requires.dir c.requires.plain c.in-Some.key (sym c.in-Some.ensures.value) c.in-Some.ensures.kind c.requires.sized held
-          c.args.handles count)) well,
+          c.args.handles count)) refl well,
     )

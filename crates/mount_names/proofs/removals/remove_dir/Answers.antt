@@ -7,12 +7,16 @@ use Rattle.mount_model.specs.declared.reply.Refusal.TheVariants.{NotDir, NotEmpt
 use Rattle.mount_model.specs.NameAnswers.{without_name, answer_to_rmdir}
 use Rattle.number_map.specs.Numbered.{get}
 use Rattle.mount_names.specs.Places.{Entry}
+use Rattle.dentry_cache.specs.Names.{HoldsNoneIn}
+use Rattle.mount_model.specs.Walk.{found as led_by}
+use Rattle.mount_state.proofs.CachedLemmas.{stand_fewer}
+use Rattle.mount_names.proofs.CachedStands.{found_by}
 use Rattle.mount_names.proofs.FoundLemmas.{end_at}
 use Rattle.mount_names.proofs.RemovalLemmas.{rmdir_is, rmdir_no_dir, rmdir_full, rmdir_done, refused_given, done_given, well_of, is_dir_there, no_dir_there, as_many_there}
 use Rattle.mount_names.proofs.removals.remove_dir.Goals as goal
 
 pub returns-then-not-is_dir-clause-stands : goal.returns-then-not-is_dir-clause-stands
-returns-then-not-is_dir-clause-stands c = λ m path st named at_end well.
+returns-then-not-is_dir-clause-stands c = λ m path st named at_end part_is well.
     let s = c.args.state.now in
     let e = c.args.entry.now in
     let found : Some c.in-Some.node.now ≡ get s.disk e.number = c.in-Some.ensures ∙ ap (λ (x : Entry). get s.disk x.number) c.entry.view_is in
@@ -21,7 +25,7 @@ returns-then-not-is_dir-clause-stands c = λ m path st named at_end well.
     refused_given m (answer_to_rmdir m path) NotDir (rmdir_is m path named e at ∙ rmdir_no_dir m e.dir at.name e.number other) s st
 
 pub returns-then-entry_count-gt0-clause-stands : goal.returns-then-entry_count-gt0-clause-stands
-returns-then-entry_count-gt0-clause-stands c = λ m path st named at_end well.
+returns-then-entry_count-gt0-clause-stands c = λ m path st named at_end part_is well.
     let s = c.args.state.now in
     let e = c.args.entry.now in
     let found : Some c.in-Some.node.now ≡ get s.disk e.number = c.in-Some.ensures ∙ ap (λ (x : Entry). get s.disk x.number) c.entry.view_is in
@@ -32,7 +36,7 @@ returns-then-entry_count-gt0-clause-stands c = λ m path st named at_end well.
     (rmdir_is m path named e at ∙ rmdir_full m e.dir at.name e.number dir c.entry_count.result as_many c.if-entry_count-gt0.true) s st
 
 pub returns-clause-stands : goal.returns-clause-stands
-returns-clause-stands c = λ m path st named at_end well.
+returns-clause-stands c = λ m path st named at_end part_is well.
     let s = c.args.state.now in
     let e = c.args.entry.now in
     let found : Some c.in-Some.node.now ≡ get s.disk e.number = c.in-Some.ensures ∙ ap (λ (x : Entry). get s.disk x.number) c.entry.view_is in
@@ -42,4 +46,16 @@ returns-clause-stands c = λ m path st named at_end well.
     let is = rmdir_is m path named e at ∙ rmdir_done m e.dir at.name e.number dir c.entry_count.result as_many c.if-entry_count-gt0.false in
     let after = without_name m e.dir at.name e.number in
     done_given after (answer_to_rmdir m path) is c.drop_entry.new.state
-    (c.drop_entry.ensures.stands m at.name st at.of (well_of after (answer_to_rmdir m path) is well))
+    (c.drop_entry.ensures.stands m at.name (record {
+      well = st.well;
+      tree = st.tree;
+      keys = st.keys;
+      handles = st.handles;
+      caches = st.caches;
+      names = stand_fewer m.nodes s.names c.forget_dir.new.self st.names c.forget_dir.ensures.no_more;
+      records = st.records;
+    }) at.of
+    (found_by m e.dir c.args.part.now at.name e.number (ap (led_by m e.dir) part_is ∙ at.found_so)) (well_of after (answer_to_rmdir m path) is well))
+
+pub drop_entry-requires-clause-none : goal.drop_entry-requires-clause-none
+drop_entry-requires-clause-none c = subst (λ (x : Entry). HoldsNoneIn c.forget_dir.new.self x.number) c.entry.view_is c.forget_dir.ensures.none

@@ -12,7 +12,7 @@ pub returns-in-Ok-clause-stands : goal.returns-in-Ok-clause-stands
 returns-in-Ok-clause-stands g c = λ m st fits.
     let path = c.args.path.now in
     c.remove_dir.ensures.stands m path (c.in-Ok.ensures.stands m st) (some_parts path c.is_empty.result c.if-is_empty.false c.is_empty.ensures.1)
-    (c.in-Ok.ensures.value m st) (rmdir_well m path st.well fits)
+    (c.in-Ok.ensures.value m st) c.last_bytes.ensures (rmdir_well m path st.well fits)
 
 pub returns-in-Err-clause-stands : goal.returns-in-Err-clause-stands
 returns-in-Err-clause-stands g c = λ m st fits.

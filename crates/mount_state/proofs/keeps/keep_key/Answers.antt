@@ -23,6 +23,7 @@ invariant_of-state c =
             (sym (c.claims-exact.ensures.secrets context.policy.id) ∙ ap is_some (sym c.in-Some-secret_of.ensures)))
         | inr is ↦ subst (λ (cache : Cache). Forgets s.disk s.ring.claims cache s.modes s.handles.live) (sym is) s.forgets
       ];
+      remembers = s.remembers;
       safe = s.safe;
     }
 
@@ -45,5 +46,6 @@ returns-clause-stands c = λ m stands.
             c.requires c.in-Some-secret_of.secret.now (stands.keys.secrets context.policy.id c.in-Some-secret_of.secret.now (sym c.in-Some-secret_of.ensures)) d under))
         | inr is ↦ subst (λ (cache : Cache). CachesStand cache s.modes m) (sym is) stands.caches
       ];
+      names = stands.names;
       records = stands.records;
     }

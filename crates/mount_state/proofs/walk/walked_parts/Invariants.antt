@@ -3,7 +3,7 @@
 use Rattle.std.proofs.Common.{◌≡◌, ◌+◌, ◌≤◌, take, drop}
 use Rattle.mount_model.specs.PlainMount.{PlainMount}
 use Rattle.mount_model.specs.Walk.{walked_from, walked}
-use Rattle.mount_state.specs.SameButKeys.{SameButKeys}
+use Rattle.mount_state.specs.SameButCaches.{SameButCaches}
 use Rattle.mount_state.specs.StandsFor.{StandsFor}
 use Rattle.mount_state.proofs.walk.walked_parts.Given as goal
 
@@ -11,5 +11,5 @@ abbrev pub invariant-loop-i : goal.invariant-loop-i
 invariant-loop-i g l =
     ((m : PlainMount) → StandsFor l.fn.state m → walked_from m l.node (drop l.i (take l.count l.path)) ≡ walked m (take l.count l.path))
     × ((m : PlainMount) → StandsFor l.fn.state m → StandsFor l.state m)
-    × SameButKeys l.fn.state l.state
+    × SameButCaches l.fn.state l.state
     × (l.steps ≤ l.fn.steps + l.i)

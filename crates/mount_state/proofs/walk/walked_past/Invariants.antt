@@ -4,7 +4,7 @@ use Rattle.std.proofs.Common.{◌≡◌, ◌+◌, ◌≤◌, ◌||◌, take, dro
 use Rattle.mount_model.specs.PlainMount.{PlainMount}
 use Rattle.mount_model.specs.Walk.{walked_from, walked}
 use Rattle.mount_state.specs.Passed.{passes}
-use Rattle.mount_state.specs.SameButKeys.{SameButKeys}
+use Rattle.mount_state.specs.SameButCaches.{SameButCaches}
 use Rattle.mount_state.specs.StandsFor.{StandsFor}
 use Rattle.mount_state.proofs.walk.walked_past.Given as goal
 
@@ -13,5 +13,5 @@ invariant-loop-i g l =
     ((m : PlainMount) → StandsFor l.fn.state m → walked_from m l.at (drop l.i (take l.count l.path)) ≡ walked m (take l.count l.path))
     × ((m : PlainMount) → StandsFor l.fn.state m → (l.past || passes m l.at (drop l.i (take l.count l.path)) l.node) ≡ passes m 0 (take l.count l.path) l.node)
     × ((m : PlainMount) → StandsFor l.fn.state m → StandsFor l.state m)
-    × SameButKeys l.fn.state l.state
+    × SameButCaches l.fn.state l.state
     × (l.steps ≤ l.fn.steps + l.i)

@@ -14,13 +14,13 @@ pub returns-then-is_busy-clause-absent : goal.returns-then-is_busy-clause-absent
 returns-then-is_busy-clause-absent c =
     let s = c.args.self.now in (
       (λ (bad : Incomplete ≡ Absent). absurd (cc)),
-      (λ nothing. absurd (true≢false (sym c.if-is_busy.true ∙ (c.is_busy.ensures.value ∙ held_not_busy s.disk s.ring s.inodes s.modes s.handles.live s.forgets c.args.id.now nothing)))),
+      (λ nothing. absurd (true≢false (sym c.if-is_busy.true ∙ (c.is_busy.ensures.value ∙ held_not_busy s.disk s.ring s.inodes s.modes s.handles.live s.forgets c.args.id.now s.names nothing)))),
     )
 
 pub returns-clause-absent : goal.returns-clause-absent
 returns-clause-absent c =
     let s = c.args.self.now in (
-      (λ _. nothing_held s.disk s.ring s.inodes s.modes s.handles.live s.forgets c.args.id.now
+      (λ _. nothing_held s.disk s.ring s.inodes s.modes s.handles.live s.forgets c.args.id.now s.names s.remembers
           (sym c.is_present.ensures.secret ∙ c.if-is_present.false) (sym c.is_present.ensures.claimed ∙ c.if-is_present.false)
           (sym c.is_busy.ensures.value ∙ c.if-is_busy.false) (c.is_busy.ensures.modes c.if-is_busy.false)),
       (λ _. refl),

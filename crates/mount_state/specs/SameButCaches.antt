@@ -1,12 +1,12 @@
--- What a walk may change of a state: which keys of nodes are cached, and nothing else.
+-- What a walk may change of a state: which keys of nodes and which names are cached, and nothing else.
 use Rattle.std.specs.Prelude.{[], ◌∷◌}
 use Rattle.mount_model.specs.PlainMount.{PlainMount}
-use Rattle.mount_state.specs.SameBut.{SameBut, CachedKeys}
+use Rattle.mount_state.specs.SameBut.{SameBut, CachedKeys, CachedNames}
 use Rattle.mount_state.specs.StandsFor.{StandsFor}
 use Rattle.mount_state.specs.declared.state.MountState.{MountState}
 
-abbrev pub SameButKeys : MountState → MountState → Type 0
-SameButKeys old new = SameBut (CachedKeys ∷ []) old new
+abbrev pub SameButCaches : MountState → MountState → Type 0
+SameButCaches old new = SameBut (CachedKeys ∷ CachedNames ∷ []) old new
 
 -- whatever mount it stood for, it stands for still
 abbrev pub StaysFor : MountState → MountState → Type 0

@@ -1,0 +1,52 @@
+-- What of plain names may be cached, and when they are those of a mount.
+use Rattle.std.specs.Prelude.{◌≡◌, ℕ, Bool, true, false, Option, Some, None, IsSome, Contains, ◌⊎◌}
+use Rattle.number_map.specs.Numbered.{get}
+use Rattle.user_claims.specs.Claims.{ClaimSet}
+use Rattle.dentry_cache.specs.Names.{Pair, NameList, cached, one_more}
+use Rattle.plain_tree.specs.Nodes.{Name, Nodes, entry}
+use Rattle.disk_tree.specs.DiskTree.{Disk}
+use Rattle.disk_tree.specs.declared.node.StoredNode.{StoredNode}
+use Rattle.disk_tree.specs.declared.node.Body.{Body}
+use Rattle.disk_tree.specs.declared.node.Body.TheVariants.{Dir, File, Link}
+use Rattle.mount_model.specs.PlainMount.{HandleList}
+use Rattle.mount_state.specs.Contexts.{context_in}
+use Rattle.mount_state.specs.Held.{is_keyed}
+
+abbrev pub is_dir : Body → Bool
+is_dir (Dir entries) = true
+is_dir (File blocks size) = false
+is_dir (Link target) = false
+
+abbrev pub is_dir_in : Option StoredNode → Bool
+is_dir_in None = false
+is_dir_in (Some v) = is_dir v.body
+
+-- the number is that of a directory
+abbrev pub is_dir_at : Disk → ℕ → Bool
+is_dir_at disk node = is_dir_in (get disk node)
+
+-- ---- what must be forgotten
+
+pub record NamesForget (disk : Disk) (claims : ClaimSet) (names : NameList) (live : HandleList) : Type 0 where
+  -- a name is cached only of a directory that is there
+  pub there : (pair : Pair) → Contains names.pairs pair → is_dir_at disk pair.0.dir ≡ true
+  -- and only while its key is at hand: without a claim on it, while a handle is on this very directory
+  pub keyed : (pair : Pair) → Contains names.pairs pair → is_keyed disk claims live pair.0.dir ≡ true
+
+-- ---- what they are
+
+pub record NamesStand (names : NameList) (nodes : Nodes) : Type 0 where
+  -- a cached name leads where the directory's entry does
+  pub entries : (pair : Pair) → Contains names.pairs pair → entry nodes pair.0.dir pair.0.name ≡ Some pair.1
+
+-- ---- what a look-up leaves
+
+-- the name that led there is cached, or there was no memory for it and that was counted
+abbrev pub IsKept : NameList → NameList → ℕ → Name → ℕ → Type 0
+IsKept old new dir name number =
+    (cached new dir name ≡ Some number) ⊎ (new.refused ≡ one_more old.refused)
+
+-- so it is in a keyed directory with a policy
+abbrev pub FillsNames : Disk → ClaimSet → HandleList → NameList → NameList → ℕ → Name → ℕ → Type 0
+FillsNames disk claims live old new dir name number =
+    IsSome (context_in (get disk dir)) → is_keyed disk claims live dir ≡ true → IsKept old new dir name number

@@ -1,0 +1,87 @@
+//! An encrypted directory `/e`, and what is asked of its names.
+use item_list::Bytes;
+use mount_keys::add_key;
+use mount_model::{KeyId, Part, Path, Reply};
+use mount_names::{lookup, mkdir, set_policy};
+use mount_state::MountState;
+use name_crypt::Steps;
+use std::alloc::{AllocError, Global};
+use std::sync::ledger::Ledger;
+
+/// The number of `/e`, which is made first.
+const DIR: u32 = 1;
+
+pub(crate) const NONCE: [u8; 16] = [7; 16];
+
+/// AES-256-XTS and AES-256-CTS-CBC, names padded to 32 bytes, as Linux lays a policy out; then 16 bytes of an
+/// identifier.
+const POLICY: [u8; 24] = [
+    2, 1, 4, 3, 0, 0, 0, 0, 0, 0, 0, 0, 0, 0, 0, 0, 0, 0, 0, 0, 0, 0, 0, 0,
+];
+
+// Adds a key, and makes `/e` under it.
+pub(crate) fn encrypted<L: Ledger>(
+    alloc: Global,
+    state: &mut MountState,
+    steps: &mut Steps<L>,
+) -> Result<KeyId, AllocError> {
+    let Reply::Added(id) = add_key(alloc, state, 0, &raw_key(alloc)?) else {
+        return Err(AllocError);
+    };
+    let mut e = Path::root(alloc);
+    e.push(part(alloc, b"e")?)?;
+    let _made = mkdir(alloc, state, &e, &NONCE, steps);
+    let mut policy = POLICY;
+    policy[8..].copy_from_slice(&id.0);
+    let _set = set_policy(alloc, state, 0, &e, &policy, &NONCE, steps);
+    Ok(id)
+}
+
+// Where the name leads in `/e`.
+pub(crate) fn found<L: Ledger>(
+    alloc: Global,
+    state: &mut MountState,
+    name: &[u8],
+    steps: &mut Steps<L>,
+) -> Result<Option<u32>, AllocError> {
+    let part = part(alloc, name)?;
+    if !state.disk.is_dir(DIR) || part.bytes().len() > 255 {
+        return Ok(None);
+    }
+    Ok(lookup(alloc, state, DIR, &part, steps))
+}
+
+// Where the name leads that is cached of `/e`.
+pub(crate) fn cached(state: &mut MountState, name: &[u8]) -> Option<u32> {
+    if name.len() > 255 {
+        return None;
+    }
+    state.names.find(DIR, name)
+}
+
+pub(crate) fn raw_key(alloc: Global) -> Result<Bytes, AllocError> {
+    Ok(Bytes::from_vec(Vec::from_elem(alloc, 0x5a, 64)?))
+}
+
+// A name of its own for each number, without `/` and NUL.
+pub(crate) fn name_of(number: u16) -> [u8; 5] {
+    let [high, low] = number.to_be_bytes();
+    [
+        b'f',
+        0x60 | (high >> 4),
+        0x60 | (high & 15),
+        0x60 | (low >> 4),
+        0x60 | (low & 15),
+    ]
+}
+
+fn part(alloc: Global, name: &[u8]) -> Result<Part, AllocError> {
+    Ok(Part::new(Bytes::from_vec(Vec::from_slice(alloc, name)?)))
+}
+
+pub(crate) fn in_e(alloc: Global, name: &[u8]) -> Result<Path, AllocError> {
+    let mut path = Path::root(alloc);
+    path.push(part(alloc, b"e")?)?;
+    path.push(part(alloc, name)?)?;
+    Ok(path)
+}
