@@ -1,0 +1,11 @@
+pub mod AskedLemmas
+pub mod BeginningLemmas
+pub mod EndLemmas
+pub mod FollowLemmas
+pub mod HeadLemmas
+pub mod LegalLemmas
+pub mod ReadingLemmas
+pub mod RepliedLemmas
+pub mod SayLemmas
+pub mod StartLemmas
+pub mod StopLemmas

@@ -1,0 +1,41 @@
+-- Laws of histories that go on.
+use Rattle.std.specs.Prelude.{◌≡◌, ◌⊎◌, ℕ, IsTrue, List, [], ◌∷◌, ◌++◌, slice_get, Some, All}
+use Rattle.call_history.specs.Entries.{entry}
+use Rattle.call_history.specs.Placed.{entries_of}
+use Rattle.mount_model.specs.declared.call.Call.{Call}
+use Rattle.mount_model.specs.declared.reply.Reply.{Reply}
+use Rattle.mount_model.specs.declared.reply.Reply.TheVariants.{Refused}
+use Rattle.mount_model.specs.declared.reply.Refusal.TheVariants.{NoMemory}
+use Rattle.mount_model.specs.History.{History, IsLegal, entries_by}
+use Rattle.mount_model.specs.Lawful.{IsLawful}
+use Rattle.mount_model.specs.Step.{takes_memory}
+use Rattle.script_lang.specs.declared.commands.Section.{Section}
+use Rattle.reply_text.specs.Ranges.{EntryIsInRange}
+use Rattle.fsc_session.specs.Session.{IsRunOf, next_call}
+use Rattle.fsc_session.specs.Meaning.{Follows, whole_log}
+use Rattle.log_check.specs.Certificate.{AskedKeysAgree}
+use Rattle.log_check.specs.Verdicts.{IsRefusedAt}
+
+-- a history that follows a script goes on by a caller's next call, whatever is replied to it
+abbrev pub NextCallsFollow : Type 0
+NextCallsFollow =
+    (seed : List ℕ) (script : List Section) (history : History) (caller : ℕ) (section : Section) (call : Call)
+    (reply : Reply) → Follows seed script history → slice_get script caller ≡ Some section
+    → next_call seed caller section (entries_of (entries_by caller history)) ≡ Some (caller, call)
+    → Follows seed script (history ++ entry caller call reply ∷ [])
+
+-- the replies that the one-thread mount has to one call behind one history are the same, but for want of
+-- memory, which only some calls may have
+abbrev pub MountsHaveOneReply : Type 0
+MountsHaveOneReply =
+    (history : History) (caller : ℕ) (call : Call) (a b : Reply)
+    → IsLegal (history ++ entry caller call a ∷ []) → IsLegal (history ++ entry caller call b ∷ [])
+    → (a ≡ b) ⊎ (IsTrue (takes_memory call.op) × ((a ≡ Refused NoMemory) ⊎ (b ≡ Refused NoMemory)))
+
+-- the log of a lawful run, with its notes, is refused at no place, where its entries are in range and the raw
+-- keys that it asks to add agree: so what a program wrote of a run of its own checks
+abbrev pub LogsOfRunsAreNotRefused : Type 0
+LogsOfRunsAreNotRefused =
+    (seed : List ℕ) (script : List Section) (history : History) (place : ℕ) → IsRunOf seed script history
+    → IsLawful history → All EntryIsInRange history → AskedKeysAgree history
+    → ¬ IsRefusedAt seed script (whole_log seed script history) place

@@ -1,0 +1,31 @@
+-- Where a text that was read up to a place goes on as no log does.
+use Rattle.std.specs.Prelude.{◌≡◌, ◌≢◌, ◌<◌, ◌^◌, ℕ, List, [], ◌∷◌, ◌++◌, length, All}
+use Rattle.mount_model.specs.History.{MountEntry, History}
+use Rattle.mount_model.specs.Lawful.{IsLawful}
+use Rattle.script_lang.specs.declared.commands.Section.{Section}
+use Rattle.reply_text.specs.Log.{entry_text, log_text}
+use Rattle.reply_text.specs.Notes.{notes_text}
+use Rattle.reply_text.specs.Ranges.{EntryIsInRange}
+use Rattle.fsc_session.specs.Session.{IsRunOf, notes_of}
+use Rattle.fsc_session.specs.Meaning.{Follows}
+use Rattle.log_check.specs.Certificate.{IsPossible, BeginsWith}
+
+-- so many entries of a history were read from the text, and this is the rest of it
+pub record IsRead (seed : List ℕ) (script : List Section) (text : List ℕ) (place : ℕ) (rest : List ℕ)
+    (history : History) : Type 0 where
+  pub read : text ≡ log_text history ++ rest
+  pub long : length history ≡ place
+  pub small : place < 2 ^ 64
+  pub follows : Follows seed script history
+  pub in_range : All EntryIsInRange history
+  pub lawful : IsLawful history
+
+-- no entry goes on behind the history, whose line the rest begins with
+abbrev pub IsBlocked : List ℕ → List Section → History → ℕ → List ℕ → Type 0
+IsBlocked seed script history place rest =
+    (e : MountEntry) → IsPossible seed script (history ++ e ∷ []) → ¬ BeginsWith rest (entry_text place e)
+
+-- the history is no run of the script that has the rest for its notes
+abbrev pub IsUnended : List ℕ → List Section → History → List ℕ → Type 0
+IsUnended seed script history rest =
+    IsRunOf seed script history → rest ≢ notes_text (notes_of seed script history)

@@ -1,0 +1,77 @@
+//! A log is checked, line by line.
+
+ghost use Rattle.std.specs.Prelude.{◌≡◌, [], All, IfOk, length};
+ghost use Rattle.script_lang.specs.Spelled.{IsSpelled};
+ghost use Rattle.log_check.specs.Verdicts.{Says};
+
+use crate::one_thread::OneThread;
+use crate::reading::Reading;
+use crate::start::{begin_callers, forget, remembering_ways};
+use fsc_commands::Stretches;
+use fsc_session::scrub_stack;
+use next_calls::Remembering;
+use script_lang::Script;
+use std::alloc::{AllocError, Global};
+
+/// Whether a text can be the log of a run.
+#[derive(Clone, Copy, Debug, PartialEq, Eq)]
+pub enum Verdict {
+    /// It is the log of a run, with its notes.
+    Certified,
+    /// It isn't: that many lines from its beginning are lines of a history, and no more.
+    Refused { place: u64 },
+}
+
+/// Checks a text against a script, the seed of its run, and a mount that was not called yet.
+///
+/// The callers' calls are made anew from what the text says they were replied, the mount answers each, and
+/// the line that comes of it is compared. Where the text has `refused no-memory` for a call that may take
+/// memory, the mount is not asked. `Certified` comes where the text is a log, and else `Refused`, with the
+/// number of lines that can be of one. The one error is want of memory: the check's own, or the mount's where
+/// the text says that the call was answered. Then nothing is said of the text.
+pub fn check_log<S: Stretches, T: OneThread>(
+    alloc: Global,
+    stretches: &S,
+    script: &Script,
+    seed: &[u8; 32],
+    text: &[u8],
+    mount: &mut T,
+) -> Result<Verdict, AllocError>
+    requires ready { S.ready stretches.now }
+    requires spelled { IsSpelled script.now }
+    requires led { T.led [] mount.old }
+    ensures { IfOk result (Says seed.now script.now text.now) }
+{
+    let ways = remembering_ways(alloc, stretches, script.len())?;
+    let said = read_log(alloc, ways.as_slice(), script, seed, text, mount);
+    forget(ways);
+    scrub_stack();
+    said
+}
+
+// The same, with a way to stretch for each caller.
+fn read_log<'w, S: Stretches, T: OneThread>(
+    alloc: Global,
+    ways: &[Remembering<'w, S>],
+    script: &Script,
+    seed: &[u8; 32],
+    text: &[u8],
+    mount: &mut T,
+) -> Result<Verdict, AllocError>
+    requires ready { All S.ready ways.now }
+    requires ways { length ways.now ≡ length script.now }
+    requires spelled { IsSpelled script.now }
+    requires led { T.led [] mount.old }
+    ensures { IfOk result (Says seed.now script.now text.now) }
+{
+    let mut reading = Reading {
+        callers: begin_callers(alloc, ways, script, seed)?,
+        place: 0,
+        rest: text,
+    };
+    'lines: loop {
+        if !reading.read_line(alloc, ways, seed, mount)? {
+            return reading.verdict(alloc);
+        }
+    }
+}

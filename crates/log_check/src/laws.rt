@@ -1,0 +1,19 @@
+//! Laws that checking a log stands on, each a function without work whose contract is the law.
+
+ghost use Rattle.log_check.specs.Laws.{LogsOfRunsAreNotRefused, MountsHaveOneReply, NextCallsFollow};
+
+/// A history that follows a script goes on by a caller's next call, whatever is replied to it.
+pub fn next_calls_follow()
+    ensures { NextCallsFollow }
+{}
+
+/// The one-thread mount has one reply to a call behind a history, but for want of memory.
+pub fn mounts_have_one_reply()
+    ensures { MountsHaveOneReply }
+{}
+
+/// The log of a run, with its notes, is never refused, where the run is lawful, its entries are in range, and
+/// no two different raw keys that it asks to add share an identifier.
+pub fn logs_of_runs_are_not_refused()
+    ensures { LogsOfRunsAreNotRefused }
+{}

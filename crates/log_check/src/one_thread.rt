@@ -1,0 +1,34 @@
+//! Who answers the calls of a log that is checked.
+
+ghost use Rattle.std.specs.Prelude.{ℕ, IsTrue, [], ◌∷◌, ◌++◌};
+ghost use Rattle.call_history.specs.Entries.{entry};
+ghost use Rattle.mount_model.specs.Fits.{Fits};
+ghost use Rattle.mount_model.specs.History.{History};
+ghost use Rattle.mount_model.specs.Lawful.{IsLawful};
+ghost use Rattle.mount_model.specs.Step.{takes_memory};
+ghost use Rattle.mount_model.specs.declared.call.Call.{Call};
+ghost use Rattle.mount_model.specs.declared.reply.Refusal.TheVariants.{NoMemory};
+ghost use Rattle.mount_model.specs.declared.reply.Reply.TheVariants.{Refused};
+
+use mount_model::{Call, Reply};
+
+/// A mount that one thread alone calls, for all callers.
+pub trait OneThread {
+    // Whether the history may have led to it.
+    ghost led: { History → Self → Type 0 };
+
+    /// Answers the caller's call. Whichever history may have led to the mount, that one with this entry
+    /// behind it may have led to what it is now.
+    fn answer(&mut self, caller: u32, call: &Call) -> Reply
+        requires fits { Fits call.now }
+        ensures led { (history : History) → led history self.old
+            → led (history ++ entry caller call.now result ∷ []) self.new };
+
+    // What may have led to it is lawful.
+    ghost led_lawful: { (history : History) (mount : Self) → led history mount → IsLawful history };
+
+    // A call that takes memory and wanted some leaves it as it is.
+    ghost led_without_memory: { (history : History) (mount : Self) (caller : ℕ) (call : Call)
+        → Fits call → IsTrue (takes_memory call.op) → led history mount
+        → led (history ++ entry caller call (Refused NoMemory) ∷ []) mount };
+}

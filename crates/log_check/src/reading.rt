@@ -1,0 +1,67 @@
+//! A text that is read line by line, with the callers that its lines are told.
+
+ghost use Rattle.std.specs.Prelude.{◌≡◌, ◌+◌, ◌<◌, ◌^◌, All, IfOk, length};
+ghost use Rattle.log_check.specs.Endings.{EndsSo};
+ghost use Rattle.log_check.specs.NextLines.{IsLineRead};
+
+use crate::check::Verdict;
+use crate::ending::is_ended;
+use crate::one_thread::OneThread;
+use crate::replied::replied;
+use crate::whose::whose_line;
+use fsc_commands::Stretches;
+use next_calls::{Caller, Remembering};
+use std::alloc::{AllocError, Global};
+
+// A text from a place on, and the callers of a script, who were told what stands before it.
+#[derive(Drop)]
+pub(crate) struct Reading<'a, 't> {
+    pub(crate) callers: Vec<Caller<'a>>,
+    pub(crate) place: u64,
+    pub(crate) rest: &'t [u8],
+}
+
+impl<'a, 't> Reading<'a, 't> {
+    // Reads the next line: true where a caller may have such a line next, and the mount may reply so. Each
+    // caller has a way to stretch of its own.
+    pub(crate) fn read_line<'w, S: Stretches, T: OneThread>(
+        &mut self,
+        alloc: Global,
+        ways: &[Remembering<'w, S>],
+        seed: &[u8; 32],
+        mount: &mut T,
+    ) -> Result<bool, AllocError>
+        requires ready { All S.ready ways.now }
+        requires ways { length ways.now ≡ length self.old.callers.items }
+        requires room { self.old.place + length self.old.rest.now < 2 ^ 64 }
+        ensures many { length self.new.callers.items ≡ length self.old.callers.items }
+        ensures room { self.new.place + length self.new.rest.now < 2 ^ 64 }
+        ensures read { IfOk result (IsLineRead T.led seed.now
+            self.old.callers.items self.old.place self.old.rest.now mount.old
+            self.new.callers.items self.new.place self.new.rest.now mount.new) }
+    {
+        let found = whose_line(alloc, self.callers.as_slice(), self.place, self.rest)?;
+        let Some((number, call)) = found else {
+            return Ok(false);
+        };
+        let caller = self.callers[number].caller();
+        let Some((reply, behind)) = replied(alloc, self.place, caller, call, self.rest, mount)?
+        else {
+            return Ok(false);
+        };
+        self.callers[number].take(alloc, &ways[number], seed, reply)?;
+        self.rest = behind;
+        self.place += 1;
+        Ok(true)
+    }
+
+    // What is said where no further line was read.
+    pub(crate) fn verdict(&self, alloc: Global) -> Result<Verdict, AllocError>
+        ensures { IfOk result (EndsSo self.now.callers.items self.now.place self.now.rest.now) }
+    {
+        if is_ended(alloc, self.callers.as_slice(), self.rest)? {
+            return Ok(Verdict::Certified);
+        }
+        Ok(Verdict::Refused { place: self.place })
+    }
+}

@@ -1,0 +1,58 @@
+//! The callers of a script before their first calls, and the ways in which they stretch passphrases.
+
+ghost use Rattle.std.specs.Prelude.{◌≡◌, ◌≤◌, [], All, IfOk, length};
+ghost use Rattle.fsc_session.specs.Asking.{AsksRightly};
+ghost use Rattle.log_check.specs.Reading.{AreCallers};
+ghost use Rattle.script_lang.specs.declared.limits.TheConstants.{MOST_CALLERS};
+
+use fsc_commands::Stretches;
+use next_calls::{Caller, Remembering};
+use script_lang::Script;
+use std::alloc::{AllocError, Global};
+
+// So many ways, each of which remembers its own last tags. With one for all, callers whose lines take turns
+// would push each other's out.
+pub(crate) fn remembering_ways<'w, S: Stretches>(
+    alloc: Global,
+    way: &'w S,
+    count: usize,
+) -> Result<Vec<Remembering<'w, S>>, AllocError>
+    requires ready { S.ready way.now }
+    ensures ready { IfOk result (λ ways. All S.ready ways.items) }
+    ensures many { IfOk result (λ ways. length ways.items ≡ count) }
+{
+    let mut ways = Vec::new(alloc);
+    'ways: for number in 0..count {
+        ways.push(Remembering::new(way))?;
+    }
+    Ok(ways)
+}
+
+// Overwrites all that they remember.
+pub(crate) fn forget<'w, S: Stretches>(ways: Vec<Remembering<'w, S>>) {
+    for way in ways {
+        way.forget();
+    }
+}
+
+// The callers, each with its own way.
+pub(crate) fn begin_callers<'a, 'w, S: Stretches>(
+    alloc: Global,
+    ways: &[Remembering<'w, S>],
+    script: &'a Script,
+    seed: &[u8; 32],
+) -> Result<Vec<Caller<'a>>, AllocError>
+    requires ready { All S.ready ways.now }
+    requires ways { length ways.now ≡ length script.now }
+    requires few { length script.now ≤ MOST_CALLERS }
+    requires asked { All AsksRightly script.now }
+    ensures { IfOk result (λ callers. AreCallers seed.now script.now [] callers.items) }
+{
+    let mut callers = Vec::new(alloc);
+    'callers: for number in 0..script.len() {
+        let section = &script.as_slice()[number];
+        let caller = Caller::new(alloc, &ways[number], seed, number as u32, section)?;
+        callers.push(caller)?;
+    }
+    Ok(callers)
+}

@@ -1,0 +1,46 @@
+//! Whose line stands at a place of a text.
+
+ghost use Rattle.std.specs.Prelude.{◌≡◌, IfOk};
+ghost use Rattle.log_check.specs.NextLines.{IsAwaited, IsWhose};
+
+use crate::lines::is_line_of;
+use mount_model::Call;
+use next_calls::Caller;
+use std::alloc::{AllocError, Global};
+
+// The number of the caller of whose next call the text begins with a line, and that call; none where it
+// begins with no such line.
+pub(crate) fn whose_line<'a>(
+    alloc: Global,
+    callers: &[Caller<'a>],
+    place: u64,
+    text: &[u8],
+) -> Result<Option<(usize, Call)>, AllocError>
+    ensures { IfOk result (IsWhose callers.now place text.now) }
+{
+    'callers: for number in 0..callers.len() {
+        if let Some(call) = awaited_line(alloc, &callers[number], place, text)? {
+            return Ok(Some((number, call)));
+        }
+    }
+    Ok(None)
+}
+
+// The call that the caller makes next, where the text begins with its line.
+fn awaited_line<'a>(
+    alloc: Global,
+    caller: &Caller<'a>,
+    place: u64,
+    text: &[u8],
+) -> Result<Option<Call>, AllocError>
+    ensures { IfOk result (IsAwaited caller.now place text.now) }
+{
+    let Some(call) = caller.waiting() else {
+        return Ok(None);
+    };
+    if !is_line_of(alloc, place, caller.caller(), call.uid, text)? {
+        return Ok(None);
+    }
+    let copy = call.copy(alloc)?;
+    Ok(Some(copy))
+}
