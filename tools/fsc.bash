@@ -2,10 +2,10 @@
 _fsc() {
     local word="${COMP_WORDS[COMP_CWORD]}" words=()
     case "${COMP_WORDS[*]:1:COMP_CWORD-1}" in
-        "") words=(replay gen dump inspect --help --version) ;;
+        "") words=(replay gen dump inspect check --help --version) ;;
         replay) words=(--serial --seed) ;;
         "replay --serial") words=(--seed) ;;
-        dump) words=(--seed) ;;
+        dump | check) words=(--seed) ;;
         inspect) words=(raw:) ;;
         "gen "*[0-9]) words=(--summary) ;;
     esac

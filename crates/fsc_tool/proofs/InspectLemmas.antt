@@ -15,8 +15,8 @@ use Rattle.image_lines.specs.ImageText.{image_text}
 use Rattle.image_lines.specs.Reading.{image_read}
 use Rattle.image_lines.specs.Rules.{IsImage}
 use Rattle.image_lines.specs.declared.TheConstants.{MOST_IMAGE_BYTES}
-use Rattle.reply_text.specs.declared.status.Status.{Status}
-use Rattle.reply_text.specs.declared.status.Status.TheVariants.{Done, Usage, BadLine, ReadFault, WriteFault, SeedFault, TooLong, NoMemory}
+use Rattle.fsc_tool.specs.declared.status.Status.{Status}
+use Rattle.fsc_tool.specs.declared.status.Status.TheVariants.{Done, Usage, BadLine, ReadFault, WriteFault, SeedFault, TooLong, Refused, NoMemory}
 use Rattle.mount_model.specs.History.{History}
 use Rattle.fsc_tool.specs.declared.form.ToolForm.{ToolForm}
 use Rattle.fsc_tool.specs.declared.form.ToolForm.TheVariants.{Inspect}
@@ -73,6 +73,7 @@ module _ (raw : Option (List ℕ)) (Came : List ReadCall → Type 0) (a b : Outs
   long_ends TooLong h input told long = inl refl
   long_ends NoMemory h input told long = inr refl
   long_ends Usage h input told long = absurd h
+  long_ends (Refused place) h input told long = absurd h
   long_ends SeedFault h input told long = absurd h
   long_ends ReadFault h input told long = absurd (told.read h.part.cause)
   long_ends Done h input told long = absurd (not_short a.source b.source input h.right.input told.left h.right.read.gave h.right.read.within long)
@@ -89,6 +90,7 @@ module _ (raw : Option (List ℕ)) (Came : List ReadCall → Type 0) (a b : Outs
       → length input ≤ MOST_IMAGE_BYTES → image_read input ≡ Err line → IsOrNoMemory (BadLine line) status
   bad_line_ends NoMemory h input line told within bad = inr refl
   bad_line_ends Usage h input line told within bad = absurd h
+  bad_line_ends (Refused place) h input line told within bad = absurd h
   bad_line_ends SeedFault h input line told within bad = absurd h
   bad_line_ends ReadFault h input line told within bad = absurd (told.read h.part.cause)
   bad_line_ends TooLong h input line told within bad = absurd (not_long Came a.source b.source input h.bytes told.left h.gave within)
@@ -102,6 +104,7 @@ module _ (raw : Option (List ℕ)) (Came : List ReadCall → Type 0) (a b : Outs
   image_ends Done h image told within right written = inl refl
   image_ends NoMemory h image told within right written = inr refl
   image_ends Usage h image told within right written = absurd h
+  image_ends (Refused place) h image told within right written = absurd h
   image_ends SeedFault h image told within right written = absurd h
   image_ends ReadFault h image told within right written = absurd (told.read h.part.cause)
   image_ends WriteFault h image told within right written = absurd (written h.written.cause)
@@ -154,6 +157,7 @@ module _ (raw : Option (List ℕ)) (Came : List ReadCall → Type 0) (a b : Outs
   listed_ends text WriteFault right h still = inspection_is WriteFault still (record { text = text; right = right; written = h })
   listed_ends text NoMemory right h still = inspection_is NoMemory still (want_ends right.input right.read h still)
   listed_ends text Usage right h still = absurd h
+  listed_ends text (Refused place) right h still = absurd h
   listed_ends text (BadLine line) right h still = absurd h
   listed_ends text ReadFault right h still = absurd h
   listed_ends text SeedFault right h still = absurd h

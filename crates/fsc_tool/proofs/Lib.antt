@@ -1,6 +1,8 @@
+pub mod CheckLemmas
 pub mod DumpLemmas
 pub mod GenLemmas
 pub mod InspectLemmas
+pub mod PartLemmas
 pub mod RangeLemmas
 pub mod StartLemmas
 pub mod ThreadLemmas

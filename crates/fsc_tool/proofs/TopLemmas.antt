@@ -8,8 +8,8 @@ use Rattle.script_lang.specs.Script.{parsed_script}
 use Rattle.fsc_outside.specs.States.{SourceState, SeedState}
 use Rattle.fsc_outside.specs.Input.{GaveWhole, GaveTooMuch, IsWithin}
 use Rattle.fsc_outside.specs.Reads.{ReadCall}
-use Rattle.reply_text.specs.declared.status.Status.{Status}
-use Rattle.reply_text.specs.declared.status.Status.TheVariants.{Done, Usage, BadLine, ReadFault, WriteFault, SeedFault, TooLong, NoMemory}
+use Rattle.fsc_tool.specs.declared.status.Status.{Status}
+use Rattle.fsc_tool.specs.declared.status.Status.TheVariants.{Done, Usage, BadLine, ReadFault, WriteFault, SeedFault, TooLong, Refused, NoMemory}
 use Rattle.fsc_tool.specs.declared.form.Seeding.{Seeding}
 use Rattle.fsc_tool.specs.declared.form.Seeding.TheVariants.{Given}
 use Rattle.fsc_tool.specs.Limits.{input_limits, IsLong}
@@ -82,6 +82,7 @@ module _ (IsRight : List ℕ → List Section → List ℕ → Type 0) (Came : L
   unasked Done h own said = own_seed seeding a.seeds b.seeds h.right.seed own said h.right.seeded
   unasked WriteFault h own said = own_seed seeding a.seeds b.seeds h.right.seed own said h.right.seeded
   unasked Usage h own said = absurd h
+  unasked (Refused place) h own said = absurd h
   unasked (BadLine line) h own said = h.early.unasked
   unasked ReadFault h own said = h.early.unasked
   unasked TooLong h own said = h.early.unasked
@@ -97,6 +98,7 @@ module _ (IsRight : List ℕ → List Section → List ℕ → Type 0) (Came : L
   long_ends TooLong h input told long = inl refl
   long_ends NoMemory h input told long = inr refl
   long_ends Usage h input told long = absurd h
+  long_ends (Refused place) h input told long = absurd h
   long_ends ReadFault h input told long = absurd (told.read h.part.cause)
   long_ends Done h input told long = absurd (not_short a.source b.source input h.right.input told.left h.right.read.gave h.right.read.within long)
   long_ends WriteFault h input told long = absurd (not_short a.source b.source input h.right.input told.left h.right.read.gave h.right.read.within long)
@@ -107,6 +109,7 @@ module _ (IsRight : List ℕ → List Section → List ℕ → Type 0) (Came : L
       → parsed_script input ≡ Err line → IsOrNoMemory (BadLine line) status
   bad_line_ends NoMemory h input line told within bad = inr refl
   bad_line_ends Usage h input line told within bad = absurd h
+  bad_line_ends (Refused place) h input line told within bad = absurd h
   bad_line_ends ReadFault h input line told within bad = absurd (told.read h.part.cause)
   bad_line_ends TooLong h input line told within bad = absurd (not_too_much Came a.source b.source input h.much.bytes told.left h.much.gave within)
   bad_line_ends (BadLine other) h input line told within bad =
@@ -123,6 +126,7 @@ module _ (IsRight : List ℕ → List Section → List ℕ → Type 0) (Came : L
   script_ends Done h input fine = inl refl
   script_ends NoMemory h input fine = inr refl
   script_ends Usage h input fine = absurd h
+  script_ends (Refused place) h input fine = absurd h
   script_ends ReadFault h input fine = absurd (fine.told.read h.part.cause)
   script_ends WriteFault h input fine = absurd (fine.written h.written.cause)
   script_ends SeedFault h input fine = absurd (fine.seeded h.seeds.cause)
@@ -151,6 +155,7 @@ module _ (IsRight : List ℕ → List Section → List ℕ → Type 0) (Came : L
       ends Done h = absurd h.right
       ends WriteFault h = absurd h.right
       ends Usage h = h
+      ends (Refused place) h = h
       ends (BadLine line) h = h
       ends ReadFault h = h
       ends SeedFault h = h
@@ -189,6 +194,7 @@ module _ (IsRight : List ℕ → List Section → List ℕ → Type 0) (Came : L
       ended WriteFault h = replay_is WriteFault (record { text = text; right = right; written = h })
       ended NoMemory h = want_ends script seed prepared h
       ended Usage h = absurd h
+      ended (Refused place) h = absurd h
       ended (BadLine line) h = absurd h
       ended ReadFault h = absurd h
       ended SeedFault h = absurd h

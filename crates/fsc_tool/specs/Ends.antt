@@ -9,9 +9,9 @@ use Rattle.fsc_outside.specs.Reading.{ReadInVain, ReadPart}
 use Rattle.fsc_outside.specs.Reads.{ReadCall}
 use Rattle.fsc_outside.specs.States.{SinkState}
 use Rattle.fsc_outside.specs.Whole.{GotWhole, GotPart}
-use Rattle.reply_text.specs.declared.status.Status.{Status}
-use Rattle.reply_text.specs.declared.status.Status.TheVariants.{Done, Usage, BadLine, ReadFault}
-use Rattle.reply_text.specs.declared.status.Status.TheVariants.{WriteFault, SeedFault, TooLong, NoMemory}
+use Rattle.fsc_tool.specs.declared.status.Status.{Status}
+use Rattle.fsc_tool.specs.declared.status.Status.TheVariants.{Done, Usage, BadLine, ReadFault}
+use Rattle.fsc_tool.specs.declared.status.Status.TheVariants.{WriteFault, SeedFault, TooLong, Refused, NoMemory}
 use Rattle.fsc_tool.specs.declared.form.Seeding.{Seeding}
 use Rattle.fsc_tool.specs.declared.form.Seeding.TheVariants.{Asked}
 use Rattle.fsc_tool.specs.Limits.{input_limits}
@@ -78,10 +78,11 @@ pub record EndsNoMemory (Came : List ReadCall → Type 0) (seeding : Seeding) (a
   pub seeds : (b.seeds ≡ a.seeds) ⊎ ((seed : List ℕ) × IsSeedOf seeding a.seeds b.seeds seed)
   pub unwritten : b.sink ≡ a.sink
 
--- what the status means of a run that reads a script; it is never Usage
+-- what the status means of a run that reads a script; it is never Usage or Refused
 abbrev pub Ends : (List ℕ → Type 0) → (List ReadCall → Type 0) → Seeding → Outside → Outside → Status → Type 0
 Ends IsText Came seeding a b Done = EndsDone IsText a.sink b.sink
 Ends IsText Came seeding a b Usage = ⊥
+Ends IsText Came seeding a b (Refused place) = ⊥
 Ends IsText Came seeding a b (BadLine line) = EndsBadLine input_limits parsed_script Came line a b
 Ends IsText Came seeding a b ReadFault = EndsReadFault input_limits Came a b
 Ends IsText Came seeding a b WriteFault = EndsWriteFault IsText a.sink b.sink

@@ -5,8 +5,8 @@ use Rattle.script_lang.specs.declared.reader.ScriptFault.{ScriptFault}
 use Rattle.script_lang.specs.declared.reader.ScriptFault.TheVariants as script
 use Rattle.image_lines.specs.declared.fault.ImageFault.{ImageFault}
 use Rattle.image_lines.specs.declared.fault.ImageFault.TheVariants as image
-use Rattle.reply_text.specs.declared.status.Status.{Status}
-use Rattle.reply_text.specs.declared.status.Status.TheVariants.{BadLine, ReadFault, TooLong, NoMemory}
+use Rattle.fsc_tool.specs.declared.status.Status.{Status}
+use Rattle.fsc_tool.specs.declared.status.Status.TheVariants.{BadLine, ReadFault, TooLong, NoMemory}
 
 -- each fault of reading has a status of its own
 abbrev pub input_status : InputFault → Status

@@ -1,6 +1,7 @@
 -- What the words of the command line ask for. `replay` or `replay --serial`, alone or with `--seed HEX64`
 -- behind; `gen NUMBER` or `gen NUMBER --summary`, where the number is a decimal numeral below 2^32;
--- `dump --seed HEX64`; `inspect`, alone or with `raw:HEX` behind.
+-- `dump --seed HEX64`; `inspect`, alone or with `raw:HEX` behind;
+-- `check --seed HEX64`.
 use Rattle.std.specs.Prelude.{ℕ, List, [], ◌∷◌, ◌^◌, codes, Option, Some, None, if◌then◌else◌}
 use Rattle.std.specs.Option.{option_map, option_and_then}
 use Rattle.std.specs.Str.{bytes_eq}
@@ -14,7 +15,7 @@ use Rattle.fsc_tool.specs.declared.form.Way.TheVariants.{InTurn, InThreads}
 use Rattle.fsc_tool.specs.declared.form.Seeding.{Seeding}
 use Rattle.fsc_tool.specs.declared.form.Seeding.TheVariants.{Given, Asked}
 use Rattle.fsc_tool.specs.declared.form.ToolForm.{ToolForm}
-use Rattle.fsc_tool.specs.declared.form.ToolForm.TheVariants.{Replay, Generate, Summarise, Dump, Inspect}
+use Rattle.fsc_tool.specs.declared.form.ToolForm.TheVariants.{Replay, Generate, Summarise, Dump, Inspect, Check}
 
 -- the seed that is given: `--seed` and 32 bytes in 64 digits of either case
 abbrev pub seed_given : List (List ℕ) → Option (List ℕ)
@@ -67,6 +68,7 @@ form_of (verb ∷ words) =
     else if bytes_eq verb (codes "gen") then generated_of words
     else if bytes_eq verb (codes "dump") then option_map Dump (seed_given words)
     else if bytes_eq verb (codes "inspect") then inspected_of words
+    else if bytes_eq verb (codes "check") then option_map Check (seed_given words)
     else None
 
 -- the same for a tool that starts no thread

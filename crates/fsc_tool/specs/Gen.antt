@@ -7,8 +7,8 @@ use Rattle.load_gen.specs.Generated.{generated, generated_script}
 use Rattle.fsc_outside.specs.Causes.{Rose}
 use Rattle.reply_text.specs.Log.{log_text}
 use Rattle.reply_text.specs.Notes.{notes_text}
-use Rattle.reply_text.specs.declared.status.Status.{Status}
-use Rattle.reply_text.specs.declared.status.Status.TheVariants.{Done}
+use Rattle.fsc_tool.specs.declared.status.Status.{Status}
+use Rattle.fsc_tool.specs.declared.status.Status.TheVariants.{Done}
 use Rattle.fsc_session.specs.Session.{notes_of}
 use Rattle.fsc_session.specs.Serial.{serial_history}
 use Rattle.fsc_tool.specs.Ends.{EndsUnread}

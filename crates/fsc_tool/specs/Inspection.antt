@@ -11,9 +11,9 @@ use Rattle.image_lines.specs.Reading.{image_read}
 use Rattle.image_lines.specs.Rules.{IsImage}
 use Rattle.image_lines.specs.declared.TheConstants.{MOST_IMAGE_BYTES}
 use Rattle.tree_listing.specs.Listing.{IsListing}
-use Rattle.reply_text.specs.declared.status.Status.{Status}
-use Rattle.reply_text.specs.declared.status.Status.TheVariants.{Done, BadLine, ReadFault}
-use Rattle.reply_text.specs.declared.status.Status.TheVariants.{WriteFault, TooLong, NoMemory}
+use Rattle.fsc_tool.specs.declared.status.Status.{Status}
+use Rattle.fsc_tool.specs.declared.status.Status.TheVariants.{Done, BadLine, ReadFault}
+use Rattle.fsc_tool.specs.declared.status.Status.TheVariants.{WriteFault, TooLong, NoMemory}
 use Rattle.fsc_tool.specs.Ends.{EndsBadLine, EndsDone, EndsEarly, EndsReadFault, EndsWriteFault, ReadSome}
 use Rattle.fsc_tool.specs.Outside.{Outside}
 use Rattle.fsc_tool.specs.Replay.{IsOrNoMemory, Told}

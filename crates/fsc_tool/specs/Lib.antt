@@ -1,3 +1,4 @@
+pub mod Checking
 pub mod Ends
 pub mod Faults
 pub mod Forms
@@ -8,12 +9,14 @@ pub mod Limits
 pub mod InRange
 pub mod LogOfRun
 pub mod Outside
+pub mod Parted
 pub mod Prepared
 pub mod RangeLaws
 pub mod Replay
 pub mod Rotating
 pub mod Runs
 pub mod Seed
+pub mod Status
 pub mod Summary
 pub mod TextOfRun
 pub mod Threaded

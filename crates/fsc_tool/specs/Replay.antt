@@ -5,8 +5,8 @@ use Rattle.script_lang.specs.Script.{parsed_script}
 use Rattle.fsc_outside.specs.Causes.{Rose}
 use Rattle.fsc_outside.specs.Input.{IsWithin}
 use Rattle.fsc_outside.specs.Reads.{ReadCall}
-use Rattle.reply_text.specs.declared.status.Status.{Status}
-use Rattle.reply_text.specs.declared.status.Status.TheVariants.{Done, BadLine, TooLong, NoMemory}
+use Rattle.fsc_tool.specs.declared.status.Status.{Status}
+use Rattle.fsc_tool.specs.declared.status.Status.TheVariants.{Done, BadLine, TooLong, NoMemory}
 use Rattle.fsc_tool.specs.declared.form.Seeding.{Seeding}
 use Rattle.fsc_tool.specs.declared.form.Seeding.TheVariants.{Given}
 use Rattle.fsc_tool.specs.Limits.{input_limits, IsLong}

@@ -2,12 +2,13 @@
 use Rattle.std.specs.Prelude.{◌≡◌, ◌↔◌, ℕ, List, [], Option, Some, None}
 use Rattle.mount_model.specs.History.{History}
 use Rattle.fsc_outside.specs.Reads.{ReadCall}
-use Rattle.reply_text.specs.declared.status.Status.{Status}
-use Rattle.reply_text.specs.declared.status.Status.TheVariants.{Usage}
+use Rattle.fsc_tool.specs.declared.status.Status.{Status}
+use Rattle.fsc_tool.specs.declared.status.Status.TheVariants.{Usage}
 use Rattle.fsc_tool.specs.declared.form.Seeding.TheVariants.{Given}
 use Rattle.fsc_tool.specs.declared.form.Way.TheVariants.{InTurn, InThreads}
 use Rattle.fsc_tool.specs.declared.form.ToolForm.{ToolForm}
-use Rattle.fsc_tool.specs.declared.form.ToolForm.TheVariants.{Replay, Generate, Summarise, Dump, Inspect}
+use Rattle.fsc_tool.specs.declared.form.ToolForm.TheVariants.{Replay, Generate, Summarise, Dump, Inspect, Check}
+use Rattle.fsc_tool.specs.Checking.{IsChecking}
 use Rattle.fsc_tool.specs.Forms.{form_of, without_threads}
 use Rattle.fsc_tool.specs.Gen.{IsGenRun, IsScriptText, SummaryOfRun}
 use Rattle.fsc_tool.specs.ImageOfRun.{IsImageOfRun}
@@ -31,6 +32,7 @@ IsRunIn lawful Came (Some (Summarise number)) a b status =
     IsGenRun (SummaryOfRun lawful number) a b status × Came []
 IsRunIn lawful Came (Some (Dump seed)) a b status = IsReplay IsImageOfRun Came (Given seed) a b status
 IsRunIn lawful Came (Some (Inspect raw)) a b status = IsInspection raw Came a b status
+IsRunIn lawful Came (Some (Check seed)) a b status = IsChecking seed Came a b status
 
 -- a run in the form that the words are; Usage comes exactly where they are none
 pub record IsToolRun (lawful : History → Type 0) (Came : List ReadCall → Type 0) (words : List (List ℕ))

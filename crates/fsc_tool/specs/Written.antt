@@ -2,8 +2,8 @@
 use Rattle.std.specs.Prelude.{◌≡◌, ℕ, List}
 use Rattle.fsc_outside.specs.States.{SinkState}
 use Rattle.fsc_outside.specs.Whole.{GotWhole, GotPart}
-use Rattle.reply_text.specs.declared.status.Status.{Status}
-use Rattle.reply_text.specs.declared.status.Status.TheVariants.{Done, WriteFault, NoMemory}
+use Rattle.fsc_tool.specs.declared.status.Status.{Status}
+use Rattle.fsc_tool.specs.declared.status.Status.TheVariants.{Done, WriteFault, NoMemory}
 
 -- the log was written whole, the sink failed short of its end, or there was no memory and nothing was
 -- written

@@ -46,6 +46,8 @@ pub(crate) enum ToolForm {
     Dump([u8; 32]),
     /// To list the image that the source gives, with this raw key or without one.
     Inspect(Option<RawKey>),
+    /// To check the log that the source gives behind its script, as one of a run with this seed.
+    Check([u8; 32]),
 }
 
 // Writes what the words ask for into the caller's room; none where they are no form. Whatever else it moves a seed
@@ -82,6 +84,9 @@ fn form_of(words: &[String]) -> Option<ToolForm>
     }
     if words[0].as_str() == "inspect" {
         return read_inspected(&words[1..]);
+    }
+    if words[0].as_str() == "check" {
+        return read_given_seed(&words[1..]).map(ToolForm::Check);
     }
     None
 }

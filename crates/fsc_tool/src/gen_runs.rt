@@ -6,6 +6,7 @@ ghost use Rattle.fsc_tool.specs.Gen.{IsScriptText, SummaryOfRun, zero_seed};
 
 use crate::replay::{history_of, whole_log};
 use crate::rotation::run_in_rotation;
+use crate::status::Status;
 use crate::summary::{summary_text, wants_memory};
 use crate::writing::write_text;
 use fsc_commands::OnOneThread;
@@ -13,7 +14,6 @@ use fsc_outside::{Gate, Sink};
 use item_list::Bytes;
 use load_gen::{generate, generate_script};
 use mount_shared::MountMachine;
-use reply_text::Status;
 use std::alloc::{AllocError, Global};
 
 // Writes the script that the number gives into the sink, once it stands whole, and tells how the run ends.

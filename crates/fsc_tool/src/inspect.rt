@@ -10,13 +10,13 @@ ghost use Rattle.fsc_tool.specs.Outside.{outside};
 
 use crate::limits::IMAGE_LIMITS;
 use crate::replay::input_status;
+use crate::status::Status;
 use crate::writing::write_text;
 use fsc_keys::{PreparedKey, RawKey};
 use fsc_outside::{Sink, Source, read_all};
 use fsc_session::scrub_stack;
 use image_lines::{Image, ImageFault, read_image};
 use item_list::Bytes;
-use reply_text::Status;
 use std::alloc::{AllocError, Global};
 use tree_listing::list_image;
 

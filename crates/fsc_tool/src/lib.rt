@@ -1,15 +1,19 @@
 //! The tool: words, a source, a sink, a seed source and a machine in; a status and a log out.
 #![tactic(auto)]
 
+mod checking;
 mod dump;
 mod form;
 mod gen_runs;
 mod inspect;
 mod limits;
+mod one_mount;
+mod parting;
 mod ranged_port;
 mod replay;
 mod rotation;
 mod seed;
+mod status;
 mod summary;
 mod threads;
 mod told;
@@ -17,9 +21,10 @@ mod top;
 mod writing;
 
 use call_history::Entry;
-pub use limits::{MOST_INPUT_BYTES, MOST_INPUT_LINES};
+pub use limits::{MOST_CERTIFICATE_BYTES, MOST_INPUT_BYTES, MOST_INPUT_LINES};
 use mount_model::Reply;
 use reply_text::Shown;
+pub use status::Status;
 pub use top::{tool, tool_serial};
 
 // What is shown of entries, with their places.

@@ -6,7 +6,7 @@ ghost use Rattle.call_history.specs.Placed.{entries_of};
 ghost use Rattle.fsc_outside.specs.States.{SinkState};
 ghost use Rattle.reply_text.specs.Notes.{notes_text};
 ghost use Rattle.reply_text.specs.Shown.{shown_log};
-ghost use Rattle.reply_text.specs.declared.status.Status.TheVariants.{NoMemory};
+ghost use Rattle.fsc_tool.specs.declared.status.Status.TheVariants.{NoMemory};
 ghost use Rattle.script_lang.specs.Spelled.{IsSpelled};
 ghost use Rattle.fsc_tool.specs.Ends.{Ends};
 ghost use Rattle.fsc_tool.specs.Faults.{input_status, script_status};
@@ -19,6 +19,7 @@ use crate::PlacedVec;
 use crate::form::Seeding;
 use crate::limits::INPUT_LIMITS;
 use crate::seed::{take_seed, wipe_seeding};
+use crate::status::Status;
 use crate::told::Told;
 use crate::writing::write_text;
 use byte_words::wipe;
@@ -27,7 +28,7 @@ use fsc_outside::{InputFault, SeedSource, Sink, Source, read_all};
 use fsc_session::scrub_stack;
 use item_list::Bytes;
 use mount_model::Reply;
-use reply_text::{Note, Shown, Status, write_log, write_notes};
+use reply_text::{Note, Shown, write_log, write_notes};
 use script_lang::{Script, ScriptFault, read_script, wipe_script};
 use std::alloc::{AllocError, Global};
 
@@ -148,7 +149,7 @@ pub(crate) fn input_status(fault: InputFault) -> Status
 }
 
 // How a run ends whose input isn't a script.
-fn script_status(fault: ScriptFault) -> Status
+pub(crate) fn script_status(fault: ScriptFault) -> Status
     ensures { result ≡ script_status fault }
 {
     match fault {

@@ -10,18 +10,19 @@ ghost use Rattle.fsc_tool.specs.Replay.{IsReplay};
 ghost use Rattle.fsc_tool.specs.Runs.{IsLawfulRun, IsSerialRun};
 ghost use Rattle.fsc_tool.specs.Tool.{IsSerialToolRun, IsToolRun};
 
+use crate::checking::run_checking;
 use crate::dump::run_dumping;
 use crate::form::{Seeding, ToolForm, Way, leave_threads, read_form, wipe_words};
 use crate::gen_runs::{run_generating, run_summarising};
 use crate::inspect::run_inspecting;
 use crate::replay::{finish, prepare};
 use crate::rotation::run_in_rotation;
+use crate::status::Status;
 use crate::threads::run_in_threads;
 use argon_kdf::LaneStretch;
 use fsc_commands::{InThreads, OnOneThread};
 use fsc_outside::{Gate, OpenGate, SeedSource, Sink, Source};
 use mount_shared::MountMachine;
-use reply_text::Status;
 use std::alloc::Global;
 use std::sync::Wait;
 use std::thread::Threads;
@@ -85,6 +86,7 @@ pub fn tool<
         }
         Some(ToolForm::Dump(seed)) => run_dumping(alloc, seed, source, sink, seeds, gate),
         Some(ToolForm::Inspect(raw)) => run_inspecting(alloc, raw, source, sink),
+        Some(ToolForm::Check(seed)) => run_checking(alloc, seed, source),
     }
 }
 
@@ -125,6 +127,7 @@ pub fn tool_serial<S: Source, K: Sink, E: SeedSource, M: MountMachine>(
         }
         Some(ToolForm::Dump(seed)) => run_dumping(alloc, seed, source, sink, seeds, &OpenGate),
         Some(ToolForm::Inspect(raw)) => run_inspecting(alloc, raw, source, sink),
+        Some(ToolForm::Check(seed)) => run_checking(alloc, seed, source),
     }
 }
 

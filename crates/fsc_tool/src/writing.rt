@@ -2,9 +2,9 @@
 
 ghost use Rattle.fsc_tool.specs.Written.{EndsLog};
 
+use crate::status::Status;
 use fsc_outside::{Sink, write_all};
 use item_list::Bytes;
-use reply_text::Status;
 
 // Writes a text into the sink, and tells how the run ends.
 pub(crate) fn write_text<K: Sink>(text: Bytes, sink: &mut K) -> Status

@@ -4,7 +4,7 @@ ghost use Rattle.std.specs.Prelude.{◌<◌, length};
 
 use crate::asked::Asked;
 use crate::bad_line::shown;
-use reply_text::Status;
+use fsc_tool::Status;
 use std::io::IsTerminal;
 use text_words::decimal_value;
 
@@ -36,7 +36,8 @@ const NUMBER_OF_GEN: &str = "gen takes a number from 0 to 4294967295, without le
 pub(crate) fn tell_of_waiting(rt: &HostRuntime, words: &Vec<String>, asked: Asked) {
     let awaited = match asked.input() {
         Some("script") => "a script, a command a line,",
-        Some(_) => "an image,",
+        Some("image") => "an image,",
+        Some(_) => "a script, a line --- and a log,",
         None => return,
     };
     if fault_of(words.as_slice()).is_none() && rt.stdin().is_terminal() {
@@ -94,7 +95,8 @@ fn fault_of(words: &[String]) -> Option<WordFault> {
     match first.as_str() {
         "replay" => fault_of_replay(behind),
         "gen" => fault_of_gen(behind),
-        "dump" => fault_of_dump(behind),
+        "dump" => fault_of_seed(behind, "dump takes a seed alone: fsc dump --seed HEX64"),
+        "check" => fault_of_seed(behind, "check takes a seed alone: fsc check --seed HEX64"),
         "inspect" => fault_of_inspect(behind),
         "--help" | "--version" if behind.is_empty() => None,
         "--help" | "--version" => at(1, "nothing stands behind --help and --version"),
@@ -115,7 +117,7 @@ fn remedy_of_first(word: &str) -> &'static str {
     if is_path(word) {
         return SCRIPT_BY_INPUT;
     }
-    "a form begins with replay, gen, dump, inspect, --help or --version"
+    "a form begins with replay, gen, dump, inspect, check, --help or --version"
 }
 
 // Whether the word looks like the name of a file.
@@ -192,14 +194,11 @@ fn remedy_of_option(word: &str) -> &'static str {
     SCRIPT_BY_INPUT
 }
 
-// The first word at fault behind `dump`.
-fn fault_of_dump(words: &[String]) -> Option<WordFault> {
+// The first word at fault behind a form that takes a seed alone.
+fn fault_of_seed(words: &[String], alone: &'static str) -> Option<WordFault> {
     match words {
-        [] => at(1, "dump takes a seed: fsc dump --seed HEX64"),
-        [option, ..] if option.as_str() != "--seed" => at(
-            1,
-            "dump takes a seed alone: fsc dump --seed HEX64",
-        ),
+        [] => at(1, alone),
+        [option, ..] if option.as_str() != "--seed" => at(1, alone),
         [_] => at(2, "64 hexadecimal digits stand behind --seed"),
         [_, seed, ..] if !is_seed(seed.as_str()) => at(2, remedy_of_seed(seed.as_str())),
         [_, _] => None,

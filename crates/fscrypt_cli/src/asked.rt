@@ -9,6 +9,8 @@ pub(crate) enum Asked {
     Image,
     /// An image, which is listed.
     Listing,
+    /// A script with a log behind it, which is checked.
+    Verdict,
     /// Nothing.
     Other,
 }
@@ -23,6 +25,7 @@ impl Asked {
             "replay" => Asked::Log,
             "dump" => Asked::Image,
             "inspect" => Asked::Listing,
+            "check" => Asked::Verdict,
             _ => Asked::Other,
         }
     }
@@ -32,6 +35,7 @@ impl Asked {
         match self {
             Asked::Log | Asked::Image => Some("script"),
             Asked::Listing => Some("image"),
+            Asked::Verdict => Some("script with its log"),
             Asked::Other => None,
         }
     }
@@ -42,7 +46,7 @@ impl Asked {
             Asked::Log => "log",
             Asked::Image => "image",
             Asked::Listing => "listing",
-            Asked::Other => "text",
+            Asked::Verdict | Asked::Other => "text",
         }
     }
 }

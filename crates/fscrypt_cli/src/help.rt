@@ -3,7 +3,7 @@
 use crate::asked::Asked;
 use crate::bad_line::{first_word, show_line};
 use crate::commands::GROUPS;
-use reply_text::Status;
+use fsc_tool::Status;
 use script_faults::is_usable;
 use std::alloc::{AllocError, Global};
 
@@ -21,6 +21,7 @@ log of it.
     fsc gen NUMBER [--summary]
     fsc dump --seed HEX64
     fsc inspect [raw:HEX]
+    fsc check --seed HEX64
     fsc --help | --version
 
 The script comes from standard input. Its callers run in threads, and the log
@@ -33,6 +34,9 @@ it runs that script in turns and writes entries, refused, busy and sha256.
 dump runs a script in turns, and writes the image of what then lies on the disk.
 inspect reads an image and lists its tree: with a raw key of 32 to 64 bytes in
 plain where that key encrypts it, else by the texts that stand for names.
+
+check reads a script, a line --- and a log, and tells whether a run of the
+script with the seed can have printed the log: if not, from which place on.
 
 A script has a section for each of up to eight callers, which begins with
 `caller UID`, and in it a command a line. Words are parted by one space. A line
@@ -60,8 +64,9 @@ log's entries, which tells how it ended.
 Callers that take turns run the first command of each section in order, then the
 second of each section that has one, and so on. Callers count from 0.
 
-Exit statuses: 0 done, 2 usage, 3 a line at fault, 4 the input failed, 5 the
-output failed, 6 no seed, 7 the input is too long, 8 no memory.
+Exit statuses: 0 done, 1 the log is refused, 2 usage, 3 a line at fault, 4 the
+input failed, 5 the output failed, 6 no seed, 7 the input is too long, 8 no
+memory.
 
 Documents: docs/FORMATS.md (scripts, logs, images), docs/ANSWERS.md (replies and
 statuses), docs/LINUX.md (what differs from Linux), docs/fsc.1.
@@ -105,18 +110,29 @@ fn push_group(text: &mut String, title: &str, lines: &[&str]) -> Result<(), Allo
 pub(crate) fn advise(rt: &HostRuntime, asked: Asked, status: Status, input: &[u8]) {
     let advice = match status {
         Status::Done => return,
+        Status::Refused { .. } =>
+            "no run has a log that goes on so: places count from 0, a line each",
         Status::BadLine { .. } if asked == Asked::Listing =>
             "docs/FORMATS.md tells of the lines of an image, under Images",
+        Status::BadLine { line } if asked == Asked::Verdict && is_behind(input, line) =>
+            "a line --- stands between the script and its log",
         Status::BadLine { .. } => return show_line(rt, input),
         Status::Usage => "a word of the command line is no text",
         Status::ReadFault => return tell_of_input(rt, asked),
         Status::WriteFault => return tell_of_output(rt, asked),
         Status::SeedFault => "the machine gave no seed: give one by --seed HEX64",
         Status::TooLong if asked == Asked::Listing => "an image has at most 268435456 bytes",
+        Status::TooLong if asked == Asked::Verdict =>
+            "a script and its log have at most 67108864 bytes, the script 1048576 and 20000 lines",
         Status::TooLong => "a script has at most 1048576 bytes and 20000 lines",
         Status::NoMemory => "run it again where more memory is free",
     };
     let _ = eprintln!(rt; "fsc: {advice}");
+}
+
+// Whether the line of this number stands behind the text's last one.
+fn is_behind(text: &[u8], line: u32) -> bool {
+    text.iter().filter(|byte| **byte == b'\n').count() < line as usize
 }
 
 // What to do where standard input failed.

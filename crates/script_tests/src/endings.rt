@@ -1,9 +1,9 @@
 //! How runs and commands end: their statuses and outcomes, and sources, sinks and seeds that fail.
 
 use fsc_outside::{CallList, FixedSeed, MemSink, MemSource};
-use fsc_tool::tool_serial;
+use fsc_tool::{Status, tool_serial};
 use mount_shared::Mount;
-use reply_text::{Outcome, Status};
+use reply_text::Outcome;
 use std::alloc::{AllocError, Global};
 use std::test::Fail;
 

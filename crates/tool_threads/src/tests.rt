@@ -1,8 +1,7 @@
 use crate::counting::Counting;
 use crate::meeting::MeetingGate;
 use fsc_outside::{CallList, FixedSeed, MemSink, MemSource, OpenGate};
-use fsc_tool::tool;
-use reply_text::Status;
+use fsc_tool::{Status, tool};
 use std::alloc::{AllocError, Global};
 use std::test::Fail;
 

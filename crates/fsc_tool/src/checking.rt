@@ -1,0 +1,108 @@
+//! The run that checks a log. It writes nothing, and asks for no seed.
+
+ghost use Rattle.std.specs.Prelude.{◌≡◌, List, replicate, IfOk};
+ghost use Rattle.log_check.specs.Verdicts.{Says};
+ghost use Rattle.script_lang.specs.Spelled.{IsSpelled};
+ghost use Rattle.fsc_outside.specs.Reads.{ReadCall};
+ghost use Rattle.fsc_outside.specs.States.{SeedState, SinkState};
+ghost use Rattle.fsc_tool.specs.Checking.{IsChecking, SaysOfInput, SaysOfLog};
+ghost use Rattle.fsc_tool.specs.Outside.{outside};
+
+use crate::limits::CERTIFICATE_LIMITS;
+use crate::one_mount::OneMount;
+use crate::parting::parted;
+use crate::replay::{input_status, script_status, wipe_input};
+use crate::status::Status;
+use crate::{MOST_INPUT_BYTES, MOST_INPUT_LINES};
+use byte_words::wipe;
+use fsc_commands::OnOneThread;
+use fsc_outside::{Source, read_all};
+use fsc_session::scrub_stack;
+use log_check::{Verdict, check_log};
+use mount_shared::Mount;
+use script_lang::{Script, read_script, wipe_script};
+use std::alloc::{AllocError, Global};
+use text_words::line_count;
+
+// Checks the log that the source gives behind its script, as one of a run with this seed, which is overwritten.
+pub(crate) fn run_checking<S: Source>(alloc: Global, seed: &mut [u8; 32], source: &mut S) -> Status
+    ensures checked { (sink : SinkState) (seeds : SeedState) → IsChecking seed.old
+        (λ (calls : List ReadCall). S.came source.old calls source.new)
+        (outside (S.state source.old) sink seeds) (outside (S.state source.new) sink seeds) result }
+    ensures wiped { seed.new ≡ replicate 32 0 }
+{
+    let status = check_source(alloc, seed, source);
+    wipe(seed);
+    scrub_stack();
+    status
+}
+
+// The same. In a frame of its own, so that what it leaves lies below the frame that overwrites it.
+#[inline(never)]
+fn check_source<S: Source>(alloc: Global, seed: &[u8; 32], source: &mut S) -> Status
+    ensures { (sink : SinkState) (seeds : SeedState) → IsChecking seed.now
+        (λ (calls : List ReadCall). S.came source.old calls source.new)
+        (outside (S.state source.old) sink seeds) (outside (S.state source.new) sink seeds) result }
+{
+    let input = match read_all(alloc, source, CERTIFICATE_LIMITS) {
+        Ok(input) => input,
+        Err(fault) => return input_status(fault),
+    };
+    let status = check_input(alloc, seed, input.as_slice());
+    wipe_input(input);
+    status
+}
+
+// What is said of an input that was read. Its script is overwritten then.
+fn check_input(alloc: Global, seed: &[u8; 32], input: &[u8]) -> Status
+    ensures { SaysOfInput seed.now input.now result }
+{
+    let parts = parted(input);
+    let part = match parts {
+        Some((part, _)) => part,
+        None => input,
+    };
+    let lines = line_count(part);
+    if part.len() > MOST_INPUT_BYTES || lines > MOST_INPUT_LINES {
+        return Status::TooLong;
+    }
+    let mut script = match read_script(alloc, part) {
+        Ok(script) => script,
+        Err(fault) => return script_status(fault),
+    };
+    let status = match parts {
+        Some((_, log)) => check_text(alloc, seed, &script, log),
+        None => Status::BadLine {
+            line: lines as u32 + 1,
+        },
+    };
+    wipe_script(alloc, &mut script);
+    status
+}
+
+// What is said of a log of the script.
+fn check_text(alloc: Global, seed: &[u8; 32], script: &Script, log: &[u8]) -> Status
+    requires { IsSpelled script.now }
+    ensures { SaysOfLog seed.now script.now log.now result }
+{
+    match verdict(alloc, seed, script, log) {
+        Ok(Verdict::Certified) => Status::Done,
+        Ok(Verdict::Refused { place }) => Status::Refused { place },
+        Err(_) => Status::NoMemory,
+    }
+}
+
+// The verdict on a log of the script, whose calls a mount of its own answers.
+fn verdict(
+    alloc: Global,
+    seed: &[u8; 32],
+    script: &Script,
+    log: &[u8],
+) -> Result<Verdict, AllocError>
+    requires { IsSpelled script.now }
+    ensures { IfOk result (Says seed.now script.now log.now) }
+{
+    let mount = Mount::new(alloc)?;
+    let mut one = OneMount { mount };
+    check_log(alloc, &OnOneThread, script, seed, log, &mut one)
+}

@@ -1,0 +1,29 @@
+//! The mount that answers the calls of a log that is checked.
+
+ghost use Rattle.mount_shared.specs.StandsAfter.{StandsAfter};
+ghost use Rattle.mount_shared.specs.StandsLaws.{StandsAfter-wanting};
+
+use log_check::OneThread;
+use mount_model::{Call, Reply};
+use mount_shared::Mount;
+use turn_lock::Machine;
+
+// A mount that nobody else calls.
+#[derive(Drop)]
+pub(crate) struct OneMount {
+    pub(crate) mount: Mount,
+}
+
+impl OneThread for OneMount {
+    ghost led = { λ history one. StandsAfter history one.mount.state };
+
+    fn answer(&mut self, caller: u32, call: &Call) -> Reply {
+        let lent = self.mount.begin(caller, call);
+        Mount::finish(lent)
+    }
+
+    ghost led_lawful = { λ history one led. led.lawful };
+
+    ghost led_without_memory = { λ history one caller call fits takes led.
+        StandsAfter-wanting history caller call one.mount.state takes led };
+}

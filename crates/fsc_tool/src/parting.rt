@@ -1,0 +1,29 @@
+//! A script and a log in one input.
+
+ghost use Rattle.std.specs.Prelude.{◌≡◌};
+ghost use Rattle.std.specs.Option.{option_map};
+ghost use Rattle.fsc_tool.specs.Parted.{parted};
+
+use text_words::next_line;
+
+// The line that parts them.
+const PARTING: &[u8] = b"---";
+
+// What stands before the first line that parts, and what behind it; none where there is no such line.
+pub(crate) fn parted(input: &[u8]) -> Option<(&[u8], &[u8])>
+    ensures { option_map (λ parts. (parts.0.now, parts.1.now)) result ≡ parted input.now }
+{
+    let mut rest = input;
+    'lines: while !rest.is_empty() {
+        let line = next_line(rest);
+        if !line.ended {
+            return None;
+        }
+        if line.bytes == PARTING {
+            let before = input.len() - rest.len();
+            return Some((&input[..before], line.rest));
+        }
+        rest = line.rest;
+    }
+    None
+}

@@ -1,0 +1,67 @@
+//! How a run ends.
+
+ghost use Rattle.std.specs.Prelude.{◌≡◌, Some};
+ghost use Rattle.fsc_tool.specs.Status.{status_number, status_text};
+
+use std::fmt;
+
+/// How a run ended.
+#[derive(Clone, Copy, Debug, PartialEq, Eq)]
+pub enum Status {
+    /// What was asked for is written, or the log that was checked is one.
+    Done,
+    /// The log that was checked can be one up to this place, and no further.
+    Refused { place: u64 },
+    /// The words aren't a form of the command line.
+    Usage,
+    /// The line, counted from 1, is the first outside the grammar, or of an image the one at fault.
+    BadLine { line: u32 },
+    /// The input failed.
+    ReadFault,
+    /// The output failed, after a beginning of what was to be written.
+    WriteFault,
+    /// The seed source failed. Nothing is written.
+    SeedFault,
+    /// The input has more than 1,048,576 bytes or 20,000 lines; an image more than 268,435,456 bytes; a script
+    /// with a log behind it more than 67,108,864.
+    TooLong,
+    /// There was no memory.
+    NoMemory,
+}
+
+impl Status {
+    /// The number that the program ends with.
+    pub fn number(self) -> u8
+        ensures { result ≡ status_number self }
+    {
+        match self {
+            Status::Done => 0,
+            Status::Refused { .. } => 1,
+            Status::Usage => 2,
+            Status::BadLine { .. } => 3,
+            Status::ReadFault => 4,
+            Status::WriteFault => 5,
+            Status::SeedFault => 6,
+            Status::TooLong => 7,
+            Status::NoMemory => 8,
+        }
+    }
+}
+
+impl fmt::Display for Status {
+    ghost output = { λ status. Some (status_text status) };
+
+    fn fmt<W: fmt::Write>(&self, f: &mut fmt::Formatter<W>) -> fmt::Result {
+        match self {
+            Status::Done => Ok(()),
+            Status::Refused { place } => write!(f, "fsc: refused at {place}"),
+            Status::Usage => f.write_str("fsc: usage"),
+            Status::BadLine { line } => write!(f, "fsc: bad line {line}"),
+            Status::ReadFault => f.write_str("fsc: read fault"),
+            Status::WriteFault => f.write_str("fsc: write fault"),
+            Status::SeedFault => f.write_str("fsc: seed fault"),
+            Status::TooLong => f.write_str("fsc: input too long"),
+            Status::NoMemory => f.write_str("fsc: no memory"),
+        }
+    }
+}
