@@ -12,6 +12,7 @@ use std::test::Fail;
 fn each_status_has_its_number_and_its_line(rt: HostRuntime) -> Result<(), Fail> {
     for (status, number, line) in [
         (Status::Done, 0, ""),
+        (Status::Refused { place: 27 }, 1, "fsc: refused at 27"),
         (Status::Usage, 2, "fsc: usage"),
         (Status::BadLine { line: 20_001 }, 3, "fsc: bad line 20001"),
         (Status::ReadFault, 4, "fsc: read fault"),
