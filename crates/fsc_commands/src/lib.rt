@@ -42,6 +42,7 @@ use reply_text::Shown;
 pub use stars::path_meant;
 pub use stretches::{InThreads, OnOneThread, Stretches};
 pub use turn::Turn;
+pub use wiping::wipe_call;
 
 /// What a log shows of a caller's calls, and what was replied, each with its place in the history, which
 /// counts from 0. Neither raw keys nor nonces nor written bytes are among it.

@@ -9,9 +9,9 @@ use mount_model::{Call, Op};
 use std::alloc::Global;
 use std::mem;
 
-// Writes zeros over the raw key, the nonce, the target, or the bytes that are written or stored, if the call
-// carries any, where they stand. It takes no memory.
-pub(crate) fn wipe_call(alloc: Global, call: &mut Call)
+/// Writes zeros over the raw key, the nonce, the target, or the bytes that are written or stored, if the call
+/// carries any, where they stand, as many as there were. It takes no memory.
+pub fn wipe_call(alloc: Global, call: &mut Call)
     ensures { call.new ≡ wiped_call call.old }
 {
     wipe_bytes(alloc, &mut call.op);

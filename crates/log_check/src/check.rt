@@ -6,7 +6,7 @@ ghost use Rattle.log_check.specs.Verdicts.{Says};
 
 use crate::one_thread::OneThread;
 use crate::reading::Reading;
-use crate::start::{begin_callers, forget, remembering_ways};
+use crate::start::{begin_callers, forget, forget_callers, remembering_ways};
 use fsc_commands::Stretches;
 use fsc_session::scrub_stack;
 use next_calls::Remembering;
@@ -71,7 +71,9 @@ fn read_log<'w, S: Stretches, T: OneThread>(
     };
     'lines: loop {
         if !reading.read_line(alloc, ways, seed, mount)? {
-            return reading.verdict(alloc);
+            let said = reading.verdict(alloc);
+            forget_callers(alloc, reading.callers);
+            return said;
         }
     }
 }

@@ -10,6 +10,7 @@ ghost use Rattle.reply_text.specs.Log.{entry_text};
 use crate::lines::behind_line;
 use crate::one_thread::OneThread;
 use call_history::Entry;
+use fsc_commands::wipe_call;
 use mount_model::{Call, Op, Refusal, Reply};
 use reply_text::entry_in_range;
 use std::alloc::{AllocError, Global};
@@ -37,7 +38,7 @@ pub(crate) fn replied<'t, T: OneThread>(
     };
     if let Some(behind) = behind_want(alloc, place, &wanting, text)? {
         entry_in_range(&wanting);
-        return Ok(Some((reply_of(wanting), behind)));
+        return Ok(Some((reply_of(alloc, wanting), behind)));
     }
     let call = call_of(wanting);
     let reply = mount.answer(caller, &call);
@@ -49,11 +50,11 @@ pub(crate) fn replied<'t, T: OneThread>(
     match behind_line(alloc, place, &answered, text)? {
         Some(behind) => {
             entry_in_range(&answered);
-            Ok(Some((reply_of(answered), behind)))
+            Ok(Some((reply_of(alloc, answered), behind)))
         }
         None => {
             let wanted = wants_memory(&answered.reply);
-            leave(answered);
+            leave(alloc, answered);
             if wanted { Err(AllocError) } else { Ok(None) }
         }
     }
@@ -116,10 +117,13 @@ fn wants_memory(reply: &Reply) -> bool
     matches!(reply, Reply::Refused(Refusal::NoMemory))
 }
 
-// The entry's reply, its call, and nothing: each in a function, which lets go of the rest in one place.
-fn reply_of(entry: Entry<Call, Reply>) -> Reply
+// The entry's reply, its call, and nothing: each in a function, which lets go of the rest in one place. What no log
+// shows of a call is overwritten as it is let go.
+fn reply_of(alloc: Global, entry: Entry<Call, Reply>) -> Reply
     ensures { result ≡ entry.reply }
 {
+    let mut call = entry.call;
+    wipe_call(alloc, &mut call);
     entry.reply
 }
 
@@ -129,4 +133,7 @@ fn call_of(entry: Entry<Call, Reply>) -> Call
     entry.call
 }
 
-fn leave(_entry: Entry<Call, Reply>) {}
+fn leave(alloc: Global, entry: Entry<Call, Reply>) {
+    let mut call = entry.call;
+    wipe_call(alloc, &mut call);
+}

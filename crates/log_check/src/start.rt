@@ -35,6 +35,13 @@ pub(crate) fn forget<'w, S: Stretches>(ways: Vec<Remembering<'w, S>>) {
     }
 }
 
+// Overwrites what no log shows of the calls that they wait for.
+pub(crate) fn forget_callers(alloc: Global, callers: Vec<Caller<'_>>) {
+    for caller in callers {
+        caller.forget(alloc);
+    }
+}
+
 // The callers, each with its own way.
 pub(crate) fn begin_callers<'a, 'w, S: Stretches>(
     alloc: Global,

@@ -1,6 +1,7 @@
 //! Letting go of what is kept for speed alone.
 
 ghost use Rattle.std.specs.Prelude.{◌≡◌, []};
+ghost use Rattle.dentry_cache.specs.Names.{with_pairs};
 ghost use Rattle.inode_refs.specs.Cached.{all_evicted};
 ghost use Rattle.mount_model.specs.PlainMount.{PlainMount};
 ghost use Rattle.mount_model.specs.Answered.{done};
@@ -16,7 +17,7 @@ use mount_state::MountState;
 pub fn drop_caches(state: &mut MountState) -> Reply
     ensures told { result ≡ Reply.Done }
     ensures dropped { state.new.inodes.keys ≡ all_evicted state.old.inodes }
-    ensures names { state.new.names.pairs ≡ [] }
+    ensures names { state.new.names ≡ with_pairs state.old.names [] }
     ensures same { SameButCaches state.old state.new }
     ensures stands { (m : PlainMount) → StandsFor state.old m → IsGiven (done m) result state.new }
 {

@@ -9,7 +9,7 @@ ghost use Rattle.fsc_session.specs.Session.{noted};
 ghost use Rattle.next_calls.specs.Callers.{Awaits, GoesOn, IsNearer, StandsIn, WaitingFits};
 
 use crate::listing::keep_last_listing;
-use crate::next::{Next, next_call};
+use crate::next::{Next, discard, next_call};
 use fsc_commands::{EntryList, Stretches, Turn};
 use fsc_session::NoteList;
 use mount_model::{Call, Reply};
@@ -108,6 +108,11 @@ impl<'a> Caller<'a> {
         self.go_on(alloc, stretches, seed)
     }
 
+    /// Overwrites what no log shows of the call that it waits for, and lets the caller go.
+    pub fn forget(self, alloc: Global) {
+        leave(alloc, self.waiting);
+    }
+
     /// The caller's number.
     pub fn caller(&self) -> u32
         ensures { result ≡ self.now.caller }
@@ -156,7 +161,7 @@ impl<'a> Caller<'a> {
     {
         let commands = self.section.commands.as_slice();
         if self.next == commands.len() {
-            leave(mem::replace(&mut self.waiting, None));
+            leave(alloc, mem::replace(&mut self.waiting, None));
             return Ok(true);
         }
         let command = &commands[self.next];
@@ -176,7 +181,7 @@ impl<'a> Caller<'a> {
         )?;
         match next {
             Next::Call(call) => {
-                leave(mem::replace(&mut self.waiting, Some(call)));
+                leave(alloc, mem::replace(&mut self.waiting, Some(call)));
                 Ok(true)
             }
             Next::Ended(outcome) => {
@@ -208,5 +213,9 @@ fn note(
     Ok(())
 }
 
-// Lets it go: in a function of its own, since one with branches would let go of each variant in each of them.
-fn leave(_call: Option<Call>) {}
+// Overwrites what no log shows of a call that was waited for, and lets it go.
+fn leave(alloc: Global, waiting: Option<Call>) {
+    if let Some(call) = waiting {
+        discard(alloc, call);
+    }
+}

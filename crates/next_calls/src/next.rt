@@ -8,7 +8,7 @@ ghost use Rattle.next_calls.specs.NextCalls.{IsNext, NextFits, replies_left, sho
 ghost use Rattle.next_calls.specs.declared.next.Next.TheVariants as variants;
 
 use crate::back::take_back;
-use fsc_commands::{EntryList, MOST_CALLS, Stretches, Turn, run_command};
+use fsc_commands::{EntryList, MOST_CALLS, Stretches, Turn, run_command, wipe_call};
 use mount_model::{Call, Reply};
 use reply_text::Outcome;
 use script_lang::Verb;
@@ -79,11 +79,15 @@ fn call_behind(
             Ok(Next::Call(call))
         }
         Err(error) => {
-            leave(call);
+            discard(alloc, call);
             Err(error)
         }
     }
 }
 
-// Lets it go: in a function of its own, since one with branches would let go of each variant in each of them.
-fn leave(_call: Call) {}
+// Overwrites what no log shows of a call, and lets it go: in a function of its own, since one with branches would let
+// go of each variant in each of them.
+pub(crate) fn discard(alloc: Global, call: Call) {
+    let mut call = call;
+    wipe_call(alloc, &mut call);
+}

@@ -7,4 +7,3 @@ pub mod Notes
 pub mod Ranges
 pub mod LogLaws
 pub mod Shown
-pub mod Status

@@ -1,5 +1,4 @@
-//! The text of a run: the lines of its log, the notes of its session commands, and how it ended,
-//! with the number and the line of that.
+//! The text of a run: the lines of its log, and the notes of its session commands.
 #![tactic(auto)]
 
 mod calls;
@@ -12,7 +11,6 @@ mod outcome;
 mod ranges;
 mod replies;
 mod shown;
-mod status;
 
 pub use laws::{
     beginnings_tell_their_entries, different_replies_have_different_lines,
@@ -24,4 +22,3 @@ pub use outcome::Outcome;
 pub use ranges::{call_in_range, entry_in_range, reply_in_range};
 pub use replies::refusal_name;
 pub use shown::{Shown, shown_of};
-pub use status::Status;
