@@ -1,0 +1,5 @@
+pub mod MapLemmas
+pub mod PlainLemmas
+pub mod SightLemmas
+pub mod ChildrenLemmas
+pub mod ListingLemmas

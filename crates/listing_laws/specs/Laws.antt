@@ -1,0 +1,24 @@
+-- The laws of listings of mounts.
+use Rattle.std.specs.Prelude.{◌≡◌, ◌↔◌, ⊤, ℕ, List, Option, None, Some, option_map}
+use Rattle.fsc_keys.specs.Keys.{key_id_of}
+use Rattle.mount_model.specs.PlainMount.{PlainMount, Raws, raw_in}
+use Rattle.mount_model.specs.WellFormed.{IsWellFormed}
+use Rattle.image_lines.specs.Rules.{HasGoodChildren}
+use Rattle.tree_image.specs.Images.{mount_image}
+use Rattle.tree_listing.specs.Listing.{IsListing}
+use Rattle.listing_laws.specs.Shown.{listing_shown}
+
+-- no other raw key of the same identifier was added
+abbrev pub IsOnlyKey : Raws → Option (List ℕ) → Type 0
+IsOnlyKey raws None = ⊤
+IsOnlyKey raws (Some raw) = (other : List ℕ) → raw_in raws (key_id_of raw) ≡ Some other → other ≡ raw
+
+-- in the image of a mount each entry leads to a node of its own, other than the root
+abbrev pub ChildrenAreGood : Type 0
+ChildrenAreGood = (m : PlainMount) → IsWellFormed m → HasGoodChildren (mount_image m)
+
+-- the listing of a mount's image, with a raw key or without one, is what the mount shows to who has the key, or none
+abbrev pub ListingsTell : Type 0
+ListingsTell = (m : PlainMount) → IsWellFormed m →
+    (raw : Option (List ℕ)) → IsOnlyKey m.raws raw → (text : List ℕ) →
+    IsListing (mount_image m) raw text ↔ (text ≡ listing_shown m (option_map key_id_of raw))

@@ -1,0 +1,70 @@
+-- What a mount shows to somebody who has a raw key, or none: its nodes that have a name, as the lines of a listing.
+use Rattle.std.specs.Prelude.{ℕ, ◌==◌, Bool, false, List, length, map, filter, Option, None, Some, if◌then◌else◌}
+use Rattle.std.specs.List.{find, flat_map}
+use Rattle.std.specs.Option.{option_map}
+use Rattle.sha2.specs.Sha256.{sha256}
+use Rattle.policy_ctx.specs.declared.policy.KeyId.{KeyId}
+use Rattle.policy_ctx.specs.declared.policy.Context.{Context}
+use Rattle.policy_ctx.specs.KeyIds.{same_id}
+use Rattle.number_map.specs.Numbered.{entries}
+use Rattle.plain_tree.specs.Nodes.{Name, Node, Nodes, Body, Dir, File, Link, children_of}
+use Rattle.script_words.specs.Word.{word_text}
+use Rattle.mount_model.specs.PlainMount.{PlainMount, Raws}
+use Rattle.mount_model.specs.Sealed.{texts}
+use Rattle.tree_listing.specs.ListingText.{ListedBody, ListedNode, listing_text}
+use Rattle.tree_listing.specs.ListingText as listed
+
+-- ---- the one name of a node
+
+-- a name with the directory that has it, under its number
+abbrev pub PlacedName : Type 0
+PlacedName = (ℕ × Node) × (Name × ℕ)
+
+abbrev pub names_in : ℕ × Node → List PlacedName
+names_in dir = map (λ e. (dir, e)) (children_of dir.1.body)
+
+abbrev pub placed_names : Nodes → List PlacedName
+placed_names nodes = flat_map names_in (entries nodes)
+
+-- the name that leads to node n
+abbrev pub name_to : Nodes → ℕ → Option PlacedName
+name_to nodes n = find (λ placed. placed.1.1 == n) (placed_names nodes)
+
+-- ---- what is seen
+
+-- whether who has the key of this identifier, or none, sees what lies under the policy of a context
+abbrev pub opens : Option KeyId → Context → Bool
+opens None c = false
+opens (Some id) c = same_id id c.policy.id
+
+-- how a name of the directory n, or the target of the symlink n, is shown: as a word where it is seen, else by the
+-- text that stands for it
+abbrev pub word_shown : Raws → Option KeyId → ℕ → Option Context → Name → List ℕ
+word_shown raws key n None name = word_text name
+word_shown raws key n (Some c) name = if opens key c then word_text name else texts raws n c name
+
+-- the SHA-256 of contents, where they are seen
+abbrev pub digest_shown : Option KeyId → Option Context → List ℕ → Option (List ℕ)
+digest_shown key None contents = Some (sha256 contents)
+digest_shown key (Some c) contents = if opens key c then Some (sha256 contents) else None
+
+abbrev pub body_shown : Raws → Option KeyId → ℕ → Option Context → Body → ListedBody
+body_shown raws key n context (Dir children) = listed.Dir (length children)
+body_shown raws key n context (File contents) =
+    listed.File (length contents) (digest_shown key context contents)
+body_shown raws key n context (Link target) = listed.Link (word_shown raws key n context target)
+
+abbrev pub place_shown : Raws → Option KeyId → PlacedName → ℕ × List ℕ
+place_shown raws key placed =
+    (placed.0.0, word_shown raws key placed.0.0 placed.0.1.context placed.1.0)
+
+abbrev pub shown : PlainMount → Option KeyId → ℕ × Node → ListedNode
+shown m key e = record {
+  number = e.0;
+  place = option_map (place_shown m.raws key) (name_to m.nodes e.0);
+  body = body_shown m.raws key e.0 e.1.context e.1.body;
+}
+
+-- the listing of what the mount shows: of its nodes that have a name, in order of number
+abbrev pub listing_shown : PlainMount → Option KeyId → List ℕ
+listing_shown m key = listing_text (map (shown m key) (filter (λ e. e.1.named) (entries m.nodes)))
