@@ -3,3 +3,4 @@ pub mod PlainLemmas
 pub mod SightLemmas
 pub mod ChildrenLemmas
 pub mod ListingLemmas
+pub mod RuleLemmas

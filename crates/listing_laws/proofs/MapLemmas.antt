@@ -56,7 +56,7 @@ put_there x e (y ∷ es) h = by_test (is_gt (entry_cmp e y)) refl h (λ later. p
     by_test true t (inr (inr h)) later = rw t (inr (later (inr h)))
     by_test false t there later = rw t there
 
-there_from_put : (x e : List ℕ × ℕ) (es : Entries) → In x (put_in_order e es) → (e ≡ x) ⊎ In x es
+pub there_from_put : (x e : List ℕ × ℕ) (es : Entries) → In x (put_in_order e es) → (e ≡ x) ⊎ In x es
 there_from_put x e [] h = h
 there_from_put x e (y ∷ es) h = by_test (is_gt (entry_cmp e y)) refl h (λ later. there_from_put x e es later)
   where

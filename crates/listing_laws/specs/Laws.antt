@@ -1,9 +1,13 @@
 -- The laws of listings of mounts.
 use Rattle.std.specs.Prelude.{◌≡◌, ◌↔◌, ⊤, ℕ, List, Option, None, Some, option_map}
+use Rattle.byte_words.specs.Bytes.{AreBytesOfLength}
+use Rattle.policy_ctx.specs.declared.policy.Context.{Context}
 use Rattle.fsc_keys.specs.Keys.{key_id_of}
+use Rattle.plain_tree.specs.Nodes.{Nodes}
+use Rattle.plain_tree.specs.Facts.{EachNode}
 use Rattle.mount_model.specs.PlainMount.{PlainMount, Raws, raw_in}
 use Rattle.mount_model.specs.WellFormed.{IsWellFormed}
-use Rattle.image_lines.specs.Rules.{HasGoodChildren}
+use Rattle.image_lines.specs.Rules.{HasGoodChildren, IsImage}
 use Rattle.tree_image.specs.Images.{mount_image}
 use Rattle.tree_listing.specs.Listing.{IsListing}
 use Rattle.listing_laws.specs.Shown.{listing_shown}
@@ -22,3 +26,11 @@ abbrev pub ListingsTell : Type 0
 ListingsTell = (m : PlainMount) → IsWellFormed m →
     (raw : Option (List ℕ)) → IsOnlyKey m.raws raw → (text : List ℕ) →
     IsListing (mount_image m) raw text ↔ (text ≡ listing_shown m (option_map key_id_of raw))
+
+-- each nonce is 16 bytes
+abbrev pub HasNonces : Nodes → Type 0
+HasNonces nodes = EachNode (λ n v. (c : Context) → v.context ≡ Some c → AreBytesOfLength 16 c.nonce) nodes
+
+-- the image of a mount whose nonces are 16 bytes is an image
+abbrev pub MountImagesAreImages : Type 0
+MountImagesAreImages = (m : PlainMount) → IsWellFormed m → HasNonces m.nodes → IsImage (mount_image m)

@@ -1,6 +1,6 @@
 //! Laws of the listings of mounts. These functions do nothing: their contracts are the laws.
 
-ghost use Rattle.listing_laws.specs.Laws.{ChildrenAreGood, ListingsTell};
+ghost use Rattle.listing_laws.specs.Laws.{ChildrenAreGood, ListingsTell, MountImagesAreImages};
 
 use data_crypt::contents_come_back;
 use hmac_kdf::derived_keys_are_bytes;
@@ -10,11 +10,20 @@ use tree_listing::listings_are_one;
 /// The listing of a mount's image, with a raw key or without one, is what the mount shows to who has that key,
 /// or none.
 pub fn listings_tell()
-    ensures children { ChildrenAreGood }
-    ensures listings { ListingsTell }
+    ensures { ListingsTell }
 {
     names_come_back();
     contents_come_back();
     derived_keys_are_bytes();
     listings_are_one();
+}
+
+/// The image of a mount is an image, where each nonce of the mount has 16 bytes. Each entry of it leads to a node
+/// of its own, other than the root, whatever the nonces are.
+pub fn mount_images_are_images()
+    ensures images { MountImagesAreImages }
+    ensures children { ChildrenAreGood }
+{
+    names_come_back();
+    derived_keys_are_bytes();
 }

@@ -3,4 +3,4 @@
 
 mod laws;
 
-pub use laws::listings_tell;
+pub use laws::{listings_tell, mount_images_are_images};

@@ -3,15 +3,11 @@ use Rattle.fsc_keys.specs.Keys.{key_id_of}
 use Rattle.tree_image.specs.Images.{mount_image}
 use Rattle.tree_listing.specs.Listing.{IsListing}
 use Rattle.listing_laws.specs.Shown.{listing_shown}
-use Rattle.listing_laws.proofs.ChildrenLemmas.{good_children}
 use Rattle.listing_laws.proofs.ListingLemmas.{is_listing}
 use Rattle.listing_laws.proofs.laws.listings_tell.Goals as goal
 
-pub returns-clause-children : goal.returns-clause-children
-returns-clause-children c = λ m well. good_children m well.nodes.tree
-
-pub returns-clause-listings : goal.returns-clause-listings
-returns-clause-listings c = λ m well raw only text.
+pub returns : goal.returns
+returns c = λ m well raw only text.
     let own = is_listing m well c.names_come_back.ensures.back c.contents_come_back.ensures c.derived_keys_are_bytes.ensures.sha512 raw only in (
       (λ listing. c.listings_are_one.ensures (mount_image m) raw text (listing_shown m (option_map key_id_of raw)) listing own),
       (λ is. subst (IsListing (mount_image m) raw) (sym is) own),
