@@ -3,4 +3,7 @@ pub mod PlainLemmas
 pub mod SightLemmas
 pub mod ChildrenLemmas
 pub mod ListingLemmas
+pub mod FormLemmas
+pub mod RisingLemmas
 pub mod RuleLemmas
+pub mod NonceLemmas

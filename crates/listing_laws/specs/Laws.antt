@@ -1,5 +1,5 @@
 -- The laws of listings of mounts.
-use Rattle.std.specs.Prelude.{◌≡◌, ◌↔◌, ⊤, ℕ, List, Option, None, Some, option_map}
+use Rattle.std.specs.Prelude.{◌≡◌, ◌↔◌, ⊤, ℕ, List, Option, None, Some, option_map, Ok}
 use Rattle.byte_words.specs.Bytes.{AreBytesOfLength}
 use Rattle.policy_ctx.specs.declared.policy.Context.{Context}
 use Rattle.fsc_keys.specs.Keys.{key_id_of}
@@ -7,6 +7,8 @@ use Rattle.plain_tree.specs.Nodes.{Nodes}
 use Rattle.plain_tree.specs.Facts.{EachNode}
 use Rattle.mount_model.specs.PlainMount.{PlainMount, Raws, raw_in}
 use Rattle.mount_model.specs.WellFormed.{IsWellFormed}
+use Rattle.image_lines.specs.ImageText.{image_text}
+use Rattle.image_lines.specs.Reading.{image_read}
 use Rattle.image_lines.specs.Rules.{HasGoodChildren, IsImage}
 use Rattle.tree_image.specs.Images.{mount_image}
 use Rattle.tree_listing.specs.Listing.{IsListing}
@@ -34,3 +36,8 @@ HasNonces nodes = EachNode (λ n v. (c : Context) → v.context ≡ Some c → A
 -- the image of a mount whose nonces are 16 bytes is an image
 abbrev pub MountImagesAreImages : Type 0
 MountImagesAreImages = (m : PlainMount) → IsWellFormed m → HasNonces m.nodes → IsImage (mount_image m)
+
+-- and is what is read from its text
+abbrev pub MountImagesAreRead : Type 0
+MountImagesAreRead = (m : PlainMount) → IsWellFormed m → HasNonces m.nodes
+    → image_read (image_text (mount_image m)) ≡ Ok (mount_image m)

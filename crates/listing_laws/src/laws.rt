@@ -1,9 +1,10 @@
 //! Laws of the listings of mounts. These functions do nothing: their contracts are the laws.
 
-ghost use Rattle.listing_laws.specs.Laws.{ChildrenAreGood, ListingsTell, MountImagesAreImages};
+ghost use Rattle.listing_laws.specs.Laws.{ChildrenAreGood, ListingsTell, MountImagesAreImages, MountImagesAreRead};
 
 use data_crypt::contents_come_back;
 use hmac_kdf::derived_keys_are_bytes;
+use image_lines::images_are_texts;
 use name_crypt::names_come_back;
 use tree_listing::listings_are_one;
 
@@ -18,12 +19,14 @@ pub fn listings_tell()
     listings_are_one();
 }
 
-/// The image of a mount is an image, where each nonce of the mount has 16 bytes. Each entry of it leads to a node
-/// of its own, other than the root, whatever the nonces are.
+/// The image of a mount is an image, where each nonce of the mount has 16 bytes, and so is read from its text. Each
+/// entry of it leads to a node of its own, other than the root, whatever the nonces are.
 pub fn mount_images_are_images()
     ensures images { MountImagesAreImages }
+    ensures read { MountImagesAreRead }
     ensures children { ChildrenAreGood }
 {
     names_come_back();
     derived_keys_are_bytes();
+    images_are_texts();
 }

@@ -1,6 +1,8 @@
-//! The law of listings: what the image of a mount shows with a key and without one is what the mount shows.
+//! Laws of a mount's image: it is an image, and shows with a key and without one what the mount shows.
 #![tactic(auto)]
 
 mod laws;
+mod nonces;
 
 pub use laws::{listings_tell, mount_images_are_images};
+pub use nonces::{call_carries_nonce, mounts_have_nonces};

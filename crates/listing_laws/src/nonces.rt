@@ -1,0 +1,38 @@
+//! That the nonces of a mount are 16 bytes. The functions do nothing: their contracts say it.
+
+ghost use Rattle.byte_words.specs.Bytes.{AreBytes, AreBytesOfLength};
+ghost use Rattle.listing_laws.specs.Nonces.{CarriesNonce, MountsHaveNonces};
+
+use mount_model::{Call, Op};
+
+/// A call that brings a nonce brings 16 bytes, as its type has it.
+pub fn call_carries_nonce(call: &Call)
+    ensures { CarriesNonce call.now.op }
+{
+    match &call.op {
+        Op::SetPolicy { nonce, .. }
+        | Op::Mkdir { nonce, .. }
+        | Op::Create { nonce, .. }
+        | Op::Symlink { nonce, .. } => is_nonce(nonce),
+        _ => {}
+    }
+}
+
+// An array of 16 bytes is 16 bytes.
+fn is_nonce(nonce: &[u8; 16])
+    ensures { AreBytesOfLength 16 nonce.now }
+{
+    are_bytes(nonce);
+}
+
+// Each is below 256.
+fn are_bytes(bytes: &[u8])
+    ensures { AreBytes bytes.now }
+{
+    let _len = bytes.len();
+}
+
+/// Each nonce of the mount that a history leaves is 16 bytes, where those of its calls are.
+pub fn mounts_have_nonces()
+    ensures { MountsHaveNonces }
+{}
