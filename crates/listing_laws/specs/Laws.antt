@@ -7,6 +7,7 @@ use Rattle.plain_tree.specs.Nodes.{Nodes}
 use Rattle.plain_tree.specs.Facts.{EachNode}
 use Rattle.mount_model.specs.PlainMount.{PlainMount, Raws, raw_in}
 use Rattle.mount_model.specs.WellFormed.{IsWellFormed}
+use Rattle.image_lines.specs.Image.{Image}
 use Rattle.image_lines.specs.ImageText.{image_text}
 use Rattle.image_lines.specs.Reading.{image_read}
 use Rattle.image_lines.specs.Rules.{HasGoodChildren, IsImage}
@@ -41,3 +42,10 @@ MountImagesAreImages = (m : PlainMount) → IsWellFormed m → HasNonces m.nodes
 abbrev pub MountImagesAreRead : Type 0
 MountImagesAreRead = (m : PlainMount) → IsWellFormed m → HasNonces m.nodes
     → image_read (image_text (mount_image m)) ≡ Ok (mount_image m)
+
+-- so what is listed of what is read from that text is what the mount shows
+abbrev pub MountsAreTold : Type 0
+MountsAreTold = (m : PlainMount) → IsWellFormed m → HasNonces m.nodes →
+    (raw : Option (List ℕ)) → IsOnlyKey m.raws raw → (image : Image) (text : List ℕ) →
+    image_read (image_text (mount_image m)) ≡ Ok image → IsListing image raw text →
+    text ≡ listing_shown m (option_map key_id_of raw)

@@ -1,6 +1,7 @@
 //! Laws of the listings of mounts. These functions do nothing: their contracts are the laws.
 
-ghost use Rattle.listing_laws.specs.Laws.{ChildrenAreGood, ListingsTell, MountImagesAreImages, MountImagesAreRead};
+ghost use Rattle.listing_laws.specs.Laws.{ChildrenAreGood, ListingsTell};
+ghost use Rattle.listing_laws.specs.Laws.{MountImagesAreImages, MountImagesAreRead, MountsAreTold};
 
 use data_crypt::contents_come_back;
 use hmac_kdf::derived_keys_are_bytes;
@@ -29,4 +30,13 @@ pub fn mount_images_are_images()
     names_come_back();
     derived_keys_are_bytes();
     images_are_texts();
+}
+
+/// Whoever reads the text of a mount's image, and lists what was read with a raw key or without one, tells what the
+/// mount shows.
+pub fn mounts_are_told()
+    ensures { MountsAreTold }
+{
+    mount_images_are_images();
+    listings_tell();
 }

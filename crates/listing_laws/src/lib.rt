@@ -4,5 +4,5 @@
 mod laws;
 mod nonces;
 
-pub use laws::{listings_tell, mount_images_are_images};
+pub use laws::{listings_tell, mount_images_are_images, mounts_are_told};
 pub use nonces::{call_carries_nonce, mounts_have_nonces};
