@@ -1,19 +1,19 @@
 //! What names and contents are deciphered with. Keys and round keys are overwritten behind their use.
 
-ghost use Rattle.std.specs.Prelude.{◌≡◌, ◌<◌, ◌≤◌, ◌-◌, ◌+◌, ◌*◌, ◌^◌, [], IsErr, ◌↔◌, IfOk, Option, None, Some, length, replicate};
+ghost use Rattle.std.specs.Prelude.{◌≡◌, ◌↔◌, ◌<◌, ◌≤◌, ◌^◌, [], true, Some, IsErr, IfOk, is_some, length, replicate};
 ghost use Rattle.mount_limits.specs.declared.TheConstants.{BLOCK_SIZE};
 ghost use Rattle.fsc_keys.specs.declared.file_keys.KeyKind.TheVariants.{Contents, Names};
 ghost use Rattle.fsc_keys.specs.Keys.{key_bytes, kind_of};
 ghost use Rattle.data_crypt.specs.Blocks.{read_block};
 ghost use Rattle.data_crypt.specs.Units.{unit_count};
-ghost use Rattle.tree_listing.specs.Sights.{key_in, name_under, seal_in, start_in};
+ghost use Rattle.tree_listing.specs.Sights.{name_under, seal_in};
 ghost use Rattle.tree_listing.specs.Ciphers.{cipher_seal, seal_by};
 
 use crate::cipher::ContentsCipher;
 use crate::reader::{Reader, start_in, unit_in};
 use data_crypt::{BLOCK_SIZE, open_block};
 use fsc_keys::{FileKey, KeyKind};
-use name_crypt::{NameCipher, NotPlain, Plain, StoredName};
+use name_crypt::{Aes256, NameCipher, NotPlain, Plain, StoredName};
 use policy_ctx::{CONTEXT_LEN, Unit};
 use xts_mode::XtsKey;
 
@@ -28,53 +28,79 @@ pub(crate) fn decipher(
     ensures value { IfOk result (λ name. name ≡ name_under reader.now context.now number stored.now) }
     ensures not_plain { IsErr result ↔ (name_under reader.now context.now number stored.now ≡ []) }
 {
+    let mut cipher = NameCipher {
+        key: Aes256::zeros(),
+        start: start_in(number, context),
+    };
     let mut key = FileKey::zeros(KeyKind::Names);
     reader.write_key(context, &mut key);
-    let mut cipher = name_cipher(&key, start_in(number, context));
+    set_names_key(&mut cipher.key, &key);
     key.wipe();
     let name = cipher.decrypt(stored);
     cipher.wipe();
     name
 }
 
-// The cipher under a names key.
-fn name_cipher(key: &FileKey, start: u64) -> NameCipher
+// Makes the round keys of a names key in their room.
+fn set_names_key(cipher: &mut Aes256, key: &FileKey)
     requires { kind_of key.now ≡ Names }
-    ensures key { result.key ≡ key_bytes key.now }
-    ensures start { result.start ≡ start }
+    ensures { cipher.new ≡ key_bytes key.now }
 {
     match key {
-        FileKey::Names(bytes) => NameCipher::new(bytes, start),
+        FileKey::Names(bytes) => cipher.set(bytes),
         FileKey::Contents(_) => unreachable!(),
     }
 }
 
-// Makes the round keys of the file of this number and context.
-pub(crate) fn contents_cipher(
+// Room for round keys: those of zeros.
+pub(crate) fn room() -> ContentsCipher
+    ensures { cipher_seal result ≡ record { key = replicate 64 0; start = 0; unit = Unit.Block } }
+{
+    ContentsCipher {
+        key: XtsKey::zeros(),
+        start: 0,
+        unit: Unit::Block,
+    }
+}
+
+// Makes the round keys of the file of this number and context in their room.
+pub(crate) fn fill(
+    cipher: &mut Option<ContentsCipher>,
     reader: &Reader<'_>,
     context: &[u8; CONTEXT_LEN],
     number: u32,
-) -> ContentsCipher
-    ensures { cipher_seal result ≡ seal_in reader.now context.now number }
+)
+    requires { is_some cipher.old ≡ true }
+    ensures { seal_by cipher.new ≡ Some (seal_in reader.now context.now number) }
+{
+    if let Some(cipher) = cipher {
+        set_cipher(cipher, reader, context, number);
+    }
+}
+
+fn set_cipher(
+    cipher: &mut ContentsCipher,
+    reader: &Reader<'_>,
+    context: &[u8; CONTEXT_LEN],
+    number: u32,
+)
+    ensures { cipher_seal cipher.new ≡ seal_in reader.now context.now number }
 {
     let mut key = FileKey::zeros(KeyKind::Contents);
     reader.write_key(context, &mut key);
-    let cipher = ContentsCipher {
-        key: round_keys(&key),
-        start: start_in(number, context),
-        unit: unit_in(context),
-    };
+    set_contents_key(&mut cipher.key, &key);
     key.wipe();
-    cipher
+    cipher.start = start_in(number, context);
+    cipher.unit = unit_in(context);
 }
 
-// The round keys of a contents key.
-fn round_keys(key: &FileKey) -> XtsKey
+// Makes the round keys of a contents key in their room.
+fn set_contents_key(cipher: &mut XtsKey, key: &FileKey)
     requires { kind_of key.now ≡ Contents }
-    ensures { result ≡ key_bytes key.now }
+    ensures { cipher.new ≡ key_bytes key.now }
 {
     match key {
-        FileKey::Contents(bytes) => XtsKey::new(bytes),
+        FileKey::Contents(bytes) => cipher.set(bytes),
         FileKey::Names(_) => unreachable!(),
     }
 }

@@ -11,7 +11,7 @@ ghost use Rattle.tree_listing.specs.Ciphers.{seal_by};
 ghost use Rattle.tree_listing.specs.Sights.{digest_seen, sight_of};
 
 use crate::cipher::ContentsCipher;
-use crate::ciphers::{contents_cipher, read, wipe_cipher};
+use crate::ciphers::{fill, read, room, wipe_cipher};
 use crate::reader::Reader;
 use image_lines::read_block_line;
 use mount_limits::BLOCK_SIZE;
@@ -36,7 +36,8 @@ pub(crate) fn digest_shown(
         None => Some(digest_of(&None, size, lines)),
         Some(context) => match reader {
             Some(reader) if reader.opens(context) => {
-                let mut cipher = Some(contents_cipher(reader, context, number));
+                let mut cipher = Some(room());
+                fill(&mut cipher, reader, context, number);
                 let digest = digest_of(&cipher, size, lines);
                 wipe_cipher(&mut cipher);
                 Some(digest)
