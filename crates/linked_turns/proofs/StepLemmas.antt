@@ -1,0 +1,129 @@
+-- What a command of a caller makes of the mounts.
+use Rattle.std.proofs.Common.{◌≡◌, ℕ, ◌≤◌, Bool, true, false, List, [], ◌∷◌, ◌++◌, length, refl, ap, sym, ◌∙◌, subst, ⊎_elim, arith, append-nil}
+use Rattle.std.proofs.lemmas.Bool.{cases_eq}
+use Rattle.call_history.specs.Entries.{by}
+use Rattle.call_history.specs.Placed.{entries_of}
+use Rattle.call_history.proofs.Placing.{by-cons_own, by-cons_other}
+use Rattle.mount_model.specs.History.{History, MountEntry}
+use Rattle.mount_model.specs.Port.{PlacedCalls}
+use Rattle.mount_shared.specs.SerialCalls.{SerialView, SerialCame, serial_view}
+use Rattle.fsc_session.specs.Running.{Stepped}
+use Rattle.mount_links.specs.declared.step.LinkStep.{LinkStep}
+use Rattle.mount_links.specs.declared.step.LinkStep.TheVariants.{Alone, Followed, Looked, NotMade}
+use Rattle.mount_links.specs.Linked.{own_parts, far_parts}
+use Rattle.mount_links.specs.LinkCalls.{AreSteps, LinkCame, LinkView, link_view, load_call}
+use Rattle.linked_turns.specs.declared.runners.LinkedRunner.{LinkedRunner}
+use Rattle.linked_turns.specs.LinkedRuns.{HasParts, is_even}
+use Rattle.linked_turns.specs.Turns.{At, at, Goes, TurnMade}
+
+-- ---- whose calls these are
+
+by-shorter : (c : ℕ) (xs : PlacedCalls) → length (by c xs) ≤ length xs
+by-shorter c [] = omega arith
+by-shorter c (x ∷ xs) = ⊎_elim
+    (λ own. let same = ap length (by-cons_own c x xs own) in let more = by-shorter c xs in omega (arith, same, more))
+    (λ other. let same = ap length (by-cons_other c x xs other) in let more = by-shorter c xs in omega (arith, same, more))
+    (cases_eq x.1.who c)
+
+-- where all calls are one caller's, the first is, and so are the others
+first_own : (c : ℕ) (x : ℕ × MountEntry) (xs : PlacedCalls) → by c (x ∷ xs) ≡ x ∷ xs → (x.1.who ≡ c) × (by c xs ≡ xs)
+first_own c x xs all = ⊎_elim
+    (λ own. (own, let both = sym (by-cons_own c x xs own) ∙ all in cc both))
+    (λ other. let long = ap length (sym (by-cons_other c x xs other) ∙ all) in let short = by-shorter c xs in absurd (omega (arith, long, short)))
+    (cases_eq x.1.who c)
+
+-- the calls on the own mount tell whose they are
+own_tells : (c : ℕ) (steps : List LinkStep) (made : PlacedCalls) → AreSteps steps made
+    → by c (own_parts load_call steps made) ≡ own_parts load_call steps made → by c made ≡ made
+own_tells c [] [] are all = refl
+own_tells c [] (x ∷ xs) are all = absurd are
+own_tells c (step ∷ steps) [] are all = absurd are
+own_tells c (Alone ∷ steps) (x ∷ xs) are all =
+    let first = first_own c x (own_parts load_call steps xs) all in
+    by-cons_own c x xs first.0 ∙ ap (λ (l : PlacedCalls). x ∷ l) (own_tells c steps xs are.1 first.1)
+own_tells c (Followed label reply there ∷ steps) (x ∷ xs) are all =
+    let first = first_own c _ (own_parts load_call steps xs) all in
+    by-cons_own c x xs first.0 ∙ ap (λ (l : PlacedCalls). x ∷ l) (own_tells c steps xs are.1 first.1)
+own_tells c (Looked label place reply ∷ steps) (x ∷ xs) are all =
+    let first = first_own c _ (x ∷ own_parts load_call steps xs) all in
+    let second = first_own c x (own_parts load_call steps xs) first.1 in
+    by-cons_own c x xs second.0 ∙ ap (λ (l : PlacedCalls). x ∷ l) (own_tells c steps xs are.1 second.1)
+own_tells c (NotMade label ∷ steps) (x ∷ xs) are all =
+    let first = first_own c _ (own_parts load_call steps xs) all in
+    by-cons_own c x xs first.0 ∙ ap (λ (l : PlacedCalls). x ∷ l) (own_tells c steps xs are.1 first.1)
+
+-- ---- what they make of the mounts
+
+module _ {M : Type 0} (leads : History → M → Type 0) where
+  goes_by : (caller left : ℕ) (machine : M) (places : ℕ) (made : PlacedCalls) (port : SerialView M) (machine' : M) (places' : ℕ)
+      → machine' ≡ port.machine → places' ≡ port.places → SerialCame leads (serial_view machine places caller left) made port
+      → Goes leads caller (at machine places) made (at machine' places')
+  goes_by caller left machine places made port machine' places' one two came = record {
+    placed = came.placed;
+    given = two ∙ came.next;
+    own = came.own;
+    led = λ history so. subst (λ m. leads (history ++ entries_of made) m) (sym one) (came.led history so);
+  }
+
+  goes_nowhere : (caller : ℕ) (mount : At M) → Goes leads caller mount [] mount
+  goes_nowhere caller mount = record {
+    placed = refl;
+    given = omega arith;
+    own = refl;
+    led = λ history so. subst (λ h. leads h mount.machine) (sym (append-nil history)) so;
+  }
+
+  pub even_turn : (seed : List ℕ) (machine : M) (places left : ℕ) (odd : At M) (old new : LinkedRunner) (port port' : SerialView M) (machine' : M) (places' : ℕ)
+      (left' before_left : ℕ) (more : Bool) → is_even old.runner.caller ≡ true → port ≡ serial_view machine places old.runner.caller left
+      → machine' ≡ port'.machine → places' ≡ port'.places → new.steps.items ≡ old.steps.items
+      → Stepped (SerialCame leads port) port' left' before_left seed more old.runner new.runner
+      → TurnMade leads seed (at machine places) odd old (at machine' places') odd new
+  even_turn seed machine places left odd old new port port' machine' places' left' before_left more even is one two kept stepped =
+      let goes = goes_by old.runner.caller left machine places stepped.made port' machine' places' one two
+      (subst (λ p. SerialCame leads p stepped.made port') is stepped.came_by) in
+      record {
+        more = more;
+        made = stepped.made;
+        even = stepped.made;
+        odd = [];
+        steps = [];
+        even_goes = goes;
+        odd_goes = goes_nowhere old.runner.caller odd;
+        own = goes.own;
+        kept = kept ∙ sym (append-nil old.steps.items);
+        parts = subst (λ b. HasParts b [] stepped.made stepped.made []) (sym even) (refl, refl);
+        grown = stepped.grown;
+        caller = stepped.caller;
+        section = stepped.section;
+        step = stepped.step;
+        run = stepped.run;
+      }
+
+  pub odd_turn : (seed : List ℕ) (even odd : At M) (own_left far_left left : ℕ) (old new : LinkedRunner)
+      (port port' : LinkView (SerialView M) (SerialView M)) (even' odd' : At M) (left' before_left : ℕ) (more : Bool)
+      → is_even old.runner.caller ≡ false
+      → port ≡ link_view (serial_view odd.machine odd.places old.runner.caller own_left) (serial_view even.machine even.places old.runner.caller far_left) left []
+      → odd'.machine ≡ port'.own.machine → odd'.places ≡ port'.own.places → even'.machine ≡ port'.far.machine → even'.places ≡ port'.far.places
+      → new.steps.items ≡ old.steps.items ++ port'.steps
+      → Stepped (LinkCame (SerialCame leads) (SerialCame leads) port) port' left' before_left seed more old.runner new.runner
+      → TurnMade leads seed even odd old even' odd' new
+  odd_turn seed even odd own_left far_left left old new port port' even' odd' left' before_left more is_odd is one two three four kept stepped =
+      let came = subst (λ p. LinkCame (SerialCame leads) (SerialCame leads) p stepped.made port') is stepped.came_by in
+      let own_goes = goes_by old.runner.caller own_left odd.machine odd.places (own_parts load_call came.steps stepped.made) port'.own odd'.machine odd'.places one two came.on_own in
+      record {
+        more = more;
+        made = stepped.made;
+        even = far_parts came.steps stepped.made;
+        odd = own_parts load_call came.steps stepped.made;
+        steps = came.steps;
+        even_goes = goes_by old.runner.caller far_left even.machine even.places (far_parts came.steps stepped.made) port'.far even'.machine even'.places three four came.on_far;
+        odd_goes = own_goes;
+        own = own_tells old.runner.caller came.steps stepped.made came.are_steps own_goes.own;
+        kept = kept ∙ ap (λ (l : List LinkStep). old.steps.items ++ l) came.kept;
+        parts = subst (λ b. HasParts b came.steps stepped.made (far_parts came.steps stepped.made) (own_parts load_call came.steps stepped.made)) (sym is_odd) (came.are_steps, refl, refl);
+        grown = stepped.grown;
+        caller = stepped.caller;
+        section = stepped.section;
+        step = stepped.step;
+        run = stepped.run;
+      }

@@ -1,0 +1,49 @@
+use Rattle.std.proofs.Common.{◌≤◌, [], length, map, ap, ap₂, sym, ◌∙◌, subst}
+use Rattle.call_history.specs.Entries.{by}
+use Rattle.call_history.specs.Placed.{entries_of}
+use Rattle.reply_text.specs.Shown.{shown_history}
+use Rattle.fsc_session.specs.Rotation.{fresh, longest, rounds_steps}
+use Rattle.fsc_session.proofs.Asked.{spelled-few, spelled-asked}
+use Rattle.linked_turns.specs.LinkedRuns.{TellsLinkedRun}
+use Rattle.linked_turns.specs.Turns.{at, fresh_views, sections_of, states_of}
+use Rattle.linked_turns.proofs.EndLemmas.{before_all, fresh_sections, fresh_states, tells_linked, even_history, odd_history}
+use Rattle.linked_turns.proofs.rotation.run_linked_in_rotation.Goals as goal
+
+pub fresh_runners-requires : goal.fresh_runners-requires
+fresh_runners-requires g c =
+    subst (λ sections. length sections ≤ 8) (sym c.as_slice-sections.ensures) (spelled-few c.args.script.now c.requires.spelled)
+
+pub run_all-requires-clause-begins : goal.run_all-requires-clause-begins
+run_all-requires-clause-begins g c =
+    before_all g.M.Machine.leads c.args.seed.now (rounds_steps c.args.seed.now c.longest.result 0 (states_of c.in_ok-runners.runners.items)) c.args.script.now
+    c.in_ok-runners.runners.items (at c.new.result.machine c.new.result.places) (at c.new-2.result.machine c.new-2.result.places)
+    (c.in_ok-runners.ensures ∙ ap (fresh_views 0) c.as_slice-sections.ensures) c.new.ensures.places c.new-2.ensures.places
+    (spelled-asked c.args.script.now c.requires.spelled)
+    (subst (λ m. g.M.Machine.leads [] m) (sym c.new.ensures.machine) c.requires.leads_even)
+    (subst (λ m. g.M.Machine.leads [] m) (sym c.new-2.ensures.machine) c.requires.leads_odd)
+
+pub returns : goal.returns
+returns g c =
+    let runners = c.in_ok-runners.runners.items in
+    let made = c.in_ok-runners.ensures ∙ ap (fresh_views 0) c.as_slice-sections.ensures in
+    let same = fresh_sections 0 c.args.script.now runners made in
+    let all = c.longest.ensures ∙ ap longest (c.as_slice-sections.ensures ∙ sym same) in
+    let whole = ap₂ (λ k states. rounds_steps c.args.seed.now k 0 states) all
+    (fresh_states 0 c.args.script.now runners made ∙ ap (map fresh) (sym same)) in
+    let after = c.in_ok-_mounts in
+    let ended = after.ensures in
+    let even = at after._mounts.even.machine after._mounts.even.places in
+    let odd = at after._mounts.odd.machine after._mounts.odd.places in
+    let start = rounds_steps c.args.seed.now c.longest.result 0 (states_of runners) in
+    let sections = sections_of runners in
+    let law = g.met.M.Machine.leads_lawful in
+    subst (λ script. TellsLinkedRun g.M.Machine.lawful c.args.seed.now script c.sort_by_place.new.entries.items c.sort_by_place-2.new.entries.items c.in_ok-told.told.notes.items) same
+    (tells_linked g.M.Machine.leads g.M.Machine.lawful law c.args.seed.now sections start after.runners.items even odd c.longest.result all ended
+    c.sort_by_place.new.entries.items c.sort_by_place-2.new.entries.items c.in_ok-told.told.notes.items whole
+    (c.in_ok-sort_by_place.ensures (shown_history (entries_of ended.even))
+    (λ caller. ap (λ told. by caller told) c.in_ok-told.ensures.even
+    ∙ even_history g.M.Machine.leads g.M.Machine.lawful law c.args.seed.now sections start after.runners.items even odd c.longest.result all ended caller))
+    (c.in_ok-sort_by_place-2.ensures (shown_history (entries_of ended.odd))
+    (λ caller. ap (λ told. by caller told) c.in_ok-told.ensures.odd
+    ∙ odd_history g.M.Machine.leads g.M.Machine.lawful law c.args.seed.now sections start after.runners.items even odd c.longest.result all ended caller))
+    c.in_ok-told.ensures.notes)

@@ -1,0 +1,14 @@
+use Rattle.std.proofs.Common.{refl, ap, ◌∙◌}
+use Rattle.mount_shared.specs.SerialCalls.{serial_view}
+use Rattle.fsc_commands.specs.declared.TheConstants.{MOST_CALLS}
+use Rattle.linked_turns.specs.Turns.{at}
+use Rattle.linked_turns.proofs.StepLemmas.{even_turn}
+use Rattle.linked_turns.proofs.turn.step_on_mount_0.Goals as goal
+
+pub returns : goal.returns
+returns g c =
+    even_turn g.M.Machine.leads c.args.seed.now c.args.mounts.even.machine c.args.mounts.even.places MOST_CALLS
+    (at c.args.mounts.odd.machine c.args.mounts.odd.places) c.args.caller.now (record { runner = c.step.new.self; steps = c.args.caller.now.steps })
+    c.port-port.result c.step.new.port c.back.result.machine c.back.result.places _ _ c.in_ok-step.field-0 c.requires.even
+    (c.port-port.ensures ∙ ap (λ who. serial_view c.args.mounts.even.machine c.args.mounts.even.places who MOST_CALLS) c.caller.ensures)
+    c.back.ensures.machine c.back.ensures.places refl c.in_ok-step.ensures.stepped

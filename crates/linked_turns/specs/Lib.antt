@@ -1,0 +1,3 @@
+pub mod LinkedRuns
+pub mod LinkedText
+pub mod Turns

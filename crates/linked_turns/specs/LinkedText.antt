@@ -1,0 +1,10 @@
+-- The text of a run on two mounts.
+use Rattle.std.specs.Prelude.{ℕ, List, ◌++◌, codes}
+use Rattle.reply_text.specs.Notes.{notes_text}
+use Rattle.reply_text.specs.Shown.{ShownHistory, shown_log}
+use Rattle.reply_text.specs.declared.notes.Note.{Note}
+
+-- a line for each mount before the log of what is shown of its history, and behind both the notes
+abbrev pub linked_text : ShownHistory → ShownHistory → List Note → List ℕ
+linked_text even odd notes =
+    codes "mount 0\n" ++ (shown_log even ++ (codes "mount 1\n" ++ (shown_log odd ++ notes_text notes)))

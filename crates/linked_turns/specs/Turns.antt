@@ -1,0 +1,141 @@
+-- What stands between two turns, while the callers of a script take turns on two mounts.
+use Rattle.std.specs.Prelude.{◌≡◌, ℕ, ◌+◌, min, Bool, true, false, List, [], ◌∷◌, ◌++◌, length, map}
+use Rattle.std.specs.Prelude.{slice_get, Some, None}
+use Rattle.call_history.specs.Entries.{by, numbered}
+use Rattle.call_history.specs.Placed.{entries_of}
+use Rattle.mount_model.specs.History.{History}
+use Rattle.mount_model.specs.Port.{PlacedCalls}
+use Rattle.script_lang.specs.declared.commands.Section.{Section}
+use Rattle.reply_text.specs.Shown.{PlacedShown, shown_calls}
+use Rattle.reply_text.specs.declared.notes.Note.{Note}
+use Rattle.fsc_commands.specs.Steps.{Steps, Reaches}
+use Rattle.fsc_session.specs.Asking.{AsksRightly}
+use Rattle.fsc_session.specs.Running.{RunnerView, runner_view, state_of, HasRun, StepMakes}
+use Rattle.fsc_session.specs.Rotation.{Waiting}
+use Rattle.mount_links.specs.declared.step.LinkStep.{LinkStep}
+use Rattle.mount_links.specs.Linked.{own_parts, far_parts}
+use Rattle.mount_links.specs.LinkCalls.{load_shown}
+use Rattle.linked_turns.specs.declared.runners.LinkedRunner.{LinkedRunner}
+use Rattle.linked_turns.specs.LinkedRuns.{HasParts, is_even}
+
+-- a machine, and the number of places that were given
+pub record At (M : Type 0) : Type 0 where
+  pub machine : M
+  pub places : ℕ
+
+abbrev pub at : {M : Type 0} → M → ℕ → At M
+at machine places = record { machine = machine; places = places }
+
+-- the mount stands after all of its entries so far, whose places count from 0, and so many are given
+pub record Stands {M : Type 0} (leads : History → M → Type 0) (told : PlacedCalls) (mount : At M)
+    : Type 0 where
+  pub placed : told ≡ numbered 0 (entries_of told)
+  pub given : mount.places ≡ length told
+  pub led : leads (entries_of told) mount.machine
+
+-- runner j is caller j of the script and had so many turns: the calls that it made are a run of the commands
+-- before its next, it has what is shown of them and what became of them, and the mounts have their parts
+pub record InTurn (seed : List ℕ) (script : List Section) (told even odd : PlacedCalls)
+    (turns j : ℕ) (caller : LinkedRunner) : Type 0 where
+  pub number : caller.runner.caller ≡ j
+  pub section : slice_get script j ≡ Some caller.runner.section
+  pub asked : AsksRightly caller.runner.section
+  pub next : caller.runner.next ≡ min turns (length caller.runner.section.commands)
+  pub run : HasRun seed caller.runner (by j told)
+  pub parts : HasParts (is_even j) caller.steps.items (by j told) (by j even) (by j odd)
+
+-- the runners between two turns
+abbrev pub states_of : List LinkedRunner → List Waiting
+states_of callers = map (λ caller. state_of caller.runner) callers
+
+-- the sections whose callers these are
+abbrev pub sections_of : List LinkedRunner → List Section
+sections_of callers = map (λ caller. caller.runner.section) callers
+
+-- the mounts stand after their entries, which are the runners' alone; and after the runners' calls the steps
+-- of the whole script have these left
+pub record Rotating {M : Type 0} (leads : History → M → Type 0) (seed : List ℕ) (script : List Section)
+    (whole rest : Steps (List Waiting))
+    (turns : ℕ → ℕ) (callers : List LinkedRunner) (even_mount odd_mount : At M) : Type 0 where
+  pub told : PlacedCalls
+  pub even : PlacedCalls
+  pub odd : PlacedCalls
+  pub even_stands : Stands leads even even_mount
+  pub odd_stands : Stands leads odd odd_mount
+  pub count : length callers ≡ length script
+  pub each : (j : ℕ) (caller : LinkedRunner) → slice_get callers j ≡ Some caller
+      → InTurn seed script told even odd (turns j) j caller
+  pub others : (j : ℕ) → slice_get callers j ≡ None
+      → (by j told ≡ []) × (by j even ≡ []) × (by j odd ≡ [])
+  pub order : Reaches whole (entries_of told) rest
+
+-- these calls went to the mount, and their places count on
+pub record Goes {M : Type 0} (leads : History → M → Type 0) (caller : ℕ) (old : At M)
+    (made : PlacedCalls) (new : At M) : Type 0 where
+  pub placed : made ≡ numbered old.places (entries_of made)
+  pub given : new.places ≡ old.places + length made
+  pub own : by caller made ≡ made
+  pub led : (history : History) → leads history old.machine → leads (history ++ entries_of made) new.machine
+
+-- a runner's turn: these calls, and their parts on the mounts
+pub record TurnMade {M : Type 0} (leads : History → M → Type 0) (seed : List ℕ)
+    (even_mount odd_mount : At M) (old : LinkedRunner) (even_mount' odd_mount' : At M) (new : LinkedRunner)
+    : Type 0 where
+  pub more : Bool
+  pub made : PlacedCalls
+  pub even : PlacedCalls
+  pub odd : PlacedCalls
+  pub steps : List LinkStep
+  pub even_goes : Goes leads old.runner.caller even_mount even even_mount'
+  pub odd_goes : Goes leads old.runner.caller odd_mount odd odd_mount'
+  pub own : by old.runner.caller made ≡ made
+  pub kept : new.steps.items ≡ old.steps.items ++ steps
+  pub parts : HasParts (is_even old.runner.caller) steps made even odd
+  pub grown : new.runner.entries ≡ old.runner.entries ++ shown_calls made
+  pub caller : new.runner.caller ≡ old.runner.caller
+  pub section : new.runner.section ≡ old.runner.section
+  pub step : StepMakes seed more old.runner new.runner made
+  pub run : (before : PlacedCalls) → HasRun seed old.runner before → HasRun seed new.runner (before ++ made)
+
+-- a runner, and what became of its calls
+pub record LinkedView : Type 0 where
+  pub runner : RunnerView
+  pub steps : List LinkStep
+
+abbrev pub view_of : LinkedRunner → LinkedView
+view_of caller = record { runner = caller.runner; steps = caller.steps.items }
+
+-- a caller of this number before the first command of its section
+abbrev pub fresh_view : ℕ → Section → LinkedView
+fresh_view number section = record { runner = runner_view number section 0 [] []; steps = [] }
+
+-- those of all sections, of which the first has the number k
+abbrev pub fresh_views : ℕ → List Section → List LinkedView
+fresh_views k [] = []
+fresh_views k (section ∷ more) = fresh_view k section ∷ fresh_views (k + 1) more
+
+-- what is shown on mount 0 of a caller's calls
+abbrev pub even_part : Bool → LinkedRunner → PlacedShown
+even_part true caller = caller.runner.entries
+even_part false caller = far_parts caller.steps.items caller.runner.entries
+
+abbrev pub even_shown : LinkedRunner → PlacedShown
+even_shown caller = even_part (is_even caller.runner.caller) caller
+
+-- and on mount 1
+abbrev pub odd_part : Bool → LinkedRunner → PlacedShown
+odd_part true caller = []
+odd_part false caller = own_parts load_shown caller.steps.items caller.runner.entries
+
+abbrev pub odd_shown : LinkedRunner → PlacedShown
+odd_shown caller = odd_part (is_even caller.runner.caller) caller
+
+-- what is shown of all callers' calls, caller after caller
+abbrev pub shown_by : (LinkedRunner → PlacedShown) → List LinkedRunner → PlacedShown
+shown_by shown [] = []
+shown_by shown (caller ∷ more) = shown caller ++ shown_by shown more
+
+-- and their notes
+abbrev pub noted_by : List LinkedRunner → List Note
+noted_by [] = []
+noted_by (caller ∷ more) = caller.runner.notes ++ noted_by more

@@ -1,0 +1,20 @@
+//! Runs a script on two mounts, one caller's command after another: callers with an even number on mount 0,
+//! the others on mount 1, from which they reach protectors on mount 0 through links.
+#![tactic(auto)]
+
+mod log;
+mod mounts;
+mod rotation;
+mod runners;
+mod told;
+mod turn;
+
+use call_history::Entry;
+pub use log::linked_log;
+use mount_model::Reply;
+use reply_text::Shown;
+pub use rotation::run_linked_in_rotation;
+pub use told::LinkedTold;
+
+// What is shown of entries, with their places.
+pub(crate) type PlacedVec = Vec<(u64, Entry<Shown, Reply>)>;

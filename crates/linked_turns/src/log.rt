@@ -1,0 +1,40 @@
+//! The text of a run on two mounts.
+
+ghost use Rattle.std.specs.Prelude.{◌≡◌, ◌++◌, IfOk, map};
+ghost use Rattle.call_history.specs.Placed.{entries_of};
+ghost use Rattle.linked_turns.specs.LinkedText.{linked_text};
+
+use crate::PlacedVec;
+use crate::told::LinkedTold;
+use call_history::Entry;
+use item_list::Bytes;
+use mount_model::Reply;
+use reply_text::{Shown, write_log, write_notes};
+use std::alloc::{AllocError, Global};
+
+/// The text of a run on two mounts: the line `mount 0` and the log of mount 0, the line `mount 1` and the log of
+/// mount 1, and behind them the notes.
+pub fn linked_log(alloc: Global, told: LinkedTold) -> Result<Bytes, AllocError>
+    ensures { IfOk result (λ text. text ≡ linked_text (entries_of told.even.items)
+        (entries_of told.odd.items) told.notes.items) }
+{
+    let even = history_of(alloc, told.even)?;
+    let odd = history_of(alloc, told.odd)?;
+    let mut text = Vec::from_slice(alloc, b"mount 0\n")?;
+    text.append(&mut write_log(alloc, even.as_slice())?.into_vec())?;
+    text.extend_from_slice(b"mount 1\n")?;
+    text.append(&mut write_log(alloc, odd.as_slice())?.into_vec())?;
+    text.append(&mut write_notes(alloc, told.notes.as_slice())?.into_vec())?;
+    Ok(Bytes::from_vec(text))
+}
+
+// The entries without their places.
+fn history_of(alloc: Global, entries: PlacedVec) -> Result<Vec<Entry<Shown, Reply>>, AllocError>
+    ensures { IfOk result (λ history. history.items ≡ entries_of entries.items) }
+{
+    let mut history = Vec::new(alloc);
+    'entries: for (_, entry) in entries {
+        history.push(entry)?;
+    }
+    Ok(history)
+}

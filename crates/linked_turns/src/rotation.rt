@@ -1,0 +1,137 @@
+//! Runs a script on two mounts that nobody else calls: the callers take turns, command by command.
+
+ghost use Rattle.std.specs.Prelude.{◌≡◌, ℕ, [], length, map, IfOk, OnOk};
+ghost use Rattle.script_lang.specs.Spelled.{IsSpelled};
+ghost use Rattle.fsc_commands.specs.Steps.Steps.{Done};
+ghost use Rattle.fsc_session.specs.Rotation.{longest, rounds_steps};
+ghost use Rattle.linked_turns.specs.LinkedRuns.{TellsLinkedRun};
+ghost use Rattle.linked_turns.specs.Turns.{Rotating, at, sections_of, states_of};
+
+use crate::mounts::Mounts;
+use crate::runners::{LinkedRunner, fresh_runners};
+use crate::told::{LinkedTold, told_by};
+use crate::turn::take_turn;
+use call_history::sort_by_place;
+use fsc_commands::Stretches;
+use fsc_outside::Gate;
+use fsc_session::scrub_stack;
+use mount_shared::{MountMachine, SerialMount};
+use script_lang::{Script, Section};
+use std::alloc::{AllocError, Global};
+
+/// What a run of the script in rotation tells on two mounts, the entries of each in order of place: command 0
+/// of each caller that has one, then command 1, and so on, each between the gate's two calls. The first machine
+/// is mount 0, on which callers with an even number work; the second is mount 1, on which the others do, whose
+/// calls for protectors that are links there go to mount 0. Both stand before any call.
+pub fn run_linked_in_rotation<G: Gate, S: Stretches, M: MountMachine>(
+    alloc: Global,
+    script: &Script,
+    seed: &[u8; 32],
+    gate: &G,
+    stretches: &S,
+    even: M,
+    odd: M,
+) -> Result<LinkedTold, AllocError>
+    requires spelled { IsSpelled script.now }
+    requires ready { S.ready stretches.now }
+    requires leads_even { M.leads [] even }
+    requires leads_odd { M.leads [] odd }
+    ensures { IfOk result (λ told. TellsLinkedRun M.lawful seed.now script.now
+        told.even.items told.odd.items told.notes.items) }
+{
+    let sections = script.as_slice();
+    let runners = fresh_runners(alloc, sections)?;
+    let mounts = Mounts {
+        even: SerialMount::new(even),
+        odd: SerialMount::new(odd),
+    };
+    let (_mounts, runners) = run_all(
+        alloc,
+        mounts,
+        runners,
+        longest(sections),
+        seed,
+        gate,
+        stretches,
+    )?;
+    scrub_stack();
+    let mut told = told_by(alloc, runners)?;
+    sort_by_place(&mut told.even)?;
+    sort_by_place(&mut told.odd)?;
+    Ok(told)
+}
+
+// The number of commands of the longest section.
+fn longest(sections: &[Section]) -> usize
+    ensures { result ≡ longest sections.now }
+{
+    sections
+        .iter()
+        .fold(0, |most, section| most.max(section.commands.len()))
+}
+
+// The callers take so many rounds of turns.
+fn run_all<'a, G: Gate, S: Stretches, M: MountMachine>(
+    alloc: Global,
+    mounts: Mounts<M>,
+    mut runners: Vec<LinkedRunner<'a>>,
+    rounds: usize,
+    seed: &[u8; 32],
+    gate: &G,
+    stretches: &S,
+) -> Result<(Mounts<M>, Vec<LinkedRunner<'a>>), AllocError>
+    requires ready { S.ready stretches.now }
+    requires begins { Rotating M.leads seed.now (sections_of runners.items)
+        (rounds_steps seed.now rounds 0 (states_of runners.items))
+        (rounds_steps seed.now rounds 0 (states_of runners.items))
+        (λ j. 0) runners.items
+        (at mounts.even.machine mounts.even.places) (at mounts.odd.machine mounts.odd.places) }
+    ensures { IfOk result (λ r. Rotating M.leads seed.now (sections_of runners.entry.items)
+        (rounds_steps seed.now rounds 0 (states_of runners.entry.items))
+        (Done (states_of r.1.items))
+        (λ j. rounds) r.1.items
+        (at r.0.even.machine r.0.even.places) (at r.0.odd.machine r.0.odd.places)) }
+{
+    let mounts = run_rounds(
+        alloc,
+        mounts,
+        runners.as_mut_slice(),
+        rounds,
+        seed,
+        gate,
+        stretches,
+    )?;
+    Ok((mounts, runners))
+}
+
+// The same, on a slice.
+fn run_rounds<G: Gate, S: Stretches, M: MountMachine>(
+    alloc: Global,
+    mounts: Mounts<M>,
+    runners: &mut [LinkedRunner],
+    rounds: usize,
+    seed: &[u8; 32],
+    gate: &G,
+    stretches: &S,
+) -> Result<Mounts<M>, AllocError>
+    requires ready { S.ready stretches.now }
+    requires begins { Rotating M.leads seed.now (sections_of runners.old)
+        (rounds_steps seed.now rounds 0 (states_of runners.old))
+        (rounds_steps seed.now rounds 0 (states_of runners.old))
+        (λ j. 0) runners.old
+        (at mounts.even.machine mounts.even.places) (at mounts.odd.machine mounts.odd.places) }
+    ensures turned { IfOk result (λ after. Rotating M.leads seed.now (sections_of runners.old)
+        (rounds_steps seed.now rounds 0 (states_of runners.old))
+        (Done (states_of runners.new))
+        (λ j. rounds) runners.new
+        (at after.even.machine after.even.places) (at after.odd.machine after.odd.places)) }
+    ensures same { OnOk result (length runners.new ≡ length runners.old) }
+{
+    let mut mounts = mounts;
+    'rounds: for number in 0..rounds {
+        'turns: for i in 0..runners.len() {
+            mounts = take_turn(alloc, mounts, &mut runners[i], seed, gate, stretches)?;
+        }
+    }
+    Ok(mounts)
+}

@@ -1,0 +1,54 @@
+//! What the callers of a run on two mounts were told.
+
+ghost use Rattle.std.specs.Prelude.{◌≡◌, ◌++◌, IfOk, OnOk};
+ghost use Rattle.linked_turns.specs.Turns as spec;
+
+use crate::PlacedVec;
+use crate::runners::LinkedRunner;
+use mount_links::split;
+use reply_text::Note;
+use std::alloc::{AllocError, Global};
+
+/// What is shown of the entries of both mounts, and how the callers' session commands ended.
+#[derive(Drop)]
+pub struct LinkedTold {
+    pub even: PlacedVec,
+    pub odd: PlacedVec,
+    pub notes: Vec<Note>,
+}
+
+// All that the callers were told, caller after caller.
+pub(crate) fn told_by(alloc: Global, runners: Vec<LinkedRunner>) -> Result<LinkedTold, AllocError>
+    ensures even { IfOk result (λ told. told.even.items ≡ spec.shown_by spec.even_shown runners.entry.items) }
+    ensures odd { IfOk result (λ told. told.odd.items ≡ spec.shown_by spec.odd_shown runners.entry.items) }
+    ensures notes { IfOk result (λ told. told.notes.items ≡ spec.noted_by runners.entry.items) }
+{
+    let mut told = LinkedTold {
+        even: Vec::new(alloc),
+        odd: Vec::new(alloc),
+        notes: Vec::new(alloc),
+    };
+    'runners: for runner in runners {
+        put_told(alloc, &mut told, runner)?;
+    }
+    Ok(told)
+}
+
+// Puts what a caller was told behind that.
+fn put_told(alloc: Global, told: &mut LinkedTold, caller: LinkedRunner) -> Result<(), AllocError>
+    ensures even { OnOk result (told.new.even.items ≡ told.old.even.items ++ spec.even_shown caller.entry) }
+    ensures odd { OnOk result (told.new.odd.items ≡ told.old.odd.items ++ spec.odd_shown caller.entry) }
+    ensures notes { OnOk result (told.new.notes.items ≡ told.old.notes.items ++ caller.entry.runner.notes) }
+{
+    let is_even = caller.runner.caller() % 2 == 0;
+    let ran = caller.runner.ran();
+    told.notes.append(&mut ran.notes.into_vec())?;
+    if is_even {
+        told.even.append(&mut ran.entries.into_vec())?;
+    } else {
+        let both = split(alloc, ran.entries, caller.steps)?;
+        told.odd.append(&mut both.own.into_vec())?;
+        told.even.append(&mut both.far.into_vec())?;
+    }
+    Ok(())
+}

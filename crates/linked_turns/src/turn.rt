@@ -1,0 +1,122 @@
+//! A caller's turn.
+
+ghost use Rattle.std.specs.Prelude.{◌≡◌, true, false, IfOk};
+ghost use Rattle.fsc_session.specs.Asking.{AsksRightly};
+ghost use Rattle.linked_turns.specs.Turns.{TurnMade, at};
+ghost use Rattle.linked_turns.specs.LinkedRuns.{is_even};
+
+use crate::mounts::Mounts;
+use crate::runners::LinkedRunner;
+use call_history::MOST_PLACES;
+use fsc_commands::{MOST_CALLS, Stretches};
+use fsc_outside::Gate;
+use mount_links::LinkPort;
+use mount_shared::MountMachine;
+use std::alloc::{AllocError, Global};
+
+// The caller's next command, if it has one, on ports of its own and between the gate's two calls.
+pub(crate) fn take_turn<G: Gate, S: Stretches, M: MountMachine>(
+    alloc: Global,
+    mounts: Mounts<M>,
+    caller: &mut LinkedRunner,
+    seed: &[u8; 32],
+    gate: &G,
+    stretches: &S,
+) -> Result<Mounts<M>, AllocError>
+    requires ready { S.ready stretches.now }
+    requires asked { AsksRightly caller.old.runner.section }
+    ensures { IfOk result (λ after. TurnMade M.leads seed.now
+        (at mounts.even.machine mounts.even.places) (at mounts.odd.machine mounts.odd.places) caller.old
+        (at after.even.machine after.even.places) (at after.odd.machine after.odd.places) caller.new) }
+{
+    let number = caller.runner.caller();
+    let command = caller.runner.next_command();
+    if let Some(command) = command {
+        gate.before(number, command as u64);
+    }
+    let after = step(alloc, mounts, caller, seed, stretches)?;
+    if let Some(command) = command {
+        gate.after(number, command as u64);
+    }
+    Ok(after)
+}
+
+// The caller's next command, on the mount of its number.
+fn step<S: Stretches, M: MountMachine>(
+    alloc: Global,
+    mounts: Mounts<M>,
+    caller: &mut LinkedRunner,
+    seed: &[u8; 32],
+    stretches: &S,
+) -> Result<Mounts<M>, AllocError>
+    requires ready { S.ready stretches.now }
+    requires asked { AsksRightly caller.old.runner.section }
+    ensures { IfOk result (λ after. TurnMade M.leads seed.now
+        (at mounts.even.machine mounts.even.places) (at mounts.odd.machine mounts.odd.places) caller.old
+        (at after.even.machine after.even.places) (at after.odd.machine after.odd.places) caller.new) }
+{
+    if caller.runner.caller() % 2 == 0 {
+        step_on_mount_0(alloc, mounts, caller, seed, stretches)
+    } else {
+        step_on_both(alloc, mounts, caller, seed, stretches)
+    }
+}
+
+// The command of a caller with an even number.
+fn step_on_mount_0<S: Stretches, M: MountMachine>(
+    alloc: Global,
+    mounts: Mounts<M>,
+    caller: &mut LinkedRunner,
+    seed: &[u8; 32],
+    stretches: &S,
+) -> Result<Mounts<M>, AllocError>
+    requires ready { S.ready stretches.now }
+    requires asked { AsksRightly caller.old.runner.section }
+    requires even { is_even caller.old.runner.caller ≡ true }
+    ensures { IfOk result (λ after. TurnMade M.leads seed.now
+        (at mounts.even.machine mounts.even.places) (at mounts.odd.machine mounts.odd.places) caller.old
+        (at after.even.machine after.even.places) (at after.odd.machine after.odd.places) caller.new) }
+{
+    if mounts.even.places > MOST_PLACES - MOST_CALLS {
+        return Err(AllocError);
+    }
+    let mut port = mounts.even.port(caller.runner.caller(), MOST_CALLS);
+    caller.runner.step(alloc, &mut port, stretches, seed)?;
+    Ok(Mounts {
+        even: port.back(),
+        odd: mounts.odd,
+    })
+}
+
+// The command of a caller with an odd number.
+fn step_on_both<S: Stretches, M: MountMachine>(
+    alloc: Global,
+    mounts: Mounts<M>,
+    caller: &mut LinkedRunner,
+    seed: &[u8; 32],
+    stretches: &S,
+) -> Result<Mounts<M>, AllocError>
+    requires ready { S.ready stretches.now }
+    requires asked { AsksRightly caller.old.runner.section }
+    requires odd { is_even caller.old.runner.caller ≡ false }
+    ensures { IfOk result (λ after. TurnMade M.leads seed.now
+        (at mounts.even.machine mounts.even.places) (at mounts.odd.machine mounts.odd.places) caller.old
+        (at after.even.machine after.even.places) (at after.odd.machine after.odd.places) caller.new) }
+{
+    if mounts.even.places > MOST_PLACES - MOST_CALLS
+        || mounts.odd.places > MOST_PLACES - 2 * MOST_CALLS
+    {
+        return Err(AllocError);
+    }
+    let number = caller.runner.caller();
+    let own = mounts.odd.port(number, 2 * MOST_CALLS);
+    let far = mounts.even.port(number, MOST_CALLS);
+    let mut port = LinkPort::new(alloc, own, far, MOST_CALLS)?;
+    caller.runner.step(alloc, &mut port, stretches, seed)?;
+    let (own, far, mut steps) = port.back();
+    caller.steps.append(&mut steps)?;
+    Ok(Mounts {
+        even: far.back(),
+        odd: own.back(),
+    })
+}
