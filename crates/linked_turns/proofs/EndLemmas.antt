@@ -8,7 +8,7 @@ use Rattle.reply_text.specs.Shown.{PlacedShown, shown_calls, shown_history}
 use Rattle.fsc_session.proofs.ShownRuns.{by-shown, numbered-shown}
 use Rattle.call_history.specs.Placed.{entries_of}
 use Rattle.call_history.proofs.Placing.{by-append, by-by, by-by_other}
-use Rattle.mount_model.specs.History.{History}
+use Rattle.mount_model.specs.History.{History, IsLegal, NeverWantsMemory}
 use Rattle.mount_model.specs.Port.{PlacedCalls}
 use Rattle.script_lang.specs.declared.commands.Section.{Section}
 use Rattle.fsc_commands.specs.Steps.{Steps, Reaches}
@@ -24,7 +24,11 @@ use Rattle.mount_links.specs.Linked.{own_parts, far_parts}
 use Rattle.mount_links.specs.LinkCalls.{load_shown}
 use Rattle.mount_links.proofs.ShownLemmas.{shows_both}
 use Rattle.linked_turns.specs.declared.runners.LinkedRunner.{LinkedRunner}
-use Rattle.linked_turns.specs.LinkedRuns.{HasParts, TellsLinkedRun, is_even}
+use Rattle.linked_turns.specs.LinkedRuns.{TellsLinkedRun}
+use Rattle.linked_turns.specs.LinkedSerial.{two, histories, linked_histories}
+use Rattle.linked_turns.specs.Parts.{HasParts, is_even}
+use Rattle.linked_turns.proofs.SerialLemmas.{GoesOn, linked_from}
+use Rattle.mount_model.specs.PlainMount.{empty_mount}
 use Rattle.linked_turns.specs.Turns.{At, InTurn, Rotating, LinkedView, view_of, fresh_view, fresh_views, sections_of, states_of, shown_by, noted_by, even_part, even_shown, odd_part, odd_shown}
 
 -- ---- before the first turn
@@ -117,6 +121,10 @@ before_all leads seed whole script callers even odd is none_even none_odd asked 
       each = λ j caller here. fresh_at seed j script callers caller is asked here;
       others = λ j none. (refl, refl, refl);
       order = refl;
+      steps = [];
+      linked = tt;
+      even_is = refl;
+      odd_is = refl;
     })
 
 -- ---- after the last
@@ -282,6 +290,19 @@ module _ {M : Type 0} (leads : History → M → Type 0) (lawful : History → T
             ∙ ap (λ (w : ℕ). notes_of_section seed w r.runner.section (by w ended.told)) own,
       ))
 
+  -- and where no call wanted memory, both are a function of script and seed
+  serial_of : whole ≡ rotation_steps seed script → IsLegal (entries_of ended.even) → IsLegal (entries_of ended.odd)
+      → NeverWantsMemory (entries_of ended.even) → NeverWantsMemory (entries_of ended.odd)
+      → histories (entries_of ended.even) (entries_of ended.odd) ≡ linked_histories seed script
+  serial_of is legal_even legal_odd never_even never_odd =
+      let even_is = ap (λ (l : PlacedCalls). entries_of l) ended.even_is in
+      let odd_is = ap (λ (l : PlacedCalls). entries_of l) ended.odd_is in
+      ap₂ histories even_is odd_is
+      ∙ linked_from (two empty_mount empty_mount) (rotation_steps seed script) ended.told ended.steps (states_of callers)
+      (subst (λ s. Reaches s (entries_of ended.told) (Done (states_of callers))) is ended.order) ended.linked
+      (subst (GoesOn empty_mount) even_is (record { legal = legal_even; never = never_even }))
+      (subst (GoesOn empty_mount) odd_is (record { legal = legal_odd; never = never_odd }))
+
   -- so what is shown of both histories tells the run
   pub tells_linked : (even_entries odd_entries : PlacedShown) (notes : List Note) → whole ≡ rotation_steps seed script
       → even_entries ≡ numbered 0 (shown_history (entries_of ended.even)) → odd_entries ≡ numbered 0 (shown_history (entries_of ended.odd))
@@ -300,6 +321,11 @@ module _ {M : Type 0} (leads : History → M → Type 0) (lawful : History → T
         subst (λ l. HasParts (is_even c) (parts_of c).0 (by c ended.told) (by c l) (entries_by c (entries_of ended.odd))) ended.even_stands.placed
             (subst (λ l. HasParts (is_even c) (parts_of c).0 (by c ended.told) (by c ended.even) (by c l)) ended.odd_stands.placed (parts_of c).1),
       );
+      steps = ended.steps;
+      linked = ended.linked;
+      even_is = sym ended.even_stands.placed ∙ ended.even_is;
+      odd_is = sym ended.odd_stands.placed ∙ ended.odd_is;
+      serial = serial_of is;
     };
     even_in_place = even_is;
     odd_in_place = odd_is;

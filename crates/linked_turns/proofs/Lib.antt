@@ -1,3 +1,4 @@
 pub mod EndLemmas
+pub mod SerialLemmas
 pub mod StepLemmas
 pub mod TurnLemmas

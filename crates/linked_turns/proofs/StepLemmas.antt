@@ -10,10 +10,10 @@ use Rattle.mount_shared.specs.SerialCalls.{SerialView, SerialCame, serial_view}
 use Rattle.fsc_session.specs.Running.{Stepped}
 use Rattle.mount_links.specs.declared.step.LinkStep.{LinkStep}
 use Rattle.mount_links.specs.declared.step.LinkStep.TheVariants.{Alone, Followed, Looked, NotMade}
-use Rattle.mount_links.specs.Linked.{own_parts, far_parts}
+use Rattle.mount_links.specs.Linked.{own_part, own_parts, far_part, far_parts}
 use Rattle.mount_links.specs.LinkCalls.{AreSteps, LinkCame, LinkView, link_view, load_call}
 use Rattle.linked_turns.specs.declared.runners.LinkedRunner.{LinkedRunner}
-use Rattle.linked_turns.specs.LinkedRuns.{HasParts, is_even}
+use Rattle.linked_turns.specs.Parts.{AreLinked, HasParts, IsLinkedStep, is_even, part_0, part_1, parts_0, parts_1}
 use Rattle.linked_turns.specs.Turns.{At, at, Goes, TurnMade}
 
 -- ---- whose calls these are
@@ -52,6 +52,44 @@ own_tells c (NotMade label ∷ steps) (x ∷ xs) are all =
     let first = first_own c _ (own_parts load_call steps xs) all in
     by-cons_own c x xs first.0 ∙ ap (λ (l : PlacedCalls). x ∷ l) (own_tells c steps xs are.1 first.1)
 
+-- nothing but the calls themselves became of calls on mount 0
+abbrev alone : PlacedCalls → List LinkStep
+alone [] = []
+alone (x ∷ xs) = Alone ∷ alone xs
+
+-- what stands of the calls that one caller made
+record OfCaller (steps : List LinkStep) (made even odd : PlacedCalls) : Type 0 where
+  linked : AreLinked steps made
+  even_is : even ≡ parts_0 steps made
+  odd_is : odd ≡ parts_1 steps made
+
+of_even : (c : ℕ) (made : PlacedCalls) → is_even c ≡ true → by c made ≡ made → OfCaller (alone made) made made []
+of_even c [] even own = record { linked = tt; even_is = refl; odd_is = refl }
+of_even c (x ∷ xs) even own =
+    let first = first_own c x xs own in
+    let rest = of_even c xs even first.1 in
+    let here : is_even x.1.who ≡ true = ap is_even first.0 ∙ even in
+    record {
+      linked = (subst (λ b. IsLinkedStep b Alone x) (sym here) refl, rest.linked);
+      even_is = ap (λ (l : PlacedCalls). x ∷ l) rest.even_is ∙ ap (λ b. part_0 b Alone x ++ parts_0 (alone xs) xs) (sym here);
+      odd_is = rest.odd_is ∙ ap (λ b. part_1 b Alone x ++ parts_1 (alone xs) xs) (sym here);
+    }
+
+of_odd : (c : ℕ) (steps : List LinkStep) (made : PlacedCalls) → is_even c ≡ false → by c made ≡ made → AreSteps steps made
+    → OfCaller steps made (far_parts steps made) (own_parts load_call steps made)
+of_odd c [] [] odd own are = record { linked = tt; even_is = refl; odd_is = refl }
+of_odd c [] (x ∷ xs) odd own are = absurd are
+of_odd c (step ∷ steps) [] odd own are = absurd are
+of_odd c (step ∷ steps) (x ∷ xs) odd own are =
+    let first = first_own c x xs own in
+    let rest = of_odd c steps xs odd first.1 are.1 in
+    let here : is_even x.1.who ≡ false = ap is_even first.0 ∙ odd in
+    record {
+      linked = (subst (λ b. IsLinkedStep b step x) (sym here) are.0, rest.linked);
+      even_is = ap (λ (l : PlacedCalls). far_part step x ++ l) rest.even_is ∙ ap (λ b. part_0 b step x ++ parts_0 steps xs) (sym here);
+      odd_is = ap (λ (l : PlacedCalls). own_part load_call step x ++ l) rest.odd_is ∙ ap (λ b. part_1 b step x ++ parts_1 steps xs) (sym here);
+    }
+
 -- ---- what they make of the mounts
 
 module _ {M : Type 0} (leads : History → M → Type 0) where
@@ -81,8 +119,13 @@ module _ {M : Type 0} (leads : History → M → Type 0) where
   even_turn seed machine places left odd old new port port' machine' places' left' before_left more even is one two kept stepped =
       let goes = goes_by old.runner.caller left machine places stepped.made port' machine' places' one two
       (subst (λ p. SerialCame leads p stepped.made port') is stepped.came_by) in
+      let all = of_even old.runner.caller stepped.made even goes.own in
       record {
         more = more;
+        all = alone stepped.made;
+        linked = all.linked;
+        even_is = all.even_is;
+        odd_is = all.odd_is;
         made = stepped.made;
         even = stepped.made;
         odd = [];
@@ -110,15 +153,21 @@ module _ {M : Type 0} (leads : History → M → Type 0) where
   odd_turn seed even odd own_left far_left left old new port port' even' odd' left' before_left more is_odd is one two three four kept stepped =
       let came = subst (λ p. LinkCame (SerialCame leads) (SerialCame leads) p stepped.made port') is stepped.came_by in
       let own_goes = goes_by old.runner.caller own_left odd.machine odd.places (own_parts load_call came.steps stepped.made) port'.own odd'.machine odd'.places one two came.on_own in
+      let own = own_tells old.runner.caller came.steps stepped.made came.are_steps own_goes.own in
+      let all = of_odd old.runner.caller came.steps stepped.made is_odd own came.are_steps in
       record {
         more = more;
+        all = came.steps;
+        linked = all.linked;
+        even_is = all.even_is;
+        odd_is = all.odd_is;
         made = stepped.made;
         even = far_parts came.steps stepped.made;
         odd = own_parts load_call came.steps stepped.made;
         steps = came.steps;
         even_goes = goes_by old.runner.caller far_left even.machine even.places (far_parts came.steps stepped.made) port'.far even'.machine even'.places three four came.on_far;
         odd_goes = own_goes;
-        own = own_tells old.runner.caller came.steps stepped.made came.are_steps own_goes.own;
+        own = own;
         kept = kept ∙ ap (λ (l : List LinkStep). old.steps.items ++ l) came.kept;
         parts = subst (λ b. HasParts b came.steps stepped.made (far_parts came.steps stepped.made) (own_parts load_call came.steps stepped.made)) (sym is_odd) (came.are_steps, refl, refl);
         grown = stepped.grown;

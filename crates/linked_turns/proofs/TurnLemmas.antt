@@ -1,5 +1,5 @@
 -- A turn of a caller in rotation on two mounts, and what stands after it.
-use Rattle.std.proofs.Common.{◌≡◌, ◌≢◌, ℕ, zero, suc, ◌+◌, ◌-◌, ◌<◌, ◌≤◌, min, Bool, true, false, cond, List, [], ◌∷◌, ◌++◌, length, take, drop, set, Some, None, Option, refl, ap, ap₂, sym, ◌∙◌, subst, ⊎_elim, arith, append-nil, length-append, take_all, drop_of_length-le}
+use Rattle.std.proofs.Common.{◌≡◌, ◌≢◌, ℕ, zero, suc, ◌+◌, ◌-◌, ◌<◌, ◌≤◌, min, Bool, true, false, cond, List, [], ◌∷◌, ◌++◌, length, take, drop, set, Some, None, Option, refl, ap, ap₂, sym, ◌∙◌, subst, ⊎_elim, arith, append-nil, append_assoc, length-append, take_all, drop_of_length-le}
 use Rattle.std.specs.Prelude.{slice_get, nat_lt}
 use Rattle.std.proofs.Math.Seq.{drop-cons, take-suc-set}
 use Rattle.std.proofs.lemmas.Bool.{cases_eq, cases_Bool, leb-true, leb-false, lt-ltb, le-ltb}
@@ -23,7 +23,7 @@ use Rattle.fsc_commands.proofs.StepsLemmas.{entries_of-append, Reaches-on, Reach
 use Rattle.mount_links.specs.declared.step.LinkStep.{LinkStep}
 use Rattle.mount_links.specs.PortLaws.{AreSteps-append, own_parts-append, far_parts-append}
 use Rattle.linked_turns.specs.declared.runners.LinkedRunner.{LinkedRunner}
-use Rattle.linked_turns.specs.LinkedRuns.{HasParts, is_even}
+use Rattle.linked_turns.specs.Parts.{AreLinked, HasParts, is_even, part_0, part_1, parts_0, parts_1}
 use Rattle.linked_turns.specs.Turns.{At, Stands, Goes, InTurn, Rotating, TurnMade, states_of}
 
 -- the runner between two turns
@@ -158,6 +158,29 @@ parts_as : (b : Bool) (s t : List LinkStep) (m n e f o p : PlacedCalls) → s �
 parts_as b s t m n e f o p one two three four x =
     subst (λ l. HasParts b t n f l) four (subst (λ l. HasParts b t n l o) three (subst (λ l. HasParts b t l e o) two (subst (λ l. HasParts b l m e o) one x)))
 
+-- what became of calls behind calls
+AreLinked-append : (s t : List LinkStep) (e f : PlacedCalls) → AreLinked s e → AreLinked t f → AreLinked (s ++ t) (e ++ f)
+AreLinked-append [] t [] f p q = q
+AreLinked-append [] t (x ∷ e) f p q = absurd p
+AreLinked-append (a ∷ s) t [] f p q = absurd p
+AreLinked-append (a ∷ s) t (x ∷ e) f p q = (p.0, AreLinked-append s t e f p.1 q)
+
+parts_0-append : (s t : List LinkStep) (e f : PlacedCalls) → AreLinked s e → parts_0 (s ++ t) (e ++ f) ≡ parts_0 s e ++ parts_0 t f
+parts_0-append [] t [] f p = refl
+parts_0-append [] t (x ∷ e) f p = absurd p
+parts_0-append (a ∷ s) t [] f p = absurd p
+parts_0-append (a ∷ s) t (x ∷ e) f p =
+    ap (λ (l : PlacedCalls). part_0 (is_even x.1.who) a x ++ l) (parts_0-append s t e f p.1)
+    ∙ sym (append_assoc (part_0 (is_even x.1.who) a x) (parts_0 s e) (parts_0 t f))
+
+parts_1-append : (s t : List LinkStep) (e f : PlacedCalls) → AreLinked s e → parts_1 (s ++ t) (e ++ f) ≡ parts_1 s e ++ parts_1 t f
+parts_1-append [] t [] f p = refl
+parts_1-append [] t (x ∷ e) f p = absurd p
+parts_1-append (a ∷ s) t [] f p = absurd p
+parts_1-append (a ∷ s) t (x ∷ e) f p =
+    ap (λ (l : PlacedCalls). part_1 (is_even x.1.who) a x ++ l) (parts_1-append s t e f p.1)
+    ∙ sym (append_assoc (part_1 (is_even x.1.who) a x) (parts_1 s e) (parts_1 t f))
+
 -- ---- the mounts
 
 placed_on : (told made : PlacedCalls) (places : ℕ) → places ≡ length told → told ≡ numbered 0 (entries_of told) → made ≡ numbered places (entries_of made)
@@ -280,6 +303,10 @@ goes_on leads seed script whole last n i callers old new even_mount odd_mount ev
           (round_steps seed n (i + 1) a (states_of (drop (i + 1) (set callers i new))) last)) (sym front)
           (subst (λ (a : List Waiting). Reaches (round_steps seed n i (states_of (take i callers)) (states_of (drop i callers)) last) (entries_of turn.made)
           (round_steps seed n (i + 1) (states_of (take i callers) ++ waits new ∷ []) a last)) (sym behind) step)));
+      steps = before.steps ++ turn.all;
+      linked = AreLinked-append before.steps turn.all before.told turn.made before.linked turn.linked;
+      even_is = ap₂ (λ (l r : PlacedCalls). l ++ r) before.even_is turn.even_is ∙ sym (parts_0-append before.steps turn.all before.told turn.made before.linked);
+      odd_is = ap₂ (λ (l r : PlacedCalls). l ++ r) before.odd_is turn.odd_is ∙ sym (parts_1-append before.steps turn.all before.told turn.made before.linked);
     }
 
 -- ---- rounds
@@ -298,6 +325,10 @@ restated leads seed script whole rest rest' turns turns' callers even_mount odd_
   each = λ j caller here. subst (λ t. InTurn seed script r.told r.even r.odd t j caller) (as_many j (slice_get_within callers j caller here)) (r.each j caller here);
   others = r.others;
   order = subst (λ s. Reaches whole (entries_of r.told) s) same r.order;
+  steps = r.steps;
+  linked = r.linked;
+  even_is = r.even_is;
+  odd_is = r.odd_is;
 }
 
 pub round_begins : {M : Type 0} (leads : History → M → Type 0) (seed : List ℕ) (script : List Section) (whole : Steps (List Waiting)) (rounds n : ℕ)

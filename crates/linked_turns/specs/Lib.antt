@@ -1,3 +1,5 @@
 pub mod LinkedRuns
+pub mod LinkedSerial
 pub mod LinkedText
+pub mod Parts
 pub mod Turns

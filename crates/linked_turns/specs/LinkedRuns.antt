@@ -1,8 +1,8 @@
 -- What a run of a script on two mounts is, in which the callers take turns.
-use Rattle.std.specs.Prelude.{◌≡◌, ℕ, ◌%◌, ◌==◌, Bool, true, false, List, [], slice_get}
+use Rattle.std.specs.Prelude.{◌≡◌, ℕ, List, slice_get}
 use Rattle.call_history.specs.Entries.{by, entries_by, numbered}
 use Rattle.call_history.specs.Placed.{entries_of}
-use Rattle.mount_model.specs.History.{History}
+use Rattle.mount_model.specs.History.{History, IsLegal, NeverWantsMemory}
 use Rattle.mount_model.specs.Port.{PlacedCalls}
 use Rattle.script_lang.specs.declared.commands.Section.{Section}
 use Rattle.reply_text.specs.Shown.{PlacedShown, shown_history}
@@ -12,22 +12,12 @@ use Rattle.fsc_commands.specs.Steps.Steps.{Done}
 use Rattle.fsc_session.specs.Session.{IsRunOfCaller, notes_by}
 use Rattle.fsc_session.specs.Rotation.{Waiting, rotation_steps}
 use Rattle.mount_links.specs.declared.step.LinkStep.{LinkStep}
-use Rattle.mount_links.specs.Linked.{own_parts, far_parts}
-use Rattle.mount_links.specs.LinkCalls.{AreSteps, load_call}
-
--- a caller with an even number works on mount 0, any other on mount 1
-abbrev pub is_even : ℕ → Bool
-is_even caller = caller % 2 == 0
-
--- of these calls of a caller, with what became of each where it works on mount 1, these are on mount 0 and
--- those on mount 1. One that works on mount 0 has no call on mount 1
-abbrev pub HasParts : Bool → List LinkStep → PlacedCalls → PlacedCalls → PlacedCalls → Type 0
-HasParts true steps made even odd = (even ≡ made) × (odd ≡ [])
-HasParts false steps made even odd =
-    AreSteps steps made × (even ≡ far_parts steps made) × (odd ≡ own_parts load_call steps made)
+use Rattle.linked_turns.specs.LinkedSerial.{histories, linked_histories}
+use Rattle.linked_turns.specs.Parts.{AreLinked, HasParts, is_even, parts_0, parts_1}
 
 -- the machines could answer so; in the order of the calls that the callers made in turns each caller made
--- those of its section; and each history holds of them what is on its mount, and no other calls
+-- those of its section; each history holds of them, in that order, what is on its mount, and no other calls.
+-- Where the one-thread mount could answer so and no call wanted memory, both are a function of script and seed
 pub record IsLinkedRun (lawful : History → Type 0) (seed : List ℕ) (script : List Section)
     (even odd : History) : Type 0 where
   pub told : PlacedCalls
@@ -37,6 +27,12 @@ pub record IsLinkedRun (lawful : History → Type 0) (seed : List ℕ) (script :
   pub callers : (caller : ℕ) → IsRunOfCaller seed caller (slice_get script caller) (by caller told)
   pub parts : (caller : ℕ) → (steps : List LinkStep)
       × HasParts (is_even caller) steps (by caller told) (entries_by caller even) (entries_by caller odd)
+  pub steps : List LinkStep
+  pub linked : AreLinked steps told
+  pub even_is : numbered 0 even ≡ parts_0 steps told
+  pub odd_is : numbered 0 odd ≡ parts_1 steps told
+  pub serial : IsLegal even → IsLegal odd → NeverWantsMemory even → NeverWantsMemory odd
+      → histories even odd ≡ linked_histories seed script
 
 -- the entries are what is shown of the histories of such a run, each in order of place; and these are its
 -- notes

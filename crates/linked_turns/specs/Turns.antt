@@ -16,7 +16,7 @@ use Rattle.mount_links.specs.declared.step.LinkStep.{LinkStep}
 use Rattle.mount_links.specs.Linked.{own_parts, far_parts}
 use Rattle.mount_links.specs.LinkCalls.{load_shown}
 use Rattle.linked_turns.specs.declared.runners.LinkedRunner.{LinkedRunner}
-use Rattle.linked_turns.specs.LinkedRuns.{HasParts, is_even}
+use Rattle.linked_turns.specs.Parts.{AreLinked, HasParts, is_even, parts_0, parts_1}
 
 -- a machine, and the number of places that were given
 pub record At (M : Type 0) : Type 0 where
@@ -68,6 +68,10 @@ pub record Rotating {M : Type 0} (leads : History → M → Type 0) (seed : List
   pub others : (j : ℕ) → slice_get callers j ≡ None
       → (by j told ≡ []) × (by j even ≡ []) × (by j odd ≡ [])
   pub order : Reaches whole (entries_of told) rest
+  pub steps : List LinkStep
+  pub linked : AreLinked steps told
+  pub even_is : even ≡ parts_0 steps told
+  pub odd_is : odd ≡ parts_1 steps told
 
 -- these calls went to the mount, and their places count on
 pub record Goes {M : Type 0} (leads : History → M → Type 0) (caller : ℕ) (old : At M)
@@ -91,6 +95,10 @@ pub record TurnMade {M : Type 0} (leads : History → M → Type 0) (seed : List
   pub own : by old.runner.caller made ≡ made
   pub kept : new.steps.items ≡ old.steps.items ++ steps
   pub parts : HasParts (is_even old.runner.caller) steps made even odd
+  pub all : List LinkStep
+  pub linked : AreLinked all made
+  pub even_is : even ≡ parts_0 all made
+  pub odd_is : odd ≡ parts_1 all made
   pub grown : new.runner.entries ≡ old.runner.entries ++ shown_calls made
   pub caller : new.runner.caller ≡ old.runner.caller
   pub section : new.runner.section ≡ old.runner.section

@@ -3,7 +3,7 @@
 ghost use Rattle.std.specs.Prelude.{◌≡◌, true, false, IfOk};
 ghost use Rattle.fsc_session.specs.Asking.{AsksRightly};
 ghost use Rattle.linked_turns.specs.Turns.{TurnMade, at};
-ghost use Rattle.linked_turns.specs.LinkedRuns.{is_even};
+ghost use Rattle.linked_turns.specs.Parts.{is_even};
 
 use crate::mounts::Mounts;
 use crate::runners::LinkedRunner;

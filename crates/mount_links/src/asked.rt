@@ -12,10 +12,10 @@ use mount_model::{Op, Refusal, Reply};
 use script_words::{Record, read_record};
 use short_bytes::Label;
 
-// What a call asks for: that the record of the protector with this label is loaded or stored, or something
-// else.
+/// What a call asks for: that the record of the protector with this label is loaded or stored, or something
+/// else.
 #[derive(Drop)]
-pub(crate) enum Asked {
+pub enum Asked {
     Load(Label),
     Store(Label),
     Other,

@@ -10,6 +10,7 @@ mod port;
 mod room;
 mod step;
 
+pub use asked::Asked;
 pub use laws::shown_histories_are_of_the_calls;
 pub use on_both::{ShownList, ShownOnBoth, split};
 pub use port::LinkPort;
