@@ -10,6 +10,8 @@ mod generated;
 #[cfg(test)]
 mod kinds;
 #[cfg(test)]
+mod linked;
+#[cfg(test)]
 mod outside;
 #[cfg(test)]
 mod replaced;
