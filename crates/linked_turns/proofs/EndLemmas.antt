@@ -29,7 +29,8 @@ use Rattle.linked_turns.specs.LinkedSerial.{two, histories, linked_histories}
 use Rattle.linked_turns.specs.Parts.{HasParts, is_even}
 use Rattle.linked_turns.proofs.SerialLemmas.{GoesOn, linked_from}
 use Rattle.mount_model.specs.PlainMount.{empty_mount}
-use Rattle.linked_turns.specs.Turns.{At, InTurn, Rotating, LinkedView, view_of, fresh_view, fresh_views, sections_of, states_of, shown_by, noted_by, even_part, even_shown, odd_part, odd_shown}
+use Rattle.linked_turns.specs.Callers.{LinkedView, view_of, fresh_view, fresh_views, shown_by, noted_by, even_part, even_shown, odd_part, odd_shown}
+use Rattle.linked_turns.specs.Turns.{At, InTurn, Rotating, sections_of, states_of}
 
 -- ---- before the first turn
 

@@ -1,3 +1,4 @@
+pub mod Callers
 pub mod LinkedRuns
 pub mod LinkedSerial
 pub mod LinkedText

@@ -1,20 +1,17 @@
 -- What stands between two turns, while the callers of a script take turns on two mounts.
-use Rattle.std.specs.Prelude.{◌≡◌, ℕ, ◌+◌, min, Bool, true, false, List, [], ◌∷◌, ◌++◌, length, map}
+use Rattle.std.specs.Prelude.{◌≡◌, ℕ, ◌+◌, min, Bool, List, [], ◌++◌, length, map}
 use Rattle.std.specs.Prelude.{slice_get, Some, None}
 use Rattle.call_history.specs.Entries.{by, numbered}
 use Rattle.call_history.specs.Placed.{entries_of}
 use Rattle.mount_model.specs.History.{History}
 use Rattle.mount_model.specs.Port.{PlacedCalls}
 use Rattle.script_lang.specs.declared.commands.Section.{Section}
-use Rattle.reply_text.specs.Shown.{PlacedShown, shown_calls}
-use Rattle.reply_text.specs.declared.notes.Note.{Note}
+use Rattle.reply_text.specs.Shown.{shown_calls}
 use Rattle.fsc_commands.specs.Steps.{Steps, Reaches}
 use Rattle.fsc_session.specs.Asking.{AsksRightly}
-use Rattle.fsc_session.specs.Running.{RunnerView, runner_view, state_of, HasRun, StepMakes}
+use Rattle.fsc_session.specs.Running.{state_of, HasRun, StepMakes}
 use Rattle.fsc_session.specs.Rotation.{Waiting}
 use Rattle.mount_links.specs.declared.step.LinkStep.{LinkStep}
-use Rattle.mount_links.specs.Linked.{own_parts, far_parts}
-use Rattle.mount_links.specs.LinkCalls.{load_shown}
 use Rattle.linked_turns.specs.declared.runners.LinkedRunner.{LinkedRunner}
 use Rattle.linked_turns.specs.Parts.{AreLinked, HasParts, is_even, parts_0, parts_1}
 
@@ -104,46 +101,3 @@ pub record TurnMade {M : Type 0} (leads : History → M → Type 0) (seed : List
   pub section : new.runner.section ≡ old.runner.section
   pub step : StepMakes seed more old.runner new.runner made
   pub run : (before : PlacedCalls) → HasRun seed old.runner before → HasRun seed new.runner (before ++ made)
-
--- a runner, and what became of its calls
-pub record LinkedView : Type 0 where
-  pub runner : RunnerView
-  pub steps : List LinkStep
-
-abbrev pub view_of : LinkedRunner → LinkedView
-view_of caller = record { runner = caller.runner; steps = caller.steps.items }
-
--- a caller of this number before the first command of its section
-abbrev pub fresh_view : ℕ → Section → LinkedView
-fresh_view number section = record { runner = runner_view number section 0 [] []; steps = [] }
-
--- those of all sections, of which the first has the number k
-abbrev pub fresh_views : ℕ → List Section → List LinkedView
-fresh_views k [] = []
-fresh_views k (section ∷ more) = fresh_view k section ∷ fresh_views (k + 1) more
-
--- what is shown on mount 0 of a caller's calls
-abbrev pub even_part : Bool → LinkedRunner → PlacedShown
-even_part true caller = caller.runner.entries
-even_part false caller = far_parts caller.steps.items caller.runner.entries
-
-abbrev pub even_shown : LinkedRunner → PlacedShown
-even_shown caller = even_part (is_even caller.runner.caller) caller
-
--- and on mount 1
-abbrev pub odd_part : Bool → LinkedRunner → PlacedShown
-odd_part true caller = []
-odd_part false caller = own_parts load_shown caller.steps.items caller.runner.entries
-
-abbrev pub odd_shown : LinkedRunner → PlacedShown
-odd_shown caller = odd_part (is_even caller.runner.caller) caller
-
--- what is shown of all callers' calls, caller after caller
-abbrev pub shown_by : (LinkedRunner → PlacedShown) → List LinkedRunner → PlacedShown
-shown_by shown [] = []
-shown_by shown (caller ∷ more) = shown caller ++ shown_by shown more
-
--- and their notes
-abbrev pub noted_by : List LinkedRunner → List Note
-noted_by [] = []
-noted_by (caller ∷ more) = caller.runner.notes ++ noted_by more

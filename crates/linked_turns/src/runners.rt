@@ -1,7 +1,7 @@
 //! A caller that works on two mounts.
 
 ghost use Rattle.std.specs.Prelude.{◌≡◌, ◌≤◌, IfOk, length, map};
-ghost use Rattle.linked_turns.specs.Turns.{fresh_views, view_of};
+ghost use Rattle.linked_turns.specs.Callers.{fresh_views, view_of};
 
 use fsc_session::Runner;
 use mount_links::LinkStep;

@@ -1,7 +1,7 @@
 //! What the callers of a run on two mounts were told.
 
 ghost use Rattle.std.specs.Prelude.{◌≡◌, ◌++◌, IfOk, OnOk};
-ghost use Rattle.linked_turns.specs.Turns as spec;
+ghost use Rattle.linked_turns.specs.Callers as spec;
 
 use crate::PlacedVec;
 use crate::runners::LinkedRunner;

@@ -5,7 +5,8 @@ use Rattle.reply_text.specs.Shown.{shown_history}
 use Rattle.fsc_session.specs.Rotation.{fresh, longest, rounds_steps}
 use Rattle.fsc_session.proofs.Asked.{spelled-few, spelled-asked}
 use Rattle.linked_turns.specs.LinkedRuns.{TellsLinkedRun}
-use Rattle.linked_turns.specs.Turns.{at, fresh_views, sections_of, states_of}
+use Rattle.linked_turns.specs.Callers.{fresh_views}
+use Rattle.linked_turns.specs.Turns.{at, sections_of, states_of}
 use Rattle.linked_turns.proofs.EndLemmas.{before_all, fresh_sections, fresh_states, tells_linked, even_history, odd_history}
 use Rattle.linked_turns.proofs.rotation.run_linked_in_rotation.Goals as goal
 

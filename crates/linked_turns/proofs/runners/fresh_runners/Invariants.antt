@@ -1,5 +1,5 @@
 use Rattle.std.proofs.Common.{◌≡◌, ◌++◌, drop, map}
-use Rattle.linked_turns.specs.Turns.{fresh_views, view_of}
+use Rattle.linked_turns.specs.Callers.{fresh_views, view_of}
 use Rattle.linked_turns.proofs.runners.fresh_runners.Given as goal
 
 abbrev pub invariant-sections : goal.invariant-sections

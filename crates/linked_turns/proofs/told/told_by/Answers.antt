@@ -1,5 +1,5 @@
 use Rattle.std.proofs.Common.{◌++◌, ap, sym, ◌∙◌}
-use Rattle.linked_turns.specs.Turns.{even_shown, odd_shown}
+use Rattle.linked_turns.specs.Callers.{even_shown, odd_shown}
 use Rattle.linked_turns.proofs.EndLemmas.{shown_by-more, noted_by-more}
 use Rattle.linked_turns.proofs.told.told_by.Goals as goal
 

@@ -1,5 +1,5 @@
 use Rattle.std.proofs.Common.{◌≡◌}
-use Rattle.linked_turns.specs.Turns as spec
+use Rattle.linked_turns.specs.Callers as spec
 use Rattle.linked_turns.proofs.told.told_by.Given as goal
 
 abbrev pub invariant-runners : goal.invariant-runners
