@@ -21,7 +21,7 @@ lines-init g c =
 
 pub returns-then-not-branch : goal.returns-then-not-branch
 returns-then-not-branch g c =
-    says _ _ _ _ _ _ _ _ _ _ _ c.read_line.new.mount _ c.lines.invariant.read (rw c.if-not-branch.true at c.in_ok-read_line.ensures.read) c.verdict.ensures
+    says _ _ _ _ _ _ _ _ _ _ _ c.read_line.new.mount _ c.lines.invariant.read (rw c.if-not-branch.true at c.in_ok-read_line.ensures.read) c.verdict-said.ensures
 
 pub lines-preserved : goal.lines-preserved
 lines-preserved g c = record {
