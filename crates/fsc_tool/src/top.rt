@@ -27,15 +27,24 @@ use std::alloc::Global;
 use std::sync::Wait;
 use std::thread::Threads;
 
-/// Replays the script that the source gives on the machine, which no call was made on, and writes its
-/// log into the sink. The words are those of the command line without the program's own name, and are
-/// Usage unless they are `replay` or `replay --serial`, alone or with `--seed HEX64` behind, or a form that
-/// generates, `gen NUMBER` or `gen NUMBER --summary`. With `--serial` the callers take turns, as in
-/// `tool_serial`, and what generates is run as there; else each caller runs in a thread of its own, and waits
-/// for its turn on the machine at each call. Each command runs between the gate's two calls. Nothing is
-/// written before all callers have ended and the whole log stands. The seed source is asked once for each
-/// script in the grammar, where the words give no seed. Words that are a form are overwritten and taken away
-/// once they are read, since one of them may be a seed.
+/// Does what the words ask for, which are those of the command line without the program's own name, and are
+/// Usage unless they are a form (`form_of`):
+/// - `replay` and `replay --serial`, alone or with `--seed HEX64` behind: replays the script that the source
+///   gives on the machine, which no call was made on, and writes its log into the sink. With `--serial` the
+///   callers take turns; else each runs in a thread of its own, and waits for its turn on the machine at each
+///   call.
+/// - `gen NUMBER`: writes the script that the number gives; with `--summary` behind, the summary of a replay of
+///   it in turns on the machine, with a seed of zeros. Neither asks the source.
+/// - `dump --seed HEX64`: runs the script in turns, and writes the image of what then lies on the disk.
+/// - `inspect`, alone or with `raw:HEX` behind: reads an image, and writes its listing.
+/// - `check --seed HEX64`: reads a script, a line `---` and a log, and writes nothing.
+///
+/// `dump` and `check` make their calls on a mount of their own, and no form but the replays and
+/// `gen NUMBER --summary` uses the machine. Each command of a run that writes its log, its summary or its
+/// image runs between the gate's two calls. Nothing is written before all callers have ended and the whole
+/// text stands. The seed source is asked once, by a replay alone, for a script in the grammar where the words
+/// give no seed. Words that are a form are overwritten and taken away once they are read, since one of them
+/// may be a seed or a key.
 pub fn tool<
     R: Threads + Wait + Sync,
     S: Source,
@@ -90,15 +99,14 @@ pub fn tool<
     }
 }
 
-/// Replays the script that the source gives on the machine, which no call was made on, and writes its
-/// log into the sink; the callers take turns. The words are those of the command line without the
-/// program's own name, and are Usage unless they are `replay --serial` or `replay --serial --seed HEX64`, or
-/// a form that generates. Nothing is written before the whole log stands. The seed source is asked once for
-/// each script in the grammar, where the words give no seed.
+/// Does what the words ask for, as `tool` does, on one thread. The words are those of the command line without
+/// the program's own name, and are Usage unless they are a form (`form_of`) that starts no thread: `replay
+/// --serial`, alone or with `--seed HEX64` behind, whose callers take turns; `gen NUMBER` and `gen NUMBER
+/// --summary`; `dump --seed HEX64`; `inspect`, alone or with `raw:HEX` behind; `check --seed HEX64`.
 ///
-/// Two forms generate, and ask neither the source nor the seed source: `gen NUMBER` writes the script that
-/// the number gives, and `gen NUMBER --summary` the summary of a replay of it on the machine, with a seed of
-/// zeros.
+/// `dump` and `check` make their calls on a mount of their own. Nothing is written before the whole text
+/// stands. The seed source is asked once, by a replay alone, for a script in the grammar where the words give
+/// no seed. The words stay as they are.
 pub fn tool_serial<S: Source, K: Sink, E: SeedSource, M: MountMachine>(
     alloc: Global,
     words: &Vec<String>,

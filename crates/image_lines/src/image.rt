@@ -97,7 +97,7 @@ impl<'a> Image<'a> {
         }
     }
 
-    /// The index of the node of this number.
+    /// The index of the node of this number; None where the image has no such node.
     pub fn index_of(&self, number: u32) -> Option<usize>
         ensures { IsIndexOf (numbers_of self.now) number result }
     {

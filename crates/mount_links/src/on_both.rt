@@ -25,7 +25,7 @@ pub struct ShownOnBoth {
 }
 
 /// What a log shows of the calls on the caller's own mount and on the far one, by what it shows of the
-/// caller's calls, and what became of each of them.
+/// caller's calls, and what became of each of them. The one error is want of memory.
 pub fn split(
     alloc: Global,
     entries: ShownList,

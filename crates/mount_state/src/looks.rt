@@ -24,7 +24,8 @@ use std::alloc::{AllocError, Global};
 const FIRST_NODE: u32 = 1;
 
 impl MountState {
-    /// The state of the empty mount: the root alone, no key, no record, nothing open.
+    /// The state of the empty mount: the root alone, no key, no record, nothing open. It takes memory for the
+    /// root and for the cache of names; the one error is that there is none.
     pub fn new(alloc: Global) -> Result<MountState, AllocError>
         ensures { IfOk result (λ state. StandsFor state empty_mount) }
     {

@@ -29,8 +29,8 @@ use std::sync::ledger::Ledger;
 ///
 /// NotDir where the number is no directory's, then NameTooLong for a part of more than
 /// `MOST_NAME_BYTES` bytes, then NotFound. At most one name is encrypted, and where the name is cached or
-/// the key is absent none, nor is any deciphered. A name of a directory with a policy is cached once it led
-/// to a node.
+/// the key is absent none, nor is any deciphered. A name that led to a node in a keyed directory with a policy
+/// is cached from then on, unless there was no memory for it, which is counted.
 pub fn entry_of<L: Ledger>(
     alloc: Global,
     state: &mut MountState,

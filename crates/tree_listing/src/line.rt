@@ -57,6 +57,7 @@ fn push_place(
     ensures { OnOk result (text.new.items ≡ text.old.items
         ++ (decimal_of number ++ 32 ∷ place_text (option_map (place_seen reader.now) (entry_to image.now number)))) }
 {
+    // That it is an image.
     let _text = image.text();
     push_decimal(text, u64::from(number))?;
     match way {
@@ -83,6 +84,7 @@ fn push_place(
 fn context_of(image: &Image<'_>, number: u32) -> Option<[u8; CONTEXT_LEN]>
     ensures { (node : ImageNode) → Contains image.now node → node.number ≡ number → result ≡ node.context }
 {
+    // That it is an image.
     let _text = image.text();
     match image.index_of(number) {
         Some(index) => image.node(index).line.context,

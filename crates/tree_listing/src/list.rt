@@ -45,6 +45,7 @@ fn push_found(
     ensures { OnOk result
         (WritesAt image.now (listed reader.now image.now) index way text.old.items text.new.items) }
 {
+    // That it is an image.
     let _text = image.text();
     if let Way::Nowhere = way {
         return Ok(());

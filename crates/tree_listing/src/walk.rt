@@ -33,6 +33,7 @@ pub(crate) struct Walk {
 pub(crate) fn ways_to_reached(alloc: Global, image: &Image<'_>) -> Result<Vec<Way>, AllocError>
     ensures { IfOk result (λ ways. AreWaysToReached image.now ways.items) }
 {
+    // That it is an image.
     let _text = image.text();
     let mut walk = begin(alloc, image)?;
     let mut next = 0;
@@ -50,6 +51,7 @@ fn begin(alloc: Global, image: &Image<'_>) -> Result<Walk, AllocError>
     ensures walk { IfOk result (IsWalk image.now) }
     ensures root { IfOk result (λ walk. walk.order.items ≡ 0 ∷ []) }
 {
+    // That it is an image.
     let _text = image.text();
     let count = image.node_count();
     let mut ways = vec![in alloc; Way::Nowhere; count]?;
@@ -67,6 +69,7 @@ fn follow(image: &Image<'_>, walk: &mut Walk, number: u32) -> Result<(), AllocEr
     ensures goes_on { OnOk result (GoesOn walk.old walk.new) }
     ensures followed { OnOk result (IsFollowed image.now walk.new.order.items number) }
 {
+    // That it is an image.
     let _text = image.text();
     let Some(index) = image.index_of(number) else {
         unreachable!();
@@ -118,6 +121,7 @@ fn lead_to(
     ensures goes_on { OnOk result (GoesOn walk.old walk.new) }
     ensures found { OnOk result (is_among walk.new.order.items child ≡ true) }
 {
+    // That it is an image.
     let _text = image.text();
     let Some(index) = image.index_of(child) else {
         unreachable!();
