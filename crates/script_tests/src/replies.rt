@@ -120,6 +120,13 @@ fn a_protector_ends_at_its_reply(rt: HostRuntime) -> Result<(), Fail> {
 }
 
 #[test]
+fn a_link_ends_at_its_reply(rt: HostRuntime) -> Result<(), Fail> {
+    let wrong = first_wrong(rt.alloc(), "protector-link far\n", &[Kind::Stored])?;
+    assert_eq!(rt; wrong, None);
+    Ok(())
+}
+
+#[test]
 fn a_changed_protector_ends_at_each_reply(rt: HostRuntime) -> Result<(), Fail> {
     let command = format!(in rt.alloc(); "protector-change login {LOGIN} {THIRD}\n")?;
     let wrong = first_wrong(rt.alloc(), &command, &[Kind::Held, Kind::Stored])?;
