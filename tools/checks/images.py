@@ -4,6 +4,7 @@ from hashlib import sha256
 
 from checks.disk import disk_behind
 from checks.image_text import image_of, listing, read
+from checks.linux_stored import linux_image
 from checks.running import ZEROS, run, scripts
 
 DUMP = ["dump", "--seed", ZEROS]
@@ -139,6 +140,15 @@ def changed_images(tally):
             lists(tally, f"an image with lines {other + 1} and {at + 1} exchanged", b"".join(it + b"\n" for it in swapped), [])
 
 
+def linux_images(tally):
+    """Names, targets and blocks that Linux 6.12 stored, under a key of each mode and under keys of their own."""
+    image, without, with_key = linux_image()
+    for what, words, wanted in (("without the key", inspected(), without), ("with it", inspected(RAW), with_key)):
+        status, got, _ = run(words, image)
+        tally.wants(f"what Linux stored is listed {what}", (status, got) == (0, wanted), repr((status, got[:200])))
+    lists(tally, "what Linux stored", image, [RAW])
+
+
 def long_images(tally):
     """As many bytes as an image may have, and one more."""
     for more, wanted, told in ((0, BAD_LINE, b"fsc: bad line 1\n"), (1, TOO_LONG, b"fsc: input too long\n")):
@@ -146,4 +156,4 @@ def long_images(tally):
         tally.wants(f"an image of {MOST_IMAGE + more} bytes ends with {wanted}", (status, got) == (wanted, b"") and line.startswith(told), repr((status, line)))
 
 
-CHECKS = (worked_rows, examples_dumped, large_trees, faulty_images, changed_images, long_images)
+CHECKS = (worked_rows, examples_dumped, large_trees, faulty_images, changed_images, linux_images, long_images)
