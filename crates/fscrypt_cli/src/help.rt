@@ -9,7 +9,7 @@ use std::alloc::{AllocError, Global};
 
 /// The version of the product, and the kit that it is proved with.
 pub(crate) const VERSION: &str = "\
-fsc 0.2.0
+fsc 0.3.0
 proved with rattle-kit-13f, logic dac8208d650f15bf
 ";
 
