@@ -83,7 +83,7 @@ fresh_get k (suc j) (section ∷ more) (c ∷ cs) caller is here =
     (at.0, at.1, at.2 ∙ ap (λ w. runner_view w at.0 0 [] []) next, at.3)
 
 -- no call has no part
-none_parts : (b : Bool) → HasParts b [] [] [] []
+pub none_parts : (b : Bool) → HasParts b [] [] [] []
 none_parts true = (refl, refl)
 none_parts false = (tt, refl, refl)
 
@@ -313,15 +313,17 @@ module _ {M : Type 0} (leads : History → M → Type 0) (lawful : History → T
     odd = entries_of ended.odd;
     run = record {
       told = ended.told;
-      lawful_even = law (entries_of ended.even) even_mount.machine ended.even_stands.led;
-      lawful_odd = law (entries_of ended.odd) odd_mount.machine ended.odd_stands.led;
+      calls = record {
+        lawful_even = law (entries_of ended.even) even_mount.machine ended.even_stands.led;
+        lawful_odd = law (entries_of ended.odd) odd_mount.machine ended.odd_stands.led;
+        callers = run_of;
+        parts = λ c. (
+          (parts_of c).0,
+          subst (λ l. HasParts (is_even c) (parts_of c).0 (by c ended.told) (by c l) (entries_by c (entries_of ended.odd))) ended.even_stands.placed
+              (subst (λ l. HasParts (is_even c) (parts_of c).0 (by c ended.told) (by c ended.even) (by c l)) ended.odd_stands.placed (parts_of c).1),
+        );
+      };
       order = (states_of callers, subst (λ s. Reaches s (entries_of ended.told) (Done (states_of callers))) is ended.order);
-      callers = run_of;
-      parts = λ c. (
-        (parts_of c).0,
-        subst (λ l. HasParts (is_even c) (parts_of c).0 (by c ended.told) (by c l) (entries_by c (entries_of ended.odd))) ended.even_stands.placed
-            (subst (λ l. HasParts (is_even c) (parts_of c).0 (by c ended.told) (by c ended.even) (by c l)) ended.odd_stands.placed (parts_of c).1),
-      );
       steps = ended.steps;
       linked = ended.linked;
       even_is = sym ended.even_stands.placed ∙ ended.even_is;

@@ -33,7 +33,7 @@ first_own c x xs all = ⊎_elim
     (cases_eq x.1.who c)
 
 -- the calls on the own mount tell whose they are
-own_tells : (c : ℕ) (steps : List LinkStep) (made : PlacedCalls) → AreSteps steps made
+pub own_tells : (c : ℕ) (steps : List LinkStep) (made : PlacedCalls) → AreSteps steps made
     → by c (own_parts load_call steps made) ≡ own_parts load_call steps made → by c made ≡ made
 own_tells c [] [] are all = refl
 own_tells c [] (x ∷ xs) are all = absurd are

@@ -15,18 +15,24 @@ use Rattle.mount_links.specs.declared.step.LinkStep.{LinkStep}
 use Rattle.linked_turns.specs.LinkedSerial.{histories, linked_histories}
 use Rattle.linked_turns.specs.Parts.{AreLinked, HasParts, is_even, parts_0, parts_1}
 
--- the machines could answer so; in the order of the calls that the callers made in turns each caller made
--- those of its section; each history holds of them, in that order, what is on its mount, and no other calls.
--- Where the one-thread mount could answer so and no call wanted memory, both are a function of script and seed
-pub record IsLinkedRun (lawful : History → Type 0) (seed : List ℕ) (script : List Section)
-    (even odd : History) : Type 0 where
-  pub told : PlacedCalls
+-- the machines could answer so; of the calls that were told, each caller made those of its section; and each
+-- history has of them, caller by caller, what is on its mount, and no other calls
+pub record HaveLinkedCalls (lawful : History → Type 0) (seed : List ℕ) (script : List Section)
+    (told : PlacedCalls) (even odd : History) : Type 0 where
   pub lawful_even : lawful even
   pub lawful_odd : lawful odd
-  pub order : (after : List Waiting) × Reaches (rotation_steps seed script) (entries_of told) (Done after)
   pub callers : (caller : ℕ) → IsRunOfCaller seed caller (slice_get script caller) (by caller told)
   pub parts : (caller : ℕ) → (steps : List LinkStep)
       × HasParts (is_even caller) steps (by caller told) (entries_by caller even) (entries_by caller odd)
+
+-- both histories have the calls that callers make in turns, the script's in rotation; each holds of them, in
+-- that order, what is on its mount, and no other calls. Where the one-thread mount could answer so and no call
+-- wanted memory, both are a function of script and seed
+pub record IsLinkedRun (lawful : History → Type 0) (seed : List ℕ) (script : List Section)
+    (even odd : History) : Type 0 where
+  pub told : PlacedCalls
+  pub calls : HaveLinkedCalls lawful seed script told even odd
+  pub order : (after : List Waiting) × Reaches (rotation_steps seed script) (entries_of told) (Done after)
   pub steps : List LinkStep
   pub linked : AreLinked steps told
   pub even_is : numbered 0 even ≡ parts_0 steps told

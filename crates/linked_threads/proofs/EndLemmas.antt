@@ -1,0 +1,66 @@
+-- All callers of a script, and the histories that they make.
+use Rattle.std.proofs.Common.{◌≡◌, ℕ, ◌+◌, List, [], ◌∷◌, length, refl, sym, ap, ◌∙◌, subst, arith}
+use Rattle.std.specs.Prelude.{slice_get}
+use Rattle.call_history.specs.Entries.{by, entries_by, numbered}
+use Rattle.mount_model.specs.History.{History}
+use Rattle.mount_shared.specs.SharedCalls.{MountPass}
+use Rattle.script_lang.specs.declared.commands.Section.{Section}
+use Rattle.reply_text.specs.Shown.{PlacedShown, shown_calls, shown_history}
+use Rattle.reply_text.specs.declared.notes.Note.{Note}
+use Rattle.fsc_session.specs.Session.{IsRunOfCaller, notes_by}
+use Rattle.fsc_session.proofs.ShownRuns.{entries_by-shown}
+use Rattle.linked_turns.specs.declared.told.LinkedTold.{LinkedTold}
+use Rattle.linked_turns.specs.Parts.{is_even}
+use Rattle.linked_turns.proofs.EndLemmas.{none_parts}
+use Rattle.linked_threads.specs.LinkedThreads.{TellsLinkedCalls}
+use Rattle.linked_threads.specs.Threaded.{OnBoth, calls_of, HaveRun}
+use Rattle.linked_threads.proofs.OneLemmas.{same_parts}
+
+module _ (lawful : History → Type 0) (seed : List ℕ) (script : List Section) (old new : OnBoth MountPass) (told : LinkedTold) (even odd : History)
+    (ran : HaveRun seed old script new told) (first : old.even.who ≡ 0)
+    (of_even : (c : ℕ) → entries_by c even ≡ by c (calls_of new.even)) (of_odd : (c : ℕ) → entries_by c odd ≡ by c (calls_of new.odd)) where
+  pub told_even : (c : ℕ) → by c told.even.items ≡ entries_by c (shown_history even)
+  told_even c = ran.shows_even c ∙ ap shown_calls (sym (of_even c)) ∙ entries_by-shown c even
+
+  pub told_odd : (c : ℕ) → by c told.odd.items ≡ entries_by c (shown_history odd)
+  told_odd c = ran.shows_odd c ∙ ap shown_calls (sym (of_odd c)) ∙ entries_by-shown c odd
+
+  run_of : (c : ℕ) → IsRunOfCaller seed c (slice_get script c) (by c ran.made)
+  run_of c =
+      let is : 0 + c ≡ c = omega arith in
+      subst (λ (n : ℕ). IsRunOfCaller seed n (slice_get script c) (by n ran.made)) (ap (λ (w : ℕ). w + c) first ∙ is) (ran.called.run.each c)
+
+  pub tells_linked : (even_shown odd_shown : PlacedShown) → even_shown ≡ numbered 0 (shown_history even) → odd_shown ≡ numbered 0 (shown_history odd)
+      → lawful even → lawful odd → TellsLinkedCalls lawful seed script even_shown odd_shown told.notes.items
+  tells_linked even_shown odd_shown even_in_place odd_in_place right_even right_odd = record {
+    told = ran.made;
+    even = even;
+    odd = odd;
+    calls = record {
+      lawful_even = right_even;
+      lawful_odd = right_odd;
+      callers = run_of;
+      parts = λ c. let parts = ran.called.parts c in (
+        parts.0,
+        same_parts (is_even c) parts.0 (by c ran.made) (by c (calls_of new.even)) (by c (calls_of new.odd)) (by c ran.made) (entries_by c even) (entries_by c odd)
+            refl (sym (of_even c)) (sym (of_odd c)) parts.1,
+      );
+    };
+    even_in_place = even_in_place;
+    odd_in_place = odd_in_place;
+    noted = ran.noted ∙ ap (λ (w : ℕ). notes_by seed w script ran.made) first;
+  }
+
+-- a script that nobody calls
+pub nobody_runs : (lawful : History → Type 0) (seed : List ℕ) (script : List Section) (even odd : PlacedShown) (notes : List Note) → length script ≡ 0
+    → even ≡ [] → odd ≡ [] → notes ≡ [] → lawful [] → TellsLinkedCalls lawful seed script even odd notes
+nobody_runs lawful seed [] even odd notes none no_even no_odd silent right = record {
+  told = [];
+  even = [];
+  odd = [];
+  calls = record { lawful_even = right; lawful_odd = right; callers = λ c. refl; parts = λ c. ([], none_parts (is_even c)) };
+  even_in_place = no_even;
+  odd_in_place = no_odd;
+  noted = silent;
+}
+nobody_runs lawful seed (section ∷ more) even odd notes none no_even no_odd silent right = absurd (omega (arith, none))

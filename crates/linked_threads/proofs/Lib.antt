@@ -1,0 +1,4 @@
+pub mod CutLemmas
+pub mod EndLemmas
+pub mod JoinLemmas
+pub mod OneLemmas

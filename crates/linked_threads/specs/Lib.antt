@@ -1,0 +1,2 @@
+pub mod LinkedThreads
+pub mod Threaded

@@ -1,0 +1,22 @@
+-- What a run of a script in threads on two mounts tells.
+use Rattle.std.specs.Prelude.{◌≡◌, ℕ, List}
+use Rattle.call_history.specs.Entries.{numbered}
+use Rattle.mount_model.specs.History.{History}
+use Rattle.mount_model.specs.Port.{PlacedCalls}
+use Rattle.script_lang.specs.declared.commands.Section.{Section}
+use Rattle.reply_text.specs.Shown.{PlacedShown, shown_history}
+use Rattle.reply_text.specs.declared.notes.Note.{Note}
+use Rattle.fsc_session.specs.Session.{notes_by}
+use Rattle.linked_turns.specs.LinkedRuns.{HaveLinkedCalls}
+
+-- there are two histories that have the callers' calls, each caller's those of its section, and no other calls;
+-- the entries are what is shown of them, each in order of place; and these are the notes
+pub record TellsLinkedCalls (lawful : History → Type 0) (seed : List ℕ) (script : List Section)
+    (even_shown odd_shown : PlacedShown) (notes : List Note) : Type 0 where
+  pub told : PlacedCalls
+  pub even : History
+  pub odd : History
+  pub calls : HaveLinkedCalls lawful seed script told even odd
+  pub even_in_place : even_shown ≡ numbered 0 (shown_history even)
+  pub odd_in_place : odd_shown ≡ numbered 0 (shown_history odd)
+  pub noted : notes ≡ notes_by seed 0 script told

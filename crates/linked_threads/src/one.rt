@@ -1,0 +1,114 @@
+//! One caller's section, on the mount of its number.
+
+ghost use Rattle.std.specs.Prelude.{◌≡◌, true, false, length, IfOk};
+ghost use Rattle.linked_turns.specs.Parts.{is_even};
+ghost use Rattle.linked_threads.specs.Threaded.{CanRunOnBoth, HaveRun, both};
+
+use crate::cut::calls_needed;
+use crate::mounts::{Passes, SharedMounts};
+use fsc_commands::{MOST_CALLS, Stretches};
+use fsc_outside::Gate;
+use fsc_session::run_caller;
+use linked_turns::LinkedTold;
+use mount_links::{LinkPort, split};
+use mount_shared::{MountMachine, SharedPort};
+use script_lang::Section;
+use std::alloc::{AllocError, Global};
+use std::sync::Wait;
+
+// Runs the section of the passes' one caller.
+pub(crate) fn run_one<R: Wait, G: Gate, S: Stretches, M: MountMachine>(
+    rt: &R,
+    alloc: Global,
+    shared: &SharedMounts<M>,
+    gate: &G,
+    stretches: &S,
+    passes: Passes<M>,
+    sections: &[Section],
+    seed: &[u8; 32],
+) -> Result<(Passes<M>, LinkedTold), AllocError>
+    requires ready { S.ready stretches.now }
+    requires can_run { CanRunOnBoth (both shared.now.even shared.now.odd) (both passes.even passes.odd) sections.now }
+    requires one { length sections.now ≡ 1 }
+    ensures { IfOk result (λ ran. HaveRun seed.now (both passes.even passes.odd) sections.now
+        (both ran.0.even ran.0.odd) ran.1) }
+{
+    if passes.even.who() % 2 == 0 {
+        run_on_mount_0(rt, alloc, shared, gate, stretches, passes, sections, seed)
+    } else {
+        run_on_both(rt, alloc, shared, gate, stretches, passes, sections, seed)
+    }
+}
+
+// That of a caller with an even number.
+fn run_on_mount_0<R: Wait, G: Gate, S: Stretches, M: MountMachine>(
+    rt: &R,
+    alloc: Global,
+    shared: &SharedMounts<M>,
+    gate: &G,
+    stretches: &S,
+    passes: Passes<M>,
+    sections: &[Section],
+    seed: &[u8; 32],
+) -> Result<(Passes<M>, LinkedTold), AllocError>
+    requires ready { S.ready stretches.now }
+    requires can_run { CanRunOnBoth (both shared.now.even shared.now.odd) (both passes.even passes.odd) sections.now }
+    requires one { length sections.now ≡ 1 }
+    requires even { is_even passes.even.who ≡ true }
+    ensures { IfOk result (λ ran. HaveRun seed.now (both passes.even passes.odd) sections.now
+        (both ran.0.even ran.0.odd) ran.1) }
+{
+    let Passes { even, odd } = passes;
+    let mut port = SharedPort::new(rt, &shared.even, even);
+    let ran = run_caller(alloc, &mut port, gate, stretches, &sections[0], seed)?;
+    let even = port.back();
+    // That its own entries are its caller's.
+    let _caller = even.who();
+    let told = LinkedTold {
+        even: ran.entries.into_vec(),
+        odd: Vec::new(alloc),
+        notes: ran.notes.into_vec(),
+    };
+    Ok((Passes { even, odd }, told))
+}
+
+// That of a caller with an odd number.
+fn run_on_both<R: Wait, G: Gate, S: Stretches, M: MountMachine>(
+    rt: &R,
+    alloc: Global,
+    shared: &SharedMounts<M>,
+    gate: &G,
+    stretches: &S,
+    passes: Passes<M>,
+    sections: &[Section],
+    seed: &[u8; 32],
+) -> Result<(Passes<M>, LinkedTold), AllocError>
+    requires ready { S.ready stretches.now }
+    requires can_run { CanRunOnBoth (both shared.now.even shared.now.odd) (both passes.even passes.odd) sections.now }
+    requires one { length sections.now ≡ 1 }
+    requires odd { is_even passes.even.who ≡ false }
+    ensures { IfOk result (λ ran. HaveRun seed.now (both passes.even passes.odd) sections.now
+        (both ran.0.even ran.0.odd) ran.1) }
+{
+    let Some(calls) = calls_needed(sections, MOST_CALLS) else {
+        return Err(AllocError);
+    };
+    let Passes { even, odd } = passes;
+    let own = SharedPort::new(rt, &shared.odd, odd);
+    let far = SharedPort::new(rt, &shared.even, even);
+    let mut port = LinkPort::new(alloc, own, far, calls)?;
+    let ran = run_caller(alloc, &mut port, gate, stretches, &sections[0], seed)?;
+    let (own, far, steps) = port.back();
+    let odd = own.back();
+    let even = far.back();
+    // That their own entries are their caller's.
+    let _on_mount_1 = odd.who();
+    let _on_mount_0 = even.who();
+    let shown = split(alloc, ran.entries, steps)?;
+    let told = LinkedTold {
+        even: shown.far.into_vec(),
+        odd: shown.own.into_vec(),
+        notes: ran.notes.into_vec(),
+    };
+    Ok((Passes { even, odd }, told))
+}

@@ -1,0 +1,128 @@
+//! Runs a script's callers in threads of their own, on two mounts that they share.
+
+ghost use Rattle.std.specs.Prelude.{◌≡◌, [], IfOk};
+ghost use Rattle.std.specs.Thread.{IsSync};
+ghost use Rattle.script_lang.specs.Spelled.{IsSpelled};
+ghost use Rattle.linked_threads.specs.LinkedThreads.{TellsLinkedCalls};
+ghost use Rattle.linked_threads.specs.Threaded.{CanRunOnBoth, HaveRun, both};
+
+use crate::cut::{calls_needed, end, halve};
+use crate::mounts::{Mounts, Passes, SharedMounts};
+use crate::one::run_one;
+use crate::told::{append, nothing};
+use call_history::sort_by_place;
+use fsc_commands::{MOST_CALLS, Stretches};
+use fsc_outside::Gate;
+use linked_turns::LinkedTold;
+use mount_shared::MountMachine;
+use script_lang::{Script, Section};
+use std::alloc::{AllocError, Global};
+use std::sync::Wait;
+use std::thread::{Threads, join};
+use turn_lock::Shared;
+
+/// What a run of the script in threads tells on two mounts, the entries of each in order of place: each caller
+/// runs its section in a thread of its own, each command between the gate's two calls. Callers with an even
+/// number work on mount 0; the others work on mount 1, and their calls for protectors that are links there go
+/// to mount 0. Both machines stand before any call, each behind a turn of its own. All threads have ended by
+/// then. The one error is want of memory.
+pub fn run_linked_in_threads<
+    R: Threads + Wait + Sync,
+    G: Gate + Sync,
+    S: Stretches + Sync,
+    M: MountMachine + Send,
+>(
+    rt: &R,
+    alloc: Global,
+    script: &Script,
+    seed: &[u8; 32],
+    gate: &G,
+    stretches: &S,
+    mounts: Mounts<M>,
+) -> Result<LinkedTold, AllocError>
+    requires spelled { IsSpelled script.now }
+    requires ready { S.ready stretches.now }
+    requires leads_even { M.leads [] mounts.even }
+    requires leads_odd { M.leads [] mounts.odd }
+    ensures { IfOk result (λ told. TellsLinkedCalls M.lawful seed.now script.now
+        told.even.items told.odd.items told.notes.items) }
+{
+    let sections = script.as_slice();
+    if sections.is_empty() {
+        return Ok(run_nobody(alloc, mounts));
+    }
+    let Some(calls) = calls_needed(sections, MOST_CALLS) else {
+        return Err(AllocError);
+    };
+    let Some(odd_calls) = calls_needed(sections, 2 * MOST_CALLS) else {
+        return Err(AllocError);
+    };
+    let numbers = sections.len() as u32;
+    let Mounts { even, odd } = mounts;
+    let (even, even_pass) = Shared::start(alloc, even, numbers, calls)?;
+    let (odd, odd_pass) = Shared::start(alloc, odd, numbers, odd_calls)?;
+    let shared = SharedMounts { even, odd };
+    let passes = Passes {
+        even: even_pass,
+        odd: odd_pass,
+    };
+    let (passes, mut told) = run_all(rt, alloc, &shared, gate, stretches, passes, sections, seed)?;
+    end(shared.even, passes.even);
+    end(shared.odd, passes.odd);
+    sort_by_place(&mut told.even)?;
+    sort_by_place(&mut told.odd)?;
+    Ok(told)
+}
+
+// A run without callers: nothing is shared, and no thread starts.
+fn run_nobody<M: MountMachine>(alloc: Global, mounts: Mounts<M>) -> LinkedTold
+    requires even { M.leads [] mounts.even }
+    requires odd { M.leads [] mounts.odd }
+    ensures none { (result.even.items ≡ []) × (result.odd.items ≡ []) × (result.notes.items ≡ []) }
+    ensures lawful { M.lawful [] }
+{
+    nothing(alloc)
+}
+
+// Runs the section of each of the passes' callers in a thread of its own. It answers when all have ended.
+fn run_all<R: Threads + Wait + Sync, G: Gate + Sync, S: Stretches + Sync, M: MountMachine + Send>(
+    rt: &R,
+    alloc: Global,
+    shared: &SharedMounts<M>,
+    gate: &G,
+    stretches: &S,
+    mut passes: Passes<M>,
+    sections: &[Section],
+    seed: &[u8; 32],
+) -> Result<(Passes<M>, LinkedTold), AllocError>
+    requires ready { S.ready stretches.now }
+    requires can_run { CanRunOnBoth (both shared.now.even shared.now.odd) (both passes.even passes.odd) sections.now }
+    ensures { IfOk result (λ ran. HaveRun seed.now (both passes.even passes.odd) sections.now
+        (both ran.0.even ran.0.odd) ran.1) }
+{
+    if sections.len() == 1 {
+        return run_one(rt, alloc, shared, gate, stretches, passes, sections, seed);
+    }
+    let (first, others, upper) = halve(shared, &mut passes, sections)?;
+    let (one, two) = join(
+        rt,
+        || -> Result<(Passes<M>, LinkedTold), AllocError>
+            requires { IsSync R.row × IsSync G.row × IsSync S.row × S.ready stretches.now
+                × CanRunOnBoth (both shared.now.even shared.now.odd) (both passes.even passes.odd) first.now }
+            ensures { IfOk result (λ ran. HaveRun seed.entry.now (both passes.even passes.odd)
+                first.entry.now (both ran.0.even ran.0.odd) ran.1) }
+        { run_all(rt, alloc, shared, gate, stretches, passes, first, seed) },
+        || -> Result<(Passes<M>, LinkedTold), AllocError>
+            requires { IsSync R.row × IsSync G.row × IsSync S.row × S.ready stretches.now
+                × CanRunOnBoth (both shared.now.even shared.now.odd) (both upper.even upper.odd) others.now }
+            ensures { IfOk result (λ ran. HaveRun seed.entry.now (both upper.even upper.odd)
+                others.entry.now (both ran.0.even ran.0.odd) ran.1) }
+        { run_all(rt, alloc, shared, gate, stretches, upper, others, seed) },
+    );
+    let (mut passes, mut told) = one?;
+    let (upper, more) = two?;
+    shared.even.join(&mut passes.even, upper.even);
+    shared.odd.join(&mut passes.odd, upper.odd);
+    append(&mut told, more)?;
+    Ok((passes, told))
+}

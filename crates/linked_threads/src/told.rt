@@ -1,0 +1,31 @@
+//! What the callers of a run were told.
+
+ghost use Rattle.std.specs.Prelude.{◌≡◌, [], ◌++◌, OnOk};
+
+use linked_turns::LinkedTold;
+use std::alloc::{AllocError, Global};
+
+// What nobody was told. It takes no memory.
+pub(crate) fn nothing(alloc: Global) -> LinkedTold
+    ensures even { result.even.items ≡ [] }
+    ensures odd { result.odd.items ≡ [] }
+    ensures notes { result.notes.items ≡ [] }
+{
+    LinkedTold {
+        even: Vec::new(alloc),
+        odd: Vec::new(alloc),
+        notes: Vec::new(alloc),
+    }
+}
+
+// Puts what others were told behind it.
+pub(crate) fn append(told: &mut LinkedTold, mut others: LinkedTold) -> Result<(), AllocError>
+    ensures even { OnOk result (told.new.even.items ≡ told.old.even.items ++ others.even.items) }
+    ensures odd { OnOk result (told.new.odd.items ≡ told.old.odd.items ++ others.odd.items) }
+    ensures notes { OnOk result (told.new.notes.items ≡ told.old.notes.items ++ others.notes.items) }
+{
+    told.even.append(&mut others.even)?;
+    told.odd.append(&mut others.odd)?;
+    told.notes.append(&mut others.notes)?;
+    Ok(())
+}
