@@ -9,8 +9,8 @@ use Rattle.reply_text.specs.declared.notes.Note.{Note}
 use Rattle.fsc_session.specs.Session.{notes_by}
 use Rattle.linked_turns.specs.LinkedRuns.{HaveLinkedCalls}
 
--- there are two histories that have the callers' calls, each caller's those of its section, and no other calls;
--- the entries are what is shown of them, each in order of place; and these are the notes
+-- there are two histories that have the callers' calls, each caller's those of its section, and no other
+-- calls; the entries are what is shown of them, each in order of place; and these are the notes
 pub record TellsLinkedCalls (lawful : History → Type 0) (seed : List ℕ) (script : List Section)
     (even_shown odd_shown : PlacedShown) (notes : List Note) : Type 0 where
   pub told : PlacedCalls

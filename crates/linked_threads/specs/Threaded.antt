@@ -59,8 +59,8 @@ pub record IsAsBefore (old new : MountPass) : Type 0 where
   pub same_caller : new.who ≡ old.who
   pub same_high : new.high ≡ old.high
 
--- the callers of passes to both mounts made these calls, which are runs of their sections, and both passes have
--- of them what is on their mount
+-- the callers of passes to both mounts made these calls, which are runs of their sections, and both passes
+-- have of them what is on their mount
 pub record HaveCalled (seed : List ℕ) (who : ℕ) (sections : List Section) (made even odd : PlacedCalls)
     : Type 0 where
   pub run : RunFrom seed who sections made
@@ -83,8 +83,8 @@ pub record HaveRun (seed : List ℕ) (old : OnBoth MountPass) (sections : List S
   pub noted : told.notes.items ≡ notes_by seed old.even.who sections made
 
 -- a pass was cut in two, one for the first sections and one for the others
-pub record AreHalves (most : ℕ) (shared : SharedView) (old lower upper : MountPass) (first others : List Section)
-    : Type 0 where
+pub record AreHalves (most : ℕ) (shared : SharedView) (old lower upper : MountPass)
+    (first others : List Section) : Type 0 where
   pub lower_runs : CanRun most shared lower first
   pub upper_runs : CanRun most shared upper others
   pub one_table : lower.table ≡ old.table

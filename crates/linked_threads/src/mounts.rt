@@ -3,7 +3,8 @@
 use mount_shared::MountMachine;
 use turn_lock::{Pass, Shared};
 
-/// The machines of mount 0, on which callers with an even number work, and of mount 1, on which the others do.
+/// The machines of mount 0, on which callers with an even number work, and of mount 1, on which the others
+/// do.
 #[derive(Drop)]
 pub struct Mounts<M: MountMachine> {
     pub even: M,

@@ -28,7 +28,8 @@ pub(crate) fn run_one<R: Wait, G: Gate, S: Stretches, M: MountMachine>(
     seed: &[u8; 32],
 ) -> Result<(Passes<M>, LinkedTold), AllocError>
     requires ready { S.ready stretches.now }
-    requires can_run { CanRunOnBoth (both shared.now.even shared.now.odd) (both passes.even passes.odd) sections.now }
+    requires can_run { CanRunOnBoth (both shared.now.even shared.now.odd) (both passes.even passes.odd)
+        sections.now }
     requires one { length sections.now ≡ 1 }
     ensures { IfOk result (λ ran. HaveRun seed.now (both passes.even passes.odd) sections.now
         (both ran.0.even ran.0.odd) ran.1) }
@@ -52,7 +53,8 @@ fn run_on_mount_0<R: Wait, G: Gate, S: Stretches, M: MountMachine>(
     seed: &[u8; 32],
 ) -> Result<(Passes<M>, LinkedTold), AllocError>
     requires ready { S.ready stretches.now }
-    requires can_run { CanRunOnBoth (both shared.now.even shared.now.odd) (both passes.even passes.odd) sections.now }
+    requires can_run { CanRunOnBoth (both shared.now.even shared.now.odd) (both passes.even passes.odd)
+        sections.now }
     requires one { length sections.now ≡ 1 }
     requires even { is_even passes.even.who ≡ true }
     ensures { IfOk result (λ ran. HaveRun seed.now (both passes.even passes.odd) sections.now
@@ -84,7 +86,8 @@ fn run_on_both<R: Wait, G: Gate, S: Stretches, M: MountMachine>(
     seed: &[u8; 32],
 ) -> Result<(Passes<M>, LinkedTold), AllocError>
     requires ready { S.ready stretches.now }
-    requires can_run { CanRunOnBoth (both shared.now.even shared.now.odd) (both passes.even passes.odd) sections.now }
+    requires can_run { CanRunOnBoth (both shared.now.even shared.now.odd) (both passes.even passes.odd)
+        sections.now }
     requires one { length sections.now ≡ 1 }
     requires odd { is_even passes.even.who ≡ false }
     ensures { IfOk result (λ ran. HaveRun seed.now (both passes.even passes.odd) sections.now

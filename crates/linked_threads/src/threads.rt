@@ -21,11 +21,11 @@ use std::sync::Wait;
 use std::thread::{Threads, join};
 use turn_lock::Shared;
 
-/// What a run of the script in threads tells on two mounts, the entries of each in order of place: each caller
-/// runs its section in a thread of its own, each command between the gate's two calls. Callers with an even
-/// number work on mount 0; the others work on mount 1, and their calls for protectors that are links there go
-/// to mount 0. Both machines stand before any call, each behind a turn of its own. All threads have ended by
-/// then. The one error is want of memory.
+/// What a run of the script in threads tells on two mounts, the entries of each in order of place: each
+/// caller runs its section in a thread of its own, each command between the gate's two calls. Callers with an
+/// even number work on mount 0. The others work on mount 1, and their calls for protectors that are links
+/// there go to mount 0. Both machines stand before any call, and each is put behind a turn of its own. It
+/// answers when all threads have ended. The one error is want of memory.
 pub fn run_linked_in_threads<
     R: Threads + Wait + Sync,
     G: Gate + Sync,
@@ -96,7 +96,8 @@ fn run_all<R: Threads + Wait + Sync, G: Gate + Sync, S: Stretches + Sync, M: Mou
     seed: &[u8; 32],
 ) -> Result<(Passes<M>, LinkedTold), AllocError>
     requires ready { S.ready stretches.now }
-    requires can_run { CanRunOnBoth (both shared.now.even shared.now.odd) (both passes.even passes.odd) sections.now }
+    requires can_run { CanRunOnBoth (both shared.now.even shared.now.odd) (both passes.even passes.odd)
+        sections.now }
     ensures { IfOk result (λ ran. HaveRun seed.now (both passes.even passes.odd) sections.now
         (both ran.0.even ran.0.odd) ran.1) }
 {
