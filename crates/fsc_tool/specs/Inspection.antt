@@ -1,5 +1,6 @@
 -- A run that lists an image: what it writes, and how it ends. It asks for no seed.
-use Rattle.std.specs.Prelude.{◌≡◌, ◌+◌, ◌<◌, ◌≤◌, ℕ, List, length, Option, Err}
+use Rattle.std.specs.Prelude.{◌≡◌, ◌+◌, ◌<◌, ◌≤◌, ℕ, List, length, replicate, Option, Err}
+use Rattle.std.specs.Option.{option_map}
 use Rattle.fsc_outside.specs.declared.input.InputLimits.{InputLimits}
 use Rattle.fsc_outside.specs.Causes.{Rose}
 use Rattle.fsc_outside.specs.Input.{ReadWhole, GaveByteMore}
@@ -21,6 +22,10 @@ use Rattle.fsc_tool.specs.Replay.{IsOrNoMemory, Told}
 -- so many bytes; no text of so many has more lines than these
 abbrev pub image_limits : InputLimits
 image_limits = record { bytes = MOST_IMAGE_BYTES; lines = MOST_IMAGE_BYTES + 1 }
+
+-- zeros in the place of the raw key, where there is one
+abbrev pub wiped_key : Option (List ℕ) → Option (List ℕ)
+wiped_key raw = option_map (λ key. replicate (length key) 0) raw
 
 -- the source gave the text of an image within the limit, by the calls by which it came, and the text is the
 -- listing of this image with the raw key, or with none

@@ -1,10 +1,10 @@
 //! The run that lists an image. It asks for no seed.
 
-ghost use Rattle.std.specs.Prelude.{◌≡◌, ℕ, List, None, IfOk, IfErr};
+ghost use Rattle.std.specs.Prelude.{◌≡◌, ℕ, List, IfOk, IfErr};
 ghost use Rattle.fsc_outside.specs.Reads.{ReadCall};
 ghost use Rattle.fsc_outside.specs.States.{SeedState, SinkState};
 ghost use Rattle.tree_listing.specs.Listing.{IsListing};
-ghost use Rattle.fsc_tool.specs.Inspection.{EndsInspection, HasListing, IsInspection};
+ghost use Rattle.fsc_tool.specs.Inspection.{EndsInspection, HasListing, IsInspection, wiped_key};
 ghost use Rattle.fsc_tool.specs.Faults.{image_status};
 ghost use Rattle.fsc_tool.specs.Outside.{outside};
 
@@ -21,7 +21,7 @@ use std::alloc::{AllocError, Global};
 use tree_listing::list_image;
 
 // Lists the image that the source gives with the raw key, or without one, and writes the listing into the sink, once
-// it stands whole. The key is taken, and overwritten behind the listing.
+// it stands whole. The key is overwritten where it stands at every end, and so is what the listing left on the stack.
 pub(crate) fn run_inspecting<S: Source, K: Sink>(
     alloc: Global,
     raw: &mut Option<RawKey>,
@@ -32,9 +32,10 @@ pub(crate) fn run_inspecting<S: Source, K: Sink>(
         (λ (calls : List ReadCall). S.came source.old calls source.new)
         (outside (S.state source.old) (K.state sink.old) seeds)
         (outside (S.state source.new) (K.state sink.new) seeds) result }
-    ensures taken { raw.new ≡ None }
+    ensures wiped { raw.new ≡ wiped_key raw.old }
 {
-    let listed = listing(alloc, raw.take(), source);
+    let listed = listing(alloc, raw, source);
+    wipe_key(raw);
     scrub_stack();
     match listed {
         Ok(text) => write_text(text, sink),
@@ -45,11 +46,11 @@ pub(crate) fn run_inspecting<S: Source, K: Sink>(
 // The listing of the image that the source gives, or else the status with which the run ends. In a frame of its own,
 // so that what it leaves lies below the frame that overwrites it.
 #[inline(never)]
-fn listing<S: Source>(alloc: Global, raw: Option<RawKey>, source: &mut S) -> Result<Bytes, Status>
-    ensures listed { IfOk result (HasListing raw (λ calls. S.came source.old calls source.new)
+fn listing<S: Source>(alloc: Global, raw: &Option<RawKey>, source: &mut S) -> Result<Bytes, Status>
+    ensures listed { IfOk result (HasListing raw.now (λ calls. S.came source.old calls source.new)
         (S.state source.old) (S.state source.new)) }
     ensures ended { IfErr result (λ status. (sink : SinkState) (seeds : SeedState)
-        → EndsInspection raw (λ calls. S.came source.old calls source.new)
+        → EndsInspection raw.now (λ calls. S.came source.old calls source.new)
         (outside (S.state source.old) sink seeds) (outside (S.state source.new) sink seeds) status) }
 {
     let input = match read_all(alloc, source, IMAGE_LIMITS) {
@@ -66,17 +67,36 @@ fn listing<S: Source>(alloc: Global, raw: Option<RawKey>, source: &mut S) -> Res
     }
 }
 
-// The listing of an image with a raw key, which is overwritten then, or without one.
-fn list_with(alloc: Global, image: &Image<'_>, raw: Option<RawKey>) -> Result<Bytes, AllocError>
-    ensures { IfOk result (IsListing image.now raw) }
+// The listing of an image with a raw key, of which the copy is overwritten then, or without one.
+fn list_with(alloc: Global, image: &Image<'_>, raw: &Option<RawKey>) -> Result<Bytes, AllocError>
+    ensures { IfOk result (IsListing image.now raw.now) }
 {
     let Some(raw) = raw else {
         return list_image(alloc, image, None);
     };
-    let mut key = PreparedKey::new(raw);
+    let mut key = PreparedKey::new(copy_of(raw));
     let listed = list_image(alloc, image, Some(&key));
     key.wipe();
     listed
+}
+
+// The same key once more.
+fn copy_of(raw: &RawKey) -> RawKey
+    ensures { result ≡ raw.now }
+{
+    match RawKey::read(raw.bytes()) {
+        Ok(copy) => copy,
+        Err(_) => unreachable!(),
+    }
+}
+
+// Overwrites the raw key, if there is one.
+fn wipe_key(raw: &mut Option<RawKey>)
+    ensures { raw.new ≡ wiped_key raw.old }
+{
+    if let Some(raw) = raw {
+        raw.wipe();
+    }
 }
 
 // How a run ends whose input isn't an image.
