@@ -1,6 +1,6 @@
 //! The run whose mount is written as an image. It makes its calls on a mount of its own.
 
-ghost use Rattle.std.specs.Prelude.{ℕ, List, IfOk};
+ghost use Rattle.std.specs.Prelude.{◌≡◌, ℕ, List, replicate, IfOk};
 ghost use Rattle.fsc_outside.specs.Reads.{ReadCall};
 ghost use Rattle.script_lang.specs.Spelled.{IsSpelled};
 ghost use Rattle.script_lang.specs.declared.commands.Section.{Section};
@@ -26,7 +26,7 @@ use std::alloc::{AllocError, Global};
 use tree_image::write_image;
 
 // A replay in rotation of the script that the source gives, with this seed, on a mount of its own: the image of
-// the mount that it leaves goes into the sink.
+// the mount that it leaves goes into the sink. The seed is overwritten.
 pub(crate) fn run_dumping<S: Source, K: Sink, E: SeedSource, G: Gate>(
     alloc: Global,
     seed: &mut [u8; 32],
@@ -35,10 +35,11 @@ pub(crate) fn run_dumping<S: Source, K: Sink, E: SeedSource, G: Gate>(
     seeds: &mut E,
     gate: &G,
 ) -> Status
-    ensures { let before = outside (S.state source.old) (K.state sink.old) (E.state seeds.old) in
+    ensures dumped { let before = outside (S.state source.old) (K.state sink.old) (E.state seeds.old) in
         let after = outside (S.state source.new) (K.state sink.new) (E.state seeds.new) in
         let came = λ (calls : List ReadCall). S.came source.old calls source.new in
         IsReplay IsImageOfRun came (Given seed.old) before after result }
+    ensures wiped { seed.new ≡ replicate 32 0 }
 {
     let mut seeding = Seeding::Given(*seed);
     wipe(seed);
