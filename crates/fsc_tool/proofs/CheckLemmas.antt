@@ -47,7 +47,7 @@ few_lines Came old new bytes more = at (is_ended bytes) more.lines
         let size : length bytes ≤ MOST_CERTIFICATE_BYTES = more.size in omega (arith, count, lines, size)
 
 -- a text within limits isn't beyond one
-not_both : (part : List ℕ) → IsWithin input_limits part → IsLong part → ⊥
+pub not_both : (part : List ℕ) → IsWithin input_limits part → IsLong part → ⊥
 not_both part within long = elim long [
   | inl many ↦ (let short = within.bytes in omega (arith, many, short))
   | inr many ↦ (let few = within.lines in omega (arith, many, few))

@@ -1,8 +1,10 @@
+pub mod CheckLawLemmas
 pub mod CheckLemmas
 pub mod DumpLemmas
 pub mod GenLemmas
 pub mod InspectLemmas
 pub mod PartLemmas
+pub mod PrintedLemmas
 pub mod RangeLemmas
 pub mod StartLemmas
 pub mod ThreadLemmas

@@ -1,3 +1,4 @@
+pub mod CheckLaws
 pub mod Checking
 pub mod Ends
 pub mod Faults

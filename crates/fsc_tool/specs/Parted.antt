@@ -1,5 +1,5 @@
 -- A script and a log in one input: the first line that is `---` parts them.
-use Rattle.std.specs.Prelude.{ℕ, ◌+◌, List, [], ◌∷◌, length, take, drop, codes, Option, Some, None, if◌then◌else◌}
+use Rattle.std.specs.Prelude.{ℕ, ◌+◌, List, [], ◌∷◌, ◌++◌, length, take, drop, codes, Option, Some, None, if◌then◌else◌}
 use Rattle.std.specs.Prelude.{Result, Ok, Err}
 use Rattle.std.specs.Option.{option_map, option_map_or}
 use Rattle.std.specs.Str.{bytes_eq}
@@ -10,6 +10,10 @@ use Rattle.script_lang.specs.Script.{parsed_script}
 -- the line that parts
 abbrev pub parting : List ℕ
 parting = codes "---"
+
+-- a script's text with a log behind the line that parts them
+abbrev pub certificate_text : List ℕ → List ℕ → List ℕ
+certificate_text script log = script ++ (parting ++ 10 ∷ log)
 
 -- of the pieces of a text, of which the last is no line: how many bytes stand before the first line that parts
 unfoldable pub bytes_before : List (List ℕ) → Option ℕ

@@ -6,6 +6,7 @@ mod dump;
 mod form;
 mod gen_runs;
 mod inspect;
+mod laws;
 mod limits;
 mod one_mount;
 mod parting;
@@ -21,6 +22,9 @@ mod top;
 mod writing;
 
 use call_history::Entry;
+pub use laws::{
+    logs_are_parted_from_scripts, printed_logs_are_certified, printed_logs_are_not_refused,
+};
 pub use limits::{MOST_CERTIFICATE_BYTES, MOST_INPUT_BYTES, MOST_INPUT_LINES};
 use mount_model::Reply;
 use reply_text::Shown;

@@ -1,0 +1,41 @@
+-- What the program prints checks: laws of a log behind its script, as `check` reads them.
+use Rattle.std.specs.Prelude.{◌≡◌, ℕ, List, Ok}
+use Rattle.mount_model.specs.Lawful.{IsLawful}
+use Rattle.script_lang.specs.declared.commands.Section.{Section}
+use Rattle.script_lang.specs.Script.{parsed_script}
+use Rattle.fsc_outside.specs.Input.{IsWithin}
+use Rattle.log_check.specs.Certificate.{AskedKeysAgree}
+use Rattle.fsc_tool.specs.declared.status.Status.{Status}
+use Rattle.fsc_tool.specs.declared.status.Status.TheVariants.{Done, Refused}
+use Rattle.fsc_tool.specs.Checking.{SaysOfInput}
+use Rattle.fsc_tool.specs.Limits.{input_limits}
+use Rattle.fsc_tool.specs.LogOfRun.{IsLogOfRun}
+use Rattle.fsc_tool.specs.Parted.{certificate_read, certificate_text}
+use Rattle.fsc_tool.specs.Replay.{IsOrNoMemory}
+use Rattle.fsc_tool.specs.Runs.{IsLawfulRun}
+
+-- a text that is a script, the line that parts, and any text behind it are read as that script and that text
+abbrev pub LogsArePartedFromScripts : Type 0
+LogsArePartedFromScripts =
+    (input log : List ℕ) (script : List Section) → parsed_script input ≡ Ok script
+    → certificate_read (certificate_text input log) ≡ Ok (script, log)
+
+-- the log of a run of the script, in which no two different raw keys that it asks to add share an identifier
+pub record IsPrinted (input seed log : List ℕ) : Type 0 where
+  pub script : List Section
+  pub spelled : parsed_script input ≡ Ok script
+  pub printed : IsLogOfRun (IsLawfulRun IsLawful) seed script log
+  pub agree : AskedKeysAgree printed.history
+
+-- such a log behind its script is refused at no place
+abbrev pub PrintedLogsAreNotRefused : Type 0
+PrintedLogsAreNotRefused =
+    (input seed log : List ℕ) (place : ℕ) → IsPrinted input seed log
+    → ¬ SaysOfInput seed (certificate_text input log) (Refused place)
+
+-- and where the script is within its limits, nothing is said of the whole input but that the log is certified, or that
+-- there was no memory
+abbrev pub PrintedLogsAreCertified : Type 0
+PrintedLogsAreCertified =
+    (input seed log : List ℕ) (status : Status) → IsPrinted input seed log → IsWithin input_limits input
+    → SaysOfInput seed (certificate_text input log) status → IsOrNoMemory Done status
