@@ -30,8 +30,7 @@ def gdb_lines(program, words, files, numbers, room):
     line in the script. The stop is at that write, and then at the first write to standard output.
     """
     script, terminal = files
-    yield from ("set pagination off", "set confirm off", "set debuginfod enabled off", "set auto-solib-add off",
-                "set dump-excluded-mappings on", "set exec-wrapper env -i", f"exec-file {program}", "catch syscall write")
+    yield from (*settings(program), "catch syscall write")
     begun = False
     for name, number in sorted(numbers.items(), key=lambda it: it[1]):
         line = enumerate(f"{len(HEADS) + 1 + number}:", len(SHOWN))
@@ -45,6 +44,22 @@ def gdb_lines(program, words, files, numbers, room):
     yield "kill"
 
 
+def settings(program):
+    """The commands for gdb that every run begins with."""
+    return ("set pagination off", "set confirm off", "set debuginfod enabled off", "set auto-solib-add off",
+            "set dump-excluded-mappings on", "set exec-wrapper env -i", f"exec-file {program}")
+
+
+def lines_at_end(program, words, files, room, writes):
+    """The same with one stop: at the first write to standard output, or at the program's end where it writes none."""
+    given, terminal = files
+    yield from settings(program)
+    yield from ("catch syscall write", "condition 1 $rdi == 1") if writes else ("catch syscall exit_group",)
+    yield f"run {' '.join(words)} < {given} > /dev/null 2> {terminal}"
+    yield from taken("over", room)
+    yield "kill"
+
+
 def taken(name, room):
     """The commands that take a core at this moment and tell where each part of the memory lies."""
     return f"echo \\nMOMENT {name}\\n", "info proc mappings", f"gcore {os.path.join(room, name)}"
@@ -52,14 +67,26 @@ def taken(name, room):
 
 def cores(program, words, script, numbers, room):
     """For each moment the memory of the run: what it has of heap, and of stacks with registers."""
+    return stopped(program, script.encode(), {*numbers, "over"}, room,
+                   lambda place, files: gdb_lines(place, words, files, numbers, room))
+
+
+def core_at_end(program, words, given, room, writes):
+    """The memory of a run whose text is about to be written, or which is about to end where it writes none."""
+    found = stopped(program, given, {"over"}, room, lambda place, files: lines_at_end(place, words, files, room, writes))
+    return found["over"]
+
+
+def stopped(program, given, moments, room, lines):
+    """The memory at each of these moments of a run under gdb, whose commands `lines` makes of program and files."""
     path, place = os.path.join(room, "script"), os.path.join(room, "fsc")
     shutil.copy(program, place)
-    with open(path, "w", encoding="ascii") as it:
-        it.write(script)
+    with open(path, "wb") as it:
+        it.write(given)
     ours, theirs = pty.openpty()
     commands = os.path.join(room, "commands")
     with open(commands, "w", encoding="utf-8") as it:
-        it.writelines(line + "\n" for line in gdb_lines(place, words, (path, os.ttyname(theirs)), numbers, room))
+        it.writelines(line + "\n" for line in lines(place, (path, os.ttyname(theirs))))
     reader = threading.Thread(target=drained, args=(ours,), daemon=True)
     reader.start()
     try:
@@ -78,7 +105,7 @@ def cores(program, words, script, numbers, room):
         if os.path.isfile(core):
             found[name] = memory_of(core, part)
             os.remove(core)
-    if set(found) != {*numbers, "over"}:
+    if set(found) != moments:
         raise RuntimeError("gdb took no core at some moment; it said:\n" + told)
     return found
 
