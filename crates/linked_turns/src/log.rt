@@ -13,7 +13,7 @@ use reply_text::{Shown, write_log, write_notes};
 use std::alloc::{AllocError, Global};
 
 /// The text of a run on two mounts: the line `mount 0` and the log of mount 0, the line `mount 1` and the log of
-/// mount 1, and behind them the notes.
+/// mount 1, and behind them the notes. The one error is want of memory.
 pub fn linked_log(alloc: Global, told: LinkedTold) -> Result<Bytes, AllocError>
     ensures { IfOk result (λ text. text ≡ linked_text (entries_of told.even.items)
         (entries_of told.odd.items) told.notes.items) }

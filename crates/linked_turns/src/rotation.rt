@@ -22,7 +22,8 @@ use std::alloc::{AllocError, Global};
 /// What a run of the script in rotation tells on two mounts, the entries of each in order of place: command 0
 /// of each caller that has one, then command 1, and so on, each between the gate's two calls. The first machine
 /// is mount 0, on which callers with an even number work; the second is mount 1, on which the others do, whose
-/// calls for protectors that are links there go to mount 0. Both stand before any call.
+/// calls for protectors that are links there go to mount 0. Both stand before any call. The one error is want
+/// of memory.
 pub fn run_linked_in_rotation<G: Gate, S: Stretches, M: MountMachine>(
     alloc: Global,
     script: &Script,
