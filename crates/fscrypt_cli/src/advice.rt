@@ -4,6 +4,7 @@ ghost use Rattle.std.specs.Prelude.{◌<◌, length};
 
 use crate::asked::Asked;
 use crate::bad_line::shown;
+use crate::inspect_advice::fault_of_inspect;
 use fsc_tool::Status;
 use std::io::IsTerminal;
 use text_words::decimal_value;
@@ -11,9 +12,9 @@ use text_words::decimal_value;
 // A word of a command line that is at fault, by its place from 0, and what to do. Behind the last a word is
 // missing.
 #[derive(Clone, Copy)]
-struct WordFault {
-    place: usize,
-    remedy: &'static str,
+pub(crate) struct WordFault {
+    pub place: usize,
+    pub remedy: &'static str,
 }
 
 const NO_WORDS: &str = "give a form: fsc replay < SCRIPT runs a script; fsc --help lists the forms";
@@ -23,12 +24,6 @@ const SCRIPT_BY_INPUT: &str = "the script comes from standard input: fsc replay 
 const SEED_DIGITS: &str = "a seed is 64 hexadecimal digits";
 
 const DIGITS_OF_HALF_A_SEED: usize = 32;
-
-const RAW: &str = "raw:";
-
-const LEAST_KEY_DIGITS: usize = 64;
-
-const MOST_KEY_DIGITS: usize = 128;
 
 const NUMBER_OF_GEN: &str = "gen takes a number from 0 to 4294967295, without leading zeros";
 
@@ -108,7 +103,7 @@ fn fault_of(words: &[String]) -> Option<WordFault> {
     }
 }
 
-fn at(place: usize, remedy: &'static str) -> Option<WordFault> {
+pub(crate) fn at(place: usize, remedy: &'static str) -> Option<WordFault> {
     Some(WordFault { place, remedy })
 }
 
@@ -121,7 +116,7 @@ fn remedy_of_first(word: &str) -> &'static str {
 }
 
 // Whether the word looks like the name of a file.
-fn is_path(word: &str) -> bool {
+pub(crate) fn is_path(word: &str) -> bool {
     word.as_bytes()
         .iter()
         .any(|byte| *byte == b'.' || *byte == b'/')
@@ -204,41 +199,6 @@ fn fault_of_seed(words: &[String], alone: &'static str) -> Option<WordFault> {
         [_, _] => None,
         [_, _, behind @ ..] => at(3, remedy_behind_seed(behind)),
     }
-}
-
-// The first word at fault behind `inspect`.
-fn fault_of_inspect(words: &[String]) -> Option<WordFault> {
-    match words {
-        [] => None,
-        [key, ..] if !is_raw_key(key.as_str()) => at(1, remedy_of_raw_key(key.as_str())),
-        [_] => None,
-        _ => at(2, "nothing stands behind the key"),
-    }
-}
-
-fn is_raw_key(word: &str) -> bool {
-    let Some(digits) = word.as_bytes().get(RAW.len()..) else {
-        return false;
-    };
-    word.starts_with(RAW)
-        && digits.len() >= LEAST_KEY_DIGITS
-        && digits.len() <= MOST_KEY_DIGITS
-        && digits.len() % 2 == 0
-        && digits.iter().all(|byte| byte.is_ascii_hexdigit())
-}
-
-// What to do about a word in the place of a raw key.
-fn remedy_of_raw_key(word: &str) -> &'static str {
-    if word.starts_with("id:") {
-        return "an identifier opens nothing: give the key itself by raw:HEX";
-    }
-    if word.starts_with(RAW) {
-        return "a raw key is raw: and 64 to 128 hexadecimal digits, an even number";
-    }
-    if is_path(word) {
-        return "the image comes from standard input: fsc inspect < FILE";
-    }
-    "inspect takes a raw key, raw:HEX, or nothing"
 }
 
 // The first word at fault behind `gen`.

@@ -7,6 +7,7 @@ mod bad_line;
 mod caused;
 mod commands;
 mod help;
+mod inspect_advice;
 mod kept;
 mod lines;
 mod telling;

@@ -1,0 +1,44 @@
+//! What is told of the words behind `inspect` that are no form: the first at fault, and the remedy.
+
+use crate::advice::{WordFault, at, is_path};
+
+const RAW: &str = "raw:";
+
+const LEAST_KEY_DIGITS: usize = 64;
+
+const MOST_KEY_DIGITS: usize = 128;
+
+// The first word at fault behind `inspect`.
+pub(crate) fn fault_of_inspect(words: &[String]) -> Option<WordFault> {
+    match words {
+        [] => None,
+        [key, ..] if !is_raw_key(key.as_str()) => at(1, remedy_of_raw_key(key.as_str())),
+        [_] => None,
+        _ => at(2, "nothing stands behind the key"),
+    }
+}
+
+fn is_raw_key(word: &str) -> bool {
+    let Some(digits) = word.as_bytes().get(RAW.len()..) else {
+        return false;
+    };
+    word.starts_with(RAW)
+        && digits.len() >= LEAST_KEY_DIGITS
+        && digits.len() <= MOST_KEY_DIGITS
+        && digits.len() % 2 == 0
+        && digits.iter().all(|byte| byte.is_ascii_hexdigit())
+}
+
+// What to do about a word in the place of a raw key.
+fn remedy_of_raw_key(word: &str) -> &'static str {
+    if word.starts_with("id:") {
+        return "an identifier opens nothing: give the key itself by raw:HEX";
+    }
+    if word.starts_with(RAW) {
+        return "a raw key is raw: and 64 to 128 hexadecimal digits, an even number";
+    }
+    if is_path(word) {
+        return "the image comes from standard input: fsc inspect < FILE";
+    }
+    "inspect takes a raw key, raw:HEX, or nothing"
+}
