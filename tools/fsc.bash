@@ -2,9 +2,11 @@
 _fsc() {
     local word="${COMP_WORDS[COMP_CWORD]}" words=()
     case "${COMP_WORDS[*]:1:COMP_CWORD-1}" in
-        "") words=(replay gen dump inspect check --help --version) ;;
+        "") words=(replay replay-linked gen dump inspect check --help --version) ;;
         replay) words=(--serial --seed) ;;
         "replay --serial") words=(--seed) ;;
+        replay-linked) words=(--serial) ;;
+        "replay-linked --serial") words=(--seed) ;;
         dump | check) words=(--seed) ;;
         inspect) words=(raw:) ;;
         "gen "*[0-9]) words=(--summary) ;;

@@ -16,7 +16,8 @@ CONTENTS, NAMES = 1, 4
 UUID = b"fsc-memory-mount"
 # The calls of each command of a session, in order, by their first words and the record that they are about.
 SESSION = {
-    "protector": ("meta-put protector/{1}",), "protector-change": ("meta-get protector/{1}", "meta-put protector/{1}"),
+    "protector": ("meta-put protector/{1}",), "protector-link": ("meta-put protector/{1}",),
+    "protector-change": ("meta-get protector/{1}", "meta-put protector/{1}"),
     "policy-new": ("meta-get protector/{2}", "meta-put policy/{1}"),
     "policy-add": ("meta-get protector/{2}", "meta-get policy/{1}", "meta-get protector/{4}", "meta-put policy/{1}"),
     "policy-drop": ("meta-get policy/{1}", "meta-put policy/{1}"),

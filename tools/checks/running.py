@@ -7,6 +7,7 @@ PROGRAM = os.path.join(TOP, "crates", "fscrypt_cli", "out", "fscrypt_cli")
 ZEROS = "0" * 64
 SERIAL = ["replay", "--serial", "--seed", ZEROS]
 THREADED = ["replay", "--seed", ZEROS]
+LINKED = ["replay-linked", "--serial", "--seed", ZEROS]
 SECONDS = 120
 
 

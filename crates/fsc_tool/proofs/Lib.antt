@@ -3,6 +3,7 @@ pub mod CheckLemmas
 pub mod DumpLemmas
 pub mod GenLemmas
 pub mod InspectLemmas
+pub mod LinkedLemmas
 pub mod PartLemmas
 pub mod PrintedLemmas
 pub mod RangeLemmas

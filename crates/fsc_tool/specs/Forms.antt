@@ -1,7 +1,7 @@
 -- What the words of the command line ask for. `replay` or `replay --serial`, alone or with `--seed HEX64`
 -- behind; `gen NUMBER` or `gen NUMBER --summary`, where the number is a decimal numeral below 2^32;
 -- `dump --seed HEX64`; `inspect`, alone or with `raw:HEX` behind;
--- `check --seed HEX64`.
+-- `check --seed HEX64`; `replay-linked --serial --seed HEX64`.
 use Rattle.std.specs.Prelude.{ℕ, List, [], ◌∷◌, ◌^◌, codes, Option, Some, None, if◌then◌else◌}
 use Rattle.std.specs.Option.{option_map, option_and_then}
 use Rattle.std.specs.Str.{bytes_eq}
@@ -15,7 +15,7 @@ use Rattle.fsc_tool.specs.declared.form.Way.TheVariants.{InTurn, InThreads}
 use Rattle.fsc_tool.specs.declared.form.Seeding.{Seeding}
 use Rattle.fsc_tool.specs.declared.form.Seeding.TheVariants.{Given, Asked}
 use Rattle.fsc_tool.specs.declared.form.ToolForm.{ToolForm}
-use Rattle.fsc_tool.specs.declared.form.ToolForm.TheVariants.{Replay, Generate, Summarise, Dump, Inspect, Check}
+use Rattle.fsc_tool.specs.declared.form.ToolForm.TheVariants.{Replay, Generate, Summarise, Dump, Inspect, Check, ReplayLinked}
 
 -- the seed that is given: `--seed` and 32 bytes in 64 digits of either case
 abbrev pub seed_given : List (List ℕ) → Option (List ℕ)
@@ -60,6 +60,12 @@ inspected_of [] = Some (Inspect None)
 inspected_of (word ∷ []) = inspected_with (key_ref_of word)
 inspected_of _ = None
 
+-- behind `replay-linked`
+abbrev pub linked_of : List (List ℕ) → Option ToolForm
+linked_of [] = None
+linked_of (word ∷ words) =
+    if bytes_eq word (codes "--serial") then option_map ReplayLinked (seed_given words) else None
+
 -- what the words ask for, where they are a form
 abbrev pub form_of : List (List ℕ) → Option ToolForm
 form_of [] = None
@@ -69,6 +75,7 @@ form_of (verb ∷ words) =
     else if bytes_eq verb (codes "dump") then option_map Dump (seed_given words)
     else if bytes_eq verb (codes "inspect") then inspected_of words
     else if bytes_eq verb (codes "check") then option_map Check (seed_given words)
+    else if bytes_eq verb (codes "replay-linked") then linked_of words
     else None
 
 -- the same for a tool that starts no thread

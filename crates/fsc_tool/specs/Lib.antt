@@ -7,6 +7,7 @@ pub mod Gen
 pub mod ImageOfRun
 pub mod Inspection
 pub mod Limits
+pub mod LinkedLog
 pub mod InRange
 pub mod LogOfRun
 pub mod Outside

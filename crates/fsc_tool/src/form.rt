@@ -3,7 +3,7 @@
 ghost use Rattle.std.specs.Prelude.{◌≡◌, [], map, string_bytes};
 ghost use Rattle.text_words.specs.Digits.{hex_bytes_of_length};
 ghost use Rattle.fsc_tool.specs.Forms as spec;
-ghost use Rattle.fsc_tool.specs.Forms.{form_of, generated_behind, generated_of, inspected_of, replay_of};
+ghost use Rattle.fsc_tool.specs.Forms.{form_of, generated_behind, generated_of, inspected_of, linked_of, replay_of};
 ghost use Rattle.fsc_tool.specs.Forms.{seed_given, seeding_of, without_threads};
 
 use crate::seed::wipe_seeding;
@@ -48,6 +48,8 @@ pub(crate) enum ToolForm {
     Inspect(Option<RawKey>),
     /// To check the log that the source gives behind its script, as one of a run with this seed.
     Check([u8; 32]),
+    /// To replay the script that the source gives on two mounts, with this seed. The callers take turns.
+    ReplayLinked([u8; 32]),
 }
 
 // Writes what the words ask for into the caller's room; none where they are no form. Whatever else it moves a seed
@@ -87,6 +89,9 @@ fn form_of(words: &[String]) -> Option<ToolForm>
     }
     if words[0].as_str() == "check" {
         return read_given_seed(&words[1..]).map(ToolForm::Check);
+    }
+    if words[0].as_str() == "replay-linked" {
+        return read_linked(&words[1..]);
     }
     None
 }
@@ -171,6 +176,19 @@ fn read_seed(digits: &[u8]) -> Option<[u8; 32]>
         return None;
     }
     Some(seed)
+}
+
+// The form that the words behind `replay-linked` make.
+fn read_linked(words: &[String]) -> Option<ToolForm>
+    ensures { result ≡ linked_of (map string_bytes words.now) }
+{
+    if words.is_empty() {
+        return None;
+    }
+    if words[0].as_str() != "--serial" {
+        return None;
+    }
+    read_given_seed(&words[1..]).map(ToolForm::ReplayLinked)
 }
 
 // The form that the words behind `gen` make.

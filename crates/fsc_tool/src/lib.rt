@@ -8,6 +8,7 @@ mod gen_runs;
 mod inspect;
 mod laws;
 mod limits;
+mod linked;
 mod one_mount;
 mod parting;
 mod ranged_port;

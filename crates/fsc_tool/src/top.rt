@@ -15,6 +15,7 @@ use crate::dump::run_dumping;
 use crate::form::{Seeding, ToolForm, Way, leave_threads, read_form, wipe_words};
 use crate::gen_runs::{run_generating, run_summarising};
 use crate::inspect::run_inspecting;
+use crate::linked::{Machines, run_linked};
 use crate::replay::{finish, prepare};
 use crate::rotation::run_in_rotation;
 use crate::status::Status;
@@ -38,9 +39,11 @@ use std::thread::Threads;
 /// - `dump --seed HEX64`: runs the script in turns, and writes the image of what then lies on the disk.
 /// - `inspect`, alone or with `raw:HEX` behind: reads an image, and writes its listing.
 /// - `check --seed HEX64`: reads a script, a line `---` and a log, and writes nothing.
+/// - `replay-linked --serial --seed HEX64`: runs the script on two mounts, its callers taking turns, and writes both
+///   logs: the machine is mount 0, the far one, which no call was made on either, mount 1.
 ///
 /// `dump` and `check` make their calls on a mount of their own, and no form but the replays and
-/// `gen NUMBER --summary` uses the machine. Each command of a run that writes its log, its summary or its
+/// `gen NUMBER --summary` uses the machine, and none but `replay-linked` the far one. Each command of a run that writes its log, its summary or its
 /// image runs between the gate's two calls. Nothing is written before all callers have ended and the whole
 /// text stands. The seed source is asked once, by a replay alone, for a script in the grammar where the words
 /// give no seed. Words that are a form are overwritten and taken away once they are read, since one of them
@@ -61,8 +64,10 @@ pub fn tool<
     seeds: &mut E,
     gate: &G,
     machine: M,
+    far: M,
 ) -> Status
-    requires { M.leads [] machine }
+    requires leads { M.leads [] machine }
+    requires leads_far { M.leads [] far }
     ensures run { let before = outside (S.state source.old) (K.state sink.old) (E.state seeds.old) in
         let after = outside (S.state source.new) (K.state sink.new) (E.state seeds.new) in
         let came = λ (calls : List ReadCall). S.came source.old calls source.new in
@@ -96,6 +101,10 @@ pub fn tool<
         Some(ToolForm::Dump(seed)) => run_dumping(alloc, seed, source, sink, seeds, gate),
         Some(ToolForm::Inspect(raw)) => run_inspecting(alloc, raw, source, sink),
         Some(ToolForm::Check(seed)) => run_checking(alloc, seed, source),
+        Some(ToolForm::ReplayLinked(seed)) => {
+            let machines = Machines { machine, far };
+            run_linked(alloc, seed, source, sink, seeds, gate, machines)
+        }
     }
 }
 
@@ -114,8 +123,10 @@ pub fn tool_serial<S: Source, K: Sink, E: SeedSource, M: MountMachine>(
     sink: &mut K,
     seeds: &mut E,
     machine: M,
+    far: M,
 ) -> Status
-    requires { M.leads [] machine }
+    requires leads { M.leads [] machine }
+    requires leads_far { M.leads [] far }
     ensures { let before = outside (S.state source.old) (K.state sink.old) (E.state seeds.old) in
         let after = outside (S.state source.new) (K.state sink.new) (E.state seeds.new) in
         let came = λ (calls : List ReadCall). S.came source.old calls source.new in
@@ -136,6 +147,10 @@ pub fn tool_serial<S: Source, K: Sink, E: SeedSource, M: MountMachine>(
         Some(ToolForm::Dump(seed)) => run_dumping(alloc, seed, source, sink, seeds, &OpenGate),
         Some(ToolForm::Inspect(raw)) => run_inspecting(alloc, raw, source, sink),
         Some(ToolForm::Check(seed)) => run_checking(alloc, seed, source),
+        Some(ToolForm::ReplayLinked(seed)) => {
+            let machines = Machines { machine, far };
+            run_linked(alloc, seed, source, sink, seeds, &OpenGate, machines)
+        }
     }
 }
 

@@ -1,6 +1,6 @@
 //! What is told of a command line that is no form: its first word at fault, and the remedy.
 
-ghost use Rattle.std.specs.Prelude.{◌<◌, length};
+ghost use Rattle.std.specs.Prelude.{◌<◌, ◌≤◌, length};
 
 use crate::asked::Asked;
 use crate::bad_line::shown;
@@ -24,6 +24,9 @@ const SCRIPT_BY_INPUT: &str = "the script comes from standard input: fsc replay 
 const SEED_DIGITS: &str = "a seed is 64 hexadecimal digits";
 
 const DIGITS_OF_HALF_A_SEED: usize = 32;
+
+const LINKED: &str =
+    "replay-linked takes turns and a seed: fsc replay-linked --serial --seed HEX64";
 
 const NUMBER_OF_GEN: &str = "gen takes a number from 0 to 4294967295, without leading zeros";
 
@@ -89,9 +92,14 @@ fn fault_of(words: &[String]) -> Option<WordFault> {
     };
     match first.as_str() {
         "replay" => fault_of_replay(behind),
+        "replay-linked" => fault_of_linked(behind),
         "gen" => fault_of_gen(behind),
-        "dump" => fault_of_seed(behind, "dump takes a seed alone: fsc dump --seed HEX64"),
-        "check" => fault_of_seed(behind, "check takes a seed alone: fsc check --seed HEX64"),
+        "dump" => fault_of_seed(behind, 1, "dump takes a seed alone: fsc dump --seed HEX64"),
+        "check" => fault_of_seed(
+            behind,
+            1,
+            "check takes a seed alone: fsc check --seed HEX64",
+        ),
         "inspect" => fault_of_inspect(behind),
         "--help" | "--version" if behind.is_empty() => None,
         "--help" | "--version" => at(1, "nothing stands behind --help and --version"),
@@ -112,7 +120,7 @@ fn remedy_of_first(word: &str) -> &'static str {
     if is_path(word) {
         return SCRIPT_BY_INPUT;
     }
-    "a form begins with replay, gen, dump, inspect, check, --help or --version"
+    "a form begins with replay, replay-linked, gen, dump, inspect, check, --help or --version"
 }
 
 // Whether the word looks like the name of a file.
@@ -189,15 +197,25 @@ fn remedy_of_option(word: &str) -> &'static str {
     SCRIPT_BY_INPUT
 }
 
-// The first word at fault behind a form that takes a seed alone.
-fn fault_of_seed(words: &[String], alone: &'static str) -> Option<WordFault> {
+// The first word at fault behind `replay-linked`.
+fn fault_of_linked(words: &[String]) -> Option<WordFault> {
     match words {
-        [] => at(1, alone),
-        [option, ..] if option.as_str() != "--seed" => at(1, alone),
-        [_] => at(2, "64 hexadecimal digits stand behind --seed"),
-        [_, seed, ..] if !is_seed(seed.as_str()) => at(2, remedy_of_seed(seed.as_str())),
+        [option, behind @ ..] if option.as_str() == "--serial" => fault_of_seed(behind, 2, LINKED),
+        _ => at(1, LINKED),
+    }
+}
+
+// The first word at fault of those from this place on, which are a seed alone.
+fn fault_of_seed(words: &[String], place: usize, alone: &'static str) -> Option<WordFault>
+    requires { place ≤ 2 }
+{
+    match words {
+        [] => at(place, alone),
+        [option, ..] if option.as_str() != "--seed" => at(place, alone),
+        [_] => at(place + 1, "64 hexadecimal digits stand behind --seed"),
+        [_, seed, ..] if !is_seed(seed.as_str()) => at(place + 1, remedy_of_seed(seed.as_str())),
         [_, _] => None,
-        [_, _, behind @ ..] => at(3, remedy_behind_seed(behind)),
+        [_, _, behind @ ..] => at(place + 2, remedy_behind_seed(behind)),
     }
 }
 

@@ -3,7 +3,7 @@
 /// What standard input gives.
 #[derive(Clone, Copy, PartialEq, Eq)]
 pub(crate) enum Asked {
-    /// A script, of whose run the log is written.
+    /// A script, of whose run the log is written, or both logs.
     Log,
     /// A script, of whose run the image is written.
     Image,
@@ -22,7 +22,7 @@ impl Asked {
             return Asked::Other;
         };
         match first.as_str() {
-            "replay" => Asked::Log,
+            "replay" | "replay-linked" => Asked::Log,
             "dump" => Asked::Image,
             "inspect" => Asked::Listing,
             "check" => Asked::Verdict,

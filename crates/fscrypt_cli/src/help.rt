@@ -18,6 +18,7 @@ fsc replays a script over an encrypted directory tree in memory, and prints a
 log of it.
 
     fsc replay [--serial] [--seed HEX64]
+    fsc replay-linked --serial --seed HEX64
     fsc gen NUMBER [--summary]
     fsc dump --seed HEX64
     fsc inspect [raw:HEX]
@@ -27,6 +28,10 @@ log of it.
 The script comes from standard input. Its callers run in threads, and the log
 has the order in which their calls were answered. With --serial they take turns
 instead. Without --seed the seed comes from the machine.
+
+replay-linked runs a script in turns on two mounts, and prints both logs.
+Callers of an even number work on mount 0, the others on mount 1, where
+protector-link stores links to protectors of mount 0, which they follow.
 
 gen writes the script that a number gives, from 0 to 4294967295. With --summary
 it runs that script in turns and writes entries, refused, busy and sha256.

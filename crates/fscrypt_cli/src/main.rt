@@ -39,7 +39,7 @@ fn main(rt: HostRuntime) -> ExitCode {
         }
     }
     let asked = Asked::of(words.as_slice());
-    let Ok(mount) = Mount::new(rt.alloc()) else {
+    let (Ok(mount), Ok(far)) = (Mount::new(rt.alloc()), Mount::new(rt.alloc())) else {
         return end(rt, Asked::Other, Status::NoMemory, &[]);
     };
     tell_of_waiting(&rt, &words, asked);
@@ -55,6 +55,7 @@ fn main(rt: HostRuntime) -> ExitCode {
         &mut RuntimeSeed::new(&rt),
         &TellingGate::new(&rt, &kept, is_terminal),
         mount,
+        far,
     );
     match status {
         Status::Usage => advise_words(&rt, &words),

@@ -25,9 +25,9 @@ use Rattle.mount_links.specs.LinkCalls.{load_shown}
 use Rattle.mount_links.proofs.ShownLemmas.{shows_both}
 use Rattle.linked_turns.specs.declared.runners.LinkedRunner.{LinkedRunner}
 use Rattle.linked_turns.specs.LinkedRuns.{TellsLinkedRun}
-use Rattle.linked_turns.specs.LinkedSerial.{two, histories, linked_histories}
+use Rattle.linked_turns.specs.LinkedSerial.{two, histories, linked_calls, linked_histories}
 use Rattle.linked_turns.specs.Parts.{HasParts, is_even}
-use Rattle.linked_turns.proofs.SerialLemmas.{GoesOn, linked_from}
+use Rattle.linked_turns.proofs.SerialLemmas.{GoesOn, calls_from, linked_from}
 use Rattle.mount_model.specs.PlainMount.{empty_mount}
 use Rattle.linked_turns.specs.Callers.{LinkedView, view_of, fresh_view, fresh_views, shown_by, noted_by, even_part, even_shown, odd_part, odd_shown}
 use Rattle.linked_turns.specs.Turns.{At, InTurn, Rotating, sections_of, states_of}
@@ -304,6 +304,14 @@ module _ {M : Type 0} (leads : History → M → Type 0) (lawful : History → T
       (subst (GoesOn empty_mount) even_is (record { legal = legal_even; never = never_even }))
       (subst (GoesOn empty_mount) odd_is (record { legal = legal_odd; never = never_odd }))
 
+  calls_of : whole ≡ rotation_steps seed script → IsLegal (entries_of ended.even) → IsLegal (entries_of ended.odd)
+      → NeverWantsMemory (entries_of ended.even) → NeverWantsMemory (entries_of ended.odd) → entries_of ended.told ≡ linked_calls seed script
+  calls_of is legal_even legal_odd never_even never_odd =
+      calls_from (two empty_mount empty_mount) (rotation_steps seed script) ended.told ended.steps (states_of callers)
+      (subst (λ s. Reaches s (entries_of ended.told) (Done (states_of callers))) is ended.order) ended.linked
+      (subst (GoesOn empty_mount) (ap (λ (l : PlacedCalls). entries_of l) ended.even_is) (record { legal = legal_even; never = never_even }))
+      (subst (GoesOn empty_mount) (ap (λ (l : PlacedCalls). entries_of l) ended.odd_is) (record { legal = legal_odd; never = never_odd }))
+
   -- so what is shown of both histories tells the run
   pub tells_linked : (even_entries odd_entries : PlacedShown) (notes : List Note) → whole ≡ rotation_steps seed script
       → even_entries ≡ numbered 0 (shown_history (entries_of ended.even)) → odd_entries ≡ numbered 0 (shown_history (entries_of ended.odd))
@@ -329,6 +337,7 @@ module _ {M : Type 0} (leads : History → M → Type 0) (lawful : History → T
       even_is = sym ended.even_stands.placed ∙ ended.even_is;
       odd_is = sym ended.odd_stands.placed ∙ ended.odd_is;
       serial = serial_of is;
+      serial_calls = calls_of is;
     };
     even_in_place = even_is;
     odd_in_place = odd_is;

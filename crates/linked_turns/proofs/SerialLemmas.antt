@@ -30,7 +30,7 @@ use Rattle.mount_links.specs.Linked.{asked_of, load_asked, store_asked, is_link,
 use Rattle.mount_links.specs.LinkCalls.{load_call}
 use Rattle.mount_links.proofs.NameLemmas.{asked_back}
 use Rattle.linked_turns.specs.Parts.{is_even, IsLinkedStep, AreLinked, part_0, part_1, parts_0, parts_1}
-use Rattle.linked_turns.specs.LinkedSerial.{TwoMounts, two, LinkedAnswer, TwoHistories, histories, behind, on_mount_0, on_mount_1, linked_by, linked_answer, linked_played}
+use Rattle.linked_turns.specs.LinkedSerial.{TwoMounts, two, LinkedAnswer, TwoHistories, histories, behind, on_mount_0, on_mount_1, linked_by, linked_answer, linked_played, calls_played}
 
 -- ---- an answered entry
 
@@ -262,3 +262,24 @@ linked_from m (Ask who call next) (x ∷ xs) (l ∷ ls) value so linked on_even 
     ∙ ap (λ (r : Reply). histories (answer.even ++ (linked_played answer.left (next r)).even) (answer.odd ++ (linked_played answer.left (next r)).odd)) one.reply
     ∙ ap (λ (w : ℕ). linked_played m (Ask w x.1.call next)) so.0
     ∙ ap (λ (c : Call). linked_played m (Ask who c next)) so.1
+
+-- and the callers were replied so
+pub calls_from : {A : Type 0} (m : TwoMounts) (steps : Steps A) (told : PlacedCalls) (ls : List LinkStep) (value : A) → Reaches steps (entries_of told) (Done value)
+    → AreLinked ls told → GoesOn m.even (entries_of (parts_0 ls told)) → GoesOn m.odd (entries_of (parts_1 ls told))
+    → entries_of told ≡ calls_played m steps
+calls_from m steps [] [] value so linked on_even on_odd = sym (ap (calls_played m) so)
+calls_from m steps [] (l ∷ ls) value so linked on_even on_odd = absurd linked
+calls_from m (Done other) (x ∷ xs) ls value so linked on_even on_odd = absurd so
+calls_from m (Ask who call next) (x ∷ xs) [] value so linked on_even on_odd = absurd linked
+calls_from m (Ask who call next) (x ∷ xs) (l ∷ ls) value so linked on_even on_odd =
+    let b = is_even x.1.who in
+    let answer = linked_answer m x.1.who x.1.call in
+    let one : Answered answer x.1.reply (entries_of (part_0 b l x)) (entries_of (part_1 b l x)) (entries_of (parts_0 ls xs)) (entries_of (parts_1 ls xs)) =
+    one_call m b l x (entries_of (parts_0 ls xs)) (entries_of (parts_1 ls xs)) refl linked.0
+    (subst (GoesOn m.even) (entries_of-append (part_0 b l x) (parts_0 ls xs)) on_even)
+    (subst (GoesOn m.odd) (entries_of-append (part_1 b l x) (parts_1 ls xs)) on_odd) in
+    let rest = calls_from answer.left (next x.1.reply) xs ls value so.2 linked.1 one.even_on one.odd_on in
+    ap (λ (l : History). x.1 ∷ l) rest
+    ∙ ap (λ (r : Reply). entry x.1.who x.1.call r ∷ calls_played answer.left (next r)) one.reply
+    ∙ ap (λ (w : ℕ). calls_played m (Ask w x.1.call next)) so.0
+    ∙ ap (λ (c : Call). calls_played m (Ask who c next)) so.1

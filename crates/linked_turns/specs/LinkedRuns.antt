@@ -12,7 +12,7 @@ use Rattle.fsc_commands.specs.Steps.Steps.{Done}
 use Rattle.fsc_session.specs.Session.{IsRunOfCaller, notes_by}
 use Rattle.fsc_session.specs.Rotation.{Waiting, rotation_steps}
 use Rattle.mount_links.specs.declared.step.LinkStep.{LinkStep}
-use Rattle.linked_turns.specs.LinkedSerial.{histories, linked_histories}
+use Rattle.linked_turns.specs.LinkedSerial.{histories, linked_calls, linked_histories}
 use Rattle.linked_turns.specs.Parts.{AreLinked, HasParts, is_even, parts_0, parts_1}
 
 -- the machines could answer so; of the calls that were told, each caller made those of its section; and each
@@ -27,7 +27,7 @@ pub record HaveLinkedCalls (lawful : History → Type 0) (seed : List ℕ) (scri
 
 -- both histories have the calls that callers make in turns, the script's in rotation; each holds of them, in
 -- that order, what is on its mount, and no other calls. Where the one-thread mount could answer so and no call
--- wanted memory, both are a function of script and seed
+-- wanted memory, both are a function of script and seed, and so are the calls
 pub record IsLinkedRun (lawful : History → Type 0) (seed : List ℕ) (script : List Section)
     (even odd : History) : Type 0 where
   pub told : PlacedCalls
@@ -39,6 +39,8 @@ pub record IsLinkedRun (lawful : History → Type 0) (seed : List ℕ) (script :
   pub odd_is : numbered 0 odd ≡ parts_1 steps told
   pub serial : IsLegal even → IsLegal odd → NeverWantsMemory even → NeverWantsMemory odd
       → histories even odd ≡ linked_histories seed script
+  pub serial_calls : IsLegal even → IsLegal odd → NeverWantsMemory even → NeverWantsMemory odd
+      → entries_of told ≡ linked_calls seed script
 
 -- the entries are what is shown of the histories of such a run, each in order of place; and these are its
 -- notes

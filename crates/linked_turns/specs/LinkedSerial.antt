@@ -97,3 +97,15 @@ linked_played m (Ask who call next) =
 -- the histories of a script, a function of script and seed alone
 abbrev pub linked_histories : List ℕ → List Section → TwoHistories
 linked_histories seed script = linked_played (two empty_mount empty_mount) (rotation_steps seed script)
+
+-- the calls of callers, with what they are replied: each call answered by the mounts that the calls before it
+-- leave
+abbrev pub calls_played : {A : Type 0} → TwoMounts → Steps A → History
+calls_played m (Done value) = []
+calls_played m (Ask who call next) =
+    let answer = linked_answer m who call in
+    entry who call answer.reply ∷ calls_played answer.left (next answer.reply)
+
+-- those of a script, a function of script and seed alone
+abbrev pub linked_calls : List ℕ → List Section → History
+linked_calls seed script = calls_played (two empty_mount empty_mount) (rotation_steps seed script)

@@ -133,6 +133,7 @@ fn a_fault_outside_is_told(rt: HostRuntime) -> Result<(), Fail> {
             &mut sink,
             &mut FixedSeed::failing(),
             Mount::new(alloc)?,
+            Mount::new(alloc)?,
         );
         assert_eq!(rt; status, wanted);
         assert_eq!(rt; sink.got(), log.as_bytes());
@@ -155,6 +156,7 @@ fn the_seed_source_gives_the_seed(rt: HostRuntime) -> Result<(), Fail> {
         &mut source,
         &mut sink,
         &mut seeds,
+        Mount::new(alloc)?,
         Mount::new(alloc)?,
     );
     assert_eq!(rt; status, Status::Done);
@@ -197,6 +199,7 @@ fn first_run(
         &mut source,
         &mut sink,
         &mut FixedSeed::failing(),
+        Mount::new(alloc)?,
         Mount::new(alloc)?,
     );
     Ok((status, Vec::from_slice(alloc, sink.got())?))

@@ -3,10 +3,13 @@
 
 ghost use Rattle.std.specs.Prelude.{◌<◌, ◌^◌, length};
 
+use crate::replaced::Replaced;
 use fsc_commands::OnOneThread;
-use fsc_outside::OpenGate;
+use fsc_outside::{CallList, FixedSeed, MemSink, MemSource, OpenGate};
+use fsc_tool::{Status, tool_serial};
 use item_list::Bytes;
 use linked_turns::{linked_log, run_linked_in_rotation};
+use mount_model::{Refusal, Reply};
 use mount_shared::Mount;
 use script_lang::{ScriptFault, read_script};
 use std::alloc::{AllocError, Global};
@@ -122,5 +125,48 @@ fn a_link_that_leads_nowhere_is_refused(rt: HostRuntime) -> Result<(), Fail> {
         note 1 5 refused\n";
     let got = replayed(rt.alloc(), script)?;
     assert!(rt; got.is_some_and(|text| text.as_slice() == wanted.as_slice()));
+    Ok(())
+}
+
+const SEED: &str = "0000000000000000000000000000000000000000000000000000000000000000";
+
+// A mount whose call of this number, from 0, wants memory.
+fn wanting(alloc: Global, at: u64) -> Result<Replaced, AllocError> {
+    Ok(Replaced {
+        mount: Mount::new(alloc)?,
+        calls: 0,
+        at,
+        reply: Some(Reply::Refused(Refusal::NoMemory)),
+    })
+}
+
+// Both machines have the same laws, so no clause tells which of them is which mount.
+#[test]
+fn the_far_machine_is_mount_1(rt: HostRuntime) -> Result<(), Fail> {
+    let alloc = rt.alloc();
+    let mut words = Vec::new(alloc);
+    for word in ["replay-linked", "--serial", "--seed", SEED] {
+        words.push(String::from_str(alloc, word)?)?;
+    }
+    let script = b"caller 0\ndrop-caches\ndrop-caches\ncaller 1\ndrop-caches\ndrop-caches\n";
+    let mut source = MemSource::new(Vec::from_slice(alloc, script)?, 1000, CallList::new(alloc));
+    let mut sink = MemSink::new(alloc, 8192, 1000, CallList::new(alloc))?;
+    let status = tool_serial(
+        alloc,
+        &words,
+        &mut source,
+        &mut sink,
+        &mut FixedSeed::failing(),
+        wanting(alloc, 0)?,
+        wanting(alloc, 1)?,
+    );
+    assert_eq!(rt; status, Status::Done);
+    let wanted = b"mount 0\n\
+        0 0 0 drop-caches = refused no-memory\n\
+        1 0 0 drop-caches = ok\n\
+        mount 1\n\
+        0 1 1 drop-caches = ok\n\
+        1 1 1 drop-caches = refused no-memory\n";
+    assert_eq!(rt; sink.got(), wanted.as_slice());
     Ok(())
 }

@@ -63,6 +63,12 @@ fn log_with(alloc: Global, command: &str, at: u64, reply: Reply) -> Result<Vec<u
         at,
         reply: Some(reply),
     };
+    let far = Replaced {
+        mount: Mount::new(alloc)?,
+        calls: 0,
+        at: 0,
+        reply: None,
+    };
     let _ = tool_serial(
         alloc,
         &words,
@@ -70,6 +76,7 @@ fn log_with(alloc: Global, command: &str, at: u64, reply: Reply) -> Result<Vec<u
         &mut sink,
         &mut FixedSeed::failing(),
         machine,
+        far,
     );
     Vec::from_slice(alloc, sink.got())
 }

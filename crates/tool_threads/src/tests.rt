@@ -16,6 +16,14 @@ fn words_of(alloc: Global) -> Result<Vec<String>, AllocError> {
     Ok(words)
 }
 
+// A far machine that a replay on one mount makes no call on.
+fn unused() -> Counting {
+    Counting {
+        calls: 0,
+        wanting: 0,
+    }
+}
+
 // On one thread the looks would run out: the first caller's second command would wait for a second
 // caller that has not begun.
 #[test]
@@ -39,6 +47,7 @@ fn two_callers_meet_in_the_middle_of_their_sections(rt: HostRuntime) -> Result<(
         &mut FixedSeed::failing(),
         &gate,
         machine,
+        unused(),
     );
     assert_eq!(rt; status, Status::Done);
     assert_eq!(rt; gate.missed(), 0);
@@ -66,6 +75,7 @@ fn a_reply_that_wants_memory_ends_no_section(rt: HostRuntime) -> Result<(), Fail
         &mut FixedSeed::failing(),
         &OpenGate,
         machine,
+        unused(),
     );
     assert_eq!(rt; status, Status::Done);
     let log =

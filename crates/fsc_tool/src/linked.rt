@@ -1,0 +1,71 @@
+//! A replay on two mounts, on which callers reach protectors of mount 0 through links of mount 1.
+
+ghost use Rattle.std.specs.Prelude.{List, []};
+ghost use Rattle.fsc_outside.specs.Reads.{ReadCall};
+ghost use Rattle.fsc_tool.specs.LinkedLog.{IsLinkedLog};
+ghost use Rattle.fsc_tool.specs.Outside.{outside};
+ghost use Rattle.fsc_tool.specs.Replay.{IsReplay};
+ghost use Rattle.fsc_tool.specs.declared.form.Seeding.TheVariants.{Given};
+
+use crate::form::Seeding;
+use crate::replay::prepare;
+use crate::status::Status;
+use crate::writing::write_text;
+use byte_words::wipe;
+use fsc_commands::OnOneThread;
+use fsc_outside::{Gate, SeedSource, Sink, Source};
+use linked_turns::{linked_log, run_linked_in_rotation};
+use mount_shared::MountMachine;
+use std::alloc::Global;
+
+// The machine that is mount 0, on which callers with an even number work, and the far one, mount 1, on which the
+// others do.
+#[derive(Drop)]
+pub(crate) struct Machines<M: MountMachine> {
+    pub(crate) machine: M,
+    pub(crate) far: M,
+}
+
+// A replay in rotation of the script that the source gives, with this seed, on two mounts: both logs and the notes go
+// into the sink.
+pub(crate) fn run_linked<S: Source, K: Sink, E: SeedSource, G: Gate, M: MountMachine>(
+    alloc: Global,
+    seed: &mut [u8; 32],
+    source: &mut S,
+    sink: &mut K,
+    seeds: &mut E,
+    gate: &G,
+    machines: Machines<M>,
+) -> Status
+    requires leads { M.leads [] machines.machine }
+    requires leads_far { M.leads [] machines.far }
+    ensures { let before = outside (S.state source.old) (K.state sink.old) (E.state seeds.old) in
+        let after = outside (S.state source.new) (K.state sink.new) (E.state seeds.new) in
+        let came = λ (calls : List ReadCall). S.came source.old calls source.new in
+        IsReplay (IsLinkedLog M.lawful) came (Given seed.old) before after result }
+{
+    let mut seeding = Seeding::Given(*seed);
+    wipe(seed);
+    let mut run = match prepare(alloc, &mut seeding, source, seeds) {
+        Ok(run) => run,
+        Err(status) => return status,
+    };
+    let ran = run_linked_in_rotation(
+        alloc,
+        &run.script,
+        &run.seed,
+        gate,
+        &OnOneThread,
+        machines.machine,
+        machines.far,
+    );
+    run.wipe(alloc);
+    let told = match ran {
+        Ok(told) => told,
+        Err(_) => return Status::NoMemory,
+    };
+    match linked_log(alloc, told) {
+        Ok(text) => write_text(text, sink),
+        Err(_) => Status::NoMemory,
+    }
+}

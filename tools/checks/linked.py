@@ -1,0 +1,35 @@
+"""Runs on two mounts: each script of examples/linked/ beside both logs, and each script of one caller as on one mount."""
+import os
+
+from checks.running import LINKED, TOP, run, scripts
+
+FOLDER = os.path.join(TOP, "examples", "linked")
+
+
+def examples_linked(tally):
+    """Each script of examples/linked/ prints the logs of both mounts that stand beside it."""
+    names = sorted(it[:-4] for it in os.listdir(FOLDER) if it.endswith(".fsc"))
+    tally.wants("examples/linked/ has scripts", bool(names))
+    for name in names:
+        with open(os.path.join(FOLDER, name + ".fsc"), "rb") as script, open(os.path.join(FOLDER, name + ".log"), "rb") as log:
+            given, wanted = script.read(), log.read()
+        for _ in range(2):
+            status, got, _ = run(LINKED, given)
+            tally.wants(f"examples/linked/{name}.fsc prints both logs", (status, got) == (0, wanted), repr(got[:200]))
+
+
+def one_caller_linked(tally):
+    """A script of one caller, whose number is even, has its log on mount 0, and mount 1 has none."""
+    for path in scripts():
+        with open(path, "rb") as script, open(path[:-4] + ".log", "rb") as log:
+            given, lines = script.read(), log.read().splitlines(True)
+        if given.startswith(b"caller ") + given.count(b"\ncaller ") == 1:
+            entries = [it for it in lines if not it.startswith(b"note ")]
+            wanted = b"".join([b"mount 0\n", *entries, b"mount 1\n", *lines[len(entries):]])
+            status, got, _ = run(LINKED, given)
+            tally.wants(f"{path} has its log on mount 0", (status, got) == (0, wanted), repr(got[:200]))
+    status, got, _ = run(LINKED, b"")
+    tally.wants("no caller has a call on either mount", (status, got) == (0, b"mount 0\nmount 1\n"), repr(got))
+
+
+CHECKS = (examples_linked, one_caller_linked)
