@@ -1,5 +1,6 @@
 -- What the meaning of a status says of it, where the source tells its bytes.
-use Rattle.std.proofs.Common.{◌≡◌, ℕ, ◌<◌, ◌≤◌, inl, inr, List, ◌++◌, length, Option, Some, None, Err, refl, sym, ap, ap₂, ◌∙◌, arith, subst, append-nil, length-append}
+use Rattle.std.proofs.Common.{◌≡◌, ℕ, ◌<◌, ◌≤◌, ◌^◌, inl, inr, List, ◌++◌, length, Option, Some, None, Err, refl, sym, ap, ap₂, ◌∙◌, arith, subst, append-nil, length-append}
+use Rattle.std.proofs.lemmas.List.{length-map}
 use Rattle.std.specs.Io.KnownBytes.{Consumes, IsAtEnd}
 use Rattle.text_words.specs.Lines.{line_count}
 use Rattle.mount_model.specs.History.{History}
@@ -22,7 +23,8 @@ use Rattle.fsc_tool.specs.LogOfRun.{IsLogOfRun}
 use Rattle.fsc_tool.specs.TextOfRun.{HasText}
 use Rattle.fsc_tool.specs.Written.{EndsLog}
 use Rattle.call_history.specs.Placed.{entries_of}
-use Rattle.reply_text.specs.Shown.{PlacedShown, shown_log}
+use Rattle.call_history.proofs.Placing.{length-numbered}
+use Rattle.reply_text.specs.Shown.{PlacedShown, shown_history, shown_log}
 use Rattle.fsc_session.proofs.ShownRuns.{told_log}
 use Rattle.reply_text.specs.Notes.{notes_text}
 use Rattle.reply_text.specs.declared.notes.Note.{Note}
@@ -204,11 +206,14 @@ module _ (IsRight : List ℕ → List Section → List ℕ → Type 0) (Came : L
 pub run_ends : (IsRun : List ℕ → List Section → History → Type 0) (Came : List ReadCall → Type 0) (seeding : Seeding) (a b : Outside)
     (script : List Section) (seed : List ℕ) (told : PlacedShown) (notes : List Note) (status : Status)
     → IsPrepared Came seeding a.source b.source a.seeds b.seeds script seed → TellsRun IsRun seed script told notes
-    → EndsLog (shown_log (entries_of told) ++ notes_text notes) a.sink b.sink status → IsReplay (IsLogOfRun IsRun) Came seeding a b status
-run_ends IsRun Came seeding a b script seed told notes status prepared ran h =
+    → length told < 2 ^ 64 → EndsLog (shown_log (entries_of told) ++ notes_text notes) a.sink b.sink status → IsReplay (IsLogOfRun IsRun) Came seeding a b status
+run_ends IsRun Came seeding a b script seed told notes status prepared ran few h =
+    let count : length told ≡ length ran.history =
+    ap length ran.in_place ∙ length-numbered 0 (shown_history ran.history) ∙ length-map ran.history _ in
     text_ends (IsLogOfRun IsRun) Came seeding a b script seed (shown_log (entries_of told) ++ notes_text notes) status prepared (record {
       history = ran.history;
       run = ran.run;
+      short = subst (λ (n : ℕ). n < 2 ^ 64) count few;
       ranged = ran.ranged;
       log = ap₂ (λ (lines : List ℕ) (ns : List Note). lines ++ notes_text ns) (told_log told ran.history ran.in_place) ran.noted;
     }) h

@@ -1,6 +1,6 @@
 //! What the callers of a run were told.
 
-ghost use Rattle.std.specs.Prelude.{◌≡◌, [], ◌++◌, OnOk};
+ghost use Rattle.std.specs.Prelude.{◌≡◌, ◌<◌, ◌^◌, [], ◌++◌, length, OnOk};
 
 use crate::PlacedVec;
 use fsc_session::Ran;
@@ -35,6 +35,14 @@ impl Told {
             entries: ran.entries.into_vec(),
             notes: ran.notes.into_vec(),
         }
+    }
+
+    // How many entries they were told: fewer than there are places.
+    pub(crate) fn count(&self) -> usize
+        ensures value { result ≡ length self.now.entries.items }
+        ensures short { length self.now.entries.items < 2 ^ 64 }
+    {
+        self.entries.len()
     }
 
     // Puts what others were told behind it.

@@ -182,6 +182,7 @@ fn replay_in_rotation<S: Source, K: Sink, E: SeedSource, G: Gate, M: MountMachin
         }
     };
     run.wipe(alloc);
+    let _few = told.count();
     finish(alloc, told, sink)
 }
 
@@ -225,5 +226,6 @@ fn replay_in_threads<
         }
     };
     run.wipe(alloc);
+    let _few = told.count();
     finish(alloc, told, sink)
 }
