@@ -177,9 +177,35 @@ fn run_scrubbed<P: MountPort, S: Stretches>(
     ensures failed { OnErr result (Begun (P.came port.old) port.new MOST_CALLS
         (command_steps seed.now turn.caller turn.uid turn.number (names_in entries.old) verb.now)) }
 {
-    let ended = run_command(alloc, port, stretches, seed, turn, verb, entries);
+    let ended = run_below(alloc, port, stretches, seed, turn, verb, entries);
     scrub_stack();
     ended
+}
+
+// The same, in a frame of its own, so that all that it leaves lies below the frame whose scrub overwrites it.
+#[inline(never)]
+fn run_below<P: MountPort, S: Stretches>(
+    alloc: Global,
+    port: &mut P,
+    stretches: &S,
+    seed: &[u8; 32],
+    turn: Turn,
+    verb: &Verb,
+    entries: &mut EntryList,
+) -> Result<Option<Outcome>, AllocError>
+    requires ready { S.ready stretches.now }
+    requires caller { turn.caller ≡ P.who port.old }
+    requires left { MOST_CALLS ≤ P.calls_left port.old }
+    requires asked { IsAskable verb.now }
+    ensures made { IfOk result (λ outcome. Made (P.came port.old) port.new (P.calls_left port.new)
+        (P.calls_left port.old) MOST_CALLS
+        (command_steps seed.now turn.caller turn.uid turn.number (names_in entries.old) verb.now)
+        outcome entries.old entries.new) }
+    ensures caller { P.who port.new ≡ P.who port.old }
+    ensures failed { OnErr result (Begun (P.came port.old) port.new MOST_CALLS
+        (command_steps seed.now turn.caller turn.uid turn.number (names_in entries.old) verb.now)) }
+{
+    run_command(alloc, port, stretches, seed, turn, verb, entries)
 }
 
 // Puts the note of a command behind the others, if it has one.
