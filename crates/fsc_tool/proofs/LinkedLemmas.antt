@@ -16,7 +16,8 @@ use Rattle.fsc_session.proofs.ShownRuns.{told_log}
 use Rattle.linked_turns.specs.LinkedRuns.{TellsLinkedRun}
 use Rattle.linked_turns.specs.LinkedSerial.{TwoHistories, linked_calls}
 use Rattle.linked_turns.specs.LinkedText.{linked_text}
-use Rattle.fsc_tool.specs.LinkedLog.{IsLinkedLog, both_logs}
+use Rattle.linked_threads.specs.LinkedThreads.{TellsLinkedCalls}
+use Rattle.fsc_tool.specs.LinkedLog.{IsLinkedLog, IsLinkedLogOfThreads, both_logs}
 
 -- ---- notes are of the entries, whatever places they have
 
@@ -62,4 +63,20 @@ linked_is lawful seed script even odd notes text ran written =
           ∙ ap (λ (ns : List Note). both_logs ran.even ran.odd ns)
           (notes_alike seed 0 script ran.run.told (numbered 0 (linked_calls seed script)) (calls ∙ sym (map-numbered 0 (linked_calls seed script))))
           ∙ ap (λ (h : TwoHistories). both_logs h.even h.odd (notes_by seed 0 script (numbered 0 (linked_calls seed script)))) both;
+    }
+
+-- the same of callers in threads
+pub linked_apart_is : (lawful : History → Type 0) (seed : List ℕ) (script : List Section) (even odd : PlacedShown) (notes : List Note)
+    → TellsLinkedCalls lawful seed script even odd notes
+    → IsLinkedLogOfThreads lawful seed script (linked_text (entries_of even) (entries_of odd) notes)
+linked_apart_is lawful seed script even odd notes ran =
+    record {
+      told = ran.told;
+      even = ran.even;
+      odd = ran.odd;
+      calls = ran.calls;
+      log =
+          ap₂ (λ (first : List ℕ) (rest : List ℕ). codes "mount 0\n" ++ (first ++ (codes "mount 1\n" ++ rest)))
+          (told_log even ran.even ran.even_in_place)
+          (ap₂ (λ (lines : List ℕ) (ns : List Note). lines ++ notes_text ns) (told_log odd ran.odd ran.odd_in_place) ran.noted);
     }

@@ -1,7 +1,7 @@
 -- What the words of the command line ask for. `replay` or `replay --serial`, alone or with `--seed HEX64`
 -- behind; `gen NUMBER` or `gen NUMBER --summary`, where the number is a decimal numeral below 2^32;
 -- `dump --seed HEX64`; `inspect`, alone or with `raw:HEX` behind;
--- `check --seed HEX64`; `replay-linked --serial --seed HEX64`.
+-- `check --seed HEX64`; `replay-linked --seed HEX64` or `replay-linked --serial --seed HEX64`.
 use Rattle.std.specs.Prelude.{ℕ, List, [], ◌∷◌, ◌^◌, codes, Option, Some, None, if◌then◌else◌}
 use Rattle.std.specs.Option.{option_map, option_and_then}
 use Rattle.std.specs.Str.{bytes_eq}
@@ -60,11 +60,16 @@ inspected_of [] = Some (Inspect None)
 inspected_of (word ∷ []) = inspected_with (key_ref_of word)
 inspected_of _ = None
 
+abbrev pub replayed_linked : Way → Option (List ℕ) → Option ToolForm
+replayed_linked way None = None
+replayed_linked way (Some seed) = Some (ReplayLinked way seed)
+
 -- behind `replay-linked`
 abbrev pub linked_of : List (List ℕ) → Option ToolForm
 linked_of [] = None
 linked_of (word ∷ words) =
-    if bytes_eq word (codes "--serial") then option_map ReplayLinked (seed_given words) else None
+    if bytes_eq word (codes "--serial") then replayed_linked InTurn (seed_given words)
+    else replayed_linked InThreads (seed_given (word ∷ words))
 
 -- what the words ask for, where they are a form
 abbrev pub form_of : List (List ℕ) → Option ToolForm
@@ -81,4 +86,5 @@ form_of (verb ∷ words) =
 -- the same for a tool that starts no thread
 abbrev pub without_threads : Option ToolForm → Option ToolForm
 without_threads (Some (Replay InThreads seeding)) = None
+without_threads (Some (ReplayLinked InThreads seed)) = None
 without_threads other = other

@@ -1,12 +1,13 @@
 -- The text of a run of a script on two mounts.
 use Rattle.std.specs.Prelude.{◌≡◌, ℕ, List, ◌++◌, codes}
 use Rattle.mount_model.specs.History.{History, IsLegal, NeverWantsMemory}
+use Rattle.mount_model.specs.Port.{PlacedCalls}
 use Rattle.script_lang.specs.declared.commands.Section.{Section}
 use Rattle.reply_text.specs.Log.{log_text}
 use Rattle.reply_text.specs.Notes.{notes_text}
 use Rattle.reply_text.specs.declared.notes.Note.{Note}
 use Rattle.fsc_session.specs.Session.{notes_by, notes_of}
-use Rattle.linked_turns.specs.LinkedRuns.{IsLinkedRun}
+use Rattle.linked_turns.specs.LinkedRuns.{HaveLinkedCalls, IsLinkedRun}
 use Rattle.linked_turns.specs.LinkedSerial.{linked_calls, linked_histories}
 
 -- a line for each mount before the log of its history, and behind both the notes
@@ -32,3 +33,13 @@ pub record IsLinkedLog (lawful : History → Type 0) (seed : List ℕ) (script :
   pub log : text ≡ both_logs even odd (notes_by seed 0 script run.told)
   pub fixed : IsLegal even → IsLegal odd → NeverWantsMemory even → NeverWantsMemory odd
       → text ≡ serial_logs seed script
+
+-- the text is that of two histories that have the calls of callers of the script with the seed, who don't wait for
+-- one another, and of the notes of those calls
+pub record IsLinkedLogOfThreads (lawful : History → Type 0) (seed : List ℕ) (script : List Section)
+    (text : List ℕ) : Type 0 where
+  pub told : PlacedCalls
+  pub even : History
+  pub odd : History
+  pub calls : HaveLinkedCalls lawful seed script told even odd
+  pub log : text ≡ both_logs even odd (notes_by seed 0 script told)

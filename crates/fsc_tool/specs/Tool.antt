@@ -13,7 +13,7 @@ use Rattle.fsc_tool.specs.Forms.{form_of, without_threads}
 use Rattle.fsc_tool.specs.Gen.{IsGenRun, IsScriptText, SummaryOfRun}
 use Rattle.fsc_tool.specs.ImageOfRun.{IsImageOfRun}
 use Rattle.fsc_tool.specs.Inspection.{IsInspection}
-use Rattle.fsc_tool.specs.LinkedLog.{IsLinkedLog}
+use Rattle.fsc_tool.specs.LinkedLog.{IsLinkedLog, IsLinkedLogOfThreads}
 use Rattle.fsc_tool.specs.LogOfRun.{IsLogOfRun}
 use Rattle.fsc_tool.specs.Outside.{Outside}
 use Rattle.fsc_tool.specs.Replay.{IsReplay}
@@ -34,8 +34,10 @@ IsRunIn lawful Came (Some (Summarise number)) a b status =
 IsRunIn lawful Came (Some (Dump seed)) a b status = IsReplay IsImageOfRun Came (Given seed) a b status
 IsRunIn lawful Came (Some (Inspect raw)) a b status = IsInspection raw Came a b status
 IsRunIn lawful Came (Some (Check seed)) a b status = IsChecking seed Came a b status
-IsRunIn lawful Came (Some (ReplayLinked seed)) a b status =
+IsRunIn lawful Came (Some (ReplayLinked InTurn seed)) a b status =
     IsReplay (IsLinkedLog lawful) Came (Given seed) a b status
+IsRunIn lawful Came (Some (ReplayLinked InThreads seed)) a b status =
+    IsReplay (IsLinkedLogOfThreads lawful) Came (Given seed) a b status
 
 -- a run in the form that the words are; Usage comes exactly where they are none
 pub record IsToolRun (lawful : History → Type 0) (Came : List ReadCall → Type 0) (words : List (List ℕ))

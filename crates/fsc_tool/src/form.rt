@@ -48,8 +48,8 @@ pub(crate) enum ToolForm {
     Inspect(Option<RawKey>),
     /// To check the log that the source gives behind its script, as one of a run with this seed.
     Check([u8; 32]),
-    /// To replay the script that the source gives on two mounts, with this seed. The callers take turns.
-    ReplayLinked([u8; 32]),
+    /// To replay the script that the source gives on two mounts, with this seed.
+    ReplayLinked { way: Way, seed: [u8; 32] },
 }
 
 // Writes what the words ask for into the caller's room; none where they are no form. Whatever else it moves a seed
@@ -110,15 +110,26 @@ pub(crate) fn wipe_words(alloc: Global, words: &mut Vec<String>)
 pub(crate) fn leave_threads(form: &mut Option<ToolForm>)
     ensures { form.new ≡ without_threads form.old }
 {
-    if let Some(
-        ToolForm::Replay {
-            way: Way::InThreads,
-            seeding,
-        },
-    ) = form
-    {
-        wipe_seeding(seeding);
-        *form = None;
+    match form {
+        Some(
+            ToolForm::Replay {
+                way: Way::InThreads,
+                seeding,
+            },
+        ) => {
+            wipe_seeding(seeding);
+            *form = None;
+        }
+        Some(
+            ToolForm::ReplayLinked {
+                way: Way::InThreads,
+                seed,
+            },
+        ) => {
+            wipe(seed);
+            *form = None;
+        }
+        _ => {}
     }
 }
 
@@ -185,10 +196,19 @@ fn read_linked(words: &[String]) -> Option<ToolForm>
     if words.is_empty() {
         return None;
     }
-    if words[0].as_str() != "--serial" {
-        return None;
+    if words[0].as_str() == "--serial" {
+        return replayed_linked(Way::InTurn, read_given_seed(&words[1..]));
     }
-    read_given_seed(&words[1..]).map(ToolForm::ReplayLinked)
+    replayed_linked(Way::InThreads, read_given_seed(words))
+}
+
+fn replayed_linked(way: Way, seed: Option<[u8; 32]>) -> Option<ToolForm>
+    ensures { result ≡ spec.replayed_linked way seed }
+{
+    match seed {
+        Some(seed) => Some(ToolForm::ReplayLinked { way, seed }),
+        None => None,
+    }
 }
 
 // The form that the words behind `gen` make.

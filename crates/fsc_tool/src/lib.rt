@@ -9,6 +9,7 @@ mod inspect;
 mod laws;
 mod limits;
 mod linked;
+mod linked_apart;
 mod one_mount;
 mod parting;
 mod ranged_port;

@@ -1,10 +1,13 @@
 //! A replay on two mounts, on which callers reach protectors of mount 0 through links of mount 1.
 
 ghost use Rattle.std.specs.Prelude.{List, []};
+ghost use Rattle.call_history.specs.Placed.{entries_of};
 ghost use Rattle.fsc_outside.specs.Reads.{ReadCall};
+ghost use Rattle.linked_turns.specs.LinkedText.{linked_text};
 ghost use Rattle.fsc_tool.specs.LinkedLog.{IsLinkedLog};
 ghost use Rattle.fsc_tool.specs.Outside.{outside};
 ghost use Rattle.fsc_tool.specs.Replay.{IsReplay};
+ghost use Rattle.fsc_tool.specs.Written.{EndsLog};
 ghost use Rattle.fsc_tool.specs.declared.form.Seeding.TheVariants.{Given};
 
 use crate::form::Seeding;
@@ -14,7 +17,7 @@ use crate::writing::write_text;
 use byte_words::wipe;
 use fsc_commands::OnOneThread;
 use fsc_outside::{Gate, SeedSource, Sink, Source};
-use linked_turns::{linked_log, run_linked_in_rotation};
+use linked_turns::{LinkedTold, linked_log, run_linked_in_rotation};
 use mount_shared::MountMachine;
 use std::alloc::Global;
 
@@ -64,6 +67,15 @@ pub(crate) fn run_linked<S: Source, K: Sink, E: SeedSource, G: Gate, M: MountMac
         Ok(told) => told,
         Err(_) => return Status::NoMemory,
     };
+    finish_linked(alloc, told, sink)
+}
+
+// Writes both logs and the notes of a run on two mounts into the sink, once they stand whole, and tells how the run
+// ends.
+pub(crate) fn finish_linked<K: Sink>(alloc: Global, told: LinkedTold, sink: &mut K) -> Status
+    ensures { EndsLog (linked_text (entries_of told.even.items) (entries_of told.odd.items) told.notes.items)
+        (K.state sink.old) (K.state sink.new) result }
+{
     match linked_log(alloc, told) {
         Ok(text) => write_text(text, sink),
         Err(_) => Status::NoMemory,

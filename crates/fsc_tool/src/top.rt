@@ -16,6 +16,7 @@ use crate::form::{Seeding, ToolForm, Way, leave_threads, read_form, wipe_words};
 use crate::gen_runs::{run_generating, run_summarising};
 use crate::inspect::run_inspecting;
 use crate::linked::{Machines, run_linked};
+use crate::linked_apart::run_linked_apart;
 use crate::replay::{finish, prepare};
 use crate::rotation::run_in_rotation;
 use crate::status::Status;
@@ -23,6 +24,7 @@ use crate::threads::run_in_threads;
 use argon_kdf::LaneStretch;
 use fsc_commands::{InThreads, OnOneThread};
 use fsc_outside::{Gate, OpenGate, SeedSource, Sink, Source};
+use linked_threads::Mounts;
 use mount_shared::MountMachine;
 use std::alloc::Global;
 use std::sync::Wait;
@@ -39,8 +41,9 @@ use std::thread::Threads;
 /// - `dump --seed HEX64`: runs the script in turns, and writes the image of what then lies on the disk.
 /// - `inspect`, alone or with `raw:HEX` behind: reads an image, and writes its listing.
 /// - `check --seed HEX64`: reads a script, a line `---` and a log, and writes nothing.
-/// - `replay-linked --serial --seed HEX64`: runs the script on two mounts, its callers taking turns, and writes both
-///   logs: the machine is mount 0, the far one, which no call was made on either, mount 1.
+/// - `replay-linked --seed HEX64` and `replay-linked --serial --seed HEX64`: runs the script on two mounts, its
+///   callers as those of a replay, and writes both logs: the machine is mount 0, the far one, which no call was made
+///   on either, mount 1.
 ///
 /// `dump` and `check` make their calls on a mount of their own, and no form but the replays and
 /// `gen NUMBER --summary` uses the machine, and none but `replay-linked` the far one. Each command of a run that writes its log, its summary or its
@@ -101,9 +104,26 @@ pub fn tool<
         Some(ToolForm::Dump(seed)) => run_dumping(alloc, seed, source, sink, seeds, gate),
         Some(ToolForm::Inspect(raw)) => run_inspecting(alloc, raw, source, sink),
         Some(ToolForm::Check(seed)) => run_checking(alloc, seed, source),
-        Some(ToolForm::ReplayLinked(seed)) => {
+        Some(
+            ToolForm::ReplayLinked {
+                way: Way::InTurn,
+                seed,
+            },
+        ) => {
             let machines = Machines { machine, far };
             run_linked(alloc, seed, source, sink, seeds, gate, machines)
+        }
+        Some(
+            ToolForm::ReplayLinked {
+                way: Way::InThreads,
+                seed,
+            },
+        ) => {
+            let mounts = Mounts {
+                even: machine,
+                odd: far,
+            };
+            run_linked_apart(rt, alloc, seed, source, sink, seeds, gate, mounts)
         }
     }
 }
@@ -111,7 +131,8 @@ pub fn tool<
 /// Does what the words ask for, as `tool` does, on one thread. The words are those of the command line without
 /// the program's own name, and are Usage unless they are a form (`form_of`) that starts no thread: `replay
 /// --serial`, alone or with `--seed HEX64` behind, whose callers take turns; `gen NUMBER` and `gen NUMBER
-/// --summary`; `dump --seed HEX64`; `inspect`, alone or with `raw:HEX` behind; `check --seed HEX64`.
+/// --summary`; `dump --seed HEX64`; `inspect`, alone or with `raw:HEX` behind; `check --seed HEX64`;
+/// `replay-linked --serial --seed HEX64`.
 ///
 /// `dump` and `check` make their calls on a mount of their own. Nothing is written before the whole text
 /// stands. The seed source is asked once, by a replay alone, for a script in the grammar where the words give
@@ -147,7 +168,7 @@ pub fn tool_serial<S: Source, K: Sink, E: SeedSource, M: MountMachine>(
         Some(ToolForm::Dump(seed)) => run_dumping(alloc, seed, source, sink, seeds, &OpenGate),
         Some(ToolForm::Inspect(raw)) => run_inspecting(alloc, raw, source, sink),
         Some(ToolForm::Check(seed)) => run_checking(alloc, seed, source),
-        Some(ToolForm::ReplayLinked(seed)) => {
+        Some(ToolForm::ReplayLinked { way: _, seed }) => {
             let machines = Machines { machine, far };
             run_linked(alloc, seed, source, sink, seeds, &OpenGate, machines)
         }

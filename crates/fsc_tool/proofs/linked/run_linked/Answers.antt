@@ -1,3 +1,4 @@
+use Rattle.std.proofs.Common.{refl}
 use Rattle.fsc_tool.proofs.TopLemmas.{text_ends, unrun_ends}
 use Rattle.fsc_tool.proofs.LinkedLemmas.{linked_is}
 use Rattle.fsc_tool.proofs.linked.run_linked.Goals as goal
@@ -5,10 +6,10 @@ use Rattle.fsc_tool.proofs.linked.run_linked.Goals as goal
 pub returns-in-Err : goal.returns-in-Err
 returns-in-Err g c = unrun_ends _ _ _ _ _ c.in-Err.status (c.in-Err.ensures.ended (g.K.Sink.state c.args.sink.now))
 
-pub returns-in-Ok-linked_log : goal.returns-in-Ok-linked_log
-returns-in-Ok-linked_log g c =
-    text_ends _ _ _ _ _ c.deref.result.now.script c.deref-2.result.now.seed c.in-Ok-linked_log.text _
+pub returns : goal.returns
+returns g c =
+    text_ends _ _ _ _ _ c.deref.result.now.script c.deref-2.result.now.seed _ _
     (rw c.deref.ensures (rw c.deref-2.ensures c.in-Ok.ensures.prepared))
     (linked_is _ c.deref-2.result.now.seed c.deref.result.now.script c.in-Ok-ran.told.even.items c.in-Ok-ran.told.odd.items c.in-Ok-ran.told.notes.items _
-    c.in-Ok-ran.ensures c.in-Ok-linked_log.ensures)
-    c.write_text.ensures
+    c.in-Ok-ran.ensures refl)
+    c.finish_linked.ensures

@@ -1,0 +1,67 @@
+//! A replay on two mounts whose callers run in threads of their own.
+
+ghost use Rattle.std.specs.Prelude.{List, []};
+ghost use Rattle.fsc_outside.specs.Reads.{ReadCall};
+ghost use Rattle.fsc_tool.specs.LinkedLog.{IsLinkedLogOfThreads};
+ghost use Rattle.fsc_tool.specs.Outside.{outside};
+ghost use Rattle.fsc_tool.specs.Replay.{IsReplay};
+ghost use Rattle.fsc_tool.specs.declared.form.Seeding.TheVariants.{Given};
+
+use crate::form::Seeding;
+use crate::linked::finish_linked;
+use crate::replay::prepare;
+use crate::status::Status;
+use argon_kdf::LaneStretch;
+use byte_words::wipe;
+use fsc_commands::InThreads;
+use fsc_outside::{Gate, SeedSource, Sink, Source};
+use linked_threads::{Mounts, run_linked_in_threads};
+use mount_shared::MountMachine;
+use std::alloc::Global;
+use std::sync::Wait;
+use std::thread::Threads;
+
+// A replay of the script that the source gives, with this seed, on two mounts, each caller in a thread of its own: both
+// logs and the notes go into the sink.
+pub(crate) fn run_linked_apart<
+    R: Threads + Wait + Sync,
+    S: Source,
+    K: Sink,
+    E: SeedSource,
+    G: Gate + Sync,
+    M: MountMachine + Send,
+>(
+    rt: &R,
+    alloc: Global,
+    seed: &mut [u8; 32],
+    source: &mut S,
+    sink: &mut K,
+    seeds: &mut E,
+    gate: &G,
+    mounts: Mounts<M>,
+) -> Status
+    requires leads_even { M.leads [] mounts.even }
+    requires leads_odd { M.leads [] mounts.odd }
+    ensures { let before = outside (S.state source.old) (K.state sink.old) (E.state seeds.old) in
+        let after = outside (S.state source.new) (K.state sink.new) (E.state seeds.new) in
+        let came = λ (calls : List ReadCall). S.came source.old calls source.new in
+        IsReplay (IsLinkedLogOfThreads M.lawful) came (Given seed.old) before after result }
+{
+    let mut seeding = Seeding::Given(*seed);
+    wipe(seed);
+    let mut run = match prepare(alloc, &mut seeding, source, seeds) {
+        Ok(run) => run,
+        Err(status) => return status,
+    };
+    let stretches = InThreads {
+        threads: rt,
+        way: &LaneStretch,
+    };
+    let ran = run_linked_in_threads(rt, alloc, &run.script, &run.seed, gate, &stretches, mounts);
+    run.wipe(alloc);
+    let told = match ran {
+        Ok(told) => told,
+        Err(_) => return Status::NoMemory,
+    };
+    finish_linked(alloc, told, sink)
+}
