@@ -5,7 +5,7 @@ _fsc() {
         "") words=(replay replay-linked gen dump inspect check --help --version) ;;
         replay) words=(--serial --seed) ;;
         "replay --serial") words=(--seed) ;;
-        replay-linked) words=(--serial) ;;
+        replay-linked) words=(--serial --seed) ;;
         "replay-linked --serial") words=(--seed) ;;
         dump | check) words=(--seed) ;;
         inspect) words=(raw:) ;;

@@ -1,9 +1,11 @@
 """Runs on two mounts: each script of examples/linked/ beside both logs, and each script of one caller as on one mount."""
 import os
 
-from checks.running import LINKED, TOP, run, scripts
+from checks.running import LINKED, LINKED_THREADED, TOP, run, scripts
 
 FOLDER = os.path.join(TOP, "examples", "linked")
+THREADED_RUNS = 20
+APART = b"caller 0\nmkdir /a\nlist /\ncaller 1000\nmkdir /b\nmkdir /b\nlist /\n"
 
 
 def examples_linked(tally):
@@ -32,4 +34,24 @@ def one_caller_linked(tally):
     tally.wants("no caller has a call on either mount", (status, got) == (0, b"mount 0\nmount 1\n"), repr(got))
 
 
-CHECKS = (examples_linked, one_caller_linked)
+def of_caller_0(log):
+    """The lines of caller 0 without their places."""
+    words = [it.split(b" ", 1) for it in log.splitlines(True)]
+    return [it[1] for it in words if it[0].isdigit() and it[1].startswith(b"0 ")]
+
+
+def linked_in_threads(tally):
+    """In threads, callers of whom each works alone on a mount print what they print in turns; one that others reach
+    by links has the same lines, at other places."""
+    with open(os.path.join(FOLDER, "linked_protector_on_two_mounts.fsc"), "rb") as script:
+        given = script.read()
+    apart, linked = run(LINKED, APART)[1], of_caller_0(run(LINKED, given)[1])
+    tally.wants("caller 0 has lines", bool(linked), repr(linked))
+    for _ in range(THREADED_RUNS):
+        status, got, _ = run(LINKED_THREADED, APART)
+        tally.wants("callers apart print the same in threads", (status, got) == (0, apart), repr(got[:200]))
+        status, got, _ = run(LINKED_THREADED, given)
+        tally.wants("caller 0 has its lines in threads", (status, of_caller_0(got)) == (0, linked), repr(got[:200]))
+
+
+CHECKS = (examples_linked, one_caller_linked, linked_in_threads)

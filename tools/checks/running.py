@@ -8,6 +8,7 @@ ZEROS = "0" * 64
 SERIAL = ["replay", "--serial", "--seed", ZEROS]
 THREADED = ["replay", "--seed", ZEROS]
 LINKED = ["replay-linked", "--serial", "--seed", ZEROS]
+LINKED_THREADED = ["replay-linked", "--seed", ZEROS]
 SECONDS = 120
 
 

@@ -26,7 +26,7 @@ const SEED_DIGITS: &str = "a seed is 64 hexadecimal digits";
 const DIGITS_OF_HALF_A_SEED: usize = 32;
 
 const LINKED: &str =
-    "replay-linked takes turns and a seed: fsc replay-linked --serial --seed HEX64";
+    "replay-linked takes a seed: fsc replay-linked --seed HEX64, or with --serial before it";
 
 const NUMBER_OF_GEN: &str = "gen takes a number from 0 to 4294967295, without leading zeros";
 
@@ -201,7 +201,7 @@ fn remedy_of_option(word: &str) -> &'static str {
 fn fault_of_linked(words: &[String]) -> Option<WordFault> {
     match words {
         [option, behind @ ..] if option.as_str() == "--serial" => fault_of_seed(behind, 2, LINKED),
-        _ => at(1, LINKED),
+        _ => fault_of_seed(words, 1, LINKED),
     }
 }
 

@@ -18,7 +18,7 @@ fsc replays a script over an encrypted directory tree in memory, and prints a
 log of it.
 
     fsc replay [--serial] [--seed HEX64]
-    fsc replay-linked --serial --seed HEX64
+    fsc replay-linked [--serial] --seed HEX64
     fsc gen NUMBER [--summary]
     fsc dump --seed HEX64
     fsc inspect [raw:HEX]
@@ -29,7 +29,8 @@ The script comes from standard input. Its callers run in threads, and the log
 has the order in which their calls were answered. With --serial they take turns
 instead. Without --seed the seed comes from the machine.
 
-replay-linked runs a script in turns on two mounts, and prints both logs.
+replay-linked runs a script on two mounts, and prints both logs. Its callers
+run in threads too, or with --serial in turns.
 Callers of an even number work on mount 0, the others on mount 1, where
 protector-link stores links to protectors of mount 0, which they follow.
 
