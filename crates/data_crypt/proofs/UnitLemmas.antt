@@ -1,10 +1,12 @@
 -- Blocks unit by unit: what a cipher of units did to a block, its inverse undoes.
-use Rattle.std.proofs.Common.{◌≡◌, ℕ, ◌+◌, ◌*◌, ◌%◌, ◌<◌, ◌≤◌, List, ◌++◌, length, drop, refl, ap, sym, ◌∙◌, arith}
+use Rattle.std.proofs.Common.{◌≡◌, ℕ, ◌+◌, ◌-◌, ◌*◌, ◌/◌, ◌%◌, ◌<◌, ◌≤◌, List, ◌++◌, length, drop, refl, ap, sym, ◌∙◌, arith}
+use borrow.Rule.Slice.PartMut.{put_mid}
+use Rattle.std.specs.List.{between}
 use Rattle.byte_words.specs.Bytes.{AreBytes}
 use Rattle.byte_words.specs.Blocks.{block_at, first_blocks}
 use Rattle.byte_words.proofs.AreBytesLemmas.{AreBytes-block_at, AreBytes-first_blocks}
-use Rattle.byte_words.proofs.BlockLemmas.{length-first_blocks_below, first_blocks_same, block_at-first_blocks_below, length-block_at, block_end_le, first_blocks-whole}
-use Rattle.byte_words.proofs.InPlace.{all_in_place}
+use Rattle.byte_words.proofs.BlockLemmas.{length-first_blocks_below, first_blocks_same, block_at-first_blocks_below, length-block_at, between-block_at, block_end_le, first_blocks-whole}
+use Rattle.byte_words.proofs.InPlace.{all_in_place, read_in_place_below, write_in_place_below}
 use Rattle.xts_mode.specs.Laws.{IsUnit}
 use Rattle.xts_mode.specs.Xts.{xts_encrypted, xts_decrypted}
 use Rattle.xts_mode.proofs.UnitLemmas.{decrypted-encrypted_unit, encrypted-decrypted_unit, length-xts_encrypted, length-xts_decrypted, xts_encrypted-IsUnit, xts_decrypted-IsUnit}
@@ -61,6 +63,21 @@ module _ (unit : DataUnit) (block : List ℕ) (size : length block ≡ 4096) whe
   unfolding by_units
   length-by_units cipher first sizes =
       length-first_blocks_below (unit_bytes unit) (unit_by cipher unit first block) (unit_count unit) (length-unit_by cipher first sizes) ∙ units_whole unit
+
+  -- one more unit is passed and written over; its size is told by a call
+  pub one_more_unit : (cipher : ℕ → List ℕ → List ℕ) (first : ℕ) → ((index : ℕ) (x : List ℕ) → length x % 16 ≡ 0 → length (cipher index x) ≡ length x) →
+      (now made : List ℕ) (width i : ℕ) → width ≡ unit_bytes unit → i < 4096 / width →
+      now ≡ first_blocks (unit_by cipher unit first block) i ++ drop (unit_bytes unit * i) block → made ≡ cipher (first + i) (between (width * i) (width * i + width) now) →
+      put_mid (width * i) (width * i + width - width * i) now made ≡ first_blocks (unit_by cipher unit first block) (i + 1) ++ drop (unit_bytes unit * (i + 1)) block
+  one_more_unit cipher first sizes now made width i same within replaced passed =
+      let count : 4096 / width ≡ unit_count unit = ap (λ u. 4096 / u) same in
+      let begins : width * i ≡ unit_bytes unit * i = ap (λ u. u * i) same in
+      let ends : width * i + width ≡ unit_bytes unit * i + unit_bytes unit = ap (λ u. u * i + u) same in
+      let long : width * i + width - width * i ≡ unit_bytes unit = omega arith in
+      let below : (j : ℕ) → j < i → length (unit_by cipher unit first block j) ≡ unit_bytes unit = λ j low. length-unit_by cipher first sizes j (omega arith) in
+      let read : block_at (unit_bytes unit) now i ≡ block_at (unit_bytes unit) block i = read_in_place_below (unit_bytes unit) (unit_by cipher unit first block) i now block below replaced in
+      write_in_place_below (unit_bytes unit) (unit_by cipher unit first block) i (width * i) (width * i + width - width * i) now block made below begins long replaced
+      (passed ∙ ap (cipher (first + i)) (between-block_at (unit_bytes unit) now i (width * i) (width * i + width) begins ends ∙ read))
 
   -- the loop has come to the end of the block
   pub units_done : (cipher : ℕ → List ℕ → List ℕ) (first : ℕ) (now : List ℕ) (i : ℕ) → i ≡ unit_count unit →

@@ -7,6 +7,7 @@ use Rattle.std.specs.Simd.Lanes.{zip2}
 use lib.Lanes.{chunk, put_chunk}
 use borrow.Rule.Slice.PartMut.{put_mid}
 use Rattle.byte_words.specs.Blocks.{block_at, first_blocks}
+use Rattle.byte_words.specs.Numbers.{little_endian_bytes}
 use Rattle.byte_words.specs.Xor.{xor_bytes}
 use Rattle.byte_words.proofs.BlockLemmas.{first_blocks_same, length-first_blocks}
 use Rattle.byte_words.proofs.InPlace.{write_in_place_below}
@@ -44,6 +45,17 @@ block_written blocks masks b count now was sizes others low whole within is =
     ap (λ v. put_mid (16 * b) count now (put_chunk 0 (take count (drop (16 * b) now)) v)) sum
     ∙ ap (λ v. put_mid (16 * b) count now v) (put_chunk_whole (take count (drop (16 * b) now)) (f b) (part ∙ sym (f_size b low)))
     ∙ write_in_place_below 16 f b (16 * b) count now was (f b) (λ j below. f_size j (omega arith)) refl whole is refl
+
+-- the masks are the tweaks, so each block is between two additions of its own
+pub group_made : (cipher : List ℕ → List ℕ) (tweak : ℕ) (group : List ℕ) (taken made masks : List (List ℕ)) →
+    ((b : ℕ) → b < 8 → get_or masks b [] ≡ little_endian_bytes 16 (tweak_from tweak b)) →
+    ((b : ℕ) → b < 8 → get_or taken b [] ≡ xor_bytes (block_at 16 group b) (get_or masks b [])) →
+    ((b : ℕ) → b < 8 → get_or made b [] ≡ cipher (get_or taken b [])) →
+    first_blocks (λ b. xor_bytes (get_or made b []) (get_or masks b [])) 8 ≡ group_of cipher tweak group
+unfolding group_of tweaked
+group_made cipher tweak group taken made masks mask masked enciphered =
+    first_blocks_same (λ b. xor_bytes (get_or made b []) (get_or masks b [])) (λ b. tweaked cipher (tweak_from tweak b) (block_at 16 group b)) 8
+    (λ b low i. xor_bytes ((enciphered b low ∙ ap cipher (masked b low ∙ ap (λ m. xor_bytes (block_at 16 group b) m) (mask b low))) i) (mask b low i))
 
 -- ---- a group is a part of a unit
 
