@@ -1,5 +1,5 @@
 //! A piece is written into a file's stored blocks.
-ghost use Rattle.std.specs.Prelude.{◌≡◌, ◌+◌, ◌<◌, ◌≤◌, ◌^◌, length, replicate, IfErr, IfSome, IsOk, OnErr, OnOk};
+ghost use Rattle.std.specs.Prelude.{◌≡◌, ◌+◌, ◌/◌, ◌<◌, ◌≤◌, ◌^◌, length, min, replicate, IfErr, IfSome, IsOk, OnErr, OnOk};
 ghost use Rattle.disk_tree.specs.DiskTree.{IsFileAt, file_blocks};
 ghost use Rattle.file_disk.specs.Bodies.{ExceedsDisk, blocks_rewritten, covers_block, disk_written, end_block};
 ghost use Rattle.file_disk.specs.Bodies.{stored_anew};
@@ -73,10 +73,9 @@ fn write_under(
     let end = size.div_ceil(BLOCK_SIZE as u32);
     match disk.grow(alloc, file, end) {
         Ok(()) => {
-            let first = had.min(offset as usize / BLOCK_SIZE) as u32;
             let mut cipher = room_for(key);
             fill(&mut cipher, key);
-            rewrite_blocks(disk, file, &cipher, had, first, end, offset, bytes);
+            rewrite_blocks(disk, file, &cipher, had, end, offset, bytes);
             wipe_cipher(&mut cipher);
             let size = disk.file_size(file).max(size);
             disk.set_size(file, size);
@@ -86,23 +85,24 @@ fn write_under(
     }
 }
 
-// Stores each block from `first` on and before `end` anew, with its part of the bytes. The file had
+// Stores each block before `end` anew that is touched or new, with its part of the bytes. The file had
 // `had` blocks that hold contents; those behind are plain zeros.
 fn rewrite_blocks(
     disk: &mut DiskTree,
     file: u32,
     cipher: &Option<FileCipher>,
     had: usize,
-    first: u32,
     end: u32,
     offset: u32,
     bytes: &[u8],
 )
     requires there { end ≤ length (file_blocks disk.old file) }
     requires near { end ≤ 2 ^ 20 }
-    requires order { first ≤ end }
-    ensures { disk.new ≡ blocks_rewritten disk.old file (seal_by cipher.now) had offset bytes.now first end }
+    requires order { offset / BLOCK_SIZE ≤ end }
+    ensures { disk.new ≡ blocks_rewritten disk.old file (seal_by cipher.now) had offset bytes.now
+        (min had (offset / BLOCK_SIZE)) end }
 {
+    let first = had.min(offset as usize / BLOCK_SIZE) as u32;
     'each: for j in first..end {
         let block = disk.block_mut(file, j);
         rewrite_block(cipher, had, j, offset, bytes, block);

@@ -11,4 +11,4 @@ abbrev pub invariant-each : goal.invariant-each
 invariant-each l =
     l.disk ≡ changed l.fn.disk l.fn.file (on_body
     (with_blocks (edited (rewritten (stored_block (seal_by l.cipher))
-    (read_block (seal_by l.cipher)) l.fn.had l.fn.offset l.bytes) l.fn.first l.j)))
+    (read_block (seal_by l.cipher)) l.fn.had l.fn.offset l.bytes) l.first l.j)))

@@ -1,7 +1,7 @@
 -- The file grows, the blocks are stored anew, and the size rises.
-use Rattle.std.proofs.Common.{◌≢◌, ◌+◌, ◌≤◌, ◌<◌, ℕ, length, sym, ap, subst, ◌∙◌, arith}
+use Rattle.std.proofs.Common.{◌≢◌, ◌+◌, ◌/◌, ◌≤◌, ◌<◌, ℕ, length, refl, sym, ap, subst, ◌∙◌, arith}
 use Rattle.std.proofs.lemmas.Bool.{eqb-true, eqb-false}
-use Rattle.std.specs.Prelude.{max}
+use Rattle.std.specs.Prelude.{max, min}
 use Rattle.number_map.specs.Numbered.{changed}
 use Rattle.data_crypt.specs.Blocks.{read_block, stored_block}
 use Rattle.data_crypt.specs.Parts.{edited, rewritten}
@@ -28,9 +28,9 @@ returns-in-Ok-clause-written c =
     let had : ℕ = c.block_count-had.result in
     let some : 0 < length c.args.bytes.now = let other : length c.args.bytes.now ≢ 0 =
     eqb-false (length c.args.bytes.now) 0 (sym c.if-is_empty.ensures) in omega arith in
-    write_done (seal_of c.args.key.now) c.args.offset c.args.bytes.now c.args.disk.now c.grow.new.self c.rewrite_blocks.new.disk c.set_size.new.self c.args.file had c.min-first.result c.div_ceil-end.result c.max-size.result
-    some c.block_count-had.ensures c.min-first.ensures c.div_ceil-end.ensures c.in-Ok.ensures.grown
+    write_done (seal_of c.args.key.now) c.args.offset c.args.bytes.now c.args.disk.now c.grow.new.self c.rewrite_blocks.new.disk c.set_size.new.self c.args.file had (min had (c.args.offset / 4096)) c.div_ceil-end.result c.max-size.result
+    some c.block_count-had.ensures refl c.div_ceil-end.ensures c.in-Ok.ensures.grown
     (c.rewrite_blocks.ensures
-    ∙ ap (λ s. changed c.grow.new.self c.args.file (on_body (with_blocks (edited (rewritten (stored_block s) (read_block s) had c.args.offset c.args.bytes.now) c.min-first.result c.div_ceil-end.result)))) c.fill.ensures)
+    ∙ ap (λ s. changed c.grow.new.self c.args.file (on_body (with_blocks (edited (rewritten (stored_block s) (read_block s) had c.args.offset c.args.bytes.now) (min had (c.args.offset / 4096)) c.div_ceil-end.result)))) c.fill.ensures)
     (c.max-size.ensures ∙ ap (λ n. max n (c.args.offset + length c.args.bytes.now)) c.file_size.ensures)
     c.set_size.ensures
