@@ -152,7 +152,7 @@ impl InodeCache {
         }
         let id = Some(key.id);
         if self.users.more(id).is_err() {
-            discard(Some(key));
+            discard(&mut Some(key));
             return Err(AllocError);
         }
         if keep_in(&mut self.keys, alloc, node, key).is_err() {
@@ -174,7 +174,12 @@ impl InodeCache {
     /// Pins the node once more, and caches the key that is handed in where it has none. With the pin taken
     /// away again the pins are as before. Where there is no memory all is as before. A key that isn't cached
     /// is overwritten. A node with pins takes no memory where no key comes to it.
-    pub fn pin(&mut self, alloc: Global, node: u32, key: Option<NodeKey>) -> Result<(), AllocError>
+    pub fn pin(
+        &mut self,
+        alloc: Global,
+        node: u32,
+        mut key: Option<NodeKey>,
+    ) -> Result<(), AllocError>
         requires { pins_of self.old node + 1 < 2 ^ 32 }
         ensures pinned { OnOk result (self.new ≡ record {
           keys = given self.old.keys node key;
@@ -187,7 +192,7 @@ impl InodeCache {
     {
         let user = self.coming(node, &key);
         if self.users.more(user).is_err() {
-            discard(key);
+            discard(&mut key);
             return Err(AllocError);
         }
         if pin_in(&mut self.keys, &mut self.pins, alloc, node, key).is_err() {

@@ -1,11 +1,12 @@
 //! Keys in boxes and pins, as they are kept.
 
 ghost use Rattle.std.specs.Prelude.{◌≡◌, ◌+◌, ◌<◌, ◌^◌, ◌||◌, ◌==◌, not, true, false, length, filter};
-ghost use Rattle.std.specs.Prelude.{is_some, is_none, IsTrue, IsSome, IsOk, OnOk, OnErr};
+ghost use Rattle.std.specs.Prelude.{is_some, is_none, IfSome, IsTrue, IsSome, IsOk, OnOk, OnErr};
 ghost use Rattle.std.specs.BTreeMap as tree;
 ghost use Rattle.std.specs.FinMap as map;
 ghost use Rattle.std.specs.Ordering.{nat_cmp};
 ghost use Rattle.policy_ctx.specs.KeyIds.{same_id};
+ghost use Rattle.fsc_keys.specs.Keys.{zeros_for};
 ghost use Rattle.inode_refs.specs.Cached.{pins_at, with_pins, given};
 ghost use Rattle.inode_refs.specs.Kept.{keys_of, pins_in, is_user};
 
@@ -66,9 +67,11 @@ pub(crate) fn forget(keys: &mut Keys, node: u32)
     }
 }
 
-// Overwrites a key that isn't cached.
-pub(crate) fn discard(key: Option<NodeKey>) {
-    if let Some(mut key) = key {
+// Overwrites a key that isn't cached, where it stands.
+pub(crate) fn discard(key: &mut Option<NodeKey>)
+    ensures { IfSome key.new (λ node_key. node_key.key ≡ zeros_for node_key.key) }
+{
+    if let Some(key) = key {
         key.key.wipe();
     }
 }
@@ -111,14 +114,14 @@ pub(crate) fn give_in(
     keys: &mut Keys,
     alloc: Global,
     node: u32,
-    key: Option<NodeKey>,
+    mut key: Option<NodeKey>,
 ) -> Result<(), AllocError>
     ensures given { OnOk result (keys_of keys.new.entries ≡ given (keys_of keys.old.entries) node key) }
     ensures as_before { OnErr result (keys_of keys.new.entries ≡ keys_of keys.old.entries) }
     ensures again { (is_some (map.get (keys_of keys.old.entries) node) || is_none key) ≡ true → IsOk result }
 {
     if keys.contains_key(&node) {
-        discard(key);
+        discard(&mut key);
         return Ok(());
     }
     match key {
