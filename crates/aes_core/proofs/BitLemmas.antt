@@ -62,7 +62,47 @@ put_together keep f g fb gb =
     joined bit_or or_Bitwise 8 (λ b. if keep b then f b else 0) (λ b. if keep b then 0 else g b) (λ b. kept-lt (keep b) (f b) 0 (fb b) (omega arith)) (λ b. kept-lt (keep b) 0 (g b) (omega arith) (gb b))
     ∙ (λ i. packed 8 (λ b. chosen_bit (keep b) (f b) (g b) i))
 
--- ---- exchanges at 4
+-- ---- exchanges by n places: a bit whose place has bit n set changes with the one n places lower
+
+abbrev stays : ℕ → ℕ → Bool
+stays n k = nat_eq (k / n % 2) 0
+
+-- the masks of an exchange, and that the bits that move stay within a byte
+pub record Exchange (n low high : ℕ) : Type 0 where
+  pub low_is : low ≡ packed 8 (λ k. if stays n k then 1 else 0)
+  pub high_is : high ≡ packed 8 (λ k. if stays n k then 0 else 1)
+  pub raised : (h : ℕ → ℕ) → ((b : ℕ) → h b < 2) → packed 8 (λ k. if stays n k then h k else 0) * 2 ^ n % 2 ^ 8 ≡ packed 8 (λ k. if stays n k then 0 else h (k - n))
+  pub lowered : (h : ℕ → ℕ) → ((b : ℕ) → h b < 2) → packed 8 (λ k. if stays n k then 0 else h k) / 2 ^ n ≡ packed 8 (λ k. if stays n k then h (k + n) else 0)
+
+lower : (n low high : ℕ) → Exchange n low high → (f g : ℕ → ℕ) → ((b : ℕ) → f b < 2) → ((b : ℕ) → g b < 2) →
+    bit_or (bit_and (packed 8 f) low) (bit_and (packed 8 g) low * 2 ^ n % 2 ^ 8) ≡ packed 8 (λ k. if stays n k then f k else g (k - n))
+lower n low high exchange f g fb gb =
+    (λ i. bit_or (bit_and (packed 8 f) (exchange.low_is i)) (bit_and (packed 8 g) (exchange.low_is i) * 2 ^ n % 2 ^ 8))
+    ∙ (λ i. bit_or (masked (stays n) f fb i) (masked (stays n) g gb i * 2 ^ n % 2 ^ 8))
+    ∙ ap (λ v. bit_or (packed 8 (λ k. if stays n k then f k else 0)) v) (exchange.raised g gb)
+    ∙ put_together (stays n) f (λ k. g (k - n)) fb (λ k. gb (k - n))
+
+upper : (n low high : ℕ) → Exchange n low high → (f g : ℕ → ℕ) → ((b : ℕ) → f b < 2) → ((b : ℕ) → g b < 2) →
+    bit_or (bit_and (packed 8 f) high / 2 ^ n) (bit_and (packed 8 g) high) ≡ packed 8 (λ k. if stays n k then f (k + n) else g k)
+upper n low high exchange f g fb gb =
+    (λ i. bit_or (bit_and (packed 8 f) (exchange.high_is i) / 2 ^ n) (bit_and (packed 8 g) (exchange.high_is i)))
+    ∙ (λ i. bit_or (left_out (stays n) f fb i / 2 ^ n) (left_out (stays n) g gb i))
+    ∙ ap (λ v. bit_or v (packed 8 (λ k. if stays n k then 0 else g k))) (exchange.lowered f fb)
+    ∙ put_together (stays n) (λ k. f (k + n)) g (λ k. fb (k + n)) gb
+
+pub lower_vector : (n low high : ℕ) → Exchange n low high → (f g : ℕ → ℕ → ℕ) (x y : List ℕ) → AllBits f → AllBits g → x ≡ vector_of f → y ≡ vector_of g →
+    zip2 bit_or (zip2 bit_and x (replicate 16 low)) (zip2 (λ a m. a * 2 ^ m % 2 ^ 8) (zip2 bit_and y (replicate 16 low)) (replicate 16 n)) ≡ vector_of (lower_bits n f g)
+unfolding vector_of lower_bits
+lower_vector n low high exchange f g x y fb gb first second =
+    (λ i. zip2 bit_or (zip2 bit_and (first i) (replicate 16 low)) (zip2 (λ a m. a * 2 ^ m % 2 ^ 8) (zip2 bit_and (second i) (replicate 16 low)) (replicate 16 n)))
+    ∙ (λ i. map (λ p. lower n low high exchange (λ b. f b p) (λ b. g b p) (λ b. fb b p) (λ b. gb b p) i) (range_with_len 0 16))
+
+pub upper_vector : (n low high : ℕ) → Exchange n low high → (f g : ℕ → ℕ → ℕ) (x y : List ℕ) → AllBits f → AllBits g → x ≡ vector_of f → y ≡ vector_of g →
+    zip2 bit_or (zip2 (λ a m. a / 2 ^ m) (zip2 bit_and x (replicate 16 high)) (replicate 16 n)) (zip2 bit_and y (replicate 16 high)) ≡ vector_of (upper_bits n f g)
+unfolding vector_of upper_bits
+upper_vector n low high exchange f g x y fb gb first second =
+    (λ i. zip2 bit_or (zip2 (λ a m. a / 2 ^ m) (zip2 bit_and (first i) (replicate 16 high)) (replicate 16 n)) (zip2 bit_and (second i) (replicate 16 high)))
+    ∙ (λ i. map (λ p. upper n low high exchange (λ b. f b p) (λ b. g b p) (λ b. fb b p) (λ b. gb b p) i) (range_with_len 0 16))
 
 raised_4 : (a b c d : ℕ) → a < 2 → b < 2 → c < 2 → d < 2 → ((((((((0 * 2 + 0) * 2 + 0) * 2 + 0) * 2 + 0) * 2 + d) * 2 + c) * 2 + b) * 2 + a) * 16 % 256 ≡ (((((((0 * 2 + d) * 2 + c) * 2 + b) * 2 + a) * 2 + 0) * 2 + 0) * 2 + 0) * 2 + 0
 raised_4 a b c d p q r s = omega arith
@@ -70,39 +110,9 @@ raised_4 a b c d p q r s = omega arith
 lowered_4 : (a b c d : ℕ) → a < 2 → b < 2 → c < 2 → d < 2 → ((((((((0 * 2 + d) * 2 + c) * 2 + b) * 2 + a) * 2 + 0) * 2 + 0) * 2 + 0) * 2 + 0) / 16 ≡ (((((((0 * 2 + 0) * 2 + 0) * 2 + 0) * 2 + 0) * 2 + d) * 2 + c) * 2 + b) * 2 + a
 lowered_4 a b c d p q r s = omega arith
 
-lower_4 : (f g : ℕ → ℕ) → ((b : ℕ) → f b < 2) → ((b : ℕ) → g b < 2) →
-    bit_or (bit_and (packed 8 f) 15) (bit_and (packed 8 g) 15 * 2 ^ 4 % 2 ^ 8) ≡ packed 8 (λ k. if nat_eq (k / 4 % 2) 0 then f k else g (k - 4))
+pub fours : Exchange 4 15 240
 unfolding packed
-lower_4 f g fb gb =
-    let keep : ℕ → Bool = λ k. nat_eq (k / 4 % 2) 0 in
-    (λ i. bit_or (masked keep f fb i) (masked keep g gb i * 2 ^ 4 % 2 ^ 8))
-    ∙ ap (λ v. bit_or (packed 8 (λ k. if keep k then f k else 0)) v) (raised_4 (g 0) (g 1) (g 2) (g 3) (gb 0) (gb 1) (gb 2) (gb 3))
-    ∙ put_together keep f (λ k. g (k - 4)) fb (λ k. gb (k - 4))
-
-upper_4 : (f g : ℕ → ℕ) → ((b : ℕ) → f b < 2) → ((b : ℕ) → g b < 2) →
-    bit_or (bit_and (packed 8 f) 240 / 2 ^ 4) (bit_and (packed 8 g) 240) ≡ packed 8 (λ k. if nat_eq (k / 4 % 2) 0 then f (k + 4) else g k)
-unfolding packed
-upper_4 f g fb gb =
-    let keep : ℕ → Bool = λ k. nat_eq (k / 4 % 2) 0 in
-    (λ i. bit_or (left_out keep f fb i / 2 ^ 4) (left_out keep g gb i))
-    ∙ ap (λ v. bit_or v (packed 8 (λ k. if keep k then 0 else g k))) (lowered_4 (f 4) (f 5) (f 6) (f 7) (fb 4) (fb 5) (fb 6) (fb 7))
-    ∙ put_together keep (λ k. f (k + 4)) g (λ k. fb (k + 4)) gb
-
-pub lower_vector_4 : (f g : ℕ → ℕ → ℕ) (x y : List ℕ) → AllBits f → AllBits g → x ≡ vector_of f → y ≡ vector_of g →
-    zip2 bit_or (zip2 bit_and x (replicate 16 15)) (zip2 (λ a m. a * 2 ^ m % 2 ^ 8) (zip2 bit_and y (replicate 16 15)) (replicate 16 4)) ≡ vector_of (lower_bits 4 f g)
-unfolding vector_of lower_bits
-lower_vector_4 f g x y fb gb first second =
-    (λ i. zip2 bit_or (zip2 bit_and (first i) (replicate 16 15)) (zip2 (λ a m. a * 2 ^ m % 2 ^ 8) (zip2 bit_and (second i) (replicate 16 15)) (replicate 16 4)))
-    ∙ (λ i. map (λ p. lower_4 (λ b. f b p) (λ b. g b p) (λ b. fb b p) (λ b. gb b p) i) (range_with_len 0 16))
-
-pub upper_vector_4 : (f g : ℕ → ℕ → ℕ) (x y : List ℕ) → AllBits f → AllBits g → x ≡ vector_of f → y ≡ vector_of g →
-    zip2 bit_or (zip2 (λ a m. a / 2 ^ m) (zip2 bit_and x (replicate 16 240)) (replicate 16 4)) (zip2 bit_and y (replicate 16 240)) ≡ vector_of (upper_bits 4 f g)
-unfolding vector_of upper_bits
-upper_vector_4 f g x y fb gb first second =
-    (λ i. zip2 bit_or (zip2 (λ a m. a / 2 ^ m) (zip2 bit_and (first i) (replicate 16 240)) (replicate 16 4)) (zip2 bit_and (second i) (replicate 16 240)))
-    ∙ (λ i. map (λ p. upper_4 (λ b. f b p) (λ b. g b p) (λ b. fb b p) (λ b. gb b p) i) (range_with_len 0 16))
-
--- ---- exchanges at 2
+fours = record { low_is = refl; high_is = refl; raised = λ h low. raised_4 (h 0) (h 1) (h 2) (h 3) (low 0) (low 1) (low 2) (low 3); lowered = λ h low. lowered_4 (h 4) (h 5) (h 6) (h 7) (low 4) (low 5) (low 6) (low 7) }
 
 raised_2 : (a b c d : ℕ) → a < 2 → b < 2 → c < 2 → d < 2 → ((((((((0 * 2 + 0) * 2 + 0) * 2 + d) * 2 + c) * 2 + 0) * 2 + 0) * 2 + b) * 2 + a) * 4 % 256 ≡ (((((((0 * 2 + d) * 2 + c) * 2 + 0) * 2 + 0) * 2 + b) * 2 + a) * 2 + 0) * 2 + 0
 raised_2 a b c d p q r s = omega arith
@@ -110,39 +120,9 @@ raised_2 a b c d p q r s = omega arith
 lowered_2 : (a b c d : ℕ) → a < 2 → b < 2 → c < 2 → d < 2 → ((((((((0 * 2 + d) * 2 + c) * 2 + 0) * 2 + 0) * 2 + b) * 2 + a) * 2 + 0) * 2 + 0) / 4 ≡ (((((((0 * 2 + 0) * 2 + 0) * 2 + d) * 2 + c) * 2 + 0) * 2 + 0) * 2 + b) * 2 + a
 lowered_2 a b c d p q r s = omega arith
 
-lower_2 : (f g : ℕ → ℕ) → ((b : ℕ) → f b < 2) → ((b : ℕ) → g b < 2) →
-    bit_or (bit_and (packed 8 f) 51) (bit_and (packed 8 g) 51 * 2 ^ 2 % 2 ^ 8) ≡ packed 8 (λ k. if nat_eq (k / 2 % 2) 0 then f k else g (k - 2))
+pub pairs : Exchange 2 51 204
 unfolding packed
-lower_2 f g fb gb =
-    let keep : ℕ → Bool = λ k. nat_eq (k / 2 % 2) 0 in
-    (λ i. bit_or (masked keep f fb i) (masked keep g gb i * 2 ^ 2 % 2 ^ 8))
-    ∙ ap (λ v. bit_or (packed 8 (λ k. if keep k then f k else 0)) v) (raised_2 (g 0) (g 1) (g 4) (g 5) (gb 0) (gb 1) (gb 4) (gb 5))
-    ∙ put_together keep f (λ k. g (k - 2)) fb (λ k. gb (k - 2))
-
-upper_2 : (f g : ℕ → ℕ) → ((b : ℕ) → f b < 2) → ((b : ℕ) → g b < 2) →
-    bit_or (bit_and (packed 8 f) 204 / 2 ^ 2) (bit_and (packed 8 g) 204) ≡ packed 8 (λ k. if nat_eq (k / 2 % 2) 0 then f (k + 2) else g k)
-unfolding packed
-upper_2 f g fb gb =
-    let keep : ℕ → Bool = λ k. nat_eq (k / 2 % 2) 0 in
-    (λ i. bit_or (left_out keep f fb i / 2 ^ 2) (left_out keep g gb i))
-    ∙ ap (λ v. bit_or v (packed 8 (λ k. if keep k then 0 else g k))) (lowered_2 (f 2) (f 3) (f 6) (f 7) (fb 2) (fb 3) (fb 6) (fb 7))
-    ∙ put_together keep (λ k. f (k + 2)) g (λ k. fb (k + 2)) gb
-
-pub lower_vector_2 : (f g : ℕ → ℕ → ℕ) (x y : List ℕ) → AllBits f → AllBits g → x ≡ vector_of f → y ≡ vector_of g →
-    zip2 bit_or (zip2 bit_and x (replicate 16 51)) (zip2 (λ a m. a * 2 ^ m % 2 ^ 8) (zip2 bit_and y (replicate 16 51)) (replicate 16 2)) ≡ vector_of (lower_bits 2 f g)
-unfolding vector_of lower_bits
-lower_vector_2 f g x y fb gb first second =
-    (λ i. zip2 bit_or (zip2 bit_and (first i) (replicate 16 51)) (zip2 (λ a m. a * 2 ^ m % 2 ^ 8) (zip2 bit_and (second i) (replicate 16 51)) (replicate 16 2)))
-    ∙ (λ i. map (λ p. lower_2 (λ b. f b p) (λ b. g b p) (λ b. fb b p) (λ b. gb b p) i) (range_with_len 0 16))
-
-pub upper_vector_2 : (f g : ℕ → ℕ → ℕ) (x y : List ℕ) → AllBits f → AllBits g → x ≡ vector_of f → y ≡ vector_of g →
-    zip2 bit_or (zip2 (λ a m. a / 2 ^ m) (zip2 bit_and x (replicate 16 204)) (replicate 16 2)) (zip2 bit_and y (replicate 16 204)) ≡ vector_of (upper_bits 2 f g)
-unfolding vector_of upper_bits
-upper_vector_2 f g x y fb gb first second =
-    (λ i. zip2 bit_or (zip2 (λ a m. a / 2 ^ m) (zip2 bit_and (first i) (replicate 16 204)) (replicate 16 2)) (zip2 bit_and (second i) (replicate 16 204)))
-    ∙ (λ i. map (λ p. upper_2 (λ b. f b p) (λ b. g b p) (λ b. fb b p) (λ b. gb b p) i) (range_with_len 0 16))
-
--- ---- exchanges at 1
+pairs = record { low_is = refl; high_is = refl; raised = λ h low. raised_2 (h 0) (h 1) (h 4) (h 5) (low 0) (low 1) (low 4) (low 5); lowered = λ h low. lowered_2 (h 2) (h 3) (h 6) (h 7) (low 2) (low 3) (low 6) (low 7) }
 
 raised_1 : (a b c d : ℕ) → a < 2 → b < 2 → c < 2 → d < 2 → ((((((((0 * 2 + 0) * 2 + d) * 2 + 0) * 2 + c) * 2 + 0) * 2 + b) * 2 + 0) * 2 + a) * 2 % 256 ≡ (((((((0 * 2 + d) * 2 + 0) * 2 + c) * 2 + 0) * 2 + b) * 2 + 0) * 2 + a) * 2 + 0
 raised_1 a b c d p q r s = omega arith
@@ -150,37 +130,9 @@ raised_1 a b c d p q r s = omega arith
 lowered_1 : (a b c d : ℕ) → a < 2 → b < 2 → c < 2 → d < 2 → ((((((((0 * 2 + d) * 2 + 0) * 2 + c) * 2 + 0) * 2 + b) * 2 + 0) * 2 + a) * 2 + 0) / 2 ≡ (((((((0 * 2 + 0) * 2 + d) * 2 + 0) * 2 + c) * 2 + 0) * 2 + b) * 2 + 0) * 2 + a
 lowered_1 a b c d p q r s = omega arith
 
-lower_1 : (f g : ℕ → ℕ) → ((b : ℕ) → f b < 2) → ((b : ℕ) → g b < 2) →
-    bit_or (bit_and (packed 8 f) 85) (bit_and (packed 8 g) 85 * 2 ^ 1 % 2 ^ 8) ≡ packed 8 (λ k. if nat_eq (k / 1 % 2) 0 then f k else g (k - 1))
+pub singles : Exchange 1 85 170
 unfolding packed
-lower_1 f g fb gb =
-    let keep : ℕ → Bool = λ k. nat_eq (k / 1 % 2) 0 in
-    (λ i. bit_or (masked keep f fb i) (masked keep g gb i * 2 ^ 1 % 2 ^ 8))
-    ∙ ap (λ v. bit_or (packed 8 (λ k. if keep k then f k else 0)) v) (raised_1 (g 0) (g 2) (g 4) (g 6) (gb 0) (gb 2) (gb 4) (gb 6))
-    ∙ put_together keep f (λ k. g (k - 1)) fb (λ k. gb (k - 1))
-
-upper_1 : (f g : ℕ → ℕ) → ((b : ℕ) → f b < 2) → ((b : ℕ) → g b < 2) →
-    bit_or (bit_and (packed 8 f) 170 / 2 ^ 1) (bit_and (packed 8 g) 170) ≡ packed 8 (λ k. if nat_eq (k / 1 % 2) 0 then f (k + 1) else g k)
-unfolding packed
-upper_1 f g fb gb =
-    let keep : ℕ → Bool = λ k. nat_eq (k / 1 % 2) 0 in
-    (λ i. bit_or (left_out keep f fb i / 2 ^ 1) (left_out keep g gb i))
-    ∙ ap (λ v. bit_or v (packed 8 (λ k. if keep k then 0 else g k))) (lowered_1 (f 1) (f 3) (f 5) (f 7) (fb 1) (fb 3) (fb 5) (fb 7))
-    ∙ put_together keep (λ k. f (k + 1)) g (λ k. fb (k + 1)) gb
-
-pub lower_vector_1 : (f g : ℕ → ℕ → ℕ) (x y : List ℕ) → AllBits f → AllBits g → x ≡ vector_of f → y ≡ vector_of g →
-    zip2 bit_or (zip2 bit_and x (replicate 16 85)) (zip2 (λ a m. a * 2 ^ m % 2 ^ 8) (zip2 bit_and y (replicate 16 85)) (replicate 16 1)) ≡ vector_of (lower_bits 1 f g)
-unfolding vector_of lower_bits
-lower_vector_1 f g x y fb gb first second =
-    (λ i. zip2 bit_or (zip2 bit_and (first i) (replicate 16 85)) (zip2 (λ a m. a * 2 ^ m % 2 ^ 8) (zip2 bit_and (second i) (replicate 16 85)) (replicate 16 1)))
-    ∙ (λ i. map (λ p. lower_1 (λ b. f b p) (λ b. g b p) (λ b. fb b p) (λ b. gb b p) i) (range_with_len 0 16))
-
-pub upper_vector_1 : (f g : ℕ → ℕ → ℕ) (x y : List ℕ) → AllBits f → AllBits g → x ≡ vector_of f → y ≡ vector_of g →
-    zip2 bit_or (zip2 (λ a m. a / 2 ^ m) (zip2 bit_and x (replicate 16 170)) (replicate 16 1)) (zip2 bit_and y (replicate 16 170)) ≡ vector_of (upper_bits 1 f g)
-unfolding vector_of upper_bits
-upper_vector_1 f g x y fb gb first second =
-    (λ i. zip2 bit_or (zip2 (λ a m. a / 2 ^ m) (zip2 bit_and (first i) (replicate 16 170)) (replicate 16 1)) (zip2 bit_and (second i) (replicate 16 170)))
-    ∙ (λ i. map (λ p. upper_1 (λ b. f b p) (λ b. g b p) (λ b. fb b p) (λ b. gb b p) i) (range_with_len 0 16))
+singles = record { low_is = refl; high_is = refl; raised = λ h low. raised_1 (h 0) (h 2) (h 4) (h 6) (low 0) (low 2) (low 4) (low 6); lowered = λ h low. lowered_1 (h 1) (h 3) (h 5) (h 7) (low 1) (low 3) (low 5) (low 7) }
 
 -- ---- what an exchange makes is bits again
 

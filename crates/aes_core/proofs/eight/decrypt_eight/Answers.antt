@@ -1,24 +1,10 @@
 -- The blocks are the square of their bits, which is turned, and turned back after the rounds.
-use Rattle.std.proofs.Common.{◌≡◌, ℕ, ◌%◌, List, [], get_or, length, ap, sym, ◌∙◌, arith}
-use Rattle.std.proofs.lemmas.Nat.Bits.{bit_at-lt}
-use Rattle.std.proofs.lemmas.Nat.{mod_below}
-use Rattle.std.specs.Prelude.{slice_index}
-use Rattle.std.specs.Int.{bit_at}
+use Rattle.std.proofs.Common.{arith}
 use Rattle.aes_core.specs.Aes.{decrypted_with}
-use Rattle.aes_core.specs.Planes.{AllBlocks}
-use Rattle.aes_core.proofs.SquareLemmas.{blocks_are, planes_are, row_is}
+use Rattle.aes_core.proofs.SquareLemmas.{by_planes}
 use Rattle.aes_core.proofs.UndoneLemmas.{decrypted_with-IsBlock}
 use Rattle.aes_core.proofs.eight.decrypt_eight.Goals as goal
 
 pub returns : goal.returns
-returns c b low =
-    let s : ℕ → List ℕ = λ b. get_or c.args.blocks (b % 8) [] in
-    let blocks : AllBlocks s = λ b. c.transpose.ensures.given (b % 8) (mod_below b 8 (omega arith)) in
-    let made : ℕ → List ℕ = λ b. decrypted_with c.args.keys.now (s b) in
-    let size : length c.args.blocks ≡ 8 = omega arith in
-    let turned = c.transpose.ensures.turned (λ r k p. bit_at (slice_index (s r) p) k) (λ r k p. bit_at-lt (slice_index (s r) p) k) (blocks_are c.args.blocks size c.transpose.ensures.given) in
-    let rounds = c.decrypt_planes.ensures s blocks (turned ∙ sym (planes_are s)) in
-    let back = c.transpose-2.ensures.turned (λ k b p. bit_at (slice_index (made b) p) k) (λ k b p. bit_at-lt (slice_index (made b) p) k) (rounds ∙ planes_are made) in
-    let same : b % 8 ≡ b = omega arith in
-    ap (λ v. get_or v b []) back ∙ row_is made b low (decrypted_with-IsBlock c.args.keys.now (s b) c.fits-keys (blocks b))
-    ∙ ap (λ k. decrypted_with c.args.keys.now (get_or c.args.blocks k [])) same
+returns c b low = by_planes (decrypted_with c.args.keys.now) c.args.blocks c.transpose.result c.decrypt_planes.result c.transpose-2.result (omega arith)
+    (λ x block. decrypted_with-IsBlock c.args.keys.now x c.fits-keys block) c.transpose.ensures.given c.transpose.ensures.turned c.decrypt_planes.ensures c.transpose-2.ensures.turned b low

@@ -1,13 +1,13 @@
 -- Each lane by its bits.
-use Rattle.aes_core.proofs.BitLemmas.{lower_vector_4, upper_vector_4}
+use Rattle.aes_core.proofs.BitLemmas.{lower_vector, upper_vector, fours}
 use Rattle.aes_core.proofs.LaneLemmas.{vector-IsBlock}
 use Rattle.aes_core.proofs.transposition.exchange_fours.Goals as goal
 
 pub returns-clause-lower : goal.returns-clause-lower
-returns-clause-lower c f g fb gb first second = lower_vector_4 f g c.args.first c.args.second fb gb first second
+returns-clause-lower c f g fb gb first second = lower_vector 4 15 240 fours f g c.args.first c.args.second fb gb first second
 
 pub returns-clause-upper : goal.returns-clause-upper
-returns-clause-upper c f g fb gb first second = upper_vector_4 f g c.args.first c.args.second fb gb first second
+returns-clause-upper c f g fb gb first second = upper_vector 4 15 240 fours f g c.args.first c.args.second fb gb first second
 
 pub returns-clause-given : goal.returns-clause-given
 returns-clause-given c = (vector-IsBlock c.args.first c.fits-first.0 c.fits-first.1, vector-IsBlock c.args.second c.fits-second.0 c.fits-second.1)
