@@ -74,6 +74,13 @@ impl RawKey {
         Ok(())
     }
 
+    /// The same key once more.
+    pub fn copy(&self) -> RawKey
+        ensures { result ≡ self.now }
+    {
+        RawKey { bytes: self.bytes }
+    }
+
     /// The bytes of the key.
     pub fn bytes(&self) -> &[u8]
         ensures value { result.now ≡ self.now }
