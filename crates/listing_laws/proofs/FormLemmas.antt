@@ -30,7 +30,7 @@ use Rattle.plain_tree.proofs.ChildLemmas.{other_name}
 use Rattle.mount_model.specs.PlainMount.{PlainMount, Raws, raw_in}
 use Rattle.mount_model.specs.Sealed.{node_key, node_start, sealed_name}
 use Rattle.mount_model.specs.WellFormed.{IsName, IsWellFormed}
-use Rattle.mount_state.specs.Stored.{seal_of, stored_form}
+use Rattle.mount_state.specs.Stored.{contents_seal, stored_form}
 use Rattle.image_lines.specs.Rules.{IsContext, blocks_for, is_entry_name, is_slash_or_nul, is_target}
 use Rattle.tree_listing.proofs.Members.{In, contains_from_in}
 use Rattle.listing_laws.proofs.SightLemmas.{node_key_is_bytes}
@@ -146,6 +146,6 @@ pub count_is : (seal : Option Seal) (contents : List ℕ) → length (stored_blo
 unfolding block_count
 count_is seal contents = length-blocks_by (stored_block seal) contents
 
-pub seal_is_bytes : DerivesBytes hash_sha512 → (raws : Raws) (n : ℕ) (context : Option Context) → IsKeyOfBytes (seal_of raws n context)
+pub seal_is_bytes : DerivesBytes hash_sha512 → (raws : Raws) (n : ℕ) (context : Option Context) → IsKeyOfBytes (contents_seal raws n context)
 seal_is_bytes derives raws n None = tt
 seal_is_bytes derives raws n (Some c) = node_key_is_bytes derives raws c Contents

@@ -21,7 +21,7 @@ use Rattle.disk_tree.specs.Nodes.{IsDir}
 use Rattle.mount_model.specs.PlainMount.{PlainMount}
 use Rattle.mount_model.specs.Sealed.{sealed_name, texts}
 use Rattle.mount_model.specs.WellFormed.{HasRaw, IsBody as IsPlainBody, IsWellFormed}
-use Rattle.mount_state.specs.Stored.{seal_of, stored_body, stored_form}
+use Rattle.mount_state.specs.Stored.{contents_seal, stored_body, stored_form}
 use Rattle.image_lines.specs.Image.{Image, ImageNode, numbers_of}
 use Rattle.image_lines.specs.Rules.{BeginsWithRoot, IsBody, IsContext, IsEntry, IsImage, IsNode}
 use Rattle.tree_image.specs.Images.{mount_image}
@@ -101,7 +101,7 @@ module _ (fit : StoredNamesFit) (are : StoredNamesAreBytes) (derives : DerivesBy
       )
   body_good n v got (File contents) is =
       let few : IsPlainBody (File contents) = subst IsPlainBody is (well.nodes.bodies n v got) in
-      (few.1, count_is (seal_of m.raws n v.context) contents, blocks_are (seal_of m.raws n v.context) (seal_is_bytes derives m.raws n v.context) contents few.0)
+      (few.1, count_is (contents_seal m.raws n v.context) contents, blocks_are (contents_seal m.raws n v.context) (seal_is_bytes derives m.raws n v.context) contents few.0)
   body_good n v got (Link target) is =
       let own : IsPlainBody (Link target) = subst IsPlainBody is (well.nodes.bodies n v got) in
       let plain : IsPlain target = (own.0.size.0, own.1, own.0.nul) in

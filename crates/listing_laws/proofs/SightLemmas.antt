@@ -28,7 +28,7 @@ use Rattle.plain_tree.proofs.ChildLemmas.{same_name}
 use Rattle.script_words.specs.Word.{word_text}
 use Rattle.mount_model.specs.PlainMount.{Raws, raw_in}
 use Rattle.mount_model.specs.Sealed.{node_key, node_start, raw_for, sealed_name, texts}
-use Rattle.mount_state.specs.Stored.{seal_of, stored_form}
+use Rattle.mount_state.specs.Stored.{contents_seal, stored_form}
 use Rattle.tree_listing.specs.Sights.{digest_seen, key_in, seal_in, sight_of, start_in, unit_in, word_or_text, word_seen, Under, Locked}
 use Rattle.listing_laws.specs.Laws.{IsOnlyKey}
 use Rattle.listing_laws.specs.Shown.{digest_shown, word_shown}
@@ -89,7 +89,7 @@ module _ (raws : Raws) (raw : List ℕ) (c : Context) (good : IsGood raws c) (ow
   unit_is : unit_in (context_bytes c) ≡ c.policy.unit
   unit_is = unit_told c.policy.unit
 
-  seal_is : (n : ℕ) → (let seal : Option Seal = Some (seal_in raw (context_bytes c) n) in seal ≡ seal_of raws n (Some c))
+  seal_is : (n : ℕ) → (let seal : Option Seal = Some (seal_in raw (context_bytes c) n) in seal ≡ contents_seal raws n (Some c))
   seal_is n =
       let key = ap key_bytes (key_is Contents) in
       let start = start_is n in
@@ -144,21 +144,21 @@ module _ (back : NamesComeBack) (derives : DerivesBytes hash_sha512) (raws : Raw
 
 module _ (come : ContentsComeBack) (derives : DerivesBytes hash_sha512) (raws : Raws) (n : ℕ) (contents : List ℕ) (bytes : AreBytes contents) where
   pub digests_agree : (raw : Option (List ℕ)) (context : Option Context) → IsOnlyKey raws raw → IsGoodOrNone raws context
-      → digest_seen (sight_of raw (option_map context_bytes context)) n (stored_blocks (seal_of raws n context) contents) (length contents)
+      → digest_seen (sight_of raw (option_map context_bytes context)) n (stored_blocks (contents_seal raws n context) contents) (length contents)
       ≡ digest_shown (option_map key_id_of raw) context contents
   digests_agree raw None only good = ap (λ (l : List ℕ). Some (sha256 l)) (come None contents tt bytes)
   digests_agree None (Some c) only good = refl
   digests_agree (Some raw) (Some c) only good = by_test (same_id (key_id_of raw) c.policy.id) refl
     where
       by_test : (b : Bool) → same_id (key_id_of raw) c.policy.id ≡ b
-          → digest_seen (sight_of (Some raw) (Some (context_bytes c))) n (stored_blocks (seal_of raws n (Some c)) contents) (length contents) ≡ digest_shown (Some (key_id_of raw)) (Some c) contents
+          → digest_seen (sight_of (Some raw) (Some (context_bytes c))) n (stored_blocks (contents_seal raws n (Some c)) contents) (length contents) ≡ digest_shown (Some (key_id_of raw)) (Some c) contents
       by_test true t =
-          let blocks = stored_blocks (seal_of raws n (Some c)) contents in
+          let blocks = stored_blocks (contents_seal raws n (Some c)) contents in
           ap (λ s. digest_seen s n blocks (length contents)) (sight_is raws raw c good ∙ ap (λ b. if b then Under raw (context_bytes c) else Locked) t)
           ∙ ap (λ seal. Some (sha256 (read_contents seal (length contents) blocks))) (seal_is raws raw c good (raw_is raws raw c only good t) n)
-          ∙ ap (λ (l : List ℕ). Some (sha256 l)) (come (seal_of raws n (Some c)) contents (node_key_is_bytes derives raws c Contents) bytes)
+          ∙ ap (λ (l : List ℕ). Some (sha256 l)) (come (contents_seal raws n (Some c)) contents (node_key_is_bytes derives raws c Contents) bytes)
           ∙ ap (λ b. if b then Some (sha256 contents) else None) (sym t)
       by_test false t =
-          let blocks = stored_blocks (seal_of raws n (Some c)) contents in
+          let blocks = stored_blocks (contents_seal raws n (Some c)) contents in
           ap (λ s. digest_seen s n blocks (length contents)) (sight_is raws raw c good ∙ ap (λ b. if b then Under raw (context_bytes c) else Locked) t)
           ∙ ap (λ b. if b then Some (sha256 contents) else None) (sym t)

@@ -10,10 +10,10 @@ use Rattle.dentry_cache.proofs.NameLemmas.{dir_no_more, dir_none}
 use Rattle.disk_tree.specs.DiskTree.{Disk}
 use Rattle.mount_model.specs.declared.handle.Handle.{Handle}
 use Rattle.mount_model.specs.PlainMount.{HandleList, has_handle, opens_of}
-use Rattle.mount_state.specs.CachedNames.{NamesForget, is_dir_at, is_dir_in}
-use Rattle.mount_state.specs.Contexts.{context_in}
+use Rattle.mount_state.specs.CachedNames.{NamesForget, is_dir_on_disk, is_dir_node}
+use Rattle.mount_state.specs.Contexts.{context_on_disk}
 use Rattle.mount_state.specs.Handles.{Handles, LosesOne, with_handle}
-use Rattle.mount_state.specs.Held.{is_keyed, is_keyed_under}
+use Rattle.mount_state.specs.Held.{is_unlocked, is_unlocked_under}
 use Rattle.mount_state.proofs.CachedLemmas.{forget_when, keyed_more}
 use Rattle.mount_files.specs.Closed.{is_lasting, is_key_due, disk_left, names_left}
 use Rattle.mount_files.proofs.HandleCounts.{more, held_more, held_others}
@@ -26,7 +26,7 @@ module _ (disk : Disk) (claims : ClaimSet) (names : NameList) (live : HandleList
     dir,
     keyed_more claims claims live (more live h) pair.0.dir (λ id is. is)
         (λ on. held_more live h pair.0.dir ∙ or_left (has_handle live pair.0.dir) (eqb h.node pair.0.dir) on)
-        (context_in (get disk pair.0.dir)) keyed,
+        (context_on_disk (get disk pair.0.dir)) keyed,
   ))
 
 pub names_opened : {T E : Type 0} (disk : Disk) (claims : ClaimSet) (names : NameList) (handles left : Handles) (caller node : ℕ)
@@ -42,7 +42,7 @@ names_opened disk claims names handles left caller node rule (Err e) opened same
 
 -- no name comes
 pub fewer_names : (disk : Disk) (claims : ClaimSet) (names : NameList) (left : HandleList) (node : ℕ) → HoldsNoMore names (names_left disk claims names (has_handle left node) node)
-fewer_names disk claims names left node = by (has_handle left node || (is_lasting disk node && is_key_due claims (context_in (get disk node))) || not (is_dir_at disk node))
+fewer_names disk claims names left node = by (has_handle left node || (is_lasting disk node && is_key_due claims (context_on_disk (get disk node))) || not (is_dir_on_disk disk node))
   where
     by : (b : Bool) → HoldsNoMore names (cond b names (dir_forgotten names node))
     by true = λ pair held. held
@@ -54,21 +54,21 @@ module _ (disk : Disk) (claims : ClaimSet) (names : NameList) (live left : Handl
   on = has_handle left node
 
   abbrev due : Bool
-  due = is_lasting disk node && is_key_due claims (context_in (get disk node))
+  due = is_lasting disk node && is_key_due claims (context_on_disk (get disk node))
 
   abbrev after : NameList
   after = names_left disk claims names (has_handle left node) node
 
   elsewhere : (pair : Pair) → Contains after.pairs pair → (pair.0.dir ≢ node) ⊎ ((on || due) ≡ true)
-  elsewhere pair held = by (on || due) (not (is_dir_at disk node)) refl held
+  elsewhere pair held = by (on || due) (not (is_dir_on_disk disk node)) refl held
     where
-      apart : is_dir_at disk node ≡ false → Contains names.pairs pair → (pair.0.dir ≢ node)
-      apart other was same = true≢false (sym (rule.there pair was) ∙ (ap (is_dir_at disk) same ∙ other))
+      apart : is_dir_on_disk disk node ≡ false → Contains names.pairs pair → (pair.0.dir ≢ node)
+      apart other was same = true≢false (sym (rule.there pair was) ∙ (ap (is_dir_on_disk disk) same ∙ other))
 
-      by : (stays other : Bool) → (not (is_dir_at disk node)) ≡ other → Contains (cond (stays || other) names (dir_forgotten names node)).pairs pair
+      by : (stays other : Bool) → (not (is_dir_on_disk disk node)) ≡ other → Contains (cond (stays || other) names (dir_forgotten names node)).pairs pair
           → (pair.0.dir ≢ node) ⊎ (stays ≡ true)
       by true other is was = inr refl
-      by false true is was = inl (apart (negated (is_dir_at disk node) is) was)
+      by false true is was = inl (apart (negated (is_dir_on_disk disk node) is) was)
         where
           negated : (b : Bool) → not b ≡ true → b ≡ false
           negated true bad = absurd (true≢false (sym bad))
@@ -77,7 +77,7 @@ module _ (disk : Disk) (claims : ClaimSet) (names : NameList) (live left : Handl
 
   -- the disk elsewhere, and where the node stays
   disk_same : (d : ℕ) → (d ≢ node) ⊎ ((on || due) ≡ true) → get (disk_left disk (has_handle left node) node) d ≡ get disk d
-  disk_same d which = by on (is_lasting disk node) (is_key_due claims (context_in (get disk node))) which
+  disk_same d which = by on (is_lasting disk node) (is_key_due claims (context_on_disk (get disk node))) which
     where
       by : (held lasting key : Bool) → (d ≢ node) ⊎ ((held || (lasting && key)) ≡ true) → get (cond (held || lasting) disk (remove disk node)) d ≡ get disk d
       by true lasting key which = refl
@@ -86,22 +86,22 @@ module _ (disk : Disk) (claims : ClaimSet) (names : NameList) (live left : Handl
       by false false key (inr bad) = absurd (true≢false (sym bad))
 
   -- a directory stays keyed elsewhere, and where its key is due or a handle is left
-  keyed_apart : (d : ℕ) → (d ≢ node) → is_keyed disk claims live d ≡ true → is_keyed disk claims left d ≡ true
+  keyed_apart : (d : ℕ) → (d ≢ node) → is_unlocked disk claims live d ≡ true → is_unlocked disk claims left d ≡ true
   keyed_apart d differ keyed =
-      keyed_more claims claims live left d (λ id is. is) (λ held. held_others live left node lost d differ ∙ held) (context_in (get disk d)) keyed
+      keyed_more claims claims live left d (λ id is. is) (λ held. held_others live left node lost d differ ∙ held) (context_on_disk (get disk d)) keyed
 
-  still_keyed : (d : ℕ) → (d ≢ node) ⊎ ((on || due) ≡ true) → is_keyed disk claims live d ≡ true → is_keyed disk claims left d ≡ true
+  still_keyed : (d : ℕ) → (d ≢ node) ⊎ ((on || due) ≡ true) → is_unlocked disk claims live d ≡ true → is_unlocked disk claims left d ≡ true
   still_keyed d (inl differ) keyed = keyed_apart d differ keyed
   still_keyed d (inr stays) keyed = elim (cases_eq d node) [
     | inr differ ↦ keyed_apart d differ keyed
-    | inl same ↦ subst (λ n. is_keyed disk claims left n ≡ true) (sym same) (here (context_in (get disk node)) refl (or_cases on due stays))
+    | inl same ↦ subst (λ n. is_unlocked disk claims left n ≡ true) (sym same) (here (context_on_disk (get disk node)) refl (or_cases on due stays))
   ]
     where
-      here : (o : Option (List ℕ)) → context_in (get disk node) ≡ o → (on ≡ true) ⊎ (due ≡ true) → is_keyed_under claims left node o ≡ true
+      here : (o : Option (List ℕ)) → context_on_disk (get disk node) ≡ o → (on ≡ true) ⊎ (due ≡ true) → is_unlocked_under claims left node o ≡ true
       here None is which = refl
       here (Some context) is (inl held) = or_right (is_present claims (id_in context)) on held
       here (Some context) is (inr both) =
-          or_left (is_present claims (id_in context)) on (sym (ap (is_key_due claims) is) ∙ second (is_lasting disk node) (is_key_due claims (context_in (get disk node))) both)
+          or_left (is_present claims (id_in context)) on (sym (ap (is_key_due claims) is) ∙ second (is_lasting disk node) (is_key_due claims (context_on_disk (get disk node))) both)
         where
           second : (a b : Bool) → (a && b) ≡ true → b ≡ true
           second true b is = is
@@ -110,9 +110,9 @@ module _ (disk : Disk) (claims : ClaimSet) (names : NameList) (live left : Handl
   pub closed_names : NamesForget (disk_left disk (has_handle left node) node) claims (names_left disk claims names (has_handle left node) node) left
   closed_names = record {
     there = λ pair held.
-        ap is_dir_in (disk_same pair.0.dir (elsewhere pair held)) ∙ rule.there pair (fewer_names disk claims names left node pair held);
+        ap is_dir_node (disk_same pair.0.dir (elsewhere pair held)) ∙ rule.there pair (fewer_names disk claims names left node pair held);
     keyed = λ pair held.
-        ap (λ o. is_keyed_under claims left pair.0.dir (context_in o)) (disk_same pair.0.dir (elsewhere pair held))
+        ap (λ o. is_unlocked_under claims left pair.0.dir (context_on_disk o)) (disk_same pair.0.dir (elsewhere pair held))
         ∙ still_keyed pair.0.dir (elsewhere pair held) (rule.keyed pair (fewer_names disk claims names left node pair held));
   }
 

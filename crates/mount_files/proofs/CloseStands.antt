@@ -24,8 +24,8 @@ use Rattle.mount_model.specs.Sealed.{node_key}
 use Rattle.mount_model.specs.FileAnswers.{at_handle, answer_to_close, with_closed, kept_by}
 use Rattle.mount_model.specs.WellFormed.{IsWellFormed}
 use Rattle.mount_model.proofs.WellSteps.{step_well}
-use Rattle.mount_state.specs.Contexts.{kind_in}
-use Rattle.mount_state.specs.Contexts.{context_in as stored_context}
+use Rattle.mount_state.specs.Contexts.{kind_on_disk}
+use Rattle.mount_state.specs.Contexts.{context_on_disk as stored_context}
 use Rattle.std.specs.Map.{lookup}
 use Rattle.std.specs.Str.{bytes_eq}
 use Rattle.dentry_cache.specs.Names.{Pair, NameList}
@@ -33,7 +33,7 @@ use Rattle.mount_state.specs.CachedNames.{NamesStand}
 use Rattle.mount_state.specs.Handles.{Handles}
 use Rattle.mount_state.specs.Stored.{stored_node}
 use Rattle.mount_state.specs.StandsFor.{StandsFor, TreeStands, CachesStand}
-use Rattle.mount_state.specs.StandsFor.{kind_in as plain_kind}
+use Rattle.mount_state.specs.StandsFor.{plain_kind}
 use Rattle.mount_state.specs.declared.state.MountState.{MountState}
 use Rattle.mount_files.specs.Closed.{is_lasting, disk_left, modes_left_by, names_left}
 use Rattle.mount_files.specs.Closed.{is_named_in as is_named_on}
@@ -47,7 +47,7 @@ use Rattle.mount_files.proofs.ModeCounts.{released, each_released}
 pub close_well : (m : PlainMount) (caller handle n : ℕ) → IsWellFormed m → node_of m.handles caller handle ≡ Some n
     → IsWellFormed (with_closed m caller handle n)
 close_well m caller handle n well is =
-    subst IsWellFormed (ap (λ (o : Option ℕ). (at_handle m (λ x. done (with_closed m caller handle x)) o).mount) is)
+    subst IsWellFormed (ap (λ (o : Option ℕ). (at_handle m o (λ x. done (with_closed m caller handle x))).mount) is)
     (step_well m caller (record { uid = 0; op = op.Close handle }) (answer_to_close m caller handle).reply (answer_to_close m caller handle).mount
     well tt (λ _. tt) (inl (refl, refl)))
 
@@ -129,7 +129,7 @@ module _ (old new : MountState) (m : PlainMount) (caller handle n : ℕ) (st : S
         ∙ ap (λ (o : Option Node). node_key m.raws c (plain_kind o)) (sym left);
     mode_keys = λ id kind mode there.
         each_left (λ i k x. x ≡ mode_key_of (unwrap_or (raw_in m.raws i) []) k) old.modes st.caches.mode_keys
-        (kind_in (get old.disk n)) (stored_context (get old.disk n)) id kind mode
+        (kind_on_disk (get old.disk n)) (stored_context (get old.disk n)) id kind mode
         (sym (ap (λ (x : Modes). mode_at x id kind) closes.modes) ∙ there);
   }
 

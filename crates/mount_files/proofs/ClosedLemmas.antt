@@ -16,7 +16,7 @@ use Rattle.inode_refs.specs.declared.node_key.NodeKey.{NodeKey}
 use Rattle.disk_tree.specs.DiskTree.{Disk}
 use Rattle.mount_model.specs.declared.handle.Handle.{Handle}
 use Rattle.mount_model.specs.PlainMount.{HandleList, has_handle}
-use Rattle.mount_state.specs.Contexts.{context_in, kind_in, has_own, has_shared, same_kind, uses_own, uses_mode, is_of_kind}
+use Rattle.mount_state.specs.Contexts.{context_on_disk, kind_on_disk, has_own, has_shared, same_kind, uses_own, uses_mode, is_of_kind}
 use Rattle.mount_state.specs.Discipline.{Forgets, FileKeysForget, ModeKeysForget, PinsAreHandles}
 use Rattle.mount_state.specs.Handles.{users, handles_on, LosesOne}
 use Rattle.mount_state.specs.Safe.{IsSafe}
@@ -67,7 +67,7 @@ module _ (disk : Disk) (claims : ClaimSet) (cache : Cache) (modes : Modes) (live
   on = has_handle left node
 
   abbrev stays : Bool
-  stays = on || (is_lasting disk node && is_key_due claims (context_in (get disk node)))
+  stays = on || (is_lasting disk node && is_key_due claims (context_on_disk (get disk node)))
 
   -- the cache with one pin less, and what is left of the keys
   abbrev pub after : Cache
@@ -102,7 +102,7 @@ module _ (disk : Disk) (claims : ClaimSet) (cache : Cache) (modes : Modes) (live
       | inl same ↦
           let here : on ≡ true = ap (has_handle left) (sym same) ∙ held in
           let all : keys_left disk claims cache.keys on node ≡ cache.keys =
-          ap (λ b. cond (b || (is_lasting disk node && is_key_due claims (context_in (get disk node)))) cache.keys (remove cache.keys node)) here in
+          ap (λ b. cond (b || (is_lasting disk node && is_key_due claims (context_on_disk (get disk node)))) cache.keys (remove cache.keys node)) here in
           ap (λ (m : KeyMap). is_some (get m q)) all ∙ rule.file_keys.kept q id own (was_held live left node lost q held)
       | inr differ ↦
           ap (λ o. is_some o) (left_other cache.keys node stays q differ) ∙ rule.file_keys.kept q id own (was_held live left node lost q held)
@@ -110,12 +110,12 @@ module _ (disk : Disk) (claims : ClaimSet) (cache : Cache) (modes : Modes) (live
     forgotten = λ q k is.
         let was = left_was cache.keys node stays q k is in
         elim (cases_eq q node) [
-          | inl same ↦ elim (or_cases on (is_lasting disk node && is_key_due claims (context_in (get disk node))) (was.1 same)) [
+          | inl same ↦ elim (or_cases on (is_lasting disk node && is_key_due claims (context_on_disk (get disk node))) (was.1 same)) [
             | inl held ↦ or_right (is_present claims k.id) (has_handle left q) (ap (has_handle left) same ∙ held)
             | inr both ↦
                 or_left (is_present claims k.id) (has_handle left q)
-                (due k.id (context_in (get disk node)) (ap (λ n. uses_own disk n k.id) (sym same) ∙ rule.file_keys.named q k was.0)
-                (and_parts (is_lasting disk node) (is_key_due claims (context_in (get disk node))) both).1)
+                (due k.id (context_on_disk (get disk node)) (ap (λ n. uses_own disk n k.id) (sym same) ∙ rule.file_keys.named q k was.0)
+                (and_parts (is_lasting disk node) (is_key_due claims (context_on_disk (get disk node))) both).1)
           ]
           | inr differ ↦
               ap (λ b. is_present claims k.id || b) (held_others live left node lost q differ) ∙ rule.file_keys.forgotten q k was.0
@@ -147,23 +147,23 @@ module _ (disk : Disk) (claims : ClaimSet) (cache : Cache) (modes : Modes) (live
     kind = λ q k mode there. each_released (λ i x y. is_of_kind x y ≡ true) modes rule.mode_keys.kind id kind q k mode there;
   }
 
-  at_context : (o : Option (List ℕ)) → context_in (get disk node) ≡ o → ((id : KeyId) (kind : KeyKind) → uses_mode disk id kind node ≡ true → 1 ≤ users_in (of_kind modes kind) id)
-      → ModeKeysForget disk (modes_left_by modes (kind_in (get disk node)) o) left
+  at_context : (o : Option (List ℕ)) → context_on_disk (get disk node) ≡ o → ((id : KeyId) (kind : KeyKind) → uses_mode disk id kind node ≡ true → 1 ≤ users_in (of_kind modes kind) id)
+      → ModeKeysForget disk (modes_left_by modes (kind_on_disk (get disk node)) o) left
   at_context None is some = modes_stay (none_unshared disk node is)
   at_context (Some context) is some = by_flag (is_by_mode_in context) refl
     where
-      by_flag : (b : Bool) → is_by_mode_in context ≡ b → ModeKeysForget disk (cond b (released modes (id_in context) (kind_in (get disk node))) modes) left
+      by_flag : (b : Bool) → is_by_mode_in context ≡ b → ModeKeysForget disk (cond b (released modes (id_in context) (kind_on_disk (get disk node))) modes) left
       by_flag false own = modes_stay (own_unshared disk node context is own)
       by_flag true shared =
           let uses = shared_uses disk node context is shared in
-          modes_less (id_in context) (kind_in (get disk node)) uses
-          (some (id_in context) (kind_in (get disk node)) (uses (id_in context) (kind_in (get disk node)) ∙ itself (id_in context) (kind_in (get disk node))))
+          modes_less (id_in context) (kind_on_disk (get disk node)) uses
+          (some (id_in context) (kind_on_disk (get disk node)) (uses (id_in context) (kind_on_disk (get disk node)) ∙ itself (id_in context) (kind_on_disk (get disk node))))
 
   closed : length left ≤ length live → ((id : KeyId) (kind : KeyKind) → uses_mode disk id kind node ≡ true → 1 ≤ users_in (of_kind modes kind) id)
       → Forgets disk claims after (modes_left disk modes node) left
   closed fewer some = record {
     file_keys = files_closed;
-    mode_keys = at_context (context_in (get disk node)) refl some;
+    mode_keys = at_context (context_on_disk (get disk node)) refl some;
     pins = pins_closed fewer;
   }
 
@@ -180,15 +180,15 @@ module _ (live : HandleList) (node : ℕ) (free : has_handle live node ≡ false
       → key_at cache node ≡ None → Forgets (remove disk node) claims cache modes live
   gone disk claims cache modes rule keyless = record {
     file_keys = record {
-      named = λ q k is. ap (λ o. has_own k.id (context_in o)) (remove_other disk node q (keyed q k is)) ∙ rule.file_keys.named q k is;
-      kind = λ q k is. ap (λ o. is_of_kind (kind_in o) k.key) (remove_other disk node q (keyed q k is)) ∙ rule.file_keys.kind q k is;
-      kept = λ q id own held. rule.file_keys.kept q id (sym (ap (λ o. has_own id (context_in o)) (remove_other disk node q (elsewhere q held))) ∙ own) held;
+      named = λ q k is. ap (λ o. has_own k.id (context_on_disk o)) (remove_other disk node q (keyed q k is)) ∙ rule.file_keys.named q k is;
+      kind = λ q k is. ap (λ o. is_of_kind (kind_on_disk o) k.key) (remove_other disk node q (keyed q k is)) ∙ rule.file_keys.kind q k is;
+      kept = λ q id own held. rule.file_keys.kept q id (sym (ap (λ o. has_own id (context_on_disk o)) (remove_other disk node q (elsewhere q held))) ∙ own) held;
       forgotten = rule.file_keys.forgotten;
     };
     mode_keys = record {
       counted = λ id kind. rule.mode_keys.counted id kind
           ∙ users_alike (uses_mode disk id kind) (uses_mode (remove disk node) id kind) live
-          (λ q held. sym (ap (λ o. has_shared id (context_in o) && same_kind kind (kind_in o)) (remove_other disk node q (elsewhere q held))));
+          (λ q held. sym (ap (λ o. has_shared id (context_on_disk o) && same_kind kind (kind_on_disk o)) (remove_other disk node q (elsewhere q held))));
       kind = rule.mode_keys.kind;
     };
     pins = rule.pins;
@@ -223,7 +223,7 @@ module _ (disk : Disk) (claims : ClaimSet) (cache : Cache) (modes : Modes) (live
       by_case false true free is = first
       by_case false false free is =
           gone left node free disk claims (after disk claims cache modes live left rule node lost) (modes_left disk modes node) first
-          (gone_here cache.keys node _ (λ i. free i || (is i && is_key_due claims (context_in (get disk node)))))
+          (gone_here cache.keys node _ (λ i. free i || (is i && is_key_due claims (context_on_disk (get disk node)))))
 
   pub closed_is_safe : (next : ℕ) → IsSafe disk next live → IsSafe (disk_left disk (has_handle left node) node) next left
   closed_is_safe next safe = by_case (has_handle left node) (is_lasting disk node) refl

@@ -13,7 +13,7 @@ use Rattle.mount_model.specs.declared.reply.KeyState.TheVariants.{Absent, Presen
 use Rattle.mount_state.specs.Contexts.{uses_mode}
 use Rattle.mount_state.specs.Discipline.{Forgets}
 use Rattle.mount_state.specs.Handles.{Handles, without, handles_on, LosesOne}
-use Rattle.mount_state.specs.Held.{HoldsNothing, is_busy, key_state}
+use Rattle.mount_state.specs.Held.{HoldsNothing, is_in_use, key_state}
 use Rattle.mount_state.specs.Safe.{IsSafe}
 use Rattle.mount_state.proofs.RuleLemmas.{nothing_held, no_mode_key}
 use Rattle.mount_state.proofs.UserLemmas.{some_from, users_from, pins_tell}
@@ -115,6 +115,6 @@ pub absent_gone : (disk : Disk) (ring : Holding) (cache : Cache) (modes : Modes)
     → NamesForget disk ring.claims names live → HoldsClaimedSecrets ring → AreUsed modes
     → (id : KeyId) → key_state disk ring.claims live id ≡ Absent → HoldsNothing disk ring cache modes names id
 absent_gone disk ring cache modes names live rule remembers exact used id is =
-    let parts = absent_parts (is_present ring.claims id) (is_busy disk live id) is in
+    let parts = absent_parts (is_present ring.claims id) (is_in_use disk live id) is in
     nothing_held disk ring cache modes live rule id names remembers (exact id ∙ parts.0) parts.0 parts.1
     (no_mode_key disk ring cache modes live rule id used parts.1)

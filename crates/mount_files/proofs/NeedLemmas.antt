@@ -25,13 +25,13 @@ use Rattle.disk_tree.specs.DiskTree.{Disk}
 use Rattle.mount_model.specs.PlainMount.{PlainMount, HandleList, raw_in, has_handle}
 use Rattle.mount_model.specs.Sealed.{raw_for, node_key}
 use Rattle.mount_model.specs.WellFormed.{IsWellFormed}
-use Rattle.mount_state.specs.Contexts.{context_in, kind_in, uses_own, uses_mode, is_of_kind, same_kind}
+use Rattle.mount_state.specs.Contexts.{context_on_disk, kind_on_disk, uses_own, uses_mode, is_of_kind, same_kind}
 use Rattle.mount_state.specs.Discipline.{Forgets}
-use Rattle.mount_state.specs.Held.{is_keyed, is_keyed_under}
+use Rattle.mount_state.specs.Held.{is_unlocked, is_unlocked_under}
 use Rattle.mount_state.specs.Stored.{stored_node}
 use Rattle.mount_state.specs.StandsFor.{TreeStands, KeysStand}
-use Rattle.mount_state.specs.StandsFor.{kind_in as plain_kind}
-use Rattle.mount_state.specs.StandsFor.{kind_of as plain_kind_of}
+use Rattle.mount_state.specs.StandsFor.{plain_kind}
+use Rattle.mount_state.specs.StandsFor.{plain_kind_of}
 use Rattle.mount_state.proofs.StandLemmas.{context_is, id_sized}
 use Rattle.mount_state.proofs.UserLemmas.{some_from, users_from}
 use Rattle.mount_files.specs.Needs.{IsOwnNeed, IsSharedNeed}
@@ -48,22 +48,22 @@ pub mode_kind : (kind : KeyKind) (raw : List ℕ) → is_of_kind kind (mode_key_
 mode_kind Contents raw = refl
 mode_kind Names raw = refl
 
-kind_lies : (disk : Disk) (next : ℕ) (m : PlainMount) → TreeStands disk next m → (node : ℕ) → kind_in (get disk node) ≡ plain_kind (get m.nodes node)
-kind_lies disk next m tree node = ap kind_in (tree.nodes node) ∙ at (get m.nodes node)
+kind_lies : (disk : Disk) (next : ℕ) (m : PlainMount) → TreeStands disk next m → (node : ℕ) → kind_on_disk (get disk node) ≡ plain_kind (get m.nodes node)
+kind_lies disk next m tree node = ap kind_on_disk (tree.nodes node) ∙ at (get m.nodes node)
   where
     of_body : (context : Option Context) (named : Bool) (b : plain.Body)
-        → kind_in (Some (stored_node m.raws node (record { named = named; context = context; body = b }))) ≡ plain_kind_of b
+        → kind_on_disk (Some (stored_node m.raws node (record { named = named; context = context; body = b }))) ≡ plain_kind_of b
     of_body context named (plain.Dir cs) = refl
     of_body context named (plain.File contents) = refl
     of_body context named (plain.Link target) = refl
 
-    at : (o : Option Node) → kind_in (option_map (stored_node m.raws node) o) ≡ plain_kind o
+    at : (o : Option Node) → kind_on_disk (option_map (stored_node m.raws node) o) ≡ plain_kind o
     at None = refl
     at (Some v) = of_body v.context v.named v.body
 
 -- ---- a node without a context
 
-pub none_need : (disk : Disk) (cache : Cache) (node : ℕ) → context_in (get disk node) ≡ None → IsOwnNeed disk cache node None
+pub none_need : (disk : Disk) (cache : Cache) (node : ℕ) → context_on_disk (get disk node) ≡ None → IsOwnNeed disk cache node None
 none_need disk cache node none = record {
   fits = tt;
   cached = λ id own. absurd (true≢false (sym own ∙ none_own disk node none id));
@@ -79,11 +79,11 @@ given_here keys node key = at (get keys node) refl
     at None none = ap (λ o. is_some o) (insert_here keys node key)
     at (Some k) there = ap (λ o. is_some o) there
 
-module _ (disk : Disk) (cache : Cache) (node : ℕ) (context : List ℕ) (there : context_in (get disk node) ≡ Some context) where
+module _ (disk : Disk) (cache : Cache) (node : ℕ) (context : List ℕ) (there : context_on_disk (get disk node) ≡ Some context) where
   pub cached_need : is_by_mode_in context ≡ false → is_some (key_at cache node) ≡ true → IsOwnNeed disk cache node None
   cached_need own cached = record { fits = tt; cached = λ id uses. cached; unshared = own_unshared disk node context there own }
 
-  pub drawn_need : is_by_mode_in context ≡ false → (kind : KeyKind) → kind ≡ kind_in (get disk node) → (raw nonce : List ℕ) (id : KeyId) → id ≡ id_in context
+  pub drawn_need : is_by_mode_in context ≡ false → (kind : KeyKind) → kind ≡ kind_on_disk (get disk node) → (raw nonce : List ℕ) (id : KeyId) → id ≡ id_in context
       → (key : FileKey) → key ≡ file_key_of raw kind nonce → IsOwnNeed disk cache node (Some (record { id = id; key = key }))
   drawn_need own kind kind_is raw nonce id id_is key key_is = record {
     fits = (
@@ -94,7 +94,7 @@ module _ (disk : Disk) (cache : Cache) (node : ℕ) (context : List ℕ) (there 
     unshared = own_unshared disk node context there own;
   }
 
-  pub shared_need_is : is_by_mode_in context ≡ true → (kind : KeyKind) → kind ≡ kind_in (get disk node) → (id : KeyId) → id ≡ id_in context
+  pub shared_need_is : is_by_mode_in context ≡ true → (kind : KeyKind) → kind ≡ kind_on_disk (get disk node) → (id : KeyId) → id ≡ id_in context
       → (key : FileKey) → is_of_kind kind key ≡ true → IsSharedNeed disk node id kind key
   shared_need_is shared kind kind_is id id_is key fits = record {
     uses = λ q k. shared_uses disk node context there shared q k
@@ -106,9 +106,9 @@ module _ (disk : Disk) (cache : Cache) (node : ℕ) (context : List ℕ) (there 
   -- ---- where the key is at hand
 
   module _ (ring : Holding) (modes : Modes) (live : HandleList) (rule : Forgets disk ring.claims cache modes live) (exact : HoldsClaimedSecrets ring)
-      (keyed : is_keyed disk ring.claims live node ≡ true) (id : KeyId) (id_is : id ≡ id_in context) where
+      (keyed : is_unlocked disk ring.claims live node ≡ true) (id : KeyId) (id_is : id ≡ id_in context) where
     at_hand : (is_present ring.claims (id_in context) || has_handle live node) ≡ true
-    at_hand = sym (ap (is_keyed_under ring.claims live node) there) ∙ keyed
+    at_hand = sym (ap (is_unlocked_under ring.claims live node) there) ∙ keyed
 
     secret_there : is_present ring.claims (id_in context) ≡ true → is_some (secret_of ring id) ≡ true
     secret_there present = ap (λ k. is_some (secret_of ring k)) id_is ∙ exact (id_in context) ∙ present
@@ -119,13 +119,13 @@ module _ (disk : Disk) (cache : Cache) (node : ℕ) (context : List ℕ) (there 
       | inr held ↦ true≢false (sym (rule.file_keys.kept node (id_in context) (own_uses disk node context there own) held) ∙ uncached)
     ]
 
-    pub shared_secret : is_by_mode_in context ≡ true → (kind : KeyKind) → kind ≡ kind_in (get disk node) → mode_at modes id kind ≡ None → secret_of ring id ≡ None → ⊥
+    pub shared_secret : is_by_mode_in context ≡ true → (kind : KeyKind) → kind ≡ kind_on_disk (get disk node) → mode_at modes id kind ≡ None → secret_of ring id ≡ None → ⊥
     shared_secret shared kind kind_is unheld none = elim (or_cases (is_present ring.claims (id_in context)) (has_handle live node) at_hand) [
       | inl present ↦ true≢false (sym (secret_there present) ∙ ap (λ o. is_some o) none)
       | inr held ↦
           let uses : uses_mode disk id kind node ≡ true =
-          (λ i. uses_mode disk (id_is i) (kind_is i) node) ∙ shared_uses disk node context there shared (id_in context) (kind_in (get disk node))
-          ∙ itself (id_in context) (kind_in (get disk node)) in
+          (λ i. uses_mode disk (id_is i) (kind_is i) node) ∙ shared_uses disk node context there shared (id_in context) (kind_on_disk (get disk node))
+          ∙ itself (id_in context) (kind_on_disk (get disk node)) in
           let some = users_from (uses_mode disk id kind) live (some_from (uses_mode disk id kind) live node held uses) in
           let tied = rule.mode_keys.counted id kind in
           let no_users : users_in (of_kind modes kind) id ≡ 0 = ap (λ (o : Option ModeKey). option_map_or (λ mode. mode.users) o 0) unheld in
@@ -139,7 +139,7 @@ module _ (disk : Disk) (cache : Cache) (node : ℕ) (context : List ℕ) (there 
     added : (i : KeyId) → i ≡ id → unwrap_or (raw_in m.raws i) [] ≡ raw
     added i is = ap (λ k. unwrap_or (raw_in m.raws k) []) is ∙ ap (λ (o : Option (List ℕ)). unwrap_or o []) (keys.secrets id raw secret)
 
-    pub own_stands : is_by_mode_in context ≡ false → (kind : KeyKind) → kind ≡ kind_in (get disk node) → (key : FileKey) → key ≡ file_key_of raw kind (drop 24 context)
+    pub own_stands : is_by_mode_in context ≡ false → (kind : KeyKind) → kind ≡ kind_on_disk (get disk node) → (key : FileKey) → key ≡ file_key_of raw kind (drop 24 context)
         → (c : Context) → context_at m.nodes node ≡ Some c → key ≡ node_key m.raws c (plain_kind (get m.nodes node))
     own_stands own kind kind_is key key_is c under =
         let size = id_sized disk next m well tree node c under in

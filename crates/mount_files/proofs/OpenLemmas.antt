@@ -10,12 +10,12 @@ use Rattle.disk_tree.specs.Nodes.{IsDir, IsFile}
 use Rattle.mount_model.specs.declared.reply.Refusal.TheVariants.{IsDir as IsDirectory}
 use Rattle.mount_model.specs.PlainMount.{PlainMount, Raws, HandleList, is_handle, has_handle, node_of}
 use Rattle.mount_model.specs.Answered.{Answer, refused}
-use Rattle.mount_model.specs.FileAnswers.{at_handle, is_link_at}
+use Rattle.mount_model.specs.FileAnswers.{at_handle, at_file, is_link_at}
 use Rattle.mount_model.proofs.NodeParts.{link_in}
 use Rattle.mount_state.specs.Stored.{stored_node}
-use Rattle.mount_state.specs.StandsFor.{StandsFor, kind_in}
+use Rattle.mount_state.specs.StandsFor.{StandsFor, plain_kind}
 use Rattle.mount_state.specs.declared.state.MountState.{MountState}
-use Rattle.mount_files.specs.OpenFile.{IsOpen, at_file}
+use Rattle.mount_files.specs.OpenFile.{IsOpen}
 
 or_right : (b c : Bool) → c ≡ true → (b || c) ≡ true
 or_right true c is = refl
@@ -36,12 +36,12 @@ handle_there (h ∷ hs) caller number n is = by (is_handle caller number h) (han
 
 -- ---- kinds on the disk and in the mount
 
-file_from : (raws : Raws) (n : ℕ) (o : Option Node) → of_node ⊥ (λ node. IsFile node.body) (option_map (stored_node raws n) o) → (kind_in o ≡ Contents) × (is_dir_in o ≡ false)
+file_from : (raws : Raws) (n : ℕ) (o : Option Node) → of_node ⊥ (λ node. IsFile node.body) (option_map (stored_node raws n) o) → (plain_kind o ≡ Contents) × (is_dir_in o ≡ false)
 file_from raws n None is = absurd is
 file_from raws n (Some v) is = at v.body is
   where
     at : (b : Body) → of_node ⊥ (λ node. IsFile node.body) (Some (stored_node raws n (record v { body = b })))
-        → (kind_in (Some (record v { body = b })) ≡ Contents) × (is_dir_in (Some (record v { body = b })) ≡ false)
+        → (plain_kind (Some (record v { body = b })) ≡ Contents) × (is_dir_in (Some (record v { body = b })) ≡ false)
     at (Dir children) is = absurd is
     at (File contents) is = (refl, refl)
     at (Link target) is = absurd is
@@ -91,5 +91,5 @@ module _ (s : MountState) (m : PlainMount) (st : StandsFor s m) (caller handle :
     pub answered_at : IsFileAt s.disk n → (f : ℕ → Answer) → at_file m caller handle f ≡ f n
     answered_at file f =
         let is = file_from m.raws n (get m.nodes n) (subst (of_node ⊥ (λ node. IsFile node.body)) (st.tree.nodes n) file) in
-        ap (at_handle m (λ k. cond (is_dir_at m.nodes k) (refused m IsDirectory) (f k))) in_mount
+        ap (λ o. at_handle m o (λ k. cond (is_dir_at m.nodes k) (refused m IsDirectory) (f k))) in_mount
         ∙ ap (λ b. cond b (refused m IsDirectory) (f n)) is.1

@@ -19,7 +19,7 @@ use Rattle.mount_model.specs.ClaimHistory.{is_refused}
 use Rattle.mount_model.specs.PlainMount.{PlainMount, Raws, opens_of}
 use Rattle.mount_model.specs.States.{is_keyed}
 use Rattle.mount_model.specs.Answered.{Answer, refused, at_node}
-use Rattle.mount_model.specs.FileAnswers.{is_link_at, is_out_of_handles, opened_on, with_handle, answer_to_open}
+use Rattle.mount_model.specs.FileAnswers.{is_link_at, is_out_of_handles, opened_on, open_told, with_handle, answer_to_open}
 use Rattle.mount_model.specs.Walk.{PathParts, Walked, walked}
 use Rattle.mount_model.specs.WellFormed.{IsWellFormed}
 use Rattle.mount_model.proofs.OpenLemmas.{opened_well}
@@ -35,7 +35,7 @@ use Rattle.mount_state.specs.SameButCaches.{SameButCaches}
 use Rattle.mount_state.specs.Stored.{stored_node, stored_body}
 use Rattle.mount_state.specs.StandsFor.{StandsFor, TreeStands, HandlesStand, CachesStand}
 use Rattle.mount_state.specs.declared.state.MountState.{MountState}
-use Rattle.mount_files.specs.Opened.{is_link_body, open_told, OpensAsTold, OpensOne}
+use Rattle.mount_files.specs.Opened.{is_link_body, OpensAsTold, OpensOne}
 
 -- ---- what lies on the disk
 
@@ -202,12 +202,12 @@ opened_after old walked new caller reply same told = record {
 
 module _ (m : PlainMount) (caller : ℕ) (path : PathParts) (n : ℕ) (led : Ok n ≡ walked m path) (reply : Reply) where
   pub at_given : (new : MountState) → IsGivenOrNoMemory m (open_told m caller n) reply new → IsGivenOrNoMemory m (answer_to_open m caller path) reply new
-  at_given new given = subst (λ (w : Walked). IsGivenOrNoMemory m (at_node m (open_told m caller) w) reply new) led given
+  at_given new given = subst (λ (w : Walked). IsGivenOrNoMemory m (at_node m w (open_told m caller)) reply new) led given
 
   pub at_denied : (is_refused (open_told m caller n).reply ≡ true → reply ≡ (open_told m caller n).reply)
       → is_refused (answer_to_open m caller path).reply ≡ true → reply ≡ (answer_to_open m caller path).reply
   at_denied = subst (λ (w : Walked). (is_refused (open_told m caller n).reply ≡ true → reply ≡ (open_told m caller n).reply)
-      → is_refused (at_node m (open_told m caller) w).reply ≡ true → reply ≡ (at_node m (open_told m caller) w).reply) led (λ denied. denied)
+      → is_refused (at_node m w (open_told m caller)).reply ≡ true → reply ≡ (at_node m w (open_told m caller)).reply) led (λ denied. denied)
 
 pub out_stands : (handles : Handles) (m : PlainMount) → HandlesStand handles m → (caller : ℕ) → is_full handles caller ≡ is_out_of_handles m caller
 out_stands handles m st caller =

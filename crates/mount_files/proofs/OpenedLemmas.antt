@@ -14,7 +14,7 @@ use Rattle.disk_tree.specs.DiskTree.{Disk}
 use Rattle.mount_model.specs.declared.handle.Handle.{Handle}
 use Rattle.mount_model.specs.declared.limits.TheConstants.{MOST_HANDLES}
 use Rattle.mount_model.specs.PlainMount.{HandleList, has_handle}
-use Rattle.mount_state.specs.Contexts.{uses_own, uses_mode, kind_in, is_of_kind}
+use Rattle.mount_state.specs.Contexts.{uses_own, uses_mode, kind_on_disk, is_of_kind}
 use Rattle.mount_state.specs.Discipline.{Forgets, FileKeysForget, ModeKeysForget, PinsAreHandles}
 use Rattle.mount_state.specs.Handles.{users, handles_on}
 use Rattle.mount_state.specs.Safe.{IsSafe}
@@ -61,7 +61,7 @@ module _ (disk : Disk) (claims : ClaimSet) (cache : Cache) (modes : Modes) (live
     (h : Handle) where
   -- it is a key of the handle's node
   abbrev pub IsForNode : NodeKey → Type 0
-  IsForNode k = (uses_own disk h.node k.id ≡ true) × (is_of_kind (kind_in (get disk h.node)) k.key ≡ true)
+  IsForNode k = (uses_own disk h.node k.id ≡ true) × (is_of_kind (kind_on_disk (get disk h.node)) k.key ≡ true)
 
   -- the node has its key with this one, where it has one of its own
   abbrev pub IsKeyed : Option NodeKey → Type 0
@@ -103,7 +103,7 @@ module _ (disk : Disk) (claims : ClaimSet) (cache : Cache) (modes : Modes) (live
     ];
     kind = λ q k is. elim (given_was cache.keys h.node IsForNode key fresh q k is) [
       | inl old ↦ rule.file_keys.kind q k old
-      | inr new ↦ ap (λ n. is_of_kind (kind_in (get disk n)) k.key) new.0 ∙ new.1.1
+      | inr new ↦ ap (λ n. is_of_kind (kind_on_disk (get disk n)) k.key) new.0 ∙ new.1.1
     ];
     kept = λ q id own is. elim (or_cases (has_handle live q) (eqb h.node q) (sym (held_more live h q) ∙ is)) [
       | inl old ↦ given_still cache.keys h.node key q (rule.file_keys.kept q id own old)

@@ -18,27 +18,27 @@ use Rattle.mount_model.specs.declared.reply.Refusal.TheVariants.{TooBig}
 use Rattle.mount_model.specs.PlainMount.{PlainMount, node_of}
 use Rattle.mount_model.specs.Answered.{Answer, refused, told}
 use Rattle.mount_model.specs.FileAnswers.{contents_at, content_of, answer_to_read}
-use Rattle.mount_state.specs.Stored.{stored_node, seal_of}
-use Rattle.mount_state.specs.StandsFor.{StandsFor, kind_in}
+use Rattle.mount_state.specs.Stored.{stored_node, contents_seal}
+use Rattle.mount_state.specs.StandsFor.{StandsFor, plain_kind}
 use Rattle.mount_state.specs.declared.state.MountState.{MountState}
-use Rattle.mount_files.specs.OpenFile.{IsOpen, IsRefusedAt}
+use Rattle.mount_files.specs.OpenFile.{IsOpen, IsFileRefused}
 use Rattle.mount_files.specs.Seals.{IsSealOf}
 use Rattle.mount_files.proofs.OpenLemmas.{answered_at}
 use Rattle.mount_files.proofs.SealLemmas.{seal_is}
 
 module _ (s : MountState) (m : PlainMount) (st : StandsFor s m) (file : ℕ) (is_open : IsOpen m file) (seal : Option Seal) (is : IsSealOf s file seal) where
   stored_at : (named : Bool) (context : Option Context) (b : Body) → get m.nodes file ≡ Some (record { named = named; context = context; body = b })
-      → kind_in (Some (record { named = named; context = context; body = b })) ≡ Contents → IsStored s.disk file seal (contents_of b)
+      → plain_kind (Some (record { named = named; context = context; body = b })) ≡ Contents → IsStored s.disk file seal (contents_of b)
   stored_at named context (Dir children) there bad = absurd (cc)
   stored_at named context (File contents) there kind = record {
     body = ap (option_map (λ node. node.body)) (st.tree.nodes file ∙ ap (option_map (stored_node m.raws file)) there)
         ∙ ap (λ (x : Option Seal). Some (file_body x contents))
-        (sym (seal_is s m st file is_open seal is ∙ ap (λ (o : Option Node). seal_of m.raws file (context_in o)) there));
+        (sym (seal_is s m st file is_open seal is ∙ ap (λ (o : Option Node). contents_seal m.raws file (context_in o)) there));
     bytes = (st.well.nodes.bodies file (record { named = named; context = context; body = File contents }) there).0;
   }
   stored_at named context (Link target) there bad = absurd (cc)
 
-  stored_by : (o : Option Node) → get m.nodes file ≡ o → kind_in o ≡ Contents → IsStored s.disk file seal (option_map_or (λ v. contents_of v.body) o [])
+  stored_by : (o : Option Node) → get m.nodes file ≡ o → plain_kind o ≡ Contents → IsStored s.disk file seal (option_map_or (λ v. contents_of v.body) o [])
   stored_by None there bad = absurd (cc)
   stored_by (Some v) there kind = stored_at v.named v.context v.body there kind
 
@@ -52,7 +52,7 @@ module _ (s : MountState) (m : PlainMount) (st : StandsFor s m) (caller handle o
   abbrev of_file : ℕ → Answer
   of_file n = cond (nat_lt MOST_READ_BYTES len) (refused m TooBig) (told m (content_of m n offset len))
 
-  pub read_refused : (refusal : Refusal) → IsRefusedAt s caller handle refusal → Refused refusal ≡ (answer_to_read m caller handle offset len).reply
+  pub read_refused : (refusal : Refusal) → IsFileRefused s caller handle refusal → Refused refusal ≡ (answer_to_read m caller handle offset len).reply
   read_refused refusal refused = sym (ap (λ (a : Answer). a.reply) (refused m of_file st))
 
   module _ (file : ℕ) (led : node_of s.handles.live caller handle ≡ Some file) (is_file : IsFileAt s.disk file) where

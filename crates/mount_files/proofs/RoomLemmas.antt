@@ -23,7 +23,7 @@ use Rattle.file_disk.specs.Bodies.{ExceedsDisk, end_block}
 use Rattle.mount_model.specs.PlainMount.{PlainMount, Raws}
 use Rattle.mount_model.specs.FileAnswers.{contents_at, block_total, lacks_blocks_for}
 use Rattle.mount_model.specs.FileAnswers.{block_count as plain_count}
-use Rattle.mount_state.specs.Stored.{stored_node, stored_body, seal_of}
+use Rattle.mount_state.specs.Stored.{stored_node, stored_body, contents_seal}
 use Rattle.mount_state.specs.StandsFor.{StandsFor}
 use Rattle.mount_state.specs.declared.state.MountState.{MountState}
 
@@ -32,7 +32,7 @@ use Rattle.mount_state.specs.declared.state.MountState.{MountState}
 blocks_stored : (raws : Raws) (n : ℕ) (context : Option Context) (b : Body) → length (blocks_of (stored_body raws n context b)) ≡ plain_count (contents_of b)
 unfolding block_count
 blocks_stored raws n context (Dir children) = refl
-blocks_stored raws n context (File contents) = length-blocks_by (stored_block (seal_of raws n context)) contents
+blocks_stored raws n context (File contents) = length-blocks_by (stored_block (contents_seal raws n context)) contents
 blocks_stored raws n context (Link target) = refl
 
 -- of one node

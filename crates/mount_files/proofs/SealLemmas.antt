@@ -21,11 +21,11 @@ use Rattle.plain_tree.specs.Nodes.{Node, Body, Dir, File, Link, context_at}
 use Rattle.disk_tree.specs.DiskTree.{Disk}
 use Rattle.mount_model.specs.PlainMount.{PlainMount, HandleList, has_handle}
 use Rattle.mount_model.specs.Sealed.{raw_for, node_key}
-use Rattle.mount_state.specs.Contexts.{context_in, has_shared, uses_mode, same_kind}
-use Rattle.mount_state.specs.Contexts.{kind_in as stored_kind}
+use Rattle.mount_state.specs.Contexts.{context_on_disk, has_shared, uses_mode, same_kind}
+use Rattle.mount_state.specs.Contexts.{kind_on_disk as stored_kind}
 use Rattle.mount_state.specs.Discipline.{Forgets}
-use Rattle.mount_state.specs.Stored.{stored_node, seal_of}
-use Rattle.mount_state.specs.StandsFor.{StandsFor, CachesStand, kind_in}
+use Rattle.mount_state.specs.Stored.{stored_node, contents_seal}
+use Rattle.mount_state.specs.StandsFor.{StandsFor, CachesStand, plain_kind}
 use Rattle.mount_state.specs.declared.state.MountState.{MountState}
 use Rattle.mount_state.proofs.ContextLemmas.{context_read}
 use Rattle.mount_state.proofs.KeepLemmas.{own_there}
@@ -37,11 +37,11 @@ use Rattle.mount_files.specs.Seals.{IsSealOf, contents_key, seal_with}
 some_same : {X : Type 0} (x y : X) → Some x ≡ Some y → x ≡ y
 some_same x y e = cc
 
-file_kind : (m : PlainMount) (n : ℕ) (o : Option Node) → kind_in o ≡ Contents → stored_kind (option_map (stored_node m.raws n) o) ≡ Contents
+file_kind : (m : PlainMount) (n : ℕ) (o : Option Node) → plain_kind o ≡ Contents → stored_kind (option_map (stored_node m.raws n) o) ≡ Contents
 file_kind m n None bad = absurd (cc)
 file_kind m n (Some v) is = at v.named v.context v.body is
   where
-    at : (named : Bool) (context : Option Context) (b : Body) → kind_in (Some (record { named = named; context = context; body = b })) ≡ Contents
+    at : (named : Bool) (context : Option Context) (b : Body) → plain_kind (Some (record { named = named; context = context; body = b })) ≡ Contents
         → stored_kind (Some (stored_node m.raws n (record { named = named; context = context; body = b }))) ≡ Contents
     at named context (Dir children) bad = absurd (cc)
     at named context (File contents) is = refl
@@ -53,7 +53,7 @@ contents_made : (raw : List ℕ) (c : Context) (b : Bool) → cond b (mode_key_o
 contents_made raw c true = refl
 contents_made raw c false = refl
 
-module _ (m : PlainMount) (file : ℕ) (c : Context) (here : context_at m.nodes file ≡ Some c) (is_file : kind_in (get m.nodes file) ≡ Contents) where
+module _ (m : PlainMount) (file : ℕ) (c : Context) (here : context_at m.nodes file ≡ Some c) (is_file : plain_kind (get m.nodes file) ≡ Contents) where
   -- a key that is held is the key of the file's contents
   held_is : (cache : Cache) (modes : Modes) → CachesStand cache modes m → (k : FileKey) → contents_key cache modes file c ≡ Some k → k ≡ node_key m.raws c Contents
   held_is cache modes stand k is = by_flag c.policy.by_mode refl is
@@ -74,7 +74,7 @@ module _ (m : PlainMount) (file : ℕ) (c : Context) (here : context_at m.nodes 
       by_flag false flag is = of_node (key_at cache file) refl is
 
   -- an open file's is held
-  module _ (disk : Disk) (context : context_in (get disk file) ≡ Some (context_bytes c)) (sized : length c.policy.id.0 ≡ 16) (kind : stored_kind (get disk file) ≡ Contents) where
+  module _ (disk : Disk) (context : context_on_disk (get disk file) ≡ Some (context_bytes c)) (sized : length c.policy.id.0 ≡ 16) (kind : stored_kind (get disk file) ≡ Contents) where
     mode_here : c.policy.by_mode ≡ true → uses_mode disk c.policy.id Contents file ≡ true
     mode_here flag =
         (λ i. has_shared c.policy.id (context i) && same_kind Contents (kind i))
@@ -110,7 +110,7 @@ module _ (s : MountState) (m : PlainMount) (st : StandsFor s m) (file : ℕ) (is
   held_here = ap (λ (hs : HandleList). has_handle hs file) st.handles.live ∙ is_open.held
 
   module _ (c : Context) (here : context_at m.nodes file ≡ Some c) where
-    pub context_here : context_in (get s.disk file) ≡ Some (context_bytes c)
+    pub context_here : context_on_disk (get s.disk file) ≡ Some (context_bytes c)
     context_here = context_is s.disk s.next_node m st.well st.tree file ∙ ap (option_map context_bytes) here
 
     pub sized_here : length c.policy.id.0 ≡ 16
@@ -127,21 +127,21 @@ module _ (s : MountState) (m : PlainMount) (st : StandsFor s m) (file : ℕ) (is
     key_is = contents_is ∙ ap (λ (x : FileKey). Some x) (contents_made (raw_for m.raws c) c c.policy.by_mode)
 
   -- it is sealed as in the mount
-  pub seal_is : (seal : Option Seal) → IsSealOf s file seal → seal ≡ seal_of m.raws file (context_at m.nodes file)
+  pub seal_is : (seal : Option Seal) → IsSealOf s file seal → seal ≡ contents_seal m.raws file (context_at m.nodes file)
   seal_is seal is = by_case (context_at m.nodes file) refl
     where
-      by_case : (o : Option Context) → context_at m.nodes file ≡ o → seal ≡ seal_of m.raws file (context_at m.nodes file)
+      by_case : (o : Option Context) → context_at m.nodes file ≡ o → seal ≡ contents_seal m.raws file (context_at m.nodes file)
       by_case None none =
           is.plain (context_is s.disk s.next_node m st.well st.tree file ∙ ap (option_map context_bytes) none)
-          ∙ sym (ap (seal_of m.raws file) none)
+          ∙ sym (ap (contents_seal m.raws file) none)
       by_case (Some c) here =
           is.sealed c (sized_here c here) (context_here c here)
           ∙ ap (option_map (seal_with file c)) (contents_is c here)
-          ∙ sym (ap (seal_of m.raws file) here)
+          ∙ sym (ap (contents_seal m.raws file) here)
 
 -- where the context that is read is the one on the disk, a key for contents is held
-pub key_held : (s : MountState) (file : ℕ) → HasOpen s file → (context : Context) → context_in (get s.disk file) ≡ Some (context_bytes context)
-    → ((c : Context) → length c.policy.id.0 ≡ 16 → context_in (get s.disk file) ≡ Some (context_bytes c) → Some context ≡ Some c)
+pub key_held : (s : MountState) (file : ℕ) → HasOpen s file → (context : Context) → context_on_disk (get s.disk file) ≡ Some (context_bytes context)
+    → ((c : Context) → length c.policy.id.0 ≡ 16 → context_on_disk (get s.disk file) ≡ Some (context_bytes c) → Some context ≡ Some c)
     → (bytes : List ℕ) × (contents_key s.inodes s.modes file context ≡ Some (key.Contents bytes))
 key_held s file has context there same =
     let read = context_read s.disk s.next_node has.mount has.stands.well has.stands.tree file (context_bytes context) there in

@@ -17,7 +17,7 @@ use Rattle.mount_model.specs.FileAnswers.{lacks_blocks_for, answer_to_write}
 use Rattle.mount_state.specs.Given.{IsGivenOrNoMemory}
 use Rattle.mount_state.specs.StandsFor.{StandsFor}
 use Rattle.mount_state.specs.declared.state.MountState.{MountState}
-use Rattle.mount_files.specs.OpenFile.{IsRefusedAt}
+use Rattle.mount_files.specs.OpenFile.{IsFileRefused}
 use Rattle.mount_files.proofs.OpenLemmas.{answered_at}
 use Rattle.mount_files.proofs.WrittenLemmas.{after}
 
@@ -31,7 +31,7 @@ module _ (old : MountState) (m : PlainMount) (st : StandsFor old m) (caller hand
   abbrev answer : Answer
   answer = answer_to_write m caller handle offset bytes
 
-  pub write_refused : (refusal : Refusal) → IsRefusedAt old caller handle refusal → answer_to_write m caller handle offset bytes ≡ refused m refusal
+  pub write_refused : (refusal : Refusal) → IsFileRefused old caller handle refusal → answer_to_write m caller handle offset bytes ≡ refused m refusal
   write_refused refusal is = is m of_file st
 
   module _ (file : ℕ) (led : node_of old.handles.live caller handle ≡ Some file) (is_file : IsFileAt old.disk file) where

@@ -36,14 +36,14 @@ use Rattle.mount_state.specs.Contexts.{has_own, has_shared, same_kind, is_of_kin
 use Rattle.mount_state.specs.Contexts as disk
 use Rattle.dentry_cache.specs.Names.{NameList}
 use Rattle.plain_tree.proofs.EditedLemmas.{edited_entry, leaves_contents}
-use Rattle.mount_state.specs.CachedNames.{NamesForget, NamesStand, is_dir, is_dir_in}
-use Rattle.mount_state.specs.Held.{is_keyed_under}
+use Rattle.mount_state.specs.CachedNames.{NamesForget, NamesStand, is_dir_body, is_dir_node}
+use Rattle.mount_state.specs.Held.{is_unlocked_under}
 use Rattle.mount_state.proofs.CachedLemmas.{forget_when}
 use Rattle.mount_state.specs.Discipline.{Forgets}
 use Rattle.mount_state.specs.Handles.{Handles, users}
 use Rattle.mount_state.specs.Safe.{IsSafe}
-use Rattle.mount_state.specs.Stored.{stored_body, stored_node, seal_of}
-use Rattle.mount_state.specs.StandsFor.{StandsFor, CachesStand, kind_in}
+use Rattle.mount_state.specs.Stored.{stored_body, stored_node, contents_seal}
+use Rattle.mount_state.specs.StandsFor.{StandsFor, CachesStand, plain_kind}
 use Rattle.mount_state.specs.StandsFor as plain
 use Rattle.mount_state.specs.declared.state.MountState.{MountState}
 use Rattle.mount_state.proofs.WalkLemmas.{same_cache}
@@ -65,24 +65,24 @@ module _ {V A : Type 0} (read : Option V → A) (nodes : Numbered V) (k : ℕ) (
 
 -- ---- the rule
 
-kind_left : (seal : Option Seal) (at : ℕ) (bytes : List ℕ) (b : StoredBody) → disk.kind_of (body_written seal at bytes b) ≡ disk.kind_of b
+kind_left : (seal : Option Seal) (at : ℕ) (bytes : List ℕ) (b : StoredBody) → disk.disk_kind_of (body_written seal at bytes b) ≡ disk.disk_kind_of b
 kind_left seal at [] b = refl
 kind_left seal at (x ∷ xs) (stored.Dir entries) = refl
 kind_left seal at (x ∷ xs) (stored.File blocks size) = refl
 kind_left seal at (x ∷ xs) (stored.Link target) = refl
 
-dir_left : (seal : Option Seal) (at : ℕ) (bytes : List ℕ) (b : StoredBody) → is_dir (body_written seal at bytes b) ≡ is_dir b
+dir_left : (seal : Option Seal) (at : ℕ) (bytes : List ℕ) (b : StoredBody) → is_dir_body (body_written seal at bytes b) ≡ is_dir_body b
 dir_left seal at [] b = refl
 dir_left seal at (x ∷ xs) (stored.Dir entries) = refl
 dir_left seal at (x ∷ xs) (stored.File blocks size) = refl
 dir_left seal at (x ∷ xs) (stored.Link target) = refl
 
 module _ (on_disk : Disk) (file : ℕ) (seal : Option Seal) (at : ℕ) (bytes : List ℕ) where
-  contexts : (n : ℕ) → disk.context_in (get (disk_written on_disk file seal at bytes) n) ≡ disk.context_in (get on_disk n)
-  contexts = read_changed disk.context_in on_disk file (on_body (body_written seal at bytes)) (λ v. refl)
+  contexts : (n : ℕ) → disk.context_on_disk (get (disk_written on_disk file seal at bytes) n) ≡ disk.context_on_disk (get on_disk n)
+  contexts = read_changed disk.context_on_disk on_disk file (on_body (body_written seal at bytes)) (λ v. refl)
 
-  kinds : (n : ℕ) → disk.kind_in (get (disk_written on_disk file seal at bytes) n) ≡ disk.kind_in (get on_disk n)
-  kinds = read_changed disk.kind_in on_disk file (on_body (body_written seal at bytes)) (λ v. kind_left seal at bytes v.body)
+  kinds : (n : ℕ) → disk.kind_on_disk (get (disk_written on_disk file seal at bytes) n) ≡ disk.kind_on_disk (get on_disk n)
+  kinds = read_changed disk.kind_on_disk on_disk file (on_body (body_written seal at bytes)) (λ v. kind_left seal at bytes v.body)
 
   there : (n : ℕ) → is_some (get (disk_written on_disk file seal at bytes) n) ≡ is_some (get on_disk n)
   there = read_changed (λ (o : Option StoredNode). is_some o) on_disk file (on_body (body_written seal at bytes)) (λ v. refl)
@@ -108,8 +108,8 @@ module _ (on_disk : Disk) (file : ℕ) (seal : Option Seal) (at : ℕ) (bytes : 
   pub written_names : (claims : ClaimSet) (names : NameList) (live : HandleList) → NamesForget on_disk claims names live
       → NamesForget (disk_written on_disk file seal at bytes) claims names live
   written_names claims names live rule = forget_when on_disk (disk_written on_disk file seal at bytes) claims claims live live names rule (λ pair held dir keyed. (
-    read_changed is_dir_in on_disk file (on_body (body_written seal at bytes)) (λ v. dir_left seal at bytes v.body) pair.0.dir ∙ dir,
-    ap (is_keyed_under claims live pair.0.dir) (contexts pair.0.dir) ∙ keyed,
+    read_changed is_dir_node on_disk file (on_body (body_written seal at bytes)) (λ v. dir_left seal at bytes v.body) pair.0.dir ∙ dir,
+    ap (is_unlocked_under claims live pair.0.dir) (contexts pair.0.dir) ∙ keyed,
   ))
 
   pub written_safe : (next : ℕ) (live : HandleList) → IsSafe on_disk next live → IsSafe (disk_written on_disk file seal at bytes) next live
@@ -125,13 +125,13 @@ on_either P (Err e) ok err done undone = subst P (sym err) undone
 
 -- ---- the whole
 
-plain_kind_left : (f : List ℕ → List ℕ) (b : Body) → plain.kind_of (with_contents f b) ≡ plain.kind_of b
+plain_kind_left : (f : List ℕ → List ℕ) (b : Body) → plain.plain_kind_of (with_contents f b) ≡ plain.plain_kind_of b
 plain_kind_left f (Dir children) = refl
 plain_kind_left f (File contents) = refl
 plain_kind_left f (Link target) = refl
 
 module _ (raws : Raws) (file : ℕ) (seal : Option Seal) (key : IsKeyOfBytes seal) (at : ℕ) (bytes : List ℕ) where
-  body_stored : (context : Option Context) → seal ≡ seal_of raws file context → (b : Body) → IsBody b
+  body_stored : (context : Option Context) → seal ≡ contents_seal raws file context → (b : Body) → IsBody b
       → body_written seal at bytes (stored_body raws file context b) ≡ stored_body raws file context (with_contents (with_bytes at bytes) b)
   body_stored context is (Dir children) ok = other bytes
     where
@@ -166,8 +166,8 @@ module _ (old : MountState) (m : PlainMount) (st : StandsFor old m) (file offset
   plain_contexts : (n : ℕ) → context_at (written m.nodes file (with_bytes offset bytes)) n ≡ context_at m.nodes n
   plain_contexts = read_changed context_in m.nodes file (on_contents (with_bytes offset bytes)) (λ v. refl)
 
-  plain_kinds : (n : ℕ) → kind_in (get (written m.nodes file (with_bytes offset bytes)) n) ≡ kind_in (get m.nodes n)
-  plain_kinds = read_changed kind_in m.nodes file (on_contents (with_bytes offset bytes)) (λ v. plain_kind_left (with_bytes offset bytes) v.body)
+  plain_kinds : (n : ℕ) → plain_kind (get (written m.nodes file (with_bytes offset bytes)) n) ≡ plain_kind (get m.nodes n)
+  plain_kinds = read_changed plain_kind m.nodes file (on_contents (with_bytes offset bytes)) (λ v. plain_kind_left (with_bytes offset bytes) v.body)
 
   caches_after : CachesStand old.inodes old.modes after
   caches_after = record {
@@ -183,13 +183,13 @@ module _ (old : MountState) (m : PlainMount) (st : StandsFor old m) (file offset
         ∙ st.names.entries pair held;
   }
 
-  module _ (seal : Option Seal) (seal_is : seal ≡ seal_of m.raws file (context_at m.nodes file)) (key : IsKeyOfBytes seal) where
+  module _ (seal : Option Seal) (seal_is : seal ≡ contents_seal m.raws file (context_at m.nodes file)) (key : IsKeyOfBytes seal) where
     tree_after : AgreesBy (stored_node m.raws) (written m.nodes file (with_bytes offset bytes)) (disk_written old.disk file seal offset bytes)
     tree_after = agree_edited (stored_node m.raws) m.nodes old.disk st.tree.nodes file (on_contents (with_bytes offset bytes)) (on_body (body_written seal offset bytes))
         (λ v there. λ i. record {
           context = option_map context_bytes v.context;
           named = v.named;
-          body = body_stored m.raws file seal key offset bytes v.context (seal_is ∙ ap (λ (o : Option Node). seal_of m.raws file (context_in o)) there)
+          body = body_stored m.raws file seal key offset bytes v.context (seal_is ∙ ap (λ (o : Option Node). contents_seal m.raws file (context_in o)) there)
               v.body (st.well.nodes.bodies file v there) i;
         })
 

@@ -9,8 +9,8 @@ use Rattle.inode_refs.specs.Cached.{KeyMap}
 use Rattle.disk_tree.specs.DiskTree.{Disk}
 use Rattle.disk_tree.specs.declared.node.StoredNode.{StoredNode}
 use Rattle.dentry_cache.specs.Names.{NameList, dir_forgotten}
-use Rattle.mount_state.specs.CachedNames.{is_dir_at}
-use Rattle.mount_state.specs.Contexts.{context_in, kind_in}
+use Rattle.mount_state.specs.CachedNames.{is_dir_on_disk}
+use Rattle.mount_state.specs.Contexts.{context_on_disk, kind_on_disk}
 
 abbrev pub is_named_in : Option StoredNode → Bool
 is_named_in None = false
@@ -32,12 +32,12 @@ is_key_due claims (Some context) = is_present claims (id_in context)
 -- the node's key stays where the node has a handle, or stays without one and its key is due
 abbrev pub keys_left : Disk → ClaimSet → KeyMap → Bool → ℕ → KeyMap
 keys_left disk claims keys held node =
-    if held || (is_lasting disk node && is_key_due claims (context_in (get disk node))) then keys else remove keys node
+    if held || (is_lasting disk node && is_key_due claims (context_on_disk (get disk node))) then keys else remove keys node
 
 -- a directory's names stay where its key would
 abbrev pub names_left : Disk → ClaimSet → NameList → Bool → ℕ → NameList
 names_left disk claims names held node =
-    if held || (is_lasting disk node && is_key_due claims (context_in (get disk node))) || not (is_dir_at disk node)
+    if held || (is_lasting disk node && is_key_due claims (context_on_disk (get disk node))) || not (is_dir_on_disk disk node)
     then names else dir_forgotten names node
 
 -- the mode key that the node uses has one user less
@@ -47,4 +47,4 @@ modes_left_by modes kind (Some context) =
     if is_by_mode_in context then with_kind modes kind (without_user (of_kind modes kind) (id_in context)) else modes
 
 abbrev pub modes_left : Disk → Modes → ℕ → Modes
-modes_left disk modes node = modes_left_by modes (kind_in (get disk node)) (context_in (get disk node))
+modes_left disk modes node = modes_left_by modes (kind_on_disk (get disk node)) (context_on_disk (get disk node))

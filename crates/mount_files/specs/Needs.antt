@@ -14,14 +14,14 @@ use Rattle.plain_tree.specs.Nodes.{context_at}
 use Rattle.disk_tree.specs.DiskTree.{Disk}
 use Rattle.mount_model.specs.PlainMount.{PlainMount, raw_in}
 use Rattle.mount_model.specs.Sealed.{node_key}
-use Rattle.mount_state.specs.Contexts.{uses_own, uses_mode, kind_in, is_of_kind, same_kind}
-use Rattle.mount_state.specs.StandsFor.{kind_in as plain_kind}
+use Rattle.mount_state.specs.Contexts.{uses_own, uses_mode, kind_on_disk, is_of_kind, same_kind}
+use Rattle.mount_state.specs.StandsFor.{plain_kind}
 use Rattle.mount_files.specs.declared.need.Need.{Need}
 use Rattle.mount_files.specs.declared.need.Need.TheVariants.{Own, Shared}
 
 -- a file key of this node
 abbrev pub IsKeyFor : Disk → ℕ → NodeKey → Type 0
-IsKeyFor disk node key = (uses_own disk node key.id ≡ true) × (is_of_kind (kind_in (get disk node)) key.key ≡ true)
+IsKeyFor disk node key = (uses_own disk node key.id ≡ true) × (is_of_kind (kind_on_disk (get disk node)) key.key ≡ true)
 
 -- with this key, where there is one, the node has its own key cached if it has one; it uses no mode key
 pub record IsOwnNeed (disk : Disk) (cache : Cache) (node : ℕ) (key : Option NodeKey) : Type 0 where

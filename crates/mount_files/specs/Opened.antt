@@ -1,14 +1,10 @@
 -- What a call on handles leaves of a state.
-use Rattle.std.specs.Prelude.{◌≡◌, ℕ, Bool, true, false, [], ◌∷◌, not, if◌then◌else◌}
+use Rattle.std.specs.Prelude.{◌≡◌, ℕ, Bool, true, false, [], ◌∷◌}
 use Rattle.disk_tree.specs.declared.node.Body.{Body}
 use Rattle.disk_tree.specs.declared.node.Body.TheVariants.{Dir, File, Link}
-use Rattle.mount_model.specs.PlainMount.{PlainMount, has_handle, opens_of}
-use Rattle.mount_model.specs.States.{is_keyed}
-use Rattle.mount_model.specs.Answered.{Answer, refused}
-use Rattle.mount_model.specs.declared.reply.Refusal.TheVariants.{NoKey, Inval, NoSpace}
+use Rattle.mount_model.specs.PlainMount.{has_handle, opens_of}
 use Rattle.mount_model.specs.declared.reply.Reply.{Reply}
 use Rattle.mount_model.specs.declared.reply.Reply.TheVariants.{Opened}
-use Rattle.mount_model.specs.FileAnswers.{is_link_at, is_out_of_handles, opened_on}
 use Rattle.mount_state.specs.Handles.{with_handle, without}
 use Rattle.mount_state.specs.SameBut.{SameBut, Disk, CachedKeys, Pins, OpenHandles, ModeKeys, CachedNames}
 use Rattle.mount_state.specs.declared.state.MountState.{MountState}
@@ -21,14 +17,6 @@ abbrev pub is_link_body : Body → Bool
 is_link_body (Dir entries) = false
 is_link_body (File blocks size) = false
 is_link_body (Link target) = true
-
--- what is answered at the node to which the path leads
-abbrev pub open_told : PlainMount → ℕ → ℕ → Answer
-open_told m caller n =
-    if is_link_at m.nodes n then refused m Inval else
-    if not (is_keyed m n) then refused m NoKey else
-    if is_out_of_handles m caller then refused m NoSpace else
-    opened_on m caller n
 
 -- nothing differs but what is open, which keys are cached for it, and which names are
 abbrev pub SameButOpen : MountState → MountState → Type 0

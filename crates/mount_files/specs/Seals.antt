@@ -10,7 +10,7 @@ use Rattle.key_ring.specs.Modes.{Modes, mode_at}
 use Rattle.inode_refs.specs.Cached.{Cache, key_at}
 use Rattle.data_crypt.specs.Blocks.{Seal}
 use Rattle.mount_model.specs.Sealed.{node_start}
-use Rattle.mount_state.specs.Contexts.{context_in}
+use Rattle.mount_state.specs.Contexts.{context_on_disk}
 use Rattle.mount_state.specs.declared.state.MountState.{MountState}
 
 -- the key of the contents that is held: under flag 8 that of the mode, else the file's own
@@ -29,8 +29,8 @@ seal_with file c key = record { key = key_bytes key; start = node_start file c; 
 -- The contents of the file are sealed so: under the key that is held for it by its context on the disk, and
 -- not at all where it has none. What lies there as a context is one.
 pub record IsSealOf (s : MountState) (file : ℕ) (seal : Option Seal) : Type 0 where
-  pub read : (bytes : List ℕ) → context_in (get s.disk file) ≡ Some bytes → context_fault bytes ≡ None
-  pub plain : context_in (get s.disk file) ≡ None → seal ≡ None
+  pub read : (bytes : List ℕ) → context_on_disk (get s.disk file) ≡ Some bytes → context_fault bytes ≡ None
+  pub plain : context_on_disk (get s.disk file) ≡ None → seal ≡ None
   pub sealed : (c : Context) → length c.policy.id.0 ≡ 16
-      → context_in (get s.disk file) ≡ Some (context_bytes c)
+      → context_on_disk (get s.disk file) ≡ Some (context_bytes c)
       → seal ≡ option_map (seal_with file c) (held_key s file c)

@@ -12,8 +12,8 @@ ghost use Rattle.mount_model.specs.declared.reply.KeyState.TheVariants.{Absent};
 ghost use Rattle.mount_model.specs.ClaimHistory.{is_refused};
 ghost use Rattle.mount_model.specs.FileAnswers.{answer_to_close, with_closed};
 ghost use Rattle.mount_model.specs.PlainMount.{PlainMount, node_of};
-ghost use Rattle.mount_state.specs.CachedNames.{is_dir_at};
-ghost use Rattle.mount_state.specs.Contexts.{context_in, kind_of, uses_mode};
+ghost use Rattle.mount_state.specs.CachedNames.{is_dir_on_disk};
+ghost use Rattle.mount_state.specs.Contexts.{context_on_disk, disk_kind_of, uses_mode};
 ghost use Rattle.mount_state.specs.Given.{IsGiven};
 ghost use Rattle.mount_state.specs.Held.{HoldsNothing, key_state};
 ghost use Rattle.mount_state.specs.SameButCaches.{SameButCaches};
@@ -139,14 +139,14 @@ fn forget_names(
 // Whether the node's key stays: the node has pins, or it is to stay and its key is due.
 fn is_key_kept(disk: &DiskTree, ring: &KeyRing, inodes: &InodeCache, node: u32) -> bool
     ensures { result ≡ (not (is_unpinned inodes.now node)
-        || (is_lasting disk.now node && is_key_due ring.now.claims (context_in (get disk.now node)))) }
+        || (is_lasting disk.now node && is_key_due ring.now.claims (context_on_disk (get disk.now node)))) }
 {
     inodes.pins(node) > 0 || (is_lasting(disk, node) && is_key_due(disk, ring, node))
 }
 
 // Whether the number is that of a directory.
 fn is_dir(disk: &DiskTree, node: u32) -> bool
-    ensures { result ≡ is_dir_at disk.now node }
+    ensures { result ≡ is_dir_on_disk disk.now node }
 {
     match disk.node(node) {
         Some(stored) => match stored.body {
@@ -181,7 +181,7 @@ fn is_lasting(disk: &DiskTree, node: u32) -> bool
 // Whether the node's key stays without a handle: some user has a claim on the master key that its context
 // names. So it is where it has none.
 fn is_key_due(disk: &DiskTree, ring: &KeyRing, node: u32) -> bool
-    ensures { result ≡ is_key_due ring.now.claims (context_in (get disk.now node)) }
+    ensures { result ≡ is_key_due ring.now.claims (context_on_disk (get disk.now node)) }
 {
     match disk.node(node) {
         Some(

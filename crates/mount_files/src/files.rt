@@ -3,7 +3,7 @@
 ghost use Rattle.std.specs.Prelude.{◌≡◌, Some, IfOk, IfErr};
 ghost use Rattle.disk_tree.specs.DiskTree.{IsFileAt};
 ghost use Rattle.mount_model.specs.PlainMount.{node_of};
-ghost use Rattle.mount_files.specs.OpenFile.{IsRefusedAt};
+ghost use Rattle.mount_files.specs.OpenFile.{IsFileRefused};
 
 use mount_model::Refusal;
 use mount_state::MountState;
@@ -13,7 +13,7 @@ use mount_state::MountState;
 pub(crate) fn open_file(state: &MountState, caller: u32, handle: u32) -> Result<u32, Refusal>
     ensures held { IfOk result (λ file. node_of state.now.handles.live caller handle ≡ Some file) }
     ensures file { IfOk result (IsFileAt state.now.disk) }
-    ensures refused { IfErr result (IsRefusedAt state.now caller handle) }
+    ensures refused { IfErr result (IsFileRefused state.now caller handle) }
 {
     let Some(node) = state.handles.node_of(caller, handle) else {
         return Err(Refusal::BadHandle);

@@ -5,8 +5,8 @@ ghost use Rattle.number_map.specs.Numbered.{get};
 ghost use Rattle.fsc_keys.specs.declared.file_keys.KeyKind.{KeyKind};
 ghost use Rattle.policy_ctx.specs.Context.{is_by_mode_in};
 ghost use Rattle.mount_model.specs.PlainMount.{PlainMount};
-ghost use Rattle.mount_state.specs.Contexts.{context_in, kind_in, kind_of};
-ghost use Rattle.mount_state.specs.Held.{is_keyed};
+ghost use Rattle.mount_state.specs.Contexts.{context_on_disk, kind_on_disk, disk_kind_of};
+ghost use Rattle.mount_state.specs.Held.{is_unlocked};
 ghost use Rattle.mount_state.specs.StandsFor.{StandsFor};
 ghost use Rattle.mount_files.specs.Needs.{IsNeedOf, IsNeedIn};
 
@@ -20,7 +20,7 @@ use policy_ctx::{CONTEXT_LEN, POLICY_LEN, id_in, is_by_mode};
 // What a handle on the node needs, which is there and whose key is at hand.
 pub(crate) fn need_of(state: &MountState, node: u32) -> Need
     requires there { is_some (get state.now.disk node) ≡ true }
-    requires keyed { is_keyed state.now.disk state.now.ring.claims state.now.handles.live node ≡ true }
+    requires keyed { is_unlocked state.now.disk state.now.ring.claims state.now.handles.live node ≡ true }
     ensures need { IsNeedOf state.now.disk state.now.inodes node result }
     ensures stands { (m : PlainMount) → StandsFor state.now m → IsNeedIn m node result }
 {
@@ -39,10 +39,10 @@ pub(crate) fn need_of(state: &MountState, node: u32) -> Need
 
 // The key of a node that has one of its own: the one that is cached, else one that is drawn.
 fn own_need(state: &MountState, node: u32, context: &[u8; CONTEXT_LEN], kind: KeyKind) -> Need
-    requires there { context_in (get state.now.disk node) ≡ Some context.now }
-    requires kind { kind ≡ kind_in (get state.now.disk node) }
+    requires there { context_on_disk (get state.now.disk node) ≡ Some context.now }
+    requires kind { kind ≡ kind_on_disk (get state.now.disk node) }
     requires own { is_by_mode_in context.now ≡ false }
-    requires keyed { is_keyed state.now.disk state.now.ring.claims state.now.handles.live node ≡ true }
+    requires keyed { is_unlocked state.now.disk state.now.ring.claims state.now.handles.live node ≡ true }
     ensures need { IsNeedOf state.now.disk state.now.inodes node result }
     ensures stands { (m : PlainMount) → StandsFor state.now m → IsNeedIn m node result }
 {
@@ -61,10 +61,10 @@ fn own_need(state: &MountState, node: u32, context: &[u8; CONTEXT_LEN], kind: Ke
 
 // The mode key that the node uses: the one that stands, else one that is drawn.
 fn shared_need(state: &MountState, node: u32, context: &[u8; CONTEXT_LEN], kind: KeyKind) -> Need
-    requires there { context_in (get state.now.disk node) ≡ Some context.now }
-    requires kind { kind ≡ kind_in (get state.now.disk node) }
+    requires there { context_on_disk (get state.now.disk node) ≡ Some context.now }
+    requires kind { kind ≡ kind_on_disk (get state.now.disk node) }
     requires shared { is_by_mode_in context.now ≡ true }
-    requires keyed { is_keyed state.now.disk state.now.ring.claims state.now.handles.live node ≡ true }
+    requires keyed { is_unlocked state.now.disk state.now.ring.claims state.now.handles.live node ≡ true }
     ensures need { IsNeedOf state.now.disk state.now.inodes node result }
     ensures stands { (m : PlainMount) → StandsFor state.now m → IsNeedIn m node result }
 {
@@ -89,7 +89,7 @@ fn shared_need(state: &MountState, node: u32, context: &[u8; CONTEXT_LEN], kind:
 
 // What the node's key enciphers.
 pub(crate) fn kind_of(body: &Body) -> KeyKind
-    ensures { result ≡ kind_of body.now }
+    ensures { result ≡ disk_kind_of body.now }
 {
     match body {
         Body::File { .. } => KeyKind::Contents,

@@ -3,14 +3,14 @@
 ghost use Rattle.std.specs.Prelude.{◌≡◌, ◌+◌, ◌≤◌, true, false, length, is_some, IfOk, IfErr, OnOk, OnErr};
 ghost use Rattle.number_map.specs.Numbered.{get};
 ghost use Rattle.mount_model.specs.ClaimHistory.{is_refused};
-ghost use Rattle.mount_model.specs.FileAnswers.{answer_to_open};
+ghost use Rattle.mount_model.specs.FileAnswers.{answer_to_open, open_told};
 ghost use Rattle.mount_model.specs.PlainMount.{PlainMount, opens_of};
 ghost use Rattle.mount_state.specs.Given.{IsGivenOrNoMemory};
 ghost use Rattle.mount_state.specs.Handles.{is_full};
-ghost use Rattle.mount_state.specs.Held.{is_keyed};
+ghost use Rattle.mount_state.specs.Held.{is_unlocked};
 ghost use Rattle.mount_state.specs.SameButCaches.{SameButCaches};
 ghost use Rattle.mount_state.specs.StandsFor.{StandsFor, CachesStand};
-ghost use Rattle.mount_files.specs.Opened.{is_link_body, open_told, OpensAsTold, OpensOne, SameButOpen};
+ghost use Rattle.mount_files.specs.Opened.{is_link_body, OpensAsTold, OpensOne, SameButOpen};
 
 use crate::holds::{open_own, open_shared};
 use crate::need::Need;
@@ -89,7 +89,7 @@ fn open_keyed(
     node: u32,
 ) -> Result<u32, AllocError>
     requires there { is_some (get state.old.disk node) ≡ true }
-    requires keyed { is_keyed state.old.disk state.old.ring.claims state.old.handles.live node ≡ true }
+    requires keyed { is_unlocked state.old.disk state.old.ring.claims state.old.handles.live node ≡ true }
     requires room { is_full state.old.handles caller ≡ false }
     ensures number { IfOk result (λ number. number ≡ opens_of state.old.handles.opened caller) }
     ensures opened { OnOk result (OpensOne state.old state.new caller node) }

@@ -36,7 +36,7 @@ use Rattle.mount_model.proofs.AddedLemmas.{HasNodes-with_raw}
 use Rattle.dentry_cache.specs.Names.{NameList}
 use Rattle.mount_state.specs.CachedNames.{NamesStand}
 use Rattle.mount_state.specs.Handles.{Handles}
-use Rattle.mount_state.specs.Held.{is_busy, key_state}
+use Rattle.mount_state.specs.Held.{is_in_use, key_state}
 use Rattle.mount_state.specs.Stored.{stored_node}
 use Rattle.mount_state.specs.StandsFor.{StandsFor, CachesStand}
 use Rattle.mount_state.specs.declared.state.MountState.{MountState}
@@ -81,7 +81,7 @@ added_present disk before after live uid key raw is claimed =
     ∙ ap (λ (r : List ℕ). with_claim before (key_id_of r) uid) is)
     ∙ (is_present-with_claim before id uid id ∙ or_right (is_present before id) (same_id id id)
     (same_id-refl id)) in
-    ap (λ b. cond b Present (cond (is_busy disk live id) Incomplete Absent)) there
+    ap (λ b. cond b Present (cond (is_in_use disk live id) Incomplete Absent)) there
 
 -- ---- no refusal
 
@@ -113,7 +113,7 @@ module _ (s : MountState) (m : PlainMount) (st : StandsFor s m) (used : AreUsed 
       subst (λ (k : KeyId). is_some (raw_in m.raws k) ≡ true) (same_id-eq c.policy.id id named)
       (there c under)
 
-  busy_raw : (raw : List ℕ) → AgreesWith m.raws raw → (id : KeyId) → is_busy s.disk s.handles.live id ≡ true
+  busy_raw : (raw : List ℕ) → AgreesWith m.raws raw → (id : KeyId) → is_in_use s.disk s.handles.live id ≡ true
       → is_some (raw_in m.raws id) ≡ true
   busy_raw raw agrees id busy =
       let one = one_on (λ n. plain.names_key m.nodes n id) m.handles
@@ -124,7 +124,7 @@ module _ (s : MountState) (m : PlainMount) (st : StandsFor s m) (used : AreUsed 
   mode_raw : (raw : List ℕ) → AgreesWith m.raws raw → (id : KeyId) (kind : KeyKind) (mode : ModeKey)
       → mode_at s.modes id kind ≡ Some mode
       → is_some (raw_in m.raws id) ≡ true
-  mode_raw raw agrees id kind mode there = elim (cases_Bool (is_busy s.disk s.handles.live id)) [
+  mode_raw raw agrees id kind mode there = elim (cases_Bool (is_in_use s.disk s.handles.live id)) [
     | inl busy ↦ busy_raw raw agrees id busy
     | inr idle ↦
         let gone : mode_at s.modes id kind ≡ None =
@@ -151,7 +151,7 @@ module _ (s : MountState) (m : PlainMount) (st : StandsFor s m) (used : AreUsed 
   -- ---- the whole
 
   pub added_stand : (new : MountState) (uid : ℕ) (raw : List ℕ) → AgreesWith m.raws raw → is_raw_key raw
-      ≡ true → is_over_quota m uid raw ≡ false
+      ≡ true → is_over_quota m.claims (key_id_of raw) uid ≡ false
       → SameButRing s new → GainsClaim s new uid raw → StandsFor new (with_key m uid raw)
   added_stand new uid raw agrees fits room same gained = record {
     well = record {
@@ -194,12 +194,12 @@ module _ (s : MountState) (m : PlainMount) (st : StandsFor s m) (used : AreUsed 
       let fits : is_raw_key bytes ≡ true =
       and_from _ _ (le-leb LEAST_RAW_KEY_BYTES (length bytes) low)
       (le-leb (length bytes) MOST_RAW_KEY_BYTES high) in
-      let within : is_over_quota m uid bytes ≡ false =
+      let within : is_over_quota m.claims (key_id_of bytes) uid ≡ false =
       within_quota (has_claim m.claims (key_id_of bytes) uid) (count_of_user m.claims uid)
       (λ over. room (subst (λ (r : List ℕ). IsOverQuota s.ring.claims (key_id_of r) uid) (sym is)
       (subst (λ (cs : ClaimSet). IsOverQuota cs (key_id_of bytes) uid) (sym st.keys.claims) over))) in
       subst (λ (a : Answer). IsGiven a (Added id) new)
-      (sym (last_answer (is_raw_key bytes) (is_over_quota m uid bytes) (refused m Inval)
+      (sym (last_answer (is_raw_key bytes) (is_over_quota m.claims (key_id_of bytes) uid) (refused m Inval)
       (refused m Quota) (added m uid bytes) fits within)) (
         ap Added (named ∙ ap key_id_of is),
         added_stand new uid bytes agrees fits within same

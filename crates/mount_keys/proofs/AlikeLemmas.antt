@@ -24,7 +24,7 @@ use Rattle.mount_model.specs.Sealed.{node_key, node_start, sealed_name}
 use Rattle.mount_model.specs.WellFormed.{HasRaw, HasNodes}
 use Rattle.mount_model.specs.Lawful.{AgreesWith}
 use Rattle.mount_model.proofs.KeyLemmas.{raw_in-with_raw}
-use Rattle.mount_state.specs.Stored.{stored_form, seal_of, stored_body, stored_node}
+use Rattle.mount_state.specs.Stored.{stored_form, contents_seal, stored_body, stored_node}
 
 -- ---- by the raw key of the context alone
 
@@ -47,7 +47,7 @@ module _ (raws others : Raws) where
       λ i. stored_name (key_bytes (node_key_alike c Names (alike c refl) i)) (node_start n c) c.policy.pad
       name
 
-  seal_alike : (n : ℕ) (o : Option Context) → IsAlike o → seal_of others n o ≡ seal_of raws n o
+  seal_alike : (n : ℕ) (o : Option Context) → IsAlike o → contents_seal others n o ≡ contents_seal raws n o
   seal_alike n None alike = refl
   seal_alike n (Some c) alike =
       λ i. Some (record {

@@ -23,7 +23,7 @@ use Rattle.mount_model.specs.PlainMount.{HandleList, has_handle}
 use Rattle.number_map.specs.Numbered.{get}
 use Rattle.dentry_cache.specs.Names.{NameList}
 use Rattle.mount_state.specs.CachedNames.{NamesForget}
-use Rattle.mount_state.specs.Contexts.{context_in}
+use Rattle.mount_state.specs.Contexts.{context_on_disk}
 use Rattle.mount_state.specs.Discipline.{Forgets}
 use Rattle.mount_state.proofs.CachedLemmas.{forget_when, keyed_more}
 use Rattle.mount_state.proofs.UserLemmas.{pins_tell}
@@ -208,7 +208,7 @@ module _ (disk : Disk) (claims : ClaimSet) (names : NameList) (live : HandleList
   more_names after more = forget_when disk disk claims after live live names rule (λ pair held dir keyed. (
     dir,
     keyed_more claims after live live pair.0.dir more (λ handle. handle)
-        (context_in (get disk pair.0.dir)) keyed,
+        (context_on_disk (get disk pair.0.dir)) keyed,
   ))
 
   -- so it is where claims on one key alone went, and some are left

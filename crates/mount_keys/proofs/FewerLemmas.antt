@@ -19,13 +19,13 @@ use Rattle.mount_model.proofs.KeyLemmas.{HasKeys-without_claim, HasKeys-without_
 use Rattle.dentry_cache.specs.Names.{NameList, with_pairs, HoldsNoMore}
 use Rattle.dentry_cache.proofs.NameLemmas.{none_held}
 use Rattle.mount_state.specs.Handles.{Handles}
-use Rattle.mount_state.specs.Held.{HoldsNothing, is_busy}
+use Rattle.mount_state.specs.Held.{HoldsNothing, is_in_use}
 use Rattle.mount_state.specs.Stored.{stored_node}
 use Rattle.mount_state.specs.StandsFor.{StandsFor}
 use Rattle.mount_state.specs.declared.state.MountState.{MountState}
 use Rattle.mount_state.proofs.CachedLemmas.{stand_fewer}
 use Rattle.mount_state.proofs.RuleLemmas.{nothing_held}
-use Rattle.mount_keys.specs.Taken.{SameButKeyed, LosesClaim, LosesAllClaims, keys_left}
+use Rattle.mount_keys.specs.Taken.{SameButKeyed, LosesClaim, LosesAllClaims, keys_kept}
 use Rattle.mount_keys.proofs.EvictionLemmas.{evicted_was, evicted_absent}
 use Rattle.mount_keys.proofs.SecretLemmas.{left_was, removed_was, removed_none, removed_absent}
 
@@ -59,7 +59,7 @@ fewer_stand old new m claims st same well are secrets cached names = record {
 -- ---- a claim, or all on a key, went
 
 kept_was : (cache : Cache) (claims : ClaimSet) (id : KeyId) (n : ℕ) (k : NodeKey)
-    → map.get (keys_left cache claims id) n ≡ Some k → key_at cache n ≡ Some k
+    → map.get (keys_kept cache claims id) n ≡ Some k → key_at cache n ≡ Some k
 kept_was cache claims id n k = by (is_present claims id)
   where
     by : (b : Bool) → map.get (cond b cache.keys (evicted cache id)) n ≡ Some k → key_at cache n ≡ Some k
@@ -117,13 +117,13 @@ loses_none s uid id exact absent = record {
 -- ---- nothing is held
 
 module _ (old new : MountState) (id : KeyId) (same : SameButKeyed old new)
-    (idle : is_busy old.disk old.handles.live id ≡ false)
+    (idle : is_in_use old.disk old.handles.live id ≡ false)
     (modeless : (kind : KeyKind) → mode_at old.modes id kind ≡ None) where
   nothing_left : is_some (secret_of new.ring id) ≡ false → is_present new.ring.claims id ≡ false
       → HoldsNothing new.disk new.ring new.inodes new.modes new.names id
   nothing_left secret absent =
       nothing_held new.disk new.ring new.inodes new.modes new.handles.live new.forgets id new.names new.remembers secret absent
-      ((λ i. is_busy (same.disk i) (ap (λ (h : Handles). h.live) same.handles i) id) ∙ idle)
+      ((λ i. is_in_use (same.disk i) (ap (λ (h : Handles). h.live) same.handles i) id) ∙ idle)
       (λ kind. ap (λ (x : Modes). mode_at x id kind) same.modes ∙ modeless kind)
 
   pub lost_nothing : (uid : ℕ) → LosesClaim old new uid id → is_present new.ring.claims id ≡ false

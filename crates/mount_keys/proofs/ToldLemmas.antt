@@ -14,7 +14,7 @@ use Rattle.mount_model.specs.Answered.{Answer, refused}
 use Rattle.mount_model.specs.KeyAnswers.{is_absent, removal_told, removed, all_removed}
 use Rattle.mount_model.specs.KeyAnswers.{answer_to_remove_key, answer_to_remove_key_all}
 use Rattle.mount_model.proofs.CaseLemmas.{at_remove_key, at_remove_key_all}
-use Rattle.mount_state.specs.Held.{is_busy}
+use Rattle.mount_state.specs.Held.{is_in_use}
 use Rattle.mount_state.specs.StandsFor.{StandsFor}
 use Rattle.mount_state.specs.declared.state.MountState.{MountState}
 use Rattle.mount_state.proofs.StandLemmas.{busy_stands}
@@ -65,24 +65,24 @@ reply_of true x y = refl
 reply_of false x y = refl
 
 module _ (s : MountState) (m : PlainMount) (st : StandsFor s m) (uid : ℕ) (id : KeyId) where
-  busy_is : is_busy s.disk s.handles.live id ≡ plain.is_busy m id
+  busy_is : is_in_use s.disk s.handles.live id ≡ plain.is_busy m id
   busy_is = busy_stands s.disk s.next_node m st.well st.tree s.handles.live st.handles.live id
 
   removal_reply : told_of_removal s uid id ≡ (answer_to_remove_key m uid id).reply
   removal_reply =
       (λ i. removal_by (st.keys.claims i) (busy_is i) uid id)
-      ∙ sym (reply_of (is_absent m id) (refused m NoKey)
+      ∙ sym (reply_of (is_absent m.claims (plain.is_busy m id) id) (refused m NoKey)
       (cond (is_present m.claims id && not (has_claim m.claims id uid)) (refused m NoKey)
       (removed m uid id))
-      ∙ ap (cond (is_absent m id) (Refused NoKey)) (reply_of
+      ∙ ap (cond (is_absent m.claims (plain.is_busy m id) id) (Refused NoKey)) (reply_of
       (is_present m.claims id && not (has_claim m.claims id uid)) (refused m NoKey) (removed m uid id)))
 
   clearing_reply : told_of_clearing s uid id ≡ (answer_to_remove_key_all m uid id).reply
   clearing_reply =
       (λ i. clearing_by (st.keys.claims i) (busy_is i) uid id)
       ∙ sym (reply_of (not (uid == 0)) (refused m Access)
-      (cond (is_absent m id) (refused m NoKey) (all_removed m id))
-      ∙ ap (cond (not (uid == 0)) (Refused Access)) (reply_of (is_absent m id) (refused m NoKey)
+      (cond (is_absent m.claims (plain.is_busy m id) id) (refused m NoKey) (all_removed m id))
+      ∙ ap (cond (not (uid == 0)) (Refused Access)) (reply_of (is_absent m.claims (plain.is_busy m id) id) (refused m NoKey)
       (all_removed m id)))
 
   -- what was removed leaves the mount of the answer

@@ -29,20 +29,20 @@ pub record GainsClaim (old new : MountState) (uid : ℕ) (raw : List ℕ) : Type
 
 -- the cached keys once these claims are left: where none is on the key, those drawn from it go from the
 -- nodes without pins
-abbrev pub keys_left : Cache → ClaimSet → KeyId → KeyMap
-keys_left cache claims id = if is_present claims id then cache.keys else evicted cache id
+abbrev pub keys_kept : Cache → ClaimSet → KeyId → KeyMap
+keys_kept cache claims id = if is_present claims id then cache.keys else evicted cache id
 
 -- the cached names once the claims before are those after: with the last one on the key all names go
-abbrev pub names_left : NameList → ClaimSet → ClaimSet → KeyId → NameList
-names_left names before after id =
+abbrev pub names_kept : NameList → ClaimSet → ClaimSet → KeyId → NameList
+names_kept names before after id =
     if is_present before id && not (is_present after id) then with_pairs names [] else names
 
 -- the user has no claim on the key, and with the last one went what was drawn from it, and all cached names
 pub record LosesClaim (old new : MountState) (uid : ℕ) (id : KeyId) : Type 0 where
   pub claims : new.ring.claims ≡ without_claim old.ring.claims id uid
   pub secrets : new.ring.secrets ≡ secrets_left old.ring.secrets new.ring.claims id
-  pub cached : new.inodes.keys ≡ keys_left old.inodes new.ring.claims id
-  pub names : new.names ≡ names_left old.names old.ring.claims new.ring.claims id
+  pub cached : new.inodes.keys ≡ keys_kept old.inodes new.ring.claims id
+  pub names : new.names ≡ names_kept old.names old.ring.claims new.ring.claims id
 
 -- no user has one
 pub record LosesAllClaims (old new : MountState) (id : KeyId) : Type 0 where

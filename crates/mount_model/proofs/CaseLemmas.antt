@@ -7,6 +7,7 @@ use Rattle.policy_ctx.specs.declared.policy.Context.{Context}
 use Rattle.policy_ctx.specs.Policy.{policy_fault}
 use Rattle.plain_tree.specs.Nodes.{Name, children, context_at, is_dir_at}
 use Rattle.plain_tree.specs.Changes.{encrypted}
+use Rattle.fsc_keys.specs.Keys.{key_id_of}
 use Rattle.user_claims.specs.Claims.{has_claim, is_present}
 use Rattle.mount_model.specs.declared.reply.Reply.{Reply}
 use Rattle.mount_model.specs.declared.reply.Reply.TheVariants.{Done, Refused}
@@ -15,6 +16,7 @@ use Rattle.mount_model.specs.declared.reply.Refusal.{Refusal}
 use Rattle.mount_model.specs.declared.reply.Refusal.TheVariants.{NoKey, Access, Quota, Inval, Exists, NotFound, NotDir, NotEmpty, NoData, BadHandle, NameTooLong}
 use Rattle.mount_model.specs.PlainMount.{PlainMount}
 use Rattle.mount_model.specs.Answered.{Answer, refused, told, done, at_node, at_entry}
+use Rattle.mount_model.specs.States.{is_busy}
 use Rattle.mount_model.specs.Walk.{PathParts, Walked, found, led, looked_in, stepped, walked_on, walked_from, walked, parent, parent_parts, last_part}
 use Rattle.mount_model.specs.KeyAnswers.{is_raw_key, is_over_quota, is_absent, added, removed, all_removed, answer_to_add_key, answer_to_remove_key, answer_to_remove_key_all}
 use Rattle.mount_model.specs.PolicyAnswers.{policy_in, may_use, answer_to_encrypt, answer_to_set_policy, policy_told, answer_to_get_policy}
@@ -67,22 +69,22 @@ walked_from_due m n (part ∷ parts) = walked_on_due (λ x. walked_from m x part
 pub parent_due : (m : PlainMount) (path : PathParts) → IsDueWalk (parent m path)
 parent_due m path = walked_on_due (λ d. looked_in m d (last_part path)) (walked m (parent_parts path)) (walked_from_due m 0 (parent_parts path)) (λ d. looked_in_due m d (last_part path))
 
-pub at_walk : (R : Answer → Type 0) (m : PlainMount) (f : ℕ → Answer) (w : Walked) → Covers R m → IsDueWalk w → ((n : ℕ) → w ≡ Ok n → R (f n)) → R (at_node m f w)
+pub at_walk : (R : Answer → Type 0) (m : PlainMount) (f : ℕ → Answer) (w : Walked) → Covers R m → IsDueWalk w → ((n : ℕ) → w ≡ Ok n → R (f n)) → R (at_node m w f)
 at_walk R m f (Err r) covers due ok = covers.of_refusals r due
 at_walk R m f (Ok n) covers due ok = ok n refl
 
-pub at_found : (R : Answer → Type 0) (m : PlainMount) (f : Name → ℕ → Answer) (o : Option (Name × ℕ)) → Covers R m → ((e : Name × ℕ) → o ≡ Some e → R (f e.0 e.1)) → R (at_entry m f o)
+pub at_found : (R : Answer → Type 0) (m : PlainMount) (f : Name → ℕ → Answer) (o : Option (Name × ℕ)) → Covers R m → ((e : Name × ℕ) → o ≡ Some e → R (f e.0 e.1)) → R (at_entry m o f)
 at_found R m f None covers ok = covers.of_refusals NotFound refl
 at_found R m f (Some e) covers ok = ok e refl
 
-pub at_open : (R : Answer → Type 0) (m : PlainMount) (f : ℕ → Answer) (o : Option ℕ) → Covers R m → ((n : ℕ) → o ≡ Some n → R (f n)) → R (at_handle m f o)
+pub at_open : (R : Answer → Type 0) (m : PlainMount) (f : ℕ → Answer) (o : Option ℕ) → Covers R m → ((n : ℕ) → o ≡ Some n → R (f n)) → R (at_handle m o f)
 at_open R m f None covers ok = covers.of_refusals BadHandle refl
 at_open R m f (Some n) covers ok = ok n refl
 
 -- ---- keys
 
 pub at_add_key : (R : Answer → Type 0) (m : PlainMount) (uid : ℕ) (raw : List ℕ) → CoversRefusals R m
-    → (is_raw_key raw ≡ true → is_over_quota m uid raw ≡ false → R (added m uid raw)) → R (answer_to_add_key m uid raw)
+    → (is_raw_key raw ≡ true → is_over_quota m.claims (key_id_of raw) uid ≡ false → R (added m uid raw)) → R (answer_to_add_key m uid raw)
 at_add_key R m uid raw covers ok =
     when R (λ _. covers Inval refl) (λ fits.
     when R (λ _. covers Quota refl) (λ within.
@@ -90,13 +92,13 @@ at_add_key R m uid raw covers ok =
 
 pub at_remove_key : (R : Answer → Type 0) (m : PlainMount) (uid : ℕ) (id : KeyId) → CoversRefusals R m → R (removed m uid id) → R (answer_to_remove_key m uid id)
 at_remove_key R m uid id covers ok =
-    when R (λ _. covers NoKey refl) (λ (_ : is_absent m id ≡ false).
+    when R (λ _. covers NoKey refl) (λ (_ : is_absent m.claims (is_busy m id) id ≡ false).
     when R (λ _. covers NoKey refl) (λ (_ : (is_present m.claims id && not (has_claim m.claims id uid)) ≡ false). ok))
 
 pub at_remove_key_all : (R : Answer → Type 0) (m : PlainMount) (uid : ℕ) (id : KeyId) → CoversRefusals R m → R (all_removed m id) → R (answer_to_remove_key_all m uid id)
 at_remove_key_all R m uid id covers ok =
     when R (λ _. covers Access refl) (λ (_ : not (eqb uid 0) ≡ false).
-    when R (λ _. covers NoKey refl) (λ (_ : is_absent m id ≡ false). ok))
+    when R (λ _. covers NoKey refl) (λ (_ : is_absent m.claims (is_busy m id) id ≡ false). ok))
 
 -- ---- policies
 

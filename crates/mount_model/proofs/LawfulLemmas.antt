@@ -8,9 +8,7 @@ use Rattle.meta_files.specs.declared.files.TheConstants.{MOST_RECORD_BYTES}
 use Rattle.user_claims.specs.Claims.{ClaimSet, no_claims, has_claim, is_present}
 use Rattle.mount_model.specs.declared.call.Op.{Op}
 use Rattle.mount_model.specs.declared.call.Op.TheVariants as op
-use Rattle.mount_model.specs.declared.reply.Reply.{Reply}
 use Rattle.mount_model.specs.declared.reply.Reply.TheVariants.{Refused}
-use Rattle.mount_model.specs.declared.reply.Refusal.{Refusal}
 use Rattle.mount_model.specs.declared.reply.Refusal.TheVariants.{NoKey, Access, Quota, Inval, TooBig, Changed, NoSpace, NoMemory}
 use Rattle.mount_model.specs.PlainMount.{PlainMount, empty_mount, node_of}
 use Rattle.mount_model.specs.Answered.{Answer, refused, done}
@@ -34,7 +32,7 @@ reply_of false x y = refl
 
 -- the answers to the calls on keys are those that are told by the claims
 pub addition_reply : (m : PlainMount) (uid : ℕ) (raw : List ℕ) → (answer_to_add_key m uid raw).reply ≡ addition_by m.claims uid raw
-addition_reply m uid raw = by (not (is_raw_key raw)) (is_over_quota m uid raw)
+addition_reply m uid raw = by (not (is_raw_key raw)) (is_over_quota m.claims (key_id_of raw) uid)
   where
     by : (a b : Bool) → (cond a (refused m Inval) (cond b (refused m Quota) (added m uid raw))).reply
         ≡ added_unless (cond a (Some Inval) (cond b (Some Quota) None)) (key_id_of raw)
@@ -44,17 +42,19 @@ addition_reply m uid raw = by (not (is_raw_key raw)) (is_over_quota m uid raw)
 
 pub removal_reply : (m : PlainMount) (uid : ℕ) (id : KeyId) → (answer_to_remove_key m uid id).reply ≡ removal_by m.claims (is_busy m id) uid id
 removal_reply m uid id =
+    let gone : Bool = is_absent m.claims (is_busy m id) id in
     let held : Bool = is_present m.claims id && not (has_claim m.claims id uid) in
-    reply_of (is_absent m id) (refused m NoKey) (cond held (refused m NoKey) (removed m uid id))
-    ∙ ap (cond (is_absent m id) (Refused NoKey)) (reply_of held (refused m NoKey) (removed m uid id))
+    reply_of gone (refused m NoKey) (cond held (refused m NoKey) (removed m uid id))
+    ∙ ap (cond gone (Refused NoKey)) (reply_of held (refused m NoKey) (removed m uid id))
 
 pub clearing_reply : (m : PlainMount) (uid : ℕ) (id : KeyId) → (answer_to_remove_key_all m uid id).reply ≡ clearing_by m.claims (is_busy m id) uid id
 clearing_reply m uid id =
-    reply_of (not (uid == 0)) (refused m Access) (cond (is_absent m id) (refused m NoKey) (all_removed m id))
-    ∙ ap (cond (not (uid == 0)) (Refused Access)) (reply_of (is_absent m id) (refused m NoKey) (all_removed m id))
+    let gone : Bool = is_absent m.claims (is_busy m id) id in
+    reply_of (not (uid == 0)) (refused m Access) (cond gone (refused m NoKey) (all_removed m id))
+    ∙ ap (cond (not (uid == 0)) (Refused Access)) (reply_of gone (refused m NoKey) (all_removed m id))
 
 close_tells : (m : PlainMount) (caller handle : ℕ) (o : Option ℕ)
-    → TellsBy m.claims 0 (op.Close handle) (at_handle m (λ n. done (with_closed m caller handle n)) o).reply
+    → TellsBy m.claims 0 (op.Close handle) (at_handle m o (λ n. done (with_closed m caller handle n))).reply
 close_tells m caller handle None = inr refl
 close_tells m caller handle (Some n) = inl refl
 

@@ -1,13 +1,12 @@
 -- The limits, and the page behind a page.
-use Rattle.std.proofs.Common.{◌≡◌, ◌↔◌, ℕ, ◌+◌, ◌-◌, ◌≤◌, Bool, true, false, ◌||◌, nat_lt, nat_le, min, List, [], length, take, drop, refl, sym, ap, ◌∙◌, arith}
+use Rattle.std.proofs.Common.{◌≡◌, ℕ, ◌+◌, ◌-◌, false, ◌||◌, nat_lt, nat_le, min, List, [], length, take, drop, sym, ap, ◌∙◌, arith}
 use Rattle.std.proofs.lemmas.Bool.{le-ltb, ltb-false}
 use Rattle.std.proofs.lemmas.List.{drop_all, length-take, length-drop}
 use Rattle.plain_tree.specs.Nodes.{Name}
 use Rattle.mount_model.specs.declared.limits.TheConstants.{MOST_HANDLES, MOST_OPENS, MOST_LISTED}
-use Rattle.mount_model.specs.declared.reply.Reply.TheVariants.{Names}
 use Rattle.name_crypt.specs.declared.limits.TheConstants.{MOST_NAME_BYTES}
-use Rattle.mount_model.specs.PlainMount.{PlainMount, opens_of}
-use Rattle.mount_model.specs.LookAnswers.{listed, page_of}
+use Rattle.mount_model.specs.PlainMount.{opens_of}
+use Rattle.mount_model.specs.LookAnswers.{listed}
 use Rattle.mount_model.specs.LimitLaws.{LimitsAreExact, FurtherNamesFollow}
 
 pub limits_exact : LimitsAreExact

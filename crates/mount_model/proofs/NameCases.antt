@@ -7,8 +7,8 @@ use Rattle.mount_model.specs.PlainMount.{PlainMount}
 use Rattle.mount_model.specs.States.{is_keyed}
 use Rattle.mount_model.specs.Answered.{Answer, done}
 use Rattle.mount_model.specs.Walk.{PathParts, found, is_root, parent, last_part, is_at_or_above}
-use Rattle.mount_model.specs.NameAnswers.{lacks_key, clashes, is_full, is_long_target, new_node, with_node, without_name, answer_to_make_in, answer_to_make, unlinked, answer_to_unlink_in, answer_to_unlink, unlinked_dir, answer_to_rmdir_in, answer_to_rmdir}
-use Rattle.mount_model.specs.RenameAnswer.{may_hold, is_full_elsewhere, with_moved, answer_to_move, answer_to_move_from, answer_to_rename_in, answer_to_rename}
+use Rattle.mount_model.specs.NameAnswers.{lacks_key, clashes, is_full, is_long_target, new_node, with_node, without_name, answer_to_make_in, answer_to_make, answer_to_unlink, answer_to_rmdir}
+use Rattle.mount_model.specs.RenameAnswer.{may_hold, is_full_elsewhere, with_moved, answer_to_move_from, answer_to_rename}
 use Rattle.mount_model.proofs.CaseLemmas.{is_so, Covers, when, parent_due, at_walk, at_found}
 
 -- ---- Mkdir, Create, Symlink
@@ -46,8 +46,8 @@ pub at_unlink : (R : Answer → Type 0) (m : PlainMount) (path : PathParts) → 
     → ((d : ℕ) (e : Name × ℕ) → CanGo m d (last_part path) e → R (done (without_name m d e.0 e.1))) → R (answer_to_unlink m path)
 at_unlink R m path covers ok =
     when R (λ _. covers.of_refusals IsDir refl) (λ (_ : is_root path ≡ false).
-    at_walk R m (answer_to_unlink_in m (last_part path)) (parent m path) covers (parent_due m path) (λ d _.
-    at_found R m (unlinked m d) (found m d (last_part path)) covers (λ e is.
+    at_walk R m _ (parent m path) covers (parent_due m path) (λ d _.
+    at_found R m _ (found m d (last_part path)) covers (λ e is.
     when R (λ _. covers.of_refusals IsDir refl) (λ no_dir.
     ok d e (record { entry_found = is; empty = inl no_dir })))))
 
@@ -55,8 +55,8 @@ pub at_rmdir : (R : Answer → Type 0) (m : PlainMount) (path : PathParts) → C
     → ((d : ℕ) (e : Name × ℕ) → CanGo m d (last_part path) e → R (done (without_name m d e.0 e.1))) → R (answer_to_rmdir m path)
 at_rmdir R m path covers ok =
     when R (λ _. covers.of_refusals Inval refl) (λ (_ : is_root path ≡ false).
-    at_walk R m (answer_to_rmdir_in m (last_part path)) (parent m path) covers (parent_due m path) (λ d _.
-    at_found R m (unlinked_dir m d) (found m d (last_part path)) covers (λ e is.
+    at_walk R m _ (parent m path) covers (parent_due m path) (λ d _.
+    at_found R m _ (found m d (last_part path)) covers (λ e is.
     when R (λ _. covers.of_refusals NotDir refl) (λ (_ : not (is_dir_at m.nodes e.1) ≡ false).
     when R (λ _. covers.of_refusals NotEmpty refl) (λ empty.
     ok d e (record { entry_found = is; empty = inr (is_so _ empty) }))))))
@@ -79,10 +79,10 @@ pub at_rename : (R : Answer → Type 0) (m : PlainMount) (old_path new_path : Pa
     → ((d : ℕ) (e : Name × ℕ) (to : ℕ) → CanMove m d (last_part old_path) e new_path to → R (done (with_moved m d e.0 to (last_part new_path) e.1))) → R (answer_to_rename m old_path new_path)
 at_rename R m old_path new_path covers ok =
     when R (λ _. covers.of_refusals Inval refl) (λ roots.
-    at_walk R m (answer_to_rename_in m (last_part old_path) new_path) (parent m old_path) covers (parent_due m old_path) (λ d _.
+    at_walk R m _ (parent m old_path) covers (parent_due m old_path) (λ d _.
     when R (λ _. covers.of_refusals NoKey refl) (λ (_ : not (is_keyed m d) ≡ false).
     at_found R m (answer_to_move_from m new_path d) (found m d (last_part old_path)) covers (λ e is.
-    at_walk R m (answer_to_move m d e.0 e.1 new_path) (parent m new_path) covers (parent_due m new_path) (λ to led.
+    at_walk R m _ (parent m new_path) covers (parent_due m new_path) (λ to led.
     when R (λ _. covers.of_refusals NoKey refl) (λ keyed.
     when R (λ _. covers.of_refusals Exists refl) (λ free.
     when R (λ _. covers.of_refusals Inval refl) (λ outside.

@@ -10,7 +10,7 @@ use Rattle.mount_model.specs.PlainMount.{PlainMount}
 use Rattle.mount_model.specs.States.{is_keyed_under}
 use Rattle.mount_model.specs.Walk.{is_root, last_part, parent}
 use Rattle.mount_model.specs.Answered.{Answer, refused, at_node}
-use Rattle.mount_model.specs.PolicyAnswers.{policy_in, answer_to_encrypt}
+use Rattle.mount_model.specs.PolicyAnswers.{policy_in, answer_to_encrypt, answer_to_set_at}
 use Rattle.mount_model.specs.NameAnswers.{lacks_key, answer_to_make_in}
 use Rattle.mount_model.specs.OrderLaws.{HandlesKeepNodesKeyed, CreationsNeedTheKey, OnlyEmptyOnesAreEncrypted}
 
@@ -31,8 +31,8 @@ yes_first b x y is = cond-true b x y is
 
 pub creations_need_keys : CreationsNeedTheKey
 creations_need_keys m path nonce body d named led lacks =
-    cond-false (is_root path) (refused m Exists) (at_node m (answer_to_make_in m (last_part path) nonce body) (parent m path)) named
-    ∙ (ap (at_node m (answer_to_make_in m (last_part path) nonce body)) led
+    cond-false (is_root path) (refused m Exists) (at_node m (parent m path) (answer_to_make_in m (last_part path) nonce body)) named
+    ∙ (ap (λ w. at_node m w (answer_to_make_in m (last_part path) nonce body)) led
     ∙ yes_first (lacks_key m (context_at m.nodes d)) (refused m NoKey) _ lacks)
 
 some_entries : {A : Type 0} (xs : List A) → (xs ≢ []) → eqb (length xs) 0 ≡ false
@@ -50,11 +50,7 @@ encrypting m uid d new (Some c) is some = absurd (cc)
 
 pub only_empty_ones : OnlyEmptyOnesAreEncrypted
 only_empty_ones m uid path policy nonce d led dir not_root spelled plain some =
-    ap (at_node m (λ n.
-    cond (not (is_dir_at m.nodes n)) (refused m NotDir) (
-    cond (eqb n 0) (refused m Inval) (
-    cond (is_some (policy_fault policy)) (refused m Inval) (
-    answer_to_encrypt m uid n (record { policy = policy_in policy; nonce = nonce }) (context_at m.nodes n)))))) led
+    ap (λ w. at_node m w (answer_to_set_at m uid policy nonce)) led
     ∙ (cond-false (not (is_dir_at m.nodes d)) (refused m NotDir) _ (ap not dir)
     ∙ (cond-false (eqb d 0) (refused m Inval) _ (no_root (eqb d 0) refl)
     ∙ (cond-false (is_some (policy_fault policy)) (refused m Inval) _ spelled

@@ -21,7 +21,7 @@ use Rattle.mount_model.specs.Answered.{Answer}
 use Rattle.mount_model.specs.Answer.{answer_to}
 use Rattle.mount_model.specs.Fits.{OpFits, Fits}
 use Rattle.mount_model.specs.Step.{IsMountStep}
-use Rattle.mount_model.specs.History.{MountEntry, History, mount_left, mount_from, mount_after, IsLegalFrom, IsLegal}
+use Rattle.mount_model.specs.History.{MountEntry, History, mount_left, IsStepAt, mount_from, mount_after, IsLegalFrom, IsLegal}
 use Rattle.mount_model.specs.ClaimHistory.{is_refused}
 use Rattle.mount_model.specs.Lawful.{raw_of, raws_added, KeysAgree, KeyAgrees, AllFit}
 use Rattle.mount_model.specs.WellFormed.{HasKeys, IsWellFormed}
@@ -104,7 +104,7 @@ module _ (among : List (List ℕ)) where
   raws_step m caller uid (op.MetaLoad name) are given = at_meta_load Kept m name (covers m are)
   raws_step m caller uid (op.MetaStore name expected bytes) are given = at_meta_store Kept m name expected bytes (covers m are) (λ _ _. are)
 
-  pub entry_raws : (m : PlainMount) (e : MountEntry) → AreAmong m.raws → (is_refused e.reply ≡ false → IsAmong e.call.op) → IsMountStep m e.who e.call e.reply (mount_left m e) → AreAmong (mount_left m e).raws
+  pub entry_raws : (m : PlainMount) (e : MountEntry) → AreAmong m.raws → (is_refused e.reply ≡ false → IsAmong e.call.op) → IsStepAt m e → AreAmong (mount_left m e).raws
   entry_raws m e are given step = ⊎_elim
       (λ a. subst (λ (x : PlainMount). AreAmong x.raws) (sym a.1) (raws_step m e.who e.call.uid e.call.op are (λ told. given (ap is_refused a.0 ∙ told))))
       (λ w. subst (λ (x : PlainMount). AreAmong x.raws) (sym w.2) are)

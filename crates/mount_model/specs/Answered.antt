@@ -24,11 +24,11 @@ abbrev pub done : PlainMount → Answer
 done m = record { reply = Done; mount = m }
 
 -- what is answered at the node that was reached; where none was, its refusal
-abbrev pub at_node : PlainMount → (ℕ → Answer) → Result ℕ Refusal → Answer
-at_node m f (Err refusal) = refused m refusal
-at_node m f (Ok n) = f n
+abbrev pub at_node : PlainMount → Result ℕ Refusal → (ℕ → Answer) → Answer
+at_node m (Err refusal) f = refused m refusal
+at_node m (Ok n) f = f n
 
 -- what is answered at the entry that was found; NotFound where there is none
-abbrev pub at_entry : PlainMount → (Name → ℕ → Answer) → Option (Name × ℕ) → Answer
-at_entry m f None = refused m NotFound
-at_entry m f (Some e) = f e.0 e.1
+abbrev pub at_entry : PlainMount → Option (Name × ℕ) → (Name → ℕ → Answer) → Answer
+at_entry m None f = refused m NotFound
+at_entry m (Some e) f = f e.0 e.1

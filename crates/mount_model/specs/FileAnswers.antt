@@ -42,19 +42,30 @@ opened_on m caller n = record { reply = Opened (opens_of m.opened caller); mount
 abbrev pub is_link_at : Nodes → ℕ → Bool
 is_link_at nodes n = option_map_or (λ v. is_link v.body) (get nodes n) false
 
-abbrev pub answer_to_open : PlainMount → ℕ → PathParts → Answer
-answer_to_open m caller path = at_node m (λ n.
+-- what is answered at node n
+abbrev pub open_told : PlainMount → ℕ → ℕ → Answer
+open_told m caller n =
     if is_link_at m.nodes n then refused m Inval else
     if not (is_keyed m n) then refused m NoKey else
     if is_out_of_handles m caller then refused m NoSpace else
-    opened_on m caller n) (walked m path)
+    opened_on m caller n
+
+abbrev pub answer_to_open : PlainMount → ℕ → PathParts → Answer
+answer_to_open m caller path = at_node m (walked m path) (open_told m caller)
 
 -- ---- Read and Write
 
 -- what is answered at the node that is open under the number; BadHandle where the caller has none
-abbrev pub at_handle : PlainMount → (ℕ → Answer) → Option ℕ → Answer
-at_handle m f None = refused m BadHandle
-at_handle m f (Some n) = f n
+abbrev pub at_handle : PlainMount → Option ℕ → (ℕ → Answer) → Answer
+at_handle m None f = refused m BadHandle
+at_handle m (Some n) f = f n
+
+-- the same where what is open has to be a file
+abbrev pub at_file : PlainMount → ℕ → ℕ → (ℕ → Answer) → Answer
+at_file m caller handle f =
+    at_handle m (node_of m.handles caller handle) λ n.
+    if is_dir_at m.nodes n then refused m IsDir else
+    f n
 
 -- the contents of the file; empty where there is none
 abbrev pub contents_at : Nodes → ℕ → List ℕ
@@ -65,10 +76,10 @@ abbrev pub content_of : PlainMount → ℕ → ℕ → ℕ → Reply
 content_of m n offset len = Content (bytes_from offset len (contents_at m.nodes n))
 
 abbrev pub answer_to_read : PlainMount → ℕ → ℕ → ℕ → ℕ → Answer
-answer_to_read m caller handle offset len = at_handle m (λ n.
-    if is_dir_at m.nodes n then refused m IsDir else
+answer_to_read m caller handle offset len =
+    at_file m caller handle λ n.
     if nat_lt MOST_READ_BYTES len then refused m TooBig else
-    told m (content_of m n offset len)) (node_of m.handles caller handle)
+    told m (content_of m n offset len)
 
 -- how many blocks contents have, the last of them perhaps begun
 abbrev pub block_count : List ℕ → ℕ
@@ -89,12 +100,11 @@ lacks_blocks_for m n offset bytes =
 
 -- a gap before the offset is filled with zeros; no bytes change nothing
 abbrev pub answer_to_write : PlainMount → ℕ → ℕ → ℕ → List ℕ → Answer
-answer_to_write m caller handle offset bytes = at_handle m (λ n.
-    if is_dir_at m.nodes n then refused m IsDir else
+answer_to_write m caller handle offset bytes =
+    at_file m caller handle λ n.
     if nat_lt MOST_FILE_BYTES (offset + length bytes) then refused m TooBig else
     if lacks_blocks_for m n offset bytes then refused m NoSpace else
-    done (record m { nodes = written m.nodes n (with_bytes offset bytes) }))
-    (node_of m.handles caller handle)
+    done (record m { nodes = written m.nodes n (with_bytes offset bytes) })
 
 -- ---- Close
 
@@ -111,4 +121,4 @@ with_closed m caller handle n = record m {
 
 abbrev pub answer_to_close : PlainMount → ℕ → ℕ → Answer
 answer_to_close m caller handle =
-    at_handle m (λ n. done (with_closed m caller handle n)) (node_of m.handles caller handle)
+    at_handle m (node_of m.handles caller handle) λ n. done (with_closed m caller handle n)

@@ -25,6 +25,10 @@ is_want_of_memory other = false
 abbrev pub mount_left : PlainMount → MountEntry → PlainMount
 mount_left m e = if is_want_of_memory e.reply then m else (answer_of m e.who e.call).mount
 
+-- the entry is a step at the mount
+abbrev pub IsStepAt : PlainMount → MountEntry → Type 0
+IsStepAt m e = IsMountStep m e.who e.call e.reply (mount_left m e)
+
 abbrev pub mount_from : PlainMount → History → PlainMount
 mount_from m [] = m
 mount_from m (e ∷ es) = mount_from (mount_left m e) es
@@ -36,8 +40,7 @@ mount_after history = mount_from empty_mount history
 -- each entry is a step at the mount that the earlier entries leave
 abbrev pub IsLegalFrom : PlainMount → History → Type 0
 IsLegalFrom m [] = ⊤
-IsLegalFrom m (e ∷ es) =
-    IsMountStep m e.who e.call e.reply (mount_left m e) × IsLegalFrom (mount_left m e) es
+IsLegalFrom m (e ∷ es) = IsStepAt m e × IsLegalFrom (mount_left m e) es
 
 abbrev pub IsLegal : History → Type 0
 IsLegal history = IsLegalFrom empty_mount history

@@ -1,17 +1,19 @@
 -- The calls on keys: what each answers, its refusals in the order in which they are tried, and the
--- mount that it leaves.
+-- mount that it leaves. They are tried by the claims alone, and by whether something open needs the key,
+-- which is `busy` here.
 use Rattle.std.specs.Prelude.{ℕ, Bool, false, List, length, not, ◌==◌, ◌&&◌, nat_le, if◌then◌else◌}
 use Rattle.policy_ctx.specs.declared.policy.KeyId.{KeyId}
 use Rattle.fsc_keys.specs.Keys.{key_id_of}
-use Rattle.user_claims.specs.Claims.{has_claim, is_present, count_of_user, count_of_id}
+use Rattle.user_claims.specs.Claims.{ClaimSet, has_claim, is_present, count_of_user, count_of_id}
 use Rattle.user_claims.specs.Claims.{with_claim, without_claim, without_id}
 use Rattle.fsc_keys.specs.declared.raw_key.TheConstants.{LEAST_RAW_KEY_BYTES, MOST_RAW_KEY_BYTES}
 use Rattle.user_claims.specs.declared.claims.TheConstants.{MOST_CLAIMS}
 use Rattle.mount_model.specs.declared.reply.Reply.{Reply}
 use Rattle.mount_model.specs.declared.reply.Reply.TheVariants.{Added, Removed, Status}
+use Rattle.mount_model.specs.declared.reply.Refusal.{Refusal}
 use Rattle.mount_model.specs.declared.reply.Refusal.TheVariants.{NoKey, Access, Quota, Inval}
 use Rattle.mount_model.specs.PlainMount.{PlainMount, with_raw}
-use Rattle.mount_model.specs.States.{is_busy, key_state_of}
+use Rattle.mount_model.specs.States.{is_busy, key_state_by}
 use Rattle.mount_model.specs.Answered.{Answer, refused, told}
 
 -- ---- AddKey
@@ -21,9 +23,15 @@ abbrev pub is_raw_key : List ℕ → Bool
 is_raw_key raw = nat_le LEAST_RAW_KEY_BYTES (length raw) && nat_le (length raw) MOST_RAW_KEY_BYTES
 
 -- the claim is new, and the user has 64
-abbrev pub is_over_quota : PlainMount → ℕ → List ℕ → Bool
-is_over_quota m uid raw =
-    not (has_claim m.claims (key_id_of raw) uid) && nat_le MOST_CLAIMS (count_of_user m.claims uid)
+abbrev pub is_over_quota : ClaimSet → KeyId → ℕ → Bool
+is_over_quota claims id uid = not (has_claim claims id uid) && nat_le MOST_CLAIMS (count_of_user claims uid)
+
+-- what comes of a user's claim on a raw key: a refusal, or what is due
+abbrev pub adding : {A : Type 0} → (Refusal → A) → A → ClaimSet → ℕ → List ℕ → A
+adding refuse due claims uid raw =
+    if not (is_raw_key raw) then refuse Inval else
+    if is_over_quota claims (key_id_of raw) uid then refuse Quota else
+    due
 
 -- the mount in which the user holds this raw key
 abbrev pub with_key : PlainMount → ℕ → List ℕ → PlainMount
@@ -36,16 +44,20 @@ abbrev pub added : PlainMount → ℕ → List ℕ → Answer
 added m uid raw = record { reply = Added (key_id_of raw); mount = with_key m uid raw }
 
 abbrev pub answer_to_add_key : PlainMount → ℕ → List ℕ → Answer
-answer_to_add_key m uid raw =
-    if not (is_raw_key raw) then refused m Inval else
-    if is_over_quota m uid raw then refused m Quota else
-    added m uid raw
+answer_to_add_key m uid raw = adding (refused m) (added m uid raw) m.claims uid raw
 
 -- ---- RemoveKey and RemoveKeyAll
 
 -- neither a claim stands on the key nor anything open needs it
-abbrev pub is_absent : PlainMount → KeyId → Bool
-is_absent m id = not (is_present m.claims id) && not (is_busy m id)
+abbrev pub is_absent : ClaimSet → Bool → KeyId → Bool
+is_absent claims busy id = not (is_present claims id) && not busy
+
+-- what comes of taking the user's claim away: a refusal, or what is due
+abbrev pub removing : {A : Type 0} → (Refusal → A) → A → ClaimSet → Bool → ℕ → KeyId → A
+removing refuse due claims busy uid id =
+    if is_absent claims busy id then refuse NoKey else
+    if is_present claims id && not (has_claim claims id uid) then refuse NoKey else
+    due
 
 -- others tells whether a claim is left; busy, where none is, whether something open needs the key
 abbrev pub removal_told : Bool → Bool → Reply
@@ -58,10 +70,14 @@ removed m uid id = record {
 }
 
 abbrev pub answer_to_remove_key : PlainMount → ℕ → KeyId → Answer
-answer_to_remove_key m uid id =
-    if is_absent m id then refused m NoKey else
-    if is_present m.claims id && not (has_claim m.claims id uid) then refused m NoKey else
-    removed m uid id
+answer_to_remove_key m uid id = removing (refused m) (removed m uid id) m.claims (is_busy m id) uid id
+
+-- what comes of taking all claims on it away
+abbrev pub removing_all : {A : Type 0} → (Refusal → A) → A → ClaimSet → Bool → ℕ → KeyId → A
+removing_all refuse due claims busy uid id =
+    if not (uid == 0) then refuse Access else
+    if is_absent claims busy id then refuse NoKey else
+    due
 
 abbrev pub all_removed : PlainMount → KeyId → Answer
 all_removed m id = record {
@@ -71,14 +87,16 @@ all_removed m id = record {
 
 abbrev pub answer_to_remove_key_all : PlainMount → ℕ → KeyId → Answer
 answer_to_remove_key_all m uid id =
-    if not (uid == 0) then refused m Access else
-    if is_absent m id then refused m NoKey else
-    all_removed m id
+    removing_all (refused m) (all_removed m id) m.claims (is_busy m id) uid id
 
 -- ---- KeyStatus
 
+abbrev pub status_by : ClaimSet → Bool → ℕ → KeyId → Reply
+status_by claims busy uid id =
+    Status (key_state_by claims busy id) (has_claim claims id uid) (count_of_id claims id)
+
 abbrev pub status_of : PlainMount → ℕ → KeyId → Reply
-status_of m uid id = Status (key_state_of m id) (has_claim m.claims id uid) (count_of_id m.claims id)
+status_of m uid id = status_by m.claims (is_busy m id) uid id
 
 abbrev pub answer_to_key_status : PlainMount → ℕ → KeyId → Answer
 answer_to_key_status m uid id = told m (status_of m uid id)

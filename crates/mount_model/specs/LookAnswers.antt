@@ -27,7 +27,7 @@ target_told m n (Some v) = elim v.body [
 ]
 
 abbrev pub answer_to_read_link : PlainMount → PathParts → Answer
-answer_to_read_link m path = at_node m (λ n. target_told m n (get m.nodes n)) (walked m path)
+answer_to_read_link m path = at_node m (walked m path) λ n. target_told m n (get m.nodes n)
 
 -- ---- List
 
@@ -50,17 +50,21 @@ page_of m d start =
     reply.Names (take MOST_LISTED (drop start (listed m d)))
     (nat_lt (start + MOST_LISTED) (length (listed m d)))
 
-abbrev pub answer_to_list : PlainMount → PathParts → ℕ → Answer
-answer_to_list m path start = at_node m (λ d.
+-- what is answered at node d
+abbrev pub page_at : PlainMount → ℕ → ℕ → Answer
+page_at m start d =
     if not (is_dir_at m.nodes d) then refused m NotDir else
-    told m (page_of m d start)) (walked m path)
+    told m (page_of m d start)
+
+abbrev pub answer_to_list : PlainMount → PathParts → ℕ → Answer
+answer_to_list m path start = at_node m (walked m path) (page_at m start)
 
 -- ---- Stat
 
-abbrev pub kind_of : Body → NodeKind
-kind_of (Dir entries) = kind.Dir
-kind_of (File contents) = kind.File
-kind_of (Link target) = kind.Link
+abbrev pub node_kind : Body → NodeKind
+node_kind (Dir entries) = kind.Dir
+node_kind (File contents) = kind.File
+node_kind (Link target) = kind.Link
 
 -- a directory's number of entries, a file's length, the length of what ReadLink tells
 abbrev pub size_of : PlainMount → ℕ → Body → ℕ
@@ -71,7 +75,7 @@ size_of m n (Link target) = length (shown m n target)
 abbrev pub node_told : PlainMount → ℕ → Option Node → Answer
 node_told m n None = refused m NotFound
 node_told m n (Some v) =
-    told m (reply.Stat (kind_of v.body) n (size_of m n v.body) (is_some v.context) (is_keyed m n))
+    told m (reply.Stat (node_kind v.body) n (size_of m n v.body) (is_some v.context) (is_keyed m n))
 
 abbrev pub answer_to_stat : PlainMount → PathParts → Answer
-answer_to_stat m path = at_node m (λ n. node_told m n (get m.nodes n)) (walked m path)
+answer_to_stat m path = at_node m (walked m path) λ n. node_told m n (get m.nodes n)

@@ -64,6 +64,7 @@ is_long_target (Link target) = nat_lt MOST_NAME_BYTES (length target)
 abbrev pub with_node : PlainMount → ℕ → Name → Node → PlainMount
 with_node m d name v = record m { nodes = made m.nodes d name m.next v; next = m.next + 1 }
 
+-- what is answered in the directory d
 abbrev pub answer_to_make_in : PlainMount → Name → List ℕ → Body → ℕ → Answer
 answer_to_make_in m name nonce body d =
     if lacks_key m (context_at m.nodes d) then refused m NoKey else
@@ -77,7 +78,7 @@ answer_to_make_in m name nonce body d =
 abbrev pub answer_to_make : PlainMount → PathParts → List ℕ → Body → Answer
 answer_to_make m path nonce body =
     if is_root path then refused m Exists else
-    at_node m (answer_to_make_in m (last_part path) nonce body) (parent m path)
+    at_node m (parent m path) (answer_to_make_in m (last_part path) nonce body)
 
 -- ---- Unlink and Rmdir
 
@@ -88,28 +89,19 @@ left_by m nodes x = if has_handle m.handles x then nodes else gone nodes x
 abbrev pub without_name : PlainMount → ℕ → Name → ℕ → PlainMount
 without_name m d name x = record m { nodes = left_by m (dropped m.nodes d name x) x }
 
--- the name of the directory d leads to x
-abbrev pub unlinked : PlainMount → ℕ → Name → ℕ → Answer
-unlinked m d name x = if is_dir_at m.nodes x then refused m IsDir else done (without_name m d name x)
-
-abbrev pub answer_to_unlink_in : PlainMount → Name → ℕ → Answer
-answer_to_unlink_in m part d = at_entry m (unlinked m d) (found m d part)
-
 abbrev pub answer_to_unlink : PlainMount → PathParts → Answer
 answer_to_unlink m path =
     if is_root path then refused m IsDir else
-    at_node m (answer_to_unlink_in m (last_part path)) (parent m path)
-
-abbrev pub unlinked_dir : PlainMount → ℕ → Name → ℕ → Answer
-unlinked_dir m d name x =
-    if not (is_dir_at m.nodes x) then refused m NotDir else
-    if not (length (children m.nodes x) == 0) then refused m NotEmpty else
+    at_node m (parent m path) λ d.
+    at_entry m (found m d (last_part path)) λ name x.
+    if is_dir_at m.nodes x then refused m IsDir else
     done (without_name m d name x)
-
-abbrev pub answer_to_rmdir_in : PlainMount → Name → ℕ → Answer
-answer_to_rmdir_in m part d = at_entry m (unlinked_dir m d) (found m d part)
 
 abbrev pub answer_to_rmdir : PlainMount → PathParts → Answer
 answer_to_rmdir m path =
     if is_root path then refused m Inval else
-    at_node m (answer_to_rmdir_in m (last_part path)) (parent m path)
+    at_node m (parent m path) λ d.
+    at_entry m (found m d (last_part path)) λ name x.
+    if not (is_dir_at m.nodes x) then refused m NotDir else
+    if not (length (children m.nodes x) == 0) then refused m NotEmpty else
+    done (without_name m d name x)

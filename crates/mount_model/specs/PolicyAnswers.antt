@@ -63,12 +63,16 @@ answer_to_encrypt m uid d new None =
     if not (may_use m uid new.policy.id) then refused m NoKey else
     done (record m { nodes = encrypted m.nodes d new })
 
-abbrev pub answer_to_set_policy : PlainMount → ℕ → PathParts → List ℕ → List ℕ → Answer
-answer_to_set_policy m uid path policy nonce = at_node m (λ d.
+-- what is answered at node d
+abbrev pub answer_to_set_at : PlainMount → ℕ → List ℕ → List ℕ → ℕ → Answer
+answer_to_set_at m uid policy nonce d =
     if not (is_dir_at m.nodes d) then refused m NotDir else
     if d == 0 then refused m Inval else
     if is_some (policy_fault policy) then refused m Inval else
-    answer_to_encrypt m uid d (context_of policy nonce) (context_at m.nodes d)) (walked m path)
+    answer_to_encrypt m uid d (context_of policy nonce) (context_at m.nodes d)
+
+abbrev pub answer_to_set_policy : PlainMount → ℕ → PathParts → List ℕ → List ℕ → Answer
+answer_to_set_policy m uid path policy nonce = at_node m (walked m path) (answer_to_set_at m uid policy nonce)
 
 -- ---- GetPolicy
 
@@ -77,4 +81,4 @@ policy_told m None = refused m NoData
 policy_told m (Some c) = told m (PolicyIs (policy_bytes c.policy))
 
 abbrev pub answer_to_get_policy : PlainMount → PathParts → Answer
-answer_to_get_policy m path = at_node m (λ n. policy_told m (context_at m.nodes n)) (walked m path)
+answer_to_get_policy m path = at_node m (walked m path) λ n. policy_told m (context_at m.nodes n)

@@ -33,9 +33,11 @@ is_full_elsewhere m d to = not (to == d) && nat_le MOST_CHILDREN (length (childr
 abbrev pub with_moved : PlainMount → ℕ → Name → ℕ → Name → ℕ → PlainMount
 with_moved m d name to new_name x = record m { nodes = moved m.nodes d name to new_name x }
 
--- the name of x in d is to lead to x as the last part of the path in the directory `to`
-abbrev pub answer_to_move : PlainMount → ℕ → Name → ℕ → PathParts → ℕ → Answer
-answer_to_move m d name x path to =
+-- what is answered once the old path has led to x, by this name of d: the name is to lead to x at the end of
+-- the new path
+abbrev pub answer_to_move_from : PlainMount → PathParts → ℕ → Name → ℕ → Answer
+answer_to_move_from m path d name x =
+    at_node m (parent m path) λ to.
     if not (is_keyed m to) then refused m NoKey else
     if is_some (entry m.nodes to (last_part path)) then refused m Exists else
     if is_at_or_above m x path then refused m Inval else
@@ -44,15 +46,9 @@ answer_to_move m d name x path to =
     if is_full_elsewhere m d to then refused m NoSpace else
     done (with_moved m d name to (last_part path) x)
 
-abbrev pub answer_to_move_from : PlainMount → PathParts → ℕ → Name → ℕ → Answer
-answer_to_move_from m path d name x = at_node m (answer_to_move m d name x path) (parent m path)
-
-abbrev pub answer_to_rename_in : PlainMount → Name → PathParts → ℕ → Answer
-answer_to_rename_in m part new_path d =
-    if not (is_keyed m d) then refused m NoKey else
-    at_entry m (answer_to_move_from m new_path d) (found m d part)
-
 abbrev pub answer_to_rename : PlainMount → PathParts → PathParts → Answer
 answer_to_rename m old_path new_path =
     if is_root old_path || is_root new_path then refused m Inval else
-    at_node m (answer_to_rename_in m (last_part old_path) new_path) (parent m old_path)
+    at_node m (parent m old_path) λ d.
+    if not (is_keyed m d) then refused m NoKey else
+    at_entry m (found m d (last_part old_path)) (answer_to_move_from m new_path d)

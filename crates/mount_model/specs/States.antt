@@ -4,7 +4,7 @@ use Rattle.std.specs.List.{list_any}
 use Rattle.policy_ctx.specs.declared.policy.KeyId.{KeyId}
 use Rattle.policy_ctx.specs.declared.policy.Context.{Context}
 use Rattle.policy_ctx.specs.KeyIds.{same_id}
-use Rattle.user_claims.specs.Claims.{is_present}
+use Rattle.user_claims.specs.Claims.{ClaimSet, is_present}
 use Rattle.plain_tree.specs.Nodes.{Name, Nodes, context_at}
 use Rattle.mount_model.specs.PlainMount.{PlainMount, has_handle}
 use Rattle.mount_model.specs.Sealed.{texts}
@@ -23,9 +23,12 @@ names_key nodes n id = is_of_id id (context_at nodes n)
 abbrev pub is_busy : PlainMount → KeyId → Bool
 is_busy m id = list_any (λ h. names_key m.nodes h.node id) m.handles
 
--- Present where some user has a claim, else Incomplete where something open still needs the key
+-- Present where some user has a claim, else Incomplete where the key is busy: something open still needs it
+abbrev pub key_state_by : ClaimSet → Bool → KeyId → KeyState
+key_state_by claims busy id = if is_present claims id then Present else if busy then Incomplete else Absent
+
 abbrev pub key_state_of : PlainMount → KeyId → KeyState
-key_state_of m id = if is_present m.claims id then Present else if is_busy m id then Incomplete else Absent
+key_state_of m id = key_state_by m.claims (is_busy m id) id
 
 abbrev pub is_keyed_under : PlainMount → ℕ → Option Context → Bool
 is_keyed_under m n None = true

@@ -15,17 +15,17 @@ use Rattle.mount_model.specs.States.{is_keyed, is_keyed_under}
 use Rattle.mount_model.specs.WellFormed.{HasHandles}
 use Rattle.mount_model.proofs.NodeParts.{link_in}
 use Rattle.mount_state.specs.NamesKey.{drawn_key, key_from}
-use Rattle.mount_state.specs.StandsFor.{KeysStand, kind_in}
+use Rattle.mount_state.specs.StandsFor.{KeysStand, plain_kind}
 use Rattle.mount_state.proofs.KeyedLemmas.{drawn_is}
 use Rattle.mount_names.specs.Shown.{HasNames, cipher_with, names_cipher}
 
 -- ---- a symlink is never open
 
-link_of : (o : Option Node) (c : Context) → context_in o ≡ Some c → kind_in o ≡ Names → is_dir_in o ≡ false → link_in o ≡ true
+link_of : (o : Option Node) (c : Context) → context_in o ≡ Some c → plain_kind o ≡ Names → is_dir_in o ≡ false → link_in o ≡ true
 link_of None c bad names other = absurd (cc)
 link_of (Some v) c under names other = at v.body names other
   where
-    at : (b : Body) → kind_in (Some (record v { body = b })) ≡ Names → is_dir_in (Some (record v { body = b })) ≡ false → link_in (Some (record v { body = b })) ≡ true
+    at : (b : Body) → plain_kind (Some (record v { body = b })) ≡ Names → is_dir_in (Some (record v { body = b })) ≡ false → link_in (Some (record v { body = b })) ≡ true
     at (Dir children) names bad = absurd (true≢false bad)
     at (File contents) bad other = absurd (cc)
     at (Link target) names other = refl

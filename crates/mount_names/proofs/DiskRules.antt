@@ -14,7 +14,7 @@ use Rattle.disk_tree.specs.declared.node.StoredNode.{StoredNode}
 use Rattle.disk_tree.specs.declared.node.Body.{Body}
 use Rattle.disk_tree.specs.declared.node.Body.TheVariants.{Dir, File, Link}
 use Rattle.mount_model.specs.PlainMount.{HandleList, has_handle}
-use Rattle.mount_state.specs.Contexts.{context_in, kind_of, kind_in, has_own}
+use Rattle.mount_state.specs.Contexts.{context_on_disk, disk_kind_of, kind_on_disk, has_own}
 use Rattle.mount_state.specs.Discipline.{Forgets}
 use Rattle.mount_state.specs.Safe.{IsSafe}
 use Rattle.mount_names.proofs.EditLemmas.{read_changed, read_inserted, read_removed}
@@ -26,15 +26,15 @@ pub record Leaves {A : Type 0} (read : Option StoredNode → A) : Type 0 where
   pub entries : (g : Entries → Entries) (v : StoredNode) → read (Some (on_body (with_entries g) v)) ≡ read (Some v)
   pub named : (b : Bool) (v : StoredNode) → read (Some (named_as b v)) ≡ read (Some v)
 
-pub leaves_context : Leaves context_in
+pub leaves_context : Leaves context_on_disk
 leaves_context = record { entries = λ g v. refl; named = λ b v. refl }
 
-kind_left : (g : Entries → Entries) (b : Body) → kind_of (with_entries g b) ≡ kind_of b
+kind_left : (g : Entries → Entries) (b : Body) → disk_kind_of (with_entries g b) ≡ disk_kind_of b
 kind_left g (Dir entries) = refl
 kind_left g (File blocks size) = refl
 kind_left g (Link target) = refl
 
-pub leaves_kind : Leaves kind_in
+pub leaves_kind : Leaves kind_on_disk
 leaves_kind = record { entries = λ g v. kind_left g v.body; named = λ b v. refl }
 
 abbrev there : Option StoredNode → Bool
@@ -85,14 +85,14 @@ module _ (disk : Disk) (next : ℕ) (claims : ClaimSet) (cache : Cache) (modes :
     where
       by_key : (o : Option NodeKey) → key_at cache n ≡ o → is_some o ≡ true → ⊥
       by_key None is bad = true≢false (sym bad)
-      by_key (Some key) is _ = true≢false (sym (rule.file_keys.named n key is) ∙ ap (λ o. has_own key.id (context_in o)) (ap (get disk) same ∙ lacks))
+      by_key (Some key) is _ = true≢false (sym (rule.file_keys.named n key is) ∙ ap (λ o. has_own key.id (context_on_disk o)) (ap (get disk) same ∙ lacks))
 
   module _ (w : StoredNode) (d : ℕ) (name : List ℕ) where
     pub made_rule : Forgets (entered (insert disk next w) d name next) claims cache modes live
     made_rule = rule_alike disk (entered (insert disk next w) d name next) claims cache modes live
         (record {
-          contexts = λ n held. read_made context_in leaves_context disk next w d name n (unheld next none_at_next n held);
-          kinds = λ n held. read_made kind_in leaves_kind disk next w d name n (unheld next none_at_next n held);
+          contexts = λ n held. read_made context_on_disk leaves_context disk next w d name n (unheld next none_at_next n held);
+          kinds = λ n held. read_made kind_on_disk leaves_kind disk next w d name n (unheld next none_at_next n held);
         }) rule
 
     pub made_safe : IsSafe (entered (insert disk next w) d name next) (next + 1) live
@@ -112,8 +112,8 @@ module _ (disk : Disk) (next : ℕ) (claims : ClaimSet) (cache : Cache) (modes :
   pub dropped_rule : (d : ℕ) (name : List ℕ) (x : ℕ) → Forgets (dropped disk d name x) claims cache modes live
   dropped_rule d name x = rule_alike disk (dropped disk d name x) claims cache modes live
       (record {
-        contexts = λ n _. read_dropped context_in leaves_context disk d name x n;
-        kinds = λ n _. read_dropped kind_in leaves_kind disk d name x n;
+        contexts = λ n _. read_dropped context_on_disk leaves_context disk d name x n;
+        kinds = λ n _. read_dropped kind_on_disk leaves_kind disk d name x n;
       }) rule
 
   pub dropped_safe : (d : ℕ) (name : List ℕ) (x : ℕ) → IsSafe (dropped disk d name x) next live
@@ -127,8 +127,8 @@ module _ (disk : Disk) (next : ℕ) (claims : ClaimSet) (cache : Cache) (modes :
   pub moved_rule : (d : ℕ) (name : List ℕ) (to : ℕ) (new_name : List ℕ) (x : ℕ) → Forgets (moved disk d name to new_name x) claims cache modes live
   moved_rule d name to new_name x = rule_alike disk (moved disk d name to new_name x) claims cache modes live
       (record {
-        contexts = λ n _. read_moved context_in leaves_context disk d name to new_name x n;
-        kinds = λ n _. read_moved kind_in leaves_kind disk d name to new_name x n;
+        contexts = λ n _. read_moved context_on_disk leaves_context disk d name to new_name x n;
+        kinds = λ n _. read_moved kind_on_disk leaves_kind disk d name to new_name x n;
       }) rule
 
   pub moved_safe : (d : ℕ) (name : List ℕ) (to : ℕ) (new_name : List ℕ) (x : ℕ) → IsSafe (moved disk d name to new_name x) next live
@@ -172,8 +172,8 @@ module _ (disk : Disk) (next : ℕ) (claims : ClaimSet) (cache : Cache) (modes :
     pub gone_rule : Forgets (remove disk x) claims without_key modes live
     gone_rule = rule_alike disk (remove disk x) claims without_key modes live
         (record {
-          contexts = λ n held. read_removed context_in disk x n (held_elsewhere n held);
-          kinds = λ n held. read_removed kind_in disk x n (held_elsewhere n held);
+          contexts = λ n held. read_removed context_on_disk disk x n (held_elsewhere n held);
+          kinds = λ n held. read_removed kind_on_disk disk x n (held_elsewhere n held);
         }) forgotten_rule
 
     pub gone_safe : IsSafe (remove disk x) next live

@@ -220,17 +220,17 @@ module _ (m : PlainMount) (path : PathParts) where
 
   -- what a call on the entry answers where there is none
   pub end_refused : (r : Refusal) → Err r ≡ entry_end m path → (f : ℕ → Name → ℕ → Answer)
-      → at_node m (λ d. at_entry m (f d) (found m d (last_part path))) (parent m path) ≡ refused m r
+      → at_node m (parent m path) (λ d. at_entry m (found m d (last_part path)) (f d)) ≡ refused m r
   end_refused r is f = by (parent m path) is
     where
       same : (a b : Refusal) → no_entry a ≡ no_entry b → a ≡ b
       same a b e = cc
 
-      in_dir : (d : ℕ) (o : Option (Name × ℕ)) → Err r ≡ ends_in d o → at_entry m (f d) o ≡ refused m r
+      in_dir : (d : ℕ) (o : Option (Name × ℕ)) → Err r ≡ ends_in d o → at_entry m o (f d) ≡ refused m r
       in_dir d None is = ap (refused m) (sym (same r NotFound is))
       in_dir d (Some e) is = let bad : no_entry r ≡ ok_entry (entry_in m d e) = is in absurd (cc)
 
-      by : (w : Walked) → Err r ≡ entry_walked m (last_part path) w → at_node m (λ d. at_entry m (f d) (found m d (last_part path))) w ≡ refused m r
+      by : (w : Walked) → Err r ≡ entry_walked m (last_part path) w → at_node m w (λ d. at_entry m (found m d (last_part path)) (f d)) ≡ refused m r
       by (Err q) is = ap (refused m) (sym (same r q is))
       by (Ok d) is = in_dir d (found m d (last_part path)) is
 

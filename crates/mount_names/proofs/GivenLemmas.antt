@@ -34,20 +34,20 @@ target_leaves m n (Some v) = at v.body
 -- ---- at the node
 
 module _ (m : PlainMount) (f : ℕ → Answer) (leaves : (n : ℕ) → (f n).mount ≡ m) (w : Walked) (n : ℕ) (led : Ok n ≡ w) (new : MountState) (stands : StandsFor new m) where
-  pub given_at : (reply : Reply) → reply ≡ (f n).reply → IsGiven (at_node m f w) reply new
-  given_at reply is = subst (λ (x : Walked). IsGiven (at_node m f x) reply new) led (is, subst (StandsFor new) (sym (leaves n)) stands)
+  pub given_at : (reply : Reply) → reply ≡ (f n).reply → IsGiven (at_node m w f) reply new
+  given_at reply is = subst (λ (x : Walked). IsGiven (at_node m x f) reply new) led (is, subst (StandsFor new) (sym (leaves n)) stands)
 
-  pub told_at : (reply : Reply) → IsToldOrNoMemory (f n).reply reply → IsGivenOrNoMemory m (at_node m f w) reply new
+  pub told_at : (reply : Reply) → IsToldOrNoMemory (f n).reply reply → IsGivenOrNoMemory m (at_node m w f) reply new
   told_at reply told = elim told [
     | inl is ↦ inl (given_at reply is)
     | inr wanting ↦ inr (wanting, stands)
   ]
 
 -- what is due at the node is due
-pub due_at : (m : PlainMount) (f : ℕ → Answer) (w : Walked) (n : ℕ) → Ok n ≡ w → (reply : Reply) → IsRefusedAsDue (f n) reply → IsRefusedAsDue (at_node m f w) reply
-due_at m f w n led reply due = subst (λ (x : Walked). IsRefusedAsDue (at_node m f x) reply) led due
+pub due_at : (m : PlainMount) (f : ℕ → Answer) (w : Walked) (n : ℕ) → Ok n ≡ w → (reply : Reply) → IsRefusedAsDue (f n) reply → IsRefusedAsDue (at_node m w f) reply
+due_at m f w n led reply due = subst (λ (x : Walked). IsRefusedAsDue (at_node m x f) reply) led due
 
 -- what was answered to a node stands for the answer
 pub answered_at : (m : PlainMount) (f : ℕ → Answer) (w : Walked) (n : ℕ) → Ok n ≡ w → (new : MountState) (reply : Reply) → IsGivenOrNoMemory m (f n) reply new
-    → IsGivenOrNoMemory m (at_node m f w) reply new
-answered_at m f w n led new reply given = subst (λ (x : Walked). IsGivenOrNoMemory m (at_node m f x) reply new) led given
+    → IsGivenOrNoMemory m (at_node m w f) reply new
+answered_at m f w n led new reply given = subst (λ (x : Walked). IsGivenOrNoMemory m (at_node m x f) reply new) led given

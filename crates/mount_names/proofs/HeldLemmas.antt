@@ -13,11 +13,11 @@ use Rattle.plain_tree.specs.Nodes.{Nodes, context_at}
 use Rattle.mount_model.specs.declared.handle.Handle.{Handle}
 use Rattle.mount_model.specs.PlainMount.{PlainMount, HandleList, has_handle}
 use Rattle.mount_model.specs.Sealed.{node_key}
-use Rattle.mount_state.specs.Contexts.{context_in, kind_in, has_own, has_shared, same_kind, is_of_kind, uses_mode}
+use Rattle.mount_state.specs.Contexts.{context_on_disk, kind_on_disk, has_own, has_shared, same_kind, is_of_kind, uses_mode}
 use Rattle.mount_state.specs.Discipline.{Forgets}
 use Rattle.mount_state.specs.Handles.{users}
 use Rattle.mount_state.specs.StandsFor.{CachesStand}
-use Rattle.mount_state.specs.StandsFor.{kind_in as plain_kind}
+use Rattle.mount_state.specs.StandsFor.{plain_kind}
 
 -- ---- users of nodes that have handles
 
@@ -44,8 +44,8 @@ abbrev pub IsHeld : Cache → HandleList → ℕ → Type 0
 IsHeld cache live n = (is_some (key_at cache n) || has_handle live n) ≡ true
 
 pub record HeldAlike (old new : Disk) (cache : Cache) (live : HandleList) : Type 0 where
-  pub contexts : (n : ℕ) → IsHeld cache live n → context_in (get new n) ≡ context_in (get old n)
-  pub kinds : (n : ℕ) → IsHeld cache live n → kind_in (get new n) ≡ kind_in (get old n)
+  pub contexts : (n : ℕ) → IsHeld cache live n → context_on_disk (get new n) ≡ context_on_disk (get old n)
+  pub kinds : (n : ℕ) → IsHeld cache live n → kind_on_disk (get new n) ≡ kind_on_disk (get old n)
 
 pub by_key : (cache : Cache) (live : HandleList) (n : ℕ) (key : NodeKey) → key_at cache n ≡ Some key → IsHeld cache live n
 by_key cache live n key there = ap (λ o. is_some o || has_handle live n) there

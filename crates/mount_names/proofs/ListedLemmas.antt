@@ -26,7 +26,7 @@ use Rattle.disk_tree.specs.declared.node.StoredNode.{StoredNode}
 use Rattle.disk_tree.specs.declared.node.Body.TheVariants as stored
 use Rattle.disk_tree.specs.DiskTree.{children as stored_entries}
 use Rattle.disk_tree.specs.Entries.{Entries}
-use Rattle.mount_model.specs.LookAnswers.{put_in_order, in_order, page_of}
+use Rattle.mount_model.specs.LookAnswers.{put_in_order, in_order, page_of, page_at}
 use Rattle.mount_model.specs.declared.reply.Reply.{Reply}
 use Rattle.mount_model.specs.declared.reply.Refusal.TheVariants.{NotDir}
 use Rattle.mount_model.specs.PlainMount.{PlainMount}
@@ -39,7 +39,7 @@ use Rattle.mount_state.proofs.EntryLemmas.{children_stand, name_there}
 use Rattle.mount_names.specs.declared.reading.Reading.{Reading}
 use Rattle.mount_names.specs.declared.reading.Reading.TheVariants.{Plain}
 use Rattle.mount_names.specs.Shown.{ShowsAs}
-use Rattle.mount_names.specs.Listed.{page_at, TellsPage}
+use Rattle.mount_names.specs.Listed.{TellsPage}
 use Rattle.mount_names.proofs.PlaceLemmas.{name_plain}
 
 -- ---- the order of names

@@ -16,7 +16,7 @@ use Rattle.key_ring.specs.Holding.{Holding, secret_of}
 use Rattle.key_ring.specs.Modes.{Modes}
 use Rattle.policy_ctx.specs.declared.policy.Context.{Context}
 use Rattle.dentry_cache.specs.Names.{Pair, NameList}
-use Rattle.mount_state.specs.CachedNames.{NamesStand, is_dir_in}
+use Rattle.mount_state.specs.CachedNames.{NamesStand, is_dir_node}
 use Rattle.mount_state.specs.Handles.{Handles}
 use Rattle.mount_model.specs.declared.reply.Reply.TheVariants.{Done}
 use Rattle.mount_model.specs.ClaimHistory.{is_refused}
@@ -33,7 +33,7 @@ use Rattle.mount_model.proofs.WellSteps.{step_well}
 use Rattle.data_crypt.specs.Blocks.{Seal, stored_blocks, blocks_by, block_count}
 use Rattle.mount_state.specs.Stored.{stored_body, stored_node}
 use Rattle.mount_state.specs.StandsFor.{StandsFor, CachesStand}
-use Rattle.mount_state.specs.StandsFor.{kind_of as plain_kind_of, kind_in as plain_kind}
+use Rattle.mount_state.specs.StandsFor.{plain_kind_of, plain_kind}
 use Rattle.mount_state.specs.declared.state.MountState.{MountState}
 use Rattle.mount_names.specs.Places.{Place}
 use Rattle.mount_state.specs.Given.{IsGivenOrNoMemory, IsRefusedAsDue}
@@ -91,7 +91,7 @@ module _ (old : MountState) (m : PlainMount) (st : StandsFor old m) (path : Path
 
   remembered_before : (pair : Pair) → Contains old.names.pairs pair → (pair.0.dir ≢ m.next)
   remembered_before pair held same =
-      true≢false (sym (old.remembers.there pair held) ∙ ap is_dir_in (ap (get old.disk) (same ∙ sym st.tree.next) ∙ lacks))
+      true≢false (sym (old.remembers.there pair held) ∙ ap is_dir_node (ap (get old.disk) (same ∙ sym st.tree.next) ∙ lacks))
 
   alike : {A : Type 0} (read : Option Node → A) → ((g : Children → Children) (v : Node) → read (Some (on_children g v)) ≡ read (Some v)) → (n : ℕ) → (n ≢ m.next)
       → read (get (made m.nodes d name m.next fresh) n) ≡ read (get m.nodes n)

@@ -30,7 +30,7 @@ use Rattle.mount_model.specs.PlainMount.{PlainMount}
 use Rattle.mount_model.specs.Answered.{Answer, refused, done, at_node, at_entry}
 use Rattle.mount_model.specs.States.{is_keyed, shown}
 use Rattle.mount_model.specs.NameAnswers.{clashes}
-use Rattle.mount_model.specs.RenameAnswer.{may_hold, has_policy, is_full_elsewhere, with_moved, answer_to_move, answer_to_move_from, answer_to_rename_in, answer_to_rename}
+use Rattle.mount_model.specs.RenameAnswer.{may_hold, has_policy, is_full_elsewhere, with_moved, answer_to_move_from, answer_to_rename}
 use Rattle.mount_model.specs.Walk.{PathParts, Walked, found, is_root, last_part, parent, is_at_or_above}
 use Rattle.mount_model.specs.WellFormed.{IsWellFormed}
 use Rattle.mount_model.specs.Carried.{IsPath}
@@ -39,7 +39,7 @@ use Rattle.mount_model.proofs.WellSteps.{step_well}
 use Rattle.mount_state.specs.CachedNames.{NamesForget, NamesStand}
 use Rattle.mount_state.specs.Stored.{stored_node, stored_form}
 use Rattle.mount_state.specs.StandsFor.{StandsFor, CachesStand}
-use Rattle.mount_state.specs.StandsFor.{kind_in as plain_kind}
+use Rattle.mount_state.specs.StandsFor.{plain_kind}
 use Rattle.mount_state.specs.declared.state.MountState.{MountState}
 use Rattle.mount_names.specs.Places.{Entry, Place}
 use Rattle.mount_names.specs.Found.{IsEntryOn, entry_in, entry_found, or_not_found}
@@ -94,7 +94,8 @@ source_keyed m part d keyed = ap (λ b. cond (not b) (no_entry NoKey) (or_not_fo
 
 module _ (m : PlainMount) (path new_path : PathParts) where
   abbrev rename_at : Walked → Answer
-  rename_at w = at_node m (answer_to_rename_in m (last_part path) new_path) w
+  rename_at w = at_node m w (λ d.
+      cond (not (is_keyed m d)) (refused m NoKey) (at_entry m (found m d (last_part path)) (answer_to_move_from m new_path d)))
 
   same_refusal : (a b : Refusal) → no_entry a ≡ no_entry b → a ≡ b
   same_refusal a b e = cc
@@ -105,12 +106,12 @@ module _ (m : PlainMount) (path new_path : PathParts) where
   pub source_refused : (r : Refusal) → Err r ≡ source_end m path → rename_at (parent m path) ≡ refused m r
   source_refused r is = by (parent m path) is
     where
-      in_dir : (d : ℕ) (o : Option (Name × ℕ)) → Err r ≡ or_not_found (option_map (entry_in m d) o) → at_entry m (answer_to_move_from m new_path d) o ≡ refused m r
+      in_dir : (d : ℕ) (o : Option (Name × ℕ)) → Err r ≡ or_not_found (option_map (entry_in m d) o) → at_entry m o (answer_to_move_from m new_path d) ≡ refused m r
       in_dir d None is = ap (refused m) (sym (same_refusal r NotFound is))
       in_dir d (Some e) is = let bad : no_entry r ≡ ok_entry (entry_in m d e) = is in absurd (cc)
 
       keyed_or : (d : ℕ) (locked : Bool) → Err r ≡ cond locked (Err NoKey) (or_not_found (entry_found m d (last_part path)))
-          → cond locked (refused m NoKey) (at_entry m (answer_to_move_from m new_path d) (found m d (last_part path))) ≡ refused m r
+          → cond locked (refused m NoKey) (at_entry m (found m d (last_part path)) (answer_to_move_from m new_path d)) ≡ refused m r
       keyed_or d true is = ap (refused m) (sym (same_refusal r NoKey is))
       keyed_or d false is = in_dir d (found m d (last_part path)) is
 
@@ -144,7 +145,7 @@ module _ (m : PlainMount) (path new_path : PathParts) where
   pub rename_is : (is_root path || is_root new_path) ≡ false → (e : Entry) (from : IsFrom m path e) → answer_to_rename m path new_path ≡ answer_to_move_from m new_path e.dir from.name e.number
   rename_is named e from =
       (λ i. cond (named i) (refused m Inval) (rename_at (from.led i)))
-      ∙ (λ i. cond (from.keyed i) (refused m NoKey) (at_entry m (answer_to_move_from m new_path e.dir) (from.found_so i)))
+      ∙ (λ i. cond (from.keyed i) (refused m NoKey) (at_entry m (from.found_so i) (answer_to_move_from m new_path e.dir)))
 
 -- ---- where it goes
 
@@ -167,7 +168,17 @@ module _ (m : PlainMount) (e : Entry) (name : Name) (path : PathParts) where
   joined answer false true r q rest more is = refl
   joined answer false false r q rest more is = is
 
-  move_is : (to : ℕ) → answer_to_move m e.dir name e.number path to ≡ refused_or m (moved_to to) (move_refusal m e to (is_at_or_above m e.number path) (last_part path))
+  -- what is answered in the directory to which the path leads
+  abbrev move_in : ℕ → Answer
+  move_in to =
+      cond (not (is_keyed m to)) (refused m NoKey) (
+      cond (is_some (entry m.nodes to (last_part path))) (refused m Exists) (
+      cond (is_at_or_above m e.number path) (refused m Inval) (
+      cond (not (may_hold (context_at m.nodes to) (context_at m.nodes e.number))) (refused m XDev) (
+      cond (clashes m to (last_part path)) (refused m NoKeyClash) (
+      cond (is_full_elsewhere m e.dir to) (refused m NoSpace) (moved_to to))))))
+
+  move_is : (to : ℕ) → move_in to ≡ refused_or m (moved_to to) (move_refusal m e to (is_at_or_above m e.number path) (last_part path))
   move_is to =
       joined (moved_to to) (not (is_keyed m to)) (is_some (entry m.nodes to (last_part path))) NoKey Exists _ (place_refusal m e to (is_at_or_above m e.number path) (last_part path))
       (one_test (moved_to to) (is_at_or_above m e.number path) Inval _ _
@@ -181,13 +192,13 @@ module _ (m : PlainMount) (e : Entry) (name : Name) (path : PathParts) where
       same : (a b : Refusal) → Some a ≡ Some b → a ≡ b
       same a b e = cc
 
-      by : (w : Walked) → target_walked m e path w ≡ Some r → at_node m (answer_to_move m e.dir name e.number path) w ≡ refused m r
+      by : (w : Walked) → target_walked m e path w ≡ Some r → at_node m w move_in ≡ refused m r
       by (Err q) is = ap (refused m) (same q r is)
       by (Ok to) is = move_is to ∙ ap (refused_or m (moved_to to)) is
 
   pub target_free : (to : ℕ) → parent m path ≡ Ok to → target_refusal m e path ≡ None → answer_to_move_from m path e.dir name e.number ≡ moved_to to
   target_free to led free =
-      ap (at_node m (answer_to_move m e.dir name e.number path)) led
+      ap (λ w. at_node m w move_in) led
       ∙ move_is to ∙ ap (refused_or m (moved_to to)) (ap (target_walked m e path) (sym led) ∙ free)
 
 -- ---- the state in which it was moved

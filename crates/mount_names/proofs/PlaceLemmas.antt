@@ -27,7 +27,7 @@ use Rattle.mount_model.proofs.TreeCalls.{is_name}
 use Rattle.mount_model.proofs.WalkLemmas.{parent_ok}
 use Rattle.mount_state.specs.Led.{led_to}
 use Rattle.mount_state.specs.Stored.{stored_form}
-use Rattle.mount_state.specs.StandsFor.{TreeStands, kind_in}
+use Rattle.mount_state.specs.StandsFor.{TreeStands, plain_kind}
 use Rattle.mount_state.proofs.LedLemmas.{plain_led}
 use Rattle.mount_state.proofs.KeyedLemmas.{keyed_led}
 use Rattle.mount_names.specs.Made.{HasByteKey}
@@ -90,12 +90,12 @@ last_is path part there = ap (λ (o : Option Name). unwrap_or o []) there ∙ un
 pub at_parent : (m : PlainMount) (path : PathParts) (nonce : List ℕ) (body : Body) (d : ℕ) → is_root path ≡ false → Ok d ≡ parent m path
     → answer_to_make m path nonce body ≡ answer_to_make_in m (last_part path) nonce body d
 at_parent m path nonce body d named led =
-    λ i. cond (named i) (refused m Exists) (at_node m (answer_to_make_in m (last_part path) nonce body) (sym led i))
+    λ i. cond (named i) (refused m Exists) (at_node m (sym led i) (answer_to_make_in m (last_part path) nonce body))
 
 at_refusal : (m : PlainMount) (path : PathParts) (nonce : List ℕ) (body : Body) (r : Refusal) → is_root path ≡ false → Err r ≡ parent m path
     → answer_to_make m path nonce body ≡ refused m r
 at_refusal m path nonce body r named led =
-    λ i. cond (named i) (refused m Exists) (at_node m (answer_to_make_in m (last_part path) nonce body) (sym led i))
+    λ i. cond (named i) (refused m Exists) (at_node m (sym led i) (answer_to_make_in m (last_part path) nonce body))
 
 -- what is told in the directory is told at the path
 module _ (m : PlainMount) (path : PathParts) (d : ℕ) (part : Name) (named : is_root path ≡ false) (led : Ok d ≡ parent m path) (part_is : part ≡ last_part path) (fits : IsPath path) where
@@ -131,11 +131,11 @@ keyed_under m n (Some c) lacks = ap (λ b. b || has_handle m.handles n) (held (i
     held true is = refl
     held false is = sym is
 
-dir_kind : (o : Option Node) → is_dir_in o ≡ true → kind_in o ≡ Names
+dir_kind : (o : Option Node) → is_dir_in o ≡ true → plain_kind o ≡ Names
 dir_kind None bad = refl
 dir_kind (Some v) is = at v.body is
   where
-    at : (b : Body) → is_dir_in (Some (record v { body = b })) ≡ true → kind_in (Some (record v { body = b })) ≡ Names
+    at : (b : Body) → is_dir_in (Some (record v { body = b })) ≡ true → plain_kind (Some (record v { body = b })) ≡ Names
     at (Dir children) is = refl
     at (File contents) bad = absurd (true≢false (sym bad))
     at (Link target) bad = refl

@@ -28,7 +28,7 @@ use Rattle.disk_tree.specs.Nodes.{IsDir, with_context}
 use Rattle.disk_tree.specs.declared.node.StoredNode.{StoredNode}
 use Rattle.mount_model.specs.declared.handle.Handle.{Handle}
 use Rattle.mount_model.specs.PlainMount.{HandleList, has_handle}
-use Rattle.mount_state.specs.Contexts.{context_in, kind_in, has_own, has_shared, same_kind, is_of_kind, uses_own, uses_mode}
+use Rattle.mount_state.specs.Contexts.{context_on_disk, kind_on_disk, has_own, has_shared, same_kind, is_of_kind, uses_own, uses_mode}
 use Rattle.mount_state.specs.Discipline.{Forgets}
 use Rattle.mount_state.specs.Handles.{users, handles_on}
 use Rattle.mount_state.specs.Safe.{IsSafe}
@@ -87,7 +87,7 @@ users_come p q d comes others none some (h ∷ hs) =
 
 -- ---- the tree
 
-given_context : (context : List ℕ) (o : Option StoredNode) → of_node ⊥ (λ node. IsDir node.body) o → context_in (option_map (with_context context) o) ≡ Some context
+given_context : (context : List ℕ) (o : Option StoredNode) → of_node ⊥ (λ node. IsDir node.body) o → context_on_disk (option_map (with_context context) o) ≡ Some context
 given_context context None bad = absurd bad
 given_context context (Some v) is = refl
 
@@ -99,23 +99,23 @@ and_true : (b : Bool) → (b && true) ≡ b
 and_true true = refl
 and_true false = refl
 
-module _ (disk : Disk) (next : ℕ) (d : ℕ) (c : Context) (dir : IsDirAt disk d) (plain : context_in (get disk d) ≡ None) where
+module _ (disk : Disk) (next : ℕ) (d : ℕ) (c : Context) (dir : IsDirAt disk d) (plain : context_on_disk (get disk d) ≡ None) where
   abbrev bytes : List ℕ
   bytes = context_bytes c
 
   abbrev after : Disk
   after = changed disk d (with_context bytes)
 
-  context_here : context_in (get after d) ≡ Some bytes
-  context_here = ap context_in (changed_here disk d (with_context bytes)) ∙ given_context bytes (get disk d) dir
+  context_here : context_on_disk (get after d) ≡ Some bytes
+  context_here = ap context_on_disk (changed_here disk d (with_context bytes)) ∙ given_context bytes (get disk d) dir
 
-  context_other : (n : ℕ) → (n ≢ d) → context_in (get after n) ≡ context_in (get disk n)
-  context_other n differ = ap context_in (changed_other disk d (with_context bytes) n differ)
+  context_other : (n : ℕ) → (n ≢ d) → context_on_disk (get after n) ≡ context_on_disk (get disk n)
+  context_other n differ = ap context_on_disk (changed_other disk d (with_context bytes) n differ)
 
-  kind_same : (n : ℕ) → kind_in (get after n) ≡ kind_in (get disk n)
-  kind_same = read_changed kind_in disk d (with_context bytes) (λ v. refl)
+  kind_same : (n : ℕ) → kind_on_disk (get after n) ≡ kind_on_disk (get disk n)
+  kind_same = read_changed kind_on_disk disk d (with_context bytes) (λ v. refl)
 
-  kind_here : kind_in (get after d) ≡ Names
+  kind_here : kind_on_disk (get after d) ≡ Names
   kind_here = kind_same d ∙ dir_kind (get disk d) dir
 
   pub policy_safe : (live : HandleList) → IsSafe disk next live → IsSafe after next live
@@ -156,12 +156,12 @@ module _ (disk : Disk) (next : ℕ) (d : ℕ) (c : Context) (dir : IsDirAt disk 
       abbrev fresh : NodeKey
       fresh = record { id = c.policy.id; key = key }
 
-      own_is : (id : KeyId) (flag : Bool) → c.policy.by_mode ≡ flag → has_own id (context_in (get after d)) ≡ (same_id c.policy.id id && not flag)
+      own_is : (id : KeyId) (flag : Bool) → c.policy.by_mode ≡ flag → has_own id (context_on_disk (get after d)) ≡ (same_id c.policy.id id && not flag)
       own_is id flag is =
           ap (has_own id) context_here
           ∙ (λ i. same_id (id_in-context_bytes c size i) id && not ((is_by_mode_in-context_bytes c ∙ is) i))
 
-      shared_is : (id : KeyId) (flag : Bool) → c.policy.by_mode ≡ flag → has_shared id (context_in (get after d)) ≡ (same_id c.policy.id id && flag)
+      shared_is : (id : KeyId) (flag : Bool) → c.policy.by_mode ≡ flag → has_shared id (context_on_disk (get after d)) ≡ (same_id c.policy.id id && flag)
       shared_is id flag is =
           ap (has_shared id) context_here
           ∙ (λ i. same_id (id_in-context_bytes c size i) id && (is_by_mode_in-context_bytes c ∙ is) i)
@@ -191,8 +191,8 @@ module _ (disk : Disk) (next : ℕ) (d : ℕ) (c : Context) (dir : IsDirAt disk 
         uses_same id kind n = elim (cases_eq n d) [
           | inl same ↦
               ap (uses_mode disk id kind) same
-              ∙ (ap (λ o. has_shared id o && same_kind kind (kind_in (get disk d))) plain
-              ∙ sym (ap (λ b. b && same_kind kind (kind_in (get after d))) (shared_is id false own ∙ nothing_and (same_id c.policy.id id))))
+              ∙ (ap (λ o. has_shared id o && same_kind kind (kind_on_disk (get disk d))) plain
+              ∙ sym (ap (λ b. b && same_kind kind (kind_on_disk (get after d))) (shared_is id false own ∙ nothing_and (same_id c.policy.id id))))
               ∙ ap (uses_mode after id kind) (sym same)
           | inr differ ↦ sym (λ i. has_shared id (context_other n differ i) && same_kind kind (kind_same n i))
         ]
@@ -203,7 +203,7 @@ module _ (disk : Disk) (next : ℕ) (d : ℕ) (c : Context) (dir : IsDirAt disk 
             named = each (λ n k. uses_own after n k.id ≡ true)
                 (own_is c.policy.id false own ∙ and_true (same_id c.policy.id c.policy.id) ∙ same_id-refl c.policy.id)
                 (λ n k differ is. ap (has_own k.id) (context_other n differ) ∙ rule.file_keys.named n k is);
-            kind = each (λ n k. is_of_kind (kind_in (get after n)) k.key ≡ true)
+            kind = each (λ n k. is_of_kind (kind_on_disk (get after n)) k.key ≡ true)
                 (ap (λ x. is_of_kind x key) kind_here ∙ kind)
                 (λ n k differ is. ap (λ x. is_of_kind x k.key) (kind_same n) ∙ rule.file_keys.kind n k is);
             kept = λ n id uses held. elim (cases_eq n d) [
@@ -234,9 +234,9 @@ module _ (disk : Disk) (next : ℕ) (d : ℕ) (c : Context) (dir : IsDirAt disk 
         contents_same id n = elim (cases_eq n d) [
           | inl same ↦
               ap (uses_mode disk id Contents) same
-              ∙ (ap (λ o. has_shared id o && same_kind Contents (kind_in (get disk d))) plain
-              ∙ sym (ap (λ k. has_shared id (context_in (get after d)) && same_kind Contents k) kind_here
-              ∙ nothing_and (has_shared id (context_in (get after d)))))
+              ∙ (ap (λ o. has_shared id o && same_kind Contents (kind_on_disk (get disk d))) plain
+              ∙ sym (ap (λ k. has_shared id (context_on_disk (get after d)) && same_kind Contents k) kind_here
+              ∙ nothing_and (has_shared id (context_on_disk (get after d)))))
               ∙ ap (uses_mode after id Contents) (sym same)
           | inr differ ↦ sym (λ i. has_shared id (context_other n differ i) && same_kind Contents (kind_same n i))
         ]
@@ -247,7 +247,7 @@ module _ (disk : Disk) (next : ℕ) (d : ℕ) (c : Context) (dir : IsDirAt disk 
             ∙ and_true (same_id c.policy.id id && true) ∙ and_true (same_id c.policy.id id)
 
         names_none : (id : KeyId) → uses_mode disk id Names d ≡ false
-        names_none id = ap (λ o. has_shared id o && same_kind Names (kind_in (get disk d))) plain
+        names_none id = ap (λ o. has_shared id o && same_kind Names (kind_on_disk (get disk d))) plain
 
         names_other : (id : KeyId) (n : ℕ) → (n ≢ d) → uses_mode after id Names n ≡ uses_mode disk id Names n
         names_other id n differ = λ i. has_shared id (context_other n differ i) && same_kind Names (kind_same n i)
@@ -309,7 +309,7 @@ module _ (disk : Disk) (next : ℕ) (d : ℕ) (c : Context) (dir : IsDirAt disk 
             kind = λ n k is. ap (λ x. is_of_kind x k.key) (kind_same n) ∙ rule.file_keys.kind n k is;
             kept = λ n id uses on. elim (cases_eq n d) [
               | inl same ↦
-                  absurd (true≢false (sym uses ∙ (ap (λ x. has_own id (context_in (get after x))) same
+                  absurd (true≢false (sym uses ∙ (ap (λ x. has_own id (context_on_disk (get after x))) same
                   ∙ (own_is id true mode ∙ nothing_and (same_id c.policy.id id)))))
               | inr differ ↦ rule.file_keys.kept n id (sym (ap (has_own id) (context_other n differ)) ∙ uses) on
             ];

@@ -31,7 +31,7 @@ use Rattle.mount_state.specs.CachedNames.{NamesStand}
 use Rattle.mount_state.specs.Handles.{Handles, handles_on}
 use Rattle.mount_state.specs.NamesKey.{drawn_key}
 use Rattle.mount_state.specs.Stored.{stored_node, stored_body}
-use Rattle.mount_state.specs.StandsFor.{StandsFor, CachesStand, kind_in}
+use Rattle.mount_state.specs.StandsFor.{StandsFor, CachesStand, plain_kind}
 use Rattle.mount_state.specs.declared.state.MountState.{MountState}
 use Rattle.mount_state.proofs.KeepLemmas.{with_key, kept_stand}
 use Rattle.mount_state.proofs.KeyedLemmas.{drawn_is}
@@ -69,7 +69,7 @@ module _ (old : MountState) (m : PlainMount) (st : StandsFor old m) (d : ℕ) (c
   pub policy_agrees : AgreesBy (stored_node m.raws) (encrypted m.nodes d c) (changed old.disk d (stored.with_context (context_bytes c)))
   policy_agrees = agree_edited (stored_node m.raws) m.nodes old.disk st.tree.nodes d (with_context c) (stored.with_context (context_bytes c)) node_given
 
-  names : kind_in (get m.nodes d) ≡ Names
+  names : plain_kind (get m.nodes d) ≡ Names
   names = dir_names old.disk old.next_node m st.well st.tree d is_dir
 
   given : (o : Option Node) → is_dir_in o ≡ true → context_in (option_map (with_context c) o) ≡ Some c
@@ -79,8 +79,8 @@ module _ (old : MountState) (m : PlainMount) (st : StandsFor old m) (d : ℕ) (c
   context_here : context_at after.nodes d ≡ Some c
   context_here = ap context_in (changed_here m.nodes d (with_context c)) ∙ given (get m.nodes d) is_dir
 
-  kind_here : kind_in (get after.nodes d) ≡ Names
-  kind_here = read_changed kind_in m.nodes d (with_context c) (λ v. refl) d ∙ names
+  kind_here : plain_kind (get after.nodes d) ≡ Names
+  kind_here = read_changed plain_kind m.nodes d (with_context c) (λ v. refl) d ∙ names
 
   -- ---- the key that is drawn is the directory's
 
@@ -90,13 +90,13 @@ module _ (old : MountState) (m : PlainMount) (st : StandsFor old m) (d : ℕ) (c
 
   -- ---- what is cached
 
-  module _ (dir : IsDirAt old.disk d) (plain : disk.context_in (get old.disk d) ≡ None) where
+  module _ (dir : IsDirAt old.disk d) (plain : disk.context_on_disk (get old.disk d) ≡ None) where
     pub unheld_caches : CachesStand old.inodes old.modes after
     unheld_caches = caches_alike old.inodes old.modes m (encrypted m.nodes d c) m.next
         (record {
           contexts = λ n key is. ap context_in (changed_other m.nodes d (with_context c) n
               (not_here old.disk old.next_node d c dir plain old.ring.claims old.inodes old.modes old.handles.live old.forgets n key is));
-          kinds = λ n key is. read_changed kind_in m.nodes d (with_context c) (λ v. refl) n;
+          kinds = λ n key is. read_changed plain_kind m.nodes d (with_context c) (λ v. refl) n;
         }) st.caches
 
     module _ (key : FileKey) (drawn : drawn_key old.ring c ≡ Some key) (kind : is_of_kind Names key ≡ true) (size : length c.policy.id.0 ≡ 16)

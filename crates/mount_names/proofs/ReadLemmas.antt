@@ -10,7 +10,7 @@ use Rattle.disk_tree.specs.Nodes.{IsDir}
 use Rattle.disk_tree.specs.declared.node.StoredNode.{StoredNode}
 use Rattle.mount_model.specs.PlainMount.{PlainMount, Raws}
 use Rattle.mount_model.specs.WellFormed.{IsWellFormed}
-use Rattle.mount_state.specs.Contexts.{context_in}
+use Rattle.mount_state.specs.Contexts.{context_on_disk}
 use Rattle.mount_state.specs.NamesKey.{IsContextOf}
 use Rattle.mount_state.specs.Stored.{stored_node}
 use Rattle.mount_state.specs.StandsFor.{TreeStands}
@@ -60,7 +60,7 @@ module _ (disk : Disk) (next : ℕ) (m : PlainMount) (tree : TreeStands disk nex
   dir_lies is = subst (of_node ⊥ (λ node. IsDir node.body)) (sym (tree.nodes n)) (dir_to m.raws n (get m.nodes n) is)
 
   -- what is read of the node's context
-  pub context_told : IsWellFormed m → (result : Option Context) → IsContextOf disk n result → (context_in (get disk n) ≡ None → result ≡ None) → result ≡ context_at m.nodes n
+  pub context_told : IsWellFormed m → (result : Option Context) → IsContextOf disk n result → (context_on_disk (get disk n) ≡ None → result ≡ None) → result ≡ context_at m.nodes n
   context_told well result read none = by_case (context_at m.nodes n) refl
     where
       by_case : (o : Option Context) → context_at m.nodes n ≡ o → result ≡ context_at m.nodes n

@@ -17,8 +17,8 @@ use Rattle.mount_model.specs.declared.reply.Refusal.TheVariants.{IsDir, Inval, N
 use Rattle.mount_model.specs.declared.reply.Reply.TheVariants.{Refused, Done}
 use Rattle.mount_model.specs.PlainMount.{PlainMount, HandleList, has_handle}
 use Rattle.mount_model.specs.Answered.{Answer, refused, done, at_node, at_entry}
-use Rattle.mount_model.specs.NameAnswers.{without_name, unlinked, unlinked_dir, answer_to_unlink_in, answer_to_unlink, answer_to_rmdir_in, answer_to_rmdir}
-use Rattle.mount_model.specs.Walk.{PathParts, is_root, last_part}
+use Rattle.mount_model.specs.NameAnswers.{without_name, answer_to_unlink, answer_to_rmdir}
+use Rattle.mount_model.specs.Walk.{PathParts, found, is_root, last_part, parent}
 use Rattle.mount_model.specs.WellFormed.{IsWellFormed}
 use Rattle.mount_model.specs.Carried.{IsPath}
 use Rattle.mount_model.specs.declared.call.Op.TheVariants as op
@@ -26,7 +26,7 @@ use Rattle.mount_model.proofs.WellSteps.{step_well}
 use Rattle.mount_state.specs.CachedNames.{NamesStand}
 use Rattle.mount_state.specs.Stored.{stored_node}
 use Rattle.mount_state.specs.StandsFor.{StandsFor, CachesStand}
-use Rattle.mount_state.specs.StandsFor.{kind_in as plain_kind}
+use Rattle.mount_state.specs.StandsFor.{plain_kind}
 use Rattle.mount_state.specs.declared.state.MountState.{MountState}
 use Rattle.mount_state.proofs.UserLemmas.{pins_tell}
 use Rattle.mount_names.specs.Places.{Entry}
@@ -105,14 +105,27 @@ module _ (old : MountState) (m : PlainMount) (st : StandsFor old m) (e : Entry) 
 
 -- ---- what the calls answer at the entry
 
-module _ (m : PlainMount) (path : PathParts) (named : is_root path ≡ false) (e : Entry) (at : IsAt m path e) where
-  pub unlink_is : answer_to_unlink m path ≡ unlinked m e.dir at.name e.number
-  unlink_is = (λ i. cond (named i) (refused m IsDir) (at_node m (answer_to_unlink_in m (last_part path)) (at.led i)))
-      ∙ ap (at_entry m (unlinked m e.dir)) at.found_so
+module _ (m : PlainMount) where
+  -- the name of the directory d leads to x
+  abbrev pub unlinked : ℕ → Name → ℕ → Answer
+  unlinked d name x = cond (is_dir_at m.nodes x) (refused m IsDir) (done (without_name m d name x))
 
-  pub rmdir_is : answer_to_rmdir m path ≡ unlinked_dir m e.dir at.name e.number
-  rmdir_is = (λ i. cond (named i) (refused m Inval) (at_node m (answer_to_rmdir_in m (last_part path)) (at.led i)))
-      ∙ ap (at_entry m (unlinked_dir m e.dir)) at.found_so
+  abbrev pub unlinked_dir : ℕ → Name → ℕ → Answer
+  unlinked_dir d name x = cond (not (is_dir_at m.nodes x)) (refused m NotDir)
+      (cond (not (length (children m.nodes x) == 0)) (refused m NotEmpty) (done (without_name m d name x)))
+
+  -- what a call answers that goes on so at the entry
+  module _ (path : PathParts) (named : is_root path ≡ false) (e : Entry) (at : IsAt m path e) where
+    called_at : (first : Answer) (f : ℕ → Name → ℕ → Answer)
+        → cond (is_root path) first (at_node m (parent m path) (λ d. at_entry m (found m d (last_part path)) (f d))) ≡ f e.dir at.name e.number
+    called_at first f = (λ i. cond (named i) first (at_node m (at.led i) (λ d. at_entry m (found m d (last_part path)) (f d))))
+        ∙ ap (λ o. at_entry m o (f e.dir)) at.found_so
+
+    pub unlink_is : answer_to_unlink m path ≡ unlinked e.dir at.name e.number
+    unlink_is = called_at (refused m IsDir) unlinked
+
+    pub rmdir_is : answer_to_rmdir m path ≡ unlinked_dir e.dir at.name e.number
+    rmdir_is = called_at (refused m Inval) unlinked_dir
 
 -- ---- a mount from which a name goes stays well formed
 

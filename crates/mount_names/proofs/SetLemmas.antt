@@ -17,7 +17,7 @@ use Rattle.mount_model.specs.declared.reply.Refusal.TheVariants.{NoKey, Inval, E
 use Rattle.mount_model.specs.PlainMount.{PlainMount}
 use Rattle.mount_model.specs.Answered.{Answer, refused, done, at_node}
 use Rattle.mount_model.specs.Carried.{IsPath}
-use Rattle.mount_model.specs.PolicyAnswers.{context_of, policy_in, may_use, is_same_policy, answer_to_encrypt, answer_to_set_policy}
+use Rattle.mount_model.specs.PolicyAnswers.{context_of, policy_in, may_use, is_same_policy, answer_to_encrypt, answer_to_set_at, answer_to_set_policy}
 use Rattle.mount_model.specs.Walk.{PathParts, Walked, walked}
 use Rattle.mount_model.specs.WellFormed.{IsWellFormed}
 use Rattle.mount_model.proofs.PolicyLemmas.{read_back}
@@ -25,7 +25,7 @@ use Rattle.mount_model.proofs.WellSteps.{step_well}
 use Rattle.mount_state.specs.Given.{IsGivenOrNoMemory, IsRefusedAsDue}
 use Rattle.mount_state.specs.StandsFor.{StandsFor}
 use Rattle.mount_state.specs.declared.state.MountState.{MountState}
-use Rattle.mount_names.specs.Encrypted.{answer_to_set_at, with_policy}
+use Rattle.mount_names.specs.Encrypted.{with_policy}
 
 -- ---- answers that are refusals
 
@@ -117,7 +117,7 @@ none_left (x ∷ xs) is = let none : length (x ∷ xs) ≡ 0 = eqb-true _ _ is i
 pub set_policy_well : (m : PlainMount) (uid : ℕ) (path : PathParts) (policy nonce : List ℕ) (n : ℕ) → Ok n ≡ walked m path → IsWellFormed m → IsPath path
     → IsWellFormed (answer_to_set_at m uid policy nonce n).mount
 set_policy_well m uid path policy nonce n led well fits =
-    subst (λ (w : Walked). IsWellFormed (at_node m (answer_to_set_at m uid policy nonce) w).mount) (sym led)
+    subst (λ (w : Walked). IsWellFormed (at_node m w (answer_to_set_at m uid policy nonce)).mount) (sym led)
     (step_well m 0 (record { uid = uid; op = op.SetPolicy path policy nonce }) (answer_to_set_policy m uid path policy nonce).reply (answer_to_set_policy m uid path policy nonce).mount
     well fits (λ _. tt) (inl (refl, refl)))
 

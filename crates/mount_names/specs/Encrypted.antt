@@ -1,19 +1,17 @@
 -- What a directory that gets a policy needs of its key, and what the call answers there.
-use Rattle.std.specs.Prelude.{◌≡◌, ◌==◌, ℕ, true, List, [], None, is_some, not, if◌then◌else◌}
+use Rattle.std.specs.Prelude.{◌≡◌, ℕ, true, List, [], None, if◌then◌else◌}
 use Rattle.number_map.specs.Numbered.{insert}
 use Rattle.policy_ctx.specs.declared.policy.Context.{Context}
-use Rattle.policy_ctx.specs.Policy.{policy_fault}
 use Rattle.fsc_keys.specs.declared.file_keys.FileKey.{FileKey}
 use Rattle.fsc_keys.specs.declared.file_keys.KeyKind.TheVariants.{Names}
 use Rattle.key_ring.specs.Modes.{Modes, of_kind, with_kind, with_users}
 use Rattle.inode_refs.specs.Cached.{Cache}
 use Rattle.user_claims.specs.Claims.{is_present}
-use Rattle.plain_tree.specs.Nodes.{children, context_at, is_dir_at}
+use Rattle.plain_tree.specs.Nodes.{children}
 use Rattle.mount_model.specs.declared.reply.Reply.{Reply}
-use Rattle.mount_model.specs.declared.reply.Refusal.TheVariants.{Inval, NotDir}
 use Rattle.mount_model.specs.PlainMount.{PlainMount}
-use Rattle.mount_model.specs.Answered.{Answer, refused, done}
-use Rattle.mount_model.specs.PolicyAnswers.{context_of, answer_to_encrypt}
+use Rattle.mount_model.specs.Answered.{done}
+use Rattle.mount_model.specs.PolicyAnswers.{answer_to_encrypt, answer_to_set_at}
 use Rattle.mount_model.specs.WellFormed.{IsWellFormed}
 use Rattle.plain_tree.specs.Changes.{encrypted}
 use Rattle.mount_state.specs.Given.{IsGivenOrNoMemory}
@@ -32,14 +30,7 @@ modes_with modes handles c key =
     if c.policy.by_mode then with_kind modes Names (with_users (of_kind modes Names) c.policy.id key handles)
     else modes
 
--- what is answered to a policy for node n
-abbrev pub answer_to_set_at : PlainMount → ℕ → List ℕ → List ℕ → ℕ → Answer
-answer_to_set_at m uid policy nonce n =
-    if not (is_dir_at m.nodes n) then refused m NotDir else
-    if n == 0 then refused m Inval else
-    if is_some (policy_fault policy) then refused m Inval else
-    answer_to_encrypt m uid n (context_of policy nonce) (context_at m.nodes n)
-
+-- the node is given the policy, as the call answers
 abbrev pub SetsAt : MountState → MountState → ℕ → ℕ → List ℕ → List ℕ → Reply → Type 0
 SetsAt old new uid n policy nonce reply = (m : PlainMount) → StandsFor old m
     → IsWellFormed (answer_to_set_at m uid policy nonce n).mount

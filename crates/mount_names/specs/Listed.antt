@@ -1,22 +1,15 @@
 -- How the names of a directory are listed.
-use Rattle.std.specs.Prelude.{◌≡◌, ℕ, ◌+◌, List, length, map, take, drop, not, nat_lt, if◌then◌else◌}
+use Rattle.std.specs.Prelude.{◌≡◌, ℕ, ◌+◌, List, length, map, take, drop, nat_lt}
 use Rattle.std.specs.Borrow.{Bor}
 use Rattle.std.specs.List.{AllZip}
-use Rattle.plain_tree.specs.Nodes.{Name, is_dir_at}
+use Rattle.plain_tree.specs.Nodes.{Name}
 use Rattle.disk_tree.specs.Entries.{Entries}
-use Rattle.mount_model.specs.PlainMount.{PlainMount}
-use Rattle.mount_model.specs.Answered.{Answer, refused, told}
-use Rattle.mount_model.specs.LookAnswers.{in_order, page_of}
+use Rattle.mount_model.specs.LookAnswers.{in_order}
 use Rattle.mount_model.specs.declared.limits.TheConstants.{MOST_LISTED}
 use Rattle.mount_model.specs.declared.reply.Reply.{Reply}
 use Rattle.mount_model.specs.declared.reply.Reply.TheVariants.{Names}
-use Rattle.mount_model.specs.declared.reply.Refusal.TheVariants.{NotDir}
 use Rattle.mount_names.specs.declared.reading.Reading.{Reading}
 use Rattle.mount_names.specs.Shown.{ShowsAs}
-
--- what is answered at the directory d to a listing from `start` on
-abbrev pub page_at : PlainMount → ℕ → ℕ → Answer
-page_at m start d = if not (is_dir_at m.nodes d) then refused m NotDir else told m (page_of m d start)
 
 -- the names that the references are to
 abbrev pub names_of : List (Bor Name) → List Name

@@ -15,10 +15,10 @@ use Rattle.plain_tree.specs.Nodes.{Name, context_at}
 use Rattle.mount_model.specs.PlainMount.{PlainMount, Raws}
 use Rattle.mount_model.specs.Sealed.{node_key, node_start}
 use Rattle.mount_model.specs.States.{is_keyed, shown}
-use Rattle.mount_state.specs.Contexts.{context_in}
+use Rattle.mount_state.specs.Contexts.{context_on_disk}
 use Rattle.mount_state.specs.Held as held
 use Rattle.mount_state.specs.Stored.{stored_form}
-use Rattle.mount_state.specs.StandsFor.{StandsFor, kind_in}
+use Rattle.mount_state.specs.StandsFor.{StandsFor, plain_kind}
 use Rattle.mount_state.specs.declared.state.MountState.{MountState}
 use Rattle.mount_names.specs.declared.reading.Reading.{Reading}
 use Rattle.mount_names.specs.declared.reading.Reading.TheVariants.{Plain, Keyed, Locked}
@@ -39,7 +39,7 @@ ShowsAs Locked stored name = (name ≡ nokey_text_of stored) × IsStored stored
 
 -- a directory or a symlink of the mount: a node whose names or whose target are enciphered
 abbrev pub HasNames : PlainMount → ℕ → Type 0
-HasNames m n = kind_in (get m.nodes n) ≡ Names
+HasNames m n = plain_kind (get m.nodes n) ≡ Names
 
 -- in whatever mount the state stands for, the stored form of each name or target is shown as it is there
 abbrev pub ReadsAs : MountState → ℕ → Reading → Type 0
@@ -54,4 +54,4 @@ IsCipherOf s n c cipher = (m : PlainMount) → StandsFor s m → HasNames m n
 
 -- the directory has a policy and is keyed: then a name is enciphered to be found
 abbrev pub enciphers : MountState → ℕ → Bool
-enciphers s dir = is_some (context_in (get s.disk dir)) && held.is_keyed s.disk s.ring.claims s.handles.live dir
+enciphers s dir = is_some (context_on_disk (get s.disk dir)) && held.is_unlocked s.disk s.ring.claims s.handles.live dir

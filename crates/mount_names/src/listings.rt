@@ -2,12 +2,12 @@
 
 ghost use Rattle.std.specs.Prelude.{◌≡◌, ◌+◌, ◌≤◌, List, length, map, IfOk};
 ghost use Rattle.std.specs.List.{AllZip};
-ghost use Rattle.mount_model.specs.LookAnswers.{answer_to_list};
+ghost use Rattle.mount_model.specs.LookAnswers.{answer_to_list, page_at};
 ghost use Rattle.mount_model.specs.PlainMount.{PlainMount};
 ghost use Rattle.mount_state.specs.Given.{IsGivenOrNoMemory, IsToldOrNoMemory, IsRefusedAsDue};
 ghost use Rattle.mount_state.specs.SameButCaches.{SameButCaches};
 ghost use Rattle.mount_state.specs.StandsFor.{StandsFor};
-ghost use Rattle.mount_names.specs.Listed.{names_of, page_at, TellsPage};
+ghost use Rattle.mount_names.specs.Listed.{names_of, TellsPage};
 ghost use Rattle.mount_names.specs.Shown.{ShowsAs};
 ghost use Rattle.plain_tree.specs.Nodes.{Name};
 

@@ -96,7 +96,7 @@ fn node_told(state: &MountState, number: u32) -> Reply
 
 fn kind_of(body: &Body) -> NodeKind
     ensures { (m : PlainMount) (number : ℕ) (v : Node) → body.now ≡ stored_body m.raws number v.context v.body
-        → result ≡ look.kind_of v.body }
+        → result ≡ look.node_kind v.body }
 {
     match body {
         Body::Dir(_) => NodeKind::Dir,

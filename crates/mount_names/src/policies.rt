@@ -11,12 +11,12 @@ ghost use Rattle.mount_model.specs.Carried.{IsPath};
 ghost use Rattle.mount_model.specs.ClaimHistory.{is_refused};
 ghost use Rattle.mount_model.specs.PlainMount.{PlainMount};
 ghost use Rattle.mount_model.specs.PolicyAnswers as policy;
-ghost use Rattle.mount_model.specs.PolicyAnswers.{answer_to_set_policy, is_same_policy};
-ghost use Rattle.mount_state.specs.Contexts.{context_in};
+ghost use Rattle.mount_model.specs.PolicyAnswers.{answer_to_set_at, answer_to_set_policy, is_same_policy};
+ghost use Rattle.mount_state.specs.Contexts.{context_on_disk};
 ghost use Rattle.mount_state.specs.Given.{IsGivenOrNoMemory, IsRefusedAsDue};
 ghost use Rattle.mount_state.specs.SameButCaches.{SameButCaches};
 ghost use Rattle.mount_state.specs.StandsFor.{StandsFor};
-ghost use Rattle.mount_names.specs.Encrypted.{EncryptsAt, EncryptsOpen, SetsAt, answer_to_set_at};
+ghost use Rattle.mount_names.specs.Encrypted.{EncryptsAt, EncryptsOpen, SetsAt};
 ghost use Rattle.mount_names.specs.Encrypted.{keys_with, modes_with};
 ghost use Rattle.mount_names.specs.SameButTree.{SameButPolicies};
 
@@ -100,7 +100,7 @@ fn set_at(
 
 // Whether the node has no context.
 fn is_plain(disk: &DiskTree, number: u32) -> bool
-    ensures { result ≡ is_none (context_in (map.get disk.now number)) }
+    ensures { result ≡ is_none (context_on_disk (map.get disk.now number)) }
 {
     match disk.node(number) {
         Some(node) => node.context.is_none(),
@@ -123,7 +123,7 @@ fn kept(old: &Policy, new: &Policy) -> Reply
 fn encrypt(alloc: Global, state: &mut MountState, uid: u32, dir: u32, context: &Context) -> Reply
     requires dir { IsDirAt state.old.disk dir }
     requires sized { length context.now.policy.id.0 ≡ 16 }
-    requires plain { context_in (map.get state.old.disk dir) ≡ None }
+    requires plain { context_on_disk (map.get state.old.disk dir) ≡ None }
     ensures stands { EncryptsAt state.old state.new uid dir context.now result }
     ensures due { (m : PlainMount) → StandsFor state.old m
         → IsRefusedAsDue (policy.answer_to_encrypt m uid dir context.now None) result }
@@ -154,7 +154,7 @@ fn encrypt_open(
 ) -> Reply
     requires dir { IsDirAt state.old.disk dir }
     requires sized { length context.now.policy.id.0 ≡ 16 }
-    requires plain { context_in (map.get state.old.disk dir) ≡ None }
+    requires plain { context_on_disk (map.get state.old.disk dir) ≡ None }
     requires pins { handles ≡ pins_of state.old.inodes dir }
     requires some { 1 ≤ handles }
     requires present { is_present state.old.ring.claims context.now.policy.id ≡ true }

@@ -19,7 +19,7 @@ use Rattle.mount_model.specs.KeyAnswers.{removal_told, is_raw_key, added, answer
 use Rattle.mount_model.specs.ClaimHistory.{is_refused}
 use Rattle.mount_model.specs.Lawful.{AgreesWith}
 use Rattle.mount_state.specs.Given.{IsGiven, IsGivenOrNoMemory, IsToldOrNoMemory, IsRefusedAsDue}
-use Rattle.mount_state.specs.Held.{is_busy}
+use Rattle.mount_state.specs.Held.{is_in_use}
 use Rattle.mount_state.specs.StandsFor.{StandsFor}
 use Rattle.mount_state.specs.declared.state.MountState.{MountState}
 use Rattle.mount_model.specs.KeyReplies.{added_unless}
@@ -98,16 +98,16 @@ module _ (old new : MountState) (caller : ℕ) (call : Call) (reply : Reply) whe
     told_busy false busy b is = cc
 
     abbrev TellsBusy : Reply → Type 0
-    TellsBusy r = (b : Bool) → r ≡ Removed false b → b ≡ is_busy new.disk new.handles.live id
+    TellsBusy r = (b : Bool) → r ≡ Removed false b → b ≡ is_in_use new.disk new.handles.live id
 
-    busy_stays : SameButKeyed old new → is_busy old.disk old.handles.live id ≡ is_busy new.disk new.handles.live id
-    busy_stays same = sym (λ i. is_busy (same.disk i) (same.handles i).live id)
+    busy_stays : SameButKeyed old new → is_in_use old.disk old.handles.live id ≡ is_in_use new.disk new.handles.live id
+    busy_stays same = sym (λ i. is_in_use (same.disk i) (same.handles i).live id)
 
     pub removal_busy : reply ≡ told_of_removal old call.uid id → SameButKeyed old new → TellsBusy reply
     removal_busy told same = subst TellsBusy (sym told)
-        (at_removal TellsBusy old.ring.claims (is_busy old.disk old.handles.live id)
+        (at_removal TellsBusy old.ring.claims (is_in_use old.disk old.handles.live id)
         (λ b none. absurd (cc))
-        (λ b this. told_busy (is_present (without_claim old.ring.claims id call.uid) id) (is_busy old.disk old.handles.live id) b this
+        (λ b this. told_busy (is_present (without_claim old.ring.claims id call.uid) id) (is_in_use old.disk old.handles.live id) b this
         ∙ busy_stays same))
 
     pub made_remove_key : call.op ≡ RemoveKey id → reply ≡ told_of_removal old call.uid id → (is_refused reply ≡ true → IsSame old new)
@@ -119,9 +119,9 @@ module _ (old new : MountState) (caller : ℕ) (call : Call) (reply : Reply) whe
           stands = λ m st agrees. step_given m (entry caller (call_with call.uid (RemoveKey id)) reply) new (stands m st);
           claims = claims_by (is_refused reply) old.ring.claims (without_claim old.ring.claims id call.uid) new.ring.claims
               (λ no. ap (λ ring. ring.claims) (kept no).ring) (λ yes. (taken yes).claims);
-          told = (is_busy old.disk old.handles.live id, told);
+          told = (is_in_use old.disk old.handles.live id, told);
           refused = λ no. all_kept old new (kept no);
-          sure = λ _. subst IsNoWant (sym told) (at_removal IsNoWant old.ring.claims (is_busy old.disk old.handles.live id) (λ bad. absurd (cc)) (λ bad. absurd (cc)));
+          sure = λ _. subst IsNoWant (sym told) (at_removal IsNoWant old.ring.claims (is_in_use old.disk old.handles.live id) (λ bad. absurd (cc)) (λ bad. absurd (cc)));
           due = λ m st _. (stands m st).0;
         }
 
@@ -141,9 +141,9 @@ module _ (old new : MountState) (caller : ℕ) (call : Call) (reply : Reply) whe
 
     pub clearing_busy : reply ≡ told_of_clearing old call.uid id → SameButKeyed old new → TellsBusy reply
     clearing_busy told same = subst TellsBusy (sym told)
-        (at_clearing TellsBusy old.ring.claims (is_busy old.disk old.handles.live id)
+        (at_clearing TellsBusy old.ring.claims (is_in_use old.disk old.handles.live id)
         (λ b none. absurd (cc)) (λ b none. absurd (cc))
-        (λ b this. same_told (is_busy old.disk old.handles.live id) b this ∙ busy_stays same))
+        (λ b this. same_told (is_in_use old.disk old.handles.live id) b this ∙ busy_stays same))
 
     pub made_remove_key_all : call.op ≡ RemoveKeyAll id → reply ≡ told_of_clearing old call.uid id
         → (is_refused reply ≡ true → IsSame old new) → (is_refused reply ≡ false → LosesAllClaims old new id)
@@ -154,9 +154,9 @@ module _ (old new : MountState) (caller : ℕ) (call : Call) (reply : Reply) whe
           stands = λ m st agrees. step_given m (entry caller (call_with call.uid (RemoveKeyAll id)) reply) new (stands m st);
           claims = claims_by (is_refused reply) old.ring.claims (without_id old.ring.claims id) new.ring.claims
               (λ no. ap (λ ring. ring.claims) (kept no).ring) (λ yes. (taken yes).claims);
-          told = (is_busy old.disk old.handles.live id, told);
+          told = (is_in_use old.disk old.handles.live id, told);
           refused = λ no. all_kept old new (kept no);
-          sure = λ _. subst IsNoWant (sym told) (at_clearing IsNoWant old.ring.claims (is_busy old.disk old.handles.live id) (λ bad. absurd (cc)) (λ bad. absurd (cc)) (λ bad. absurd (cc)));
+          sure = λ _. subst IsNoWant (sym told) (at_clearing IsNoWant old.ring.claims (is_in_use old.disk old.handles.live id) (λ bad. absurd (cc)) (λ bad. absurd (cc)) (λ bad. absurd (cc)));
           due = λ m st _. (stands m st).0;
         }
 
@@ -168,5 +168,5 @@ module _ (old new : MountState) (caller : ℕ) (call : Call) (reply : Reply) whe
         → IsMade old (entry caller call reply) new
     made_key_status is told same keeps stands =
         made_given old new caller call (KeyStatus id) reply is (λ cs. refl)
-        (is_busy old.disk old.handles.live id, told)
+        (is_in_use old.disk old.handles.live id, told)
         same keeps (λ _. subst IsNoWant (sym told) (λ bad. absurd (cc))) stands

@@ -20,12 +20,12 @@ use Rattle.mount_state.specs.SameBut.{IsSame}
 use Rattle.mount_state.specs.SameButCaches.{SameButCaches}
 use Rattle.mount_state.specs.StandsFor.{StandsFor}
 use Rattle.mount_state.specs.declared.state.MountState.{MountState}
-use Rattle.mount_shared.specs.Made.{IsStepOf, IsMade}
+use Rattle.mount_shared.specs.Made.{TakesStep, IsMade}
 
 -- ---- a step
 
 pub step_given : (m : PlainMount) (e : MountEntry) (new : MountState) → IsGiven (answer_of m e.who e.call) e.reply new
-    → IsStepOf m e new
+    → TakesStep m e new
 step_given m e new given =
     let step : IsMountStep m e.who e.call e.reply (answer_of m e.who e.call).mount = inl (given.0, refl) in
     let left : (answer_of m e.who e.call).mount ≡ mount_left m e =
@@ -35,7 +35,7 @@ step_given m e new given =
     )
 
 pub step_given_or_none : (m : PlainMount) (e : MountEntry) (new : MountState) → IsTrue (takes_memory e.call.op)
-    → IsGivenOrNoMemory m (answer_of m e.who e.call) e.reply new → IsStepOf m e new
+    → IsGivenOrNoMemory m (answer_of m e.who e.call) e.reply new → TakesStep m e new
 step_given_or_none m e new takes answered = ⊎_elim
     (λ given. step_given m e new given)
     (λ wanting.
@@ -95,7 +95,7 @@ module _ (old new : MountState) (caller : ℕ) where
   made_else : (uid : ℕ) (o : Op) (reply : Reply) → ((cs : ClaimSet) → claims_made cs uid o ≡ cs)
       → TellsBy old.ring.claims uid o reply → new.ring ≡ old.ring
       → Keeps old new reply → IsSure o reply → IsDueOf old caller uid o reply
-      → ((m : PlainMount) → StandsFor old m → IsStepOf m (entry caller (call_with uid o) reply) new)
+      → ((m : PlainMount) → StandsFor old m → TakesStep m (entry caller (call_with uid o) reply) new)
       → EntryOf uid reply o
   made_else uid o reply none tells same keeps sure due step = record {
     stands = λ m st agrees. step m st;

@@ -4,8 +4,8 @@ use Rattle.mount_model.specs.declared.reply.Reply.TheVariants.{Refused}
 use Rattle.mount_model.specs.declared.reply.Refusal.TheVariants.{NoMemory}
 use Rattle.mount_model.specs.PlainMount.{PlainMount}
 use Rattle.mount_model.specs.Answer.{answer_of}
-use Rattle.mount_model.specs.Step.{takes_memory, IsMountStep}
-use Rattle.mount_model.specs.History.{MountEntry, mount_left}
+use Rattle.mount_model.specs.Step.{takes_memory}
+use Rattle.mount_model.specs.History.{MountEntry, IsStepAt, mount_left}
 use Rattle.mount_model.specs.ClaimHistory.{is_refused, claims_left}
 use Rattle.mount_model.specs.Lawful.{KeyAgrees, TellsClaim}
 use Rattle.mount_state.specs.Given.{IsRefusedAsDue}
@@ -13,16 +13,16 @@ use Rattle.mount_state.specs.SameButCaches.{SameButCaches}
 use Rattle.mount_state.specs.StandsFor.{StandsFor}
 use Rattle.mount_state.specs.declared.state.MountState.{MountState}
 
--- the reply is a step of the mount, and the state stands for the mount that the step leaves
-abbrev pub IsStepOf : PlainMount → MountEntry → MountState → Type 0
-IsStepOf m e state = IsMountStep m e.who e.call e.reply (mount_left m e) × StandsFor state (mount_left m e)
+-- the entry is a step at the mount, and the state stands for the mount that it leaves
+abbrev pub TakesStep : PlainMount → MountEntry → MountState → Type 0
+TakesStep m e state = IsStepAt m e × StandsFor state (mount_left m e)
 
 -- the entry is made of the old state: the new one is left by it
 pub record IsMade (old : MountState) (e : MountEntry) (new : MountState) : Type 0 where
   -- it is a step of whichever mount the state stood for, where a raw key that it adds agrees with what
   -- was added under its identifier before
   pub stands : (m : PlainMount) → StandsFor old m → (is_refused e.reply ≡ false → KeyAgrees m.raws e.call.op)
-      → IsStepOf m e new
+      → TakesStep m e new
   -- in any case the claims change as the entry says, and what it tells of them is so
   pub claims : new.ring.claims ≡ claims_left old.ring.claims e
   pub told : TellsClaim old.ring.claims e

@@ -5,7 +5,7 @@ use Rattle.mount_model.specs.declared.call.Op.TheVariants.{RemoveKey, RemoveKeyA
 use Rattle.mount_model.specs.declared.reply.Reply.{Reply}
 use Rattle.mount_model.specs.declared.reply.Reply.TheVariants.{Removed, Status}
 use Rattle.mount_model.specs.declared.reply.KeyState.TheVariants.{Absent}
-use Rattle.mount_state.specs.Held.{HoldsNothing, is_busy}
+use Rattle.mount_state.specs.Held.{HoldsNothing, is_in_use}
 use Rattle.mount_state.specs.declared.state.MountState.{MountState}
 
 -- of a key that is told Absent nothing is held
@@ -17,7 +17,7 @@ AbsentIsGone s op reply = ⊤
 
 -- where no claim is left, busy is told exactly where some handle is on a node whose context names the key
 abbrev pub BusyIsOpen : MountState → Op → Reply → Type 0
-BusyIsOpen s (RemoveKey id) reply = (busy : Bool) → reply ≡ Removed false busy → busy ≡ is_busy s.disk s.handles.live id
+BusyIsOpen s (RemoveKey id) reply = (busy : Bool) → reply ≡ Removed false busy → busy ≡ is_in_use s.disk s.handles.live id
 BusyIsOpen s (RemoveKeyAll id) reply = (busy : Bool)
-    → reply ≡ Removed false busy → busy ≡ is_busy s.disk s.handles.live id
+    → reply ≡ Removed false busy → busy ≡ is_in_use s.disk s.handles.live id
 BusyIsOpen s op reply = ⊤

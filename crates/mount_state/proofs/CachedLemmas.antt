@@ -24,9 +24,9 @@ use Rattle.disk_tree.specs.declared.node.Body.TheVariants as stored
 use Rattle.mount_model.specs.PlainMount.{PlainMount, HandleList, has_handle}
 use Rattle.mount_model.specs.Sealed.{texts}
 use Rattle.mount_model.specs.States as plain
-use Rattle.mount_state.specs.CachedNames.{NamesForget, NamesStand, IsKept, is_dir, is_dir_at}
-use Rattle.mount_state.specs.CachedNames.{is_dir_in as is_stored_dir}
-use Rattle.mount_state.specs.Held.{is_keyed, is_keyed_under}
+use Rattle.mount_state.specs.CachedNames.{NamesForget, NamesStand, IsKept, is_dir_body, is_dir_on_disk}
+use Rattle.mount_state.specs.CachedNames.{is_dir_node as is_stored_dir}
+use Rattle.mount_state.specs.Held.{is_unlocked, is_unlocked_under}
 use Rattle.mount_state.specs.Led.{led_to}
 use Rattle.mount_state.specs.Handles.{Handles}
 use Rattle.mount_state.specs.SameBut.{SameBut, CachedNames}
@@ -48,23 +48,23 @@ module _ (disk : Disk) (claims : ClaimSet) (live : HandleList) (old new : NameLi
   }
 
   -- where one comes, of a keyed directory
-  pub forget_beside : (more : Pair) → HoldsBeside old new more → is_dir_at disk more.0.dir ≡ true → is_keyed disk claims live more.0.dir ≡ true
+  pub forget_beside : (more : Pair) → HoldsBeside old new more → is_dir_on_disk disk more.0.dir ≡ true → is_unlocked disk claims live more.0.dir ≡ true
       → NamesForget disk claims new live
   forget_beside more beside dir keyed = record {
     there = λ pair held. elim (beside pair held) [
       | inl was ↦ rule.there pair was
-      | inr is ↦ ap (λ (p : Pair). is_dir_at disk p.0.dir) is ∙ dir
+      | inr is ↦ ap (λ (p : Pair). is_dir_on_disk disk p.0.dir) is ∙ dir
     ];
     keyed = λ pair held. elim (beside pair held) [
       | inl was ↦ rule.keyed pair was
-      | inr is ↦ ap (λ (p : Pair). is_keyed disk claims live p.0.dir) is ∙ keyed
+      | inr is ↦ ap (λ (p : Pair). is_unlocked disk claims live p.0.dir) is ∙ keyed
     ];
   }
 
 -- where directories that names are cached of stay keyed ones
 pub forget_when : (old new : Disk) (before after : ClaimSet) (held left : HandleList) (names : NameList) → NamesForget old before names held
-    → ((pair : Pair) → Contains names.pairs pair → is_dir_at old pair.0.dir ≡ true → is_keyed old before held pair.0.dir ≡ true
-    → (is_dir_at new pair.0.dir ≡ true) × (is_keyed new after left pair.0.dir ≡ true))
+    → ((pair : Pair) → Contains names.pairs pair → is_dir_on_disk old pair.0.dir ≡ true → is_unlocked old before held pair.0.dir ≡ true
+    → (is_dir_on_disk new pair.0.dir ≡ true) × (is_unlocked new after left pair.0.dir ≡ true))
     → NamesForget new after names left
 forget_when old new before after held left names rule stays = record {
   there = λ pair is. (stays pair is (rule.there pair is) (rule.keyed pair is)).0;
@@ -73,7 +73,7 @@ forget_when old new before after held left names rule stays = record {
 
 -- a keyed node stays one where no claim went on any key, nor the last handle on the node
 pub keyed_more : (before after : ClaimSet) (held left : HandleList) (node : ℕ) → ((id : KeyId) → is_present before id ≡ true → is_present after id ≡ true)
-    → (has_handle held node ≡ true → has_handle left node ≡ true) → (o : Option (List ℕ)) → is_keyed_under before held node o ≡ true → is_keyed_under after left node o ≡ true
+    → (has_handle held node ≡ true → has_handle left node ≡ true) → (o : Option (List ℕ)) → is_unlocked_under before held node o ≡ true → is_unlocked_under after left node o ≡ true
 keyed_more before after held left node claims handles None is = refl
 keyed_more before after held left node claims handles (Some context) is =
     elim (or_cases (is_present before (id_in context)) (has_handle held node) is) [
@@ -118,10 +118,10 @@ keyed_led m dir part keyed =
 
 -- ---- directories
 
-pub dir_told : (disk : Disk) (dir : ℕ) → IsDirAt disk dir → is_dir_at disk dir ≡ true
+pub dir_told : (disk : Disk) (dir : ℕ) → IsDirAt disk dir → is_dir_on_disk disk dir ≡ true
 dir_told disk dir = of (get disk dir)
   where
-    of_body : (b : StoredBody) → IsDir b → is_dir b ≡ true
+    of_body : (b : StoredBody) → IsDir b → is_dir_body b ≡ true
     of_body (stored.Dir entries) is = refl
     of_body (stored.File blocks size) is = absurd is
     of_body (stored.Link target) is = absurd is

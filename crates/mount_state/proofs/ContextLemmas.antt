@@ -24,7 +24,7 @@ none_of f (Some x) is = absurd (cc)
 
 module _ (on_disk : Disk) (next : ℕ) (m : PlainMount) (well : IsWellFormed m) (tree : TreeStands on_disk next m) (d : ℕ) where
   -- without one there is no policy
-  pub no_context : disk.context_in (get on_disk d) ≡ None → context_at m.nodes d ≡ None
+  pub no_context : disk.context_on_disk (get on_disk d) ≡ None → context_at m.nodes d ≡ None
   no_context none = none_of context_bytes (context_at m.nodes d) (sym none ∙ context_is on_disk next m well tree d)
 
   -- an identifier has 16 bytes
@@ -37,7 +37,7 @@ module _ (on_disk : Disk) (next : ℕ) (m : PlainMount) (well : IsWellFormed m) 
       at (Some other) has c same = sym (ap (λ (x : Context). length x.policy.id.0) (same_some other c same)) ∙ ap (λ (n : ℕ). n) has.0
 
   -- else it is that of the mount's node
-  pub context_read : (bytes : List ℕ) → disk.context_in (get on_disk d) ≡ Some bytes
+  pub context_read : (bytes : List ℕ) → disk.context_on_disk (get on_disk d) ≡ Some bytes
       → (c : Context) × ((context_at m.nodes d ≡ Some c) × ((bytes ≡ context_bytes c) × (length c.policy.id.0 ≡ 16)))
   context_read bytes is = by_case (context_at m.nodes d) refl (sym is ∙ context_is on_disk next m well tree d)
     where

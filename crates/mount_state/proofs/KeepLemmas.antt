@@ -31,7 +31,7 @@ use Rattle.mount_state.specs.Contexts.{has_own, uses_own, is_of_kind}
 use Rattle.mount_state.specs.Discipline.{Forgets}
 use Rattle.mount_model.specs.WellFormed.{IsWellFormed}
 use Rattle.mount_state.specs.Stored.{stored_node}
-use Rattle.mount_state.specs.StandsFor.{TreeStands, CachesStand, kind_in}
+use Rattle.mount_state.specs.StandsFor.{TreeStands, CachesStand, plain_kind}
 use Rattle.mount_state.proofs.StandLemmas.{context_is}
 use Rattle.mount_state.proofs.ContextLemmas.{id_sized}
 
@@ -63,12 +63,12 @@ module _ (cache : Cache) (node : ℕ) (id : KeyId) (key : FileKey) where
   ]
 
   pub kept_rule : (on_disk : Disk) (claims : ClaimSet) (modes : Modes) (live : HandleList) → Forgets on_disk claims cache modes live
-      → uses_own on_disk node id ≡ true → is_of_kind (disk.kind_in (get on_disk node)) key ≡ true → is_present claims id ≡ true
+      → uses_own on_disk node id ≡ true → is_of_kind (disk.kind_on_disk (get on_disk node)) key ≡ true → is_present claims id ≡ true
       → Forgets on_disk claims (with_key cache node id key) modes live
   kept_rule on_disk claims modes live rule own kind present = record {
     file_keys = record {
       named = each_cached (λ n k. uses_own on_disk n k.id ≡ true) rule.file_keys.named own;
-      kind = each_cached (λ n k. is_of_kind (disk.kind_in (get on_disk n)) k.key ≡ true) rule.file_keys.kind kind;
+      kind = each_cached (λ n k. is_of_kind (disk.kind_on_disk (get on_disk n)) k.key ≡ true) rule.file_keys.kind kind;
       kept = λ n other uses held. still_cached n (rule.file_keys.kept n other uses held);
       forgotten = each_cached (λ n k. (is_present claims k.id || has_handle live n) ≡ true) rule.file_keys.forgotten
           (ap (λ b. b || has_handle live node) present);
@@ -78,11 +78,11 @@ module _ (cache : Cache) (node : ℕ) (id : KeyId) (key : FileKey) where
   }
 
   pub kept_stand : (modes : Modes) (m : PlainMount) → CachesStand cache modes m
-      → ((c : Context) → context_at m.nodes node ≡ Some c → key ≡ node_key m.raws c (kind_in (get m.nodes node)))
+      → ((c : Context) → context_at m.nodes node ≡ Some c → key ≡ node_key m.raws c (plain_kind (get m.nodes node)))
       → CachesStand (with_key cache node id key) modes m
   kept_stand modes m stand fresh = record {
     file_keys = λ n k c is under.
-        each_cached (λ x y. (d : Context) → context_at m.nodes x ≡ Some d → y.key ≡ node_key m.raws d (kind_in (get m.nodes x)))
+        each_cached (λ x y. (d : Context) → context_at m.nodes x ≡ Some d → y.key ≡ node_key m.raws d (plain_kind (get m.nodes x)))
         (λ x y there d at. stand.file_keys x y d there at) fresh n k is c under;
     mode_keys = stand.mode_keys;
   }
@@ -94,29 +94,29 @@ own_of c size own =
     λ i. (ap (λ (k : KeyId). same_id k c.policy.id) (id_in-context_bytes c size) ∙ same_id-refl c.policy.id) i
     && not ((is_by_mode_in-context_bytes c ∙ own) i)
 
-pub own_there : (on_disk : Disk) (node : ℕ) (c : Context) → disk.context_in (get on_disk node) ≡ Some (context_bytes c) → length c.policy.id.0 ≡ 16
+pub own_there : (on_disk : Disk) (node : ℕ) (c : Context) → disk.context_on_disk (get on_disk node) ≡ Some (context_bytes c) → length c.policy.id.0 ≡ 16
     → c.policy.by_mode ≡ false → uses_own on_disk node c.policy.id ≡ true
 own_there on_disk node c there size own = ap (has_own c.policy.id) there ∙ own_of c size own
 
-pub dir_kind : (o : Option StoredNode) → of_node ⊥ (λ node. IsDir node.body) o → disk.kind_in o ≡ Names
+pub dir_kind : (o : Option StoredNode) → of_node ⊥ (λ node. IsDir node.body) o → disk.kind_on_disk o ≡ Names
 dir_kind None bad = absurd bad
 dir_kind (Some v) is = of_body v.body is
   where
-    of_body : (body : Body) → IsDir body → disk.kind_of body ≡ Names
+    of_body : (body : Body) → IsDir body → disk.disk_kind_of body ≡ Names
     of_body (Dir entries) is = refl
     of_body (File blocks size) is = absurd is
     of_body (Link target) is = refl
 
-pub names_kind : (on_disk : Disk) (node : ℕ) → IsDirAt on_disk node → (raw nonce : List ℕ) → is_of_kind (disk.kind_in (get on_disk node)) (file_key_of raw Names nonce) ≡ true
+pub names_kind : (on_disk : Disk) (node : ℕ) → IsDirAt on_disk node → (raw nonce : List ℕ) → is_of_kind (disk.kind_on_disk (get on_disk node)) (file_key_of raw Names nonce) ≡ true
 names_kind on_disk node dir raw nonce = ap (λ kind. is_of_kind kind (file_key_of raw Names nonce)) (dir_kind (get on_disk node) dir)
 
 -- ---- it is the key of the mount's node
 
-same_kind_in : (raws : Raws) (node : ℕ) (o : Option Node) → disk.kind_in (option_map (stored_node raws node) o) ≡ kind_in o
+same_kind_in : (raws : Raws) (node : ℕ) (o : Option Node) → disk.kind_on_disk (option_map (stored_node raws node) o) ≡ plain_kind o
 same_kind_in raws node None = refl
 same_kind_in raws node (Some v) = of_body v.body
   where
-    of_body : (body : plain.Body) → disk.kind_in (Some (stored_node raws node (record v { body = body }))) ≡ kind_in (Some (record v { body = body }))
+    of_body : (body : plain.Body) → disk.kind_on_disk (Some (stored_node raws node (record v { body = body }))) ≡ plain_kind (Some (record v { body = body }))
     of_body (plain.Dir entries) = refl
     of_body (plain.File contents) = refl
     of_body (plain.Link target) = refl
@@ -131,13 +131,13 @@ same_context a b sized other is =
     λ i. record { policy = policies i; nonce = nonces i }
 
 pub fresh_key : (on_disk : Disk) (next : ℕ) (m : PlainMount) → IsWellFormed m → TreeStands on_disk next m → (node : ℕ) (context : Context)
-    → disk.context_in (get on_disk node) ≡ Some (context_bytes context) → length context.policy.id.0 ≡ 16 → context.policy.by_mode ≡ false
+    → disk.context_on_disk (get on_disk node) ≡ Some (context_bytes context) → length context.policy.id.0 ≡ 16 → context.policy.by_mode ≡ false
     → IsDirAt on_disk node → (secret : List ℕ) → raw_in m.raws context.policy.id ≡ Some secret
-    → (d : Context) → context_at m.nodes node ≡ Some d → file_key_of secret Names context.nonce ≡ node_key m.raws d (kind_in (get m.nodes node))
+    → (d : Context) → context_at m.nodes node ≡ Some d → file_key_of secret Names context.nonce ≡ node_key m.raws d (plain_kind (get m.nodes node))
 fresh_key on_disk next m well tree node context there sized own dir secret added d under =
     let bytes : context_bytes context ≡ context_bytes d = same_bytes _ _ (sym there ∙ context_is on_disk next m well tree node ∙ ap (option_map context_bytes) under) in
     let same : context ≡ d = same_context context d sized (id_sized on_disk next m well tree node (get m.nodes node) refl d under) bytes in
-    let kind : Names ≡ kind_in (get m.nodes node) = sym (dir_kind (get on_disk node) dir) ∙ ap disk.kind_in (tree.nodes node) ∙ same_kind_in m.raws node (get m.nodes node) in
+    let kind : Names ≡ plain_kind (get m.nodes node) = sym (dir_kind (get on_disk node) dir) ∙ ap disk.kind_on_disk (tree.nodes node) ∙ same_kind_in m.raws node (get m.nodes node) in
     ap (λ (raw : List ℕ). file_key_of raw Names context.nonce) (sym (ap (λ (o : Option (List ℕ)). unwrap_or o []) added))
     ∙ sym (ap (λ b. cond b (mode_key_of (raw_for m.raws context) Names) (file_key_of (raw_for m.raws context) Names context.nonce)) own)
     ∙ ap (λ (c : Context). node_key m.raws c Names) same

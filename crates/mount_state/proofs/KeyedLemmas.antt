@@ -35,15 +35,15 @@ use Rattle.mount_model.specs.PlainMount.{PlainMount, HandleList, has_handle}
 use Rattle.mount_model.specs.Sealed.{raw_for, node_key, node_start, sealed_name, texts}
 use Rattle.mount_model.specs.States.{is_keyed, is_keyed_under, shown, shown_under}
 use Rattle.mount_model.specs.WellFormed.{IsWellFormed}
-use Rattle.mount_state.specs.Contexts.{context_in, has_own, has_shared, uses_own, uses_mode, is_of_kind, same_kind}
-use Rattle.mount_state.specs.Contexts.{kind_in as stored_kind}
+use Rattle.mount_state.specs.Contexts.{context_on_disk, has_own, has_shared, uses_own, uses_mode, is_of_kind, same_kind}
+use Rattle.mount_state.specs.Contexts.{kind_on_disk as stored_kind}
 use Rattle.mount_state.specs.Discipline.{Forgets}
 use Rattle.mount_state.specs.Led.{led_to}
 use Rattle.mount_state.specs.NamesKey.{cached_key, drawn_key, key_from}
 use Rattle.mount_state.specs.NamesCipher.{own_names_key, used_mode_key, other_key, IsCipherUnder, LeadsByOther}
 use Rattle.mount_state.specs.NamesCipher.{led_under as led_by_cipher}
 use Rattle.mount_state.specs.Stored.{stored_node, stored_form}
-use Rattle.mount_state.specs.StandsFor.{TreeStands, KeysStand, CachesStand, kind_in}
+use Rattle.mount_state.specs.StandsFor.{TreeStands, KeysStand, CachesStand, plain_kind}
 use Rattle.mount_state.proofs.LedLemmas.{decided, led_by, name_of_entry}
 use Rattle.mount_state.proofs.StandLemmas.{context_is, id_sized}
 use Rattle.mount_state.proofs.UserLemmas.{some_from, users_from}
@@ -54,11 +54,11 @@ names_key raw c = elim c.policy.by_mode as (λ b. is_of_kind Names (cond b (mode
 pub is_names_key : (m : PlainMount) (c : Context) → is_of_kind Names (node_key m.raws c Names) ≡ true
 is_names_key m c = names_key (raw_for m.raws c) c
 
-pub dir_kind : (o : Option Node) → is_dir_in o ≡ true → kind_in o ≡ Names
+pub dir_kind : (o : Option Node) → is_dir_in o ≡ true → plain_kind o ≡ Names
 dir_kind None bad = refl
 dir_kind (Some v) is = at v.body is
   where
-    at : (b : Body) → is_dir_in (Some (record v { body = b })) ≡ true → kind_in (Some (record v { body = b })) ≡ Names
+    at : (b : Body) → is_dir_in (Some (record v { body = b })) ≡ true → plain_kind (Some (record v { body = b })) ≡ Names
     at (Dir children) is = refl
     at (File contents) bad = absurd (true≢false (sym bad))
     at (Link target) bad = refl
@@ -109,7 +109,7 @@ module _ (m : PlainMount) (dir : ℕ) (c : Context) (here : context_at m.nodes d
           ∙ sym (ap (λ o. key_from c (unwrap_or o [])) (stand.secrets c.policy.id raw there))
 
   -- so is one that is cached for the directory, of which the cipher stands ready
-  pub own_is : (cache : Cache) (modes : Modes) → CachesStand cache modes m → kind_in (get m.nodes dir) ≡ Names → (bytes : List ℕ) → own_names_key cache dir c ≡ Some bytes → key.Names bytes ≡ node_key m.raws c Names
+  pub own_is : (cache : Cache) (modes : Modes) → CachesStand cache modes m → plain_kind (get m.nodes dir) ≡ Names → (bytes : List ℕ) → own_names_key cache dir c ≡ Some bytes → key.Names bytes ≡ node_key m.raws c Names
   own_is cache modes stand names bytes is = by_flag c.policy.by_mode is
     where
       some_bytes : (x y : List ℕ) → Some x ≡ Some y → x ≡ y
@@ -168,7 +168,7 @@ module _ (m : PlainMount) (dir : ℕ) (c : Context) (here : context_at m.nodes d
 
   -- where the directory is keyed, the state has the key
   module _ (disk : Disk) (next : ℕ) (well : IsWellFormed m) (tree : TreeStands disk next m) (is_dir : is_dir_at m.nodes dir ≡ true) where
-    pub context_here : context_in (get disk dir) ≡ Some (context_bytes c)
+    pub context_here : context_on_disk (get disk dir) ≡ Some (context_bytes c)
     context_here = context_is disk next m well tree dir ∙ ap (option_map context_bytes) here
 
     named_here : same_id c.policy.id c.policy.id ≡ true

@@ -21,10 +21,10 @@ use Rattle.inode_refs.proofs.UserLemmas.{some_user as cached_user}
 use Rattle.dentry_cache.specs.Names.{NameList}
 use Rattle.disk_tree.specs.DiskTree.{Disk}
 use Rattle.mount_model.specs.PlainMount.{HandleList, has_handle}
-use Rattle.mount_state.specs.Contexts.{context_in, kind_in, names_id, has_own, has_shared, same_kind, names_key, uses_own, uses_mode}
+use Rattle.mount_state.specs.Contexts.{context_on_disk, kind_on_disk, names_id, has_own, has_shared, same_kind, names_key, uses_own, uses_mode}
 use Rattle.mount_state.specs.CachedNames.{NamesForget}
 use Rattle.mount_state.specs.Discipline.{Forgets}
-use Rattle.mount_state.specs.Held.{HoldsNothing, is_busy, is_keyed, is_keyed_under}
+use Rattle.mount_state.specs.Held.{HoldsNothing, is_in_use, is_unlocked, is_unlocked_under}
 use Rattle.mount_state.proofs.UserLemmas.{one_on, some_from, users_from, some_user}
 
 -- ---- contexts
@@ -70,30 +70,30 @@ used_in modes used Contents = used.contents_used
 used_in modes used Names = used.names_used
 
 module _ (disk : Disk) (ring : Holding) (cache : Cache) (modes : Modes) (live : HandleList) (rule : Forgets disk ring.claims cache modes live) (id : KeyId) where
-  busy_with : (node : ℕ) → has_handle live node ≡ true → names_key disk node id ≡ true → is_busy disk live id ≡ true
+  busy_with : (node : ℕ) → has_handle live node ≡ true → names_key disk node id ≡ true → is_in_use disk live id ≡ true
   busy_with node held named = some_from (λ n. names_key disk n id) live node held named
 
   -- a mode key with users is one that a handle needs
-  mode_busy : (kind : KeyKind) → 1 ≤ users_in (of_kind modes kind) id → is_busy disk live id ≡ true
+  mode_busy : (kind : KeyKind) → 1 ≤ users_in (of_kind modes kind) id → is_in_use disk live id ≡ true
   mode_busy kind some =
       let tied = rule.mode_keys.counted id kind in
       let one = one_on (uses_mode disk id kind) live (some_user (uses_mode disk id kind) live (omega arith)) in
-      let shared = (and_parts (has_shared id (context_in (get disk one.0))) (same_kind kind (kind_in (get disk one.0))) one.1.1).0 in
-      busy_with one.0 one.1.0 (shared_names id (context_in (get disk one.0)) shared)
+      let shared = (and_parts (has_shared id (context_on_disk (get disk one.0))) (same_kind kind (kind_on_disk (get disk one.0))) one.1.1).0 in
+      busy_with one.0 one.1.0 (shared_names id (context_on_disk (get disk one.0)) shared)
 
-  pub users_busy : 0 < users_of modes id → is_busy disk live id ≡ true
+  pub users_busy : 0 < users_of modes id → is_in_use disk live id ≡ true
   users_busy some = elim (cases_lt 0 (users_in modes.contents id)) [
     | inl first ↦ mode_busy Contents first
     | inr none ↦ mode_busy Names (omega arith)
   ]
 
   -- a node with pins and a key of it is one with a handle
-  pub inode_busy : 0 < inode_users cache id → is_busy disk live id ≡ true
+  pub inode_busy : 0 < inode_users cache id → is_in_use disk live id ≡ true
   inode_busy some =
       let one = cached_user cache id some in
       let pins = rule.pins.pinned one.0 in
       let key = one.1.1.0 in
-      let named : names_key disk one.0 key.id ≡ true = own_names key.id (context_in (get disk one.0)) (rule.file_keys.named one.0 key one.1.1.1.0) in
+      let named : names_key disk one.0 key.id ≡ true = own_names key.id (context_on_disk (get disk one.0)) (rule.file_keys.named one.0 key one.1.1.1.0) in
       let pinned : 0 < pins_of cache one.0 = elim (cases_lt 0 (pins_of cache one.0)) [
         | inl more ↦ more
         | inr none ↦ absurd (true≢false (sym (eq-eqb (pins_of cache one.0) 0 (omega arith)) ∙ one.1.0))
@@ -101,8 +101,8 @@ module _ (disk : Disk) (ring : Holding) (cache : Cache) (modes : Modes) (live : 
       busy_with one.0 (some_user (λ n. eqb n one.0) live (omega arith)) (ap (λ (k : KeyId). names_key disk one.0 k) (sym one.1.1.1.1) ∙ named)
 
   -- where a handle needs the key, its node has pins and a key of it, or uses a mode key
-  pub not_busy : inode_users cache id ≤ 0 → users_of modes id ≤ 0 → is_busy disk live id ≡ false
-  not_busy no_inodes no_modes = elim (cases_Bool (is_busy disk live id)) [
+  pub not_busy : inode_users cache id ≤ 0 → users_of modes id ≤ 0 → is_in_use disk live id ≡ false
+  not_busy no_inodes no_modes = elim (cases_Bool (is_in_use disk live id)) [
     | inl busy ↦ let one = one_on (λ n. names_key disk n id) live busy in absurd (needed one.0 one.1.0 one.1.1)
     | inr idle ↦ idle
   ]
@@ -118,10 +118,10 @@ module _ (disk : Disk) (ring : Holding) (cache : Cache) (modes : Modes) (live : 
           let few = mode_users kind in
           omega arith
 
-      by_own : (node : ℕ) → has_handle live node ≡ true → has_own id (context_in (get disk node)) ≡ true → (o : Option NodeKey) → key_at cache node ≡ o → is_some o ≡ true → ⊥
+      by_own : (node : ℕ) → has_handle live node ≡ true → has_own id (context_on_disk (get disk node)) ≡ true → (o : Option NodeKey) → key_at cache node ≡ o → is_some o ≡ true → ⊥
       by_own node held own None is there = true≢false (sym there)
       by_own node held own (Some key) is there =
-          let same : key.id ≡ id = one_id key.id id (context_in (get disk node)) (rule.file_keys.named node key is) own in
+          let same : key.id ≡ id = one_id key.id id (context_on_disk (get disk node)) (rule.file_keys.named node key is) own in
           let handles = users_from (λ n. eqb n node) live held in
           let pins = rule.pins.pinned node in
           let pinned : is_unpinned cache node ≡ false = elim (cases_Bool (is_unpinned cache node)) [
@@ -133,14 +133,14 @@ module _ (disk : Disk) (ring : Holding) (cache : Cache) (modes : Modes) (live : 
           omega arith
 
       needed : (node : ℕ) → has_handle live node ≡ true → names_key disk node id ≡ true → ⊥
-      needed node held named = elim (cases_Bool (has_shared id (context_in (get disk node)))) [
-        | inl shared ↦ by_mode (kind_in (get disk node)) node held (λ i. shared i && itself (kind_in (get disk node)) i)
+      needed node held named = elim (cases_Bool (has_shared id (context_on_disk (get disk node)))) [
+        | inl shared ↦ by_mode (kind_on_disk (get disk node)) node held (λ i. shared i && itself (kind_on_disk (get disk node)) i)
         | inr not_shared ↦
-            let own = own_or_shared id (context_in (get disk node)) named not_shared in
+            let own = own_or_shared id (context_on_disk (get disk node)) named not_shared in
             by_own node held own (key_at cache node) refl (rule.file_keys.kept node id own held)
       ]
 
-  pub no_mode_key : AreUsed modes → is_busy disk live id ≡ false → (kind : KeyKind) → mode_at modes id kind ≡ None
+  pub no_mode_key : AreUsed modes → is_in_use disk live id ≡ false → (kind : KeyKind) → mode_at modes id kind ≡ None
   no_mode_key used idle kind = by_case (mode_at modes id kind) refl
     where
       by_case : (o : Option ModeKey) → mode_at modes id kind ≡ o → o ≡ None
@@ -151,8 +151,8 @@ module _ (disk : Disk) (ring : Holding) (cache : Cache) (modes : Modes) (live : 
           absurd (true≢false (sym (mode_busy kind (omega arith)) ∙ idle))
 
   -- a directory whose context names a key without a claim, and that no handle needs, isn't keyed
-  not_keyed : is_present ring.claims id ≡ false → is_busy disk live id ≡ false → (node : ℕ) → names_key disk node id ≡ true → is_keyed disk ring.claims live node ≡ false
-  not_keyed absent idle node named = by_context (context_in (get disk node)) refl
+  not_keyed : is_present ring.claims id ≡ false → is_in_use disk live id ≡ false → (node : ℕ) → names_key disk node id ≡ true → is_unlocked disk ring.claims live node ≡ false
+  not_keyed absent idle node named = by_context (context_on_disk (get disk node)) refl
     where
       no_handle : has_handle live node ≡ false
       no_handle = elim (cases_Bool (has_handle live node)) [
@@ -160,7 +160,7 @@ module _ (disk : Disk) (ring : Holding) (cache : Cache) (modes : Modes) (live : 
         | inr none ↦ none
       ]
 
-      by_context : (o : Option (List ℕ)) → context_in (get disk node) ≡ o → is_keyed_under ring.claims live node o ≡ false
+      by_context : (o : Option (List ℕ)) → context_on_disk (get disk node) ≡ o → is_unlocked_under ring.claims live node o ≡ false
       by_context None is = absurd (true≢false (sym named ∙ ap (names_id id) is))
       by_context (Some context) is =
           let same : id_in context ≡ id = same_id-eq (id_in context) id (sym (ap (names_id id) is) ∙ named) in
@@ -168,7 +168,7 @@ module _ (disk : Disk) (ring : Holding) (cache : Cache) (modes : Modes) (live : 
           ∙ (ap (λ b. b || has_handle live node) absent ∙ no_handle)
 
   pub nothing_held : (names : NameList) → NamesForget disk ring.claims names live → is_some (secret_of ring id) ≡ false → is_present ring.claims id ≡ false
-      → is_busy disk live id ≡ false → ((kind : KeyKind) → mode_at modes id kind ≡ None) → HoldsNothing disk ring cache modes names id
+      → is_in_use disk live id ≡ false → ((kind : KeyKind) → mode_at modes id kind ≡ None) → HoldsNothing disk ring cache modes names id
   nothing_held names remembers secret absent idle modeless = record {
     secret = is_none (secret_of ring id) secret;
     file_keys = λ node key there. elim (cases_Bool (same_id key.id id)) [
@@ -177,7 +177,7 @@ module _ (disk : Disk) (ring : Holding) (cache : Cache) (modes : Modes) (live : 
           let named : uses_own disk node id ≡ true = subst (λ (k : KeyId). uses_own disk node k ≡ true) is (rule.file_keys.named node key there) in
           elim (or_cases (is_present ring.claims key.id) (has_handle live node) (rule.file_keys.forgotten node key there)) [
             | inl present ↦ absurd (true≢false (sym present ∙ (ap (is_present ring.claims) is ∙ absent)))
-            | inr held ↦ absurd (true≢false (sym (busy_with node held (own_names id (context_in (get disk node)) named)) ∙ idle))
+            | inr held ↦ absurd (true≢false (sym (busy_with node held (own_names id (context_on_disk (get disk node)) named)) ∙ idle))
           ]
       | inr other ↦ other
     ];
@@ -188,8 +188,8 @@ module _ (disk : Disk) (ring : Holding) (cache : Cache) (modes : Modes) (live : 
     ];
   }
 
-  pub held_not_busy : (names : NameList) → HoldsNothing disk ring cache modes names id → is_busy disk live id ≡ false
-  held_not_busy names nothing = elim (cases_Bool (is_busy disk live id)) [
+  pub held_not_busy : (names : NameList) → HoldsNothing disk ring cache modes names id → is_in_use disk live id ≡ false
+  held_not_busy names nothing = elim (cases_Bool (is_in_use disk live id)) [
     | inl busy ↦ let one = one_on (λ n. names_key disk n id) live busy in absurd (needed one.0 one.1.0 one.1.1)
     | inr idle ↦ idle
   ]
@@ -201,16 +201,16 @@ module _ (disk : Disk) (ring : Holding) (cache : Cache) (modes : Modes) (live : 
           let none : users_in (of_kind modes kind) id ≡ 0 = λ i. option_users (nothing.mode_keys kind i) in
           omega arith
 
-      by_own : (node : ℕ) → has_own id (context_in (get disk node)) ≡ true → (o : Option NodeKey) → key_at cache node ≡ o → is_some o ≡ true → ⊥
+      by_own : (node : ℕ) → has_own id (context_on_disk (get disk node)) ≡ true → (o : Option NodeKey) → key_at cache node ≡ o → is_some o ≡ true → ⊥
       by_own node own None is there = true≢false (sym there)
       by_own node own (Some key) is there =
-          let same : key.id ≡ id = one_id key.id id (context_in (get disk node)) (rule.file_keys.named node key is) own in
+          let same : key.id ≡ id = one_id key.id id (context_on_disk (get disk node)) (rule.file_keys.named node key is) own in
           true≢false (sym (ap (λ (k : KeyId). same_id k id) same ∙ same_id-refl id) ∙ nothing.file_keys node key is)
 
       needed : (node : ℕ) → has_handle live node ≡ true → names_key disk node id ≡ true → ⊥
-      needed node held named = elim (cases_Bool (has_shared id (context_in (get disk node)))) [
-        | inl shared ↦ by_mode (kind_in (get disk node)) node held (λ i. shared i && itself (kind_in (get disk node)) i)
+      needed node held named = elim (cases_Bool (has_shared id (context_on_disk (get disk node)))) [
+        | inl shared ↦ by_mode (kind_on_disk (get disk node)) node held (λ i. shared i && itself (kind_on_disk (get disk node)) i)
         | inr not_shared ↦
-            let own = own_or_shared id (context_in (get disk node)) named not_shared in
+            let own = own_or_shared id (context_on_disk (get disk node)) named not_shared in
             by_own node own (key_at cache node) refl (rule.file_keys.kept node id own held)
       ]

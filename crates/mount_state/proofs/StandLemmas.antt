@@ -13,28 +13,28 @@ use Rattle.disk_tree.specs.DiskTree.{Disk}
 use Rattle.mount_model.specs.PlainMount.{PlainMount, Raws, HandleList, has_handle}
 use Rattle.mount_model.specs.States as plain
 use Rattle.mount_model.specs.WellFormed.{IsWellFormed, HasRaw}
-use Rattle.mount_state.specs.Contexts.{context_in, names_id, names_key}
-use Rattle.mount_state.specs.Held.{is_busy, is_keyed, is_keyed_under}
+use Rattle.mount_state.specs.Contexts.{context_on_disk, names_id, names_key}
+use Rattle.mount_state.specs.Held.{is_in_use, is_unlocked, is_unlocked_under}
 use Rattle.mount_state.specs.Stored.{stored_node}
 use Rattle.mount_state.specs.StandsFor.{TreeStands}
 use Rattle.mount_state.proofs.UserLemmas.{some_alike}
 
 -- contexts are stored as their bytes
-context_stored : (raws : Raws) (n : ℕ) (o : Option Node) → context_in (option_map (stored_node raws n) o) ≡ option_map context_bytes (plain_context o)
+context_stored : (raws : Raws) (n : ℕ) (o : Option Node) → context_on_disk (option_map (stored_node raws n) o) ≡ option_map context_bytes (plain_context o)
 context_stored raws n None = refl
 context_stored raws n (Some v) = refl
 
 -- whether a node is keyed, by the key that its context names
 pub key_tells : (claims : ClaimSet) (live : HandleList) (n : ℕ) (o : Option (List ℕ)) (id : KeyId) → Some id ≡ option_map id_in o
-    → is_keyed_under claims live n o ≡ (is_present claims id || has_handle live n)
+    → is_unlocked_under claims live n o ≡ (is_present claims id || has_handle live n)
 key_tells claims live n None id is = let none : Some id ≡ None = is in absurd (cc)
 key_tells claims live n (Some context) id is =
     let same : id ≡ id_in context = (let both : Some id ≡ Some (id_in context) = is in cc) in
     ap (λ (k : KeyId). is_present claims k || has_handle live n) (sym same)
 
 module _ (disk : Disk) (next : ℕ) (m : PlainMount) (well : IsWellFormed m) (tree : TreeStands disk next m) where
-  pub context_is : (n : ℕ) → context_in (get disk n) ≡ option_map context_bytes (context_at m.nodes n)
-  context_is n = ap context_in (tree.nodes n) ∙ context_stored m.raws n (get m.nodes n)
+  pub context_is : (n : ℕ) → context_on_disk (get disk n) ≡ option_map context_bytes (context_at m.nodes n)
+  context_is n = ap context_on_disk (tree.nodes n) ∙ context_stored m.raws n (get m.nodes n)
 
   -- an identifier has 16 bytes
   sized : (n : ℕ) (o : Option Node) → get m.nodes n ≡ o → (c : Context) → plain_context o ≡ Some c → length c.policy.id.0 ≡ 16
@@ -55,24 +55,24 @@ module _ (disk : Disk) (next : ℕ) (m : PlainMount) (well : IsWellFormed m) (tr
   pub names_stand : (id : KeyId) (n : ℕ) → names_key disk n id ≡ plain.names_key m.nodes n id
   names_stand id n = ap (names_id id) (context_is n) ∙ named id (context_at m.nodes n) (sized n (get m.nodes n) refl)
 
-  pub busy_stands : (live : HandleList) → live ≡ m.handles → (id : KeyId) → is_busy disk live id ≡ plain.is_busy m id
+  pub busy_stands : (live : HandleList) → live ≡ m.handles → (id : KeyId) → is_in_use disk live id ≡ plain.is_busy m id
   busy_stands live same id =
-      ap (λ (hs : HandleList). is_busy disk hs id) same
+      ap (λ (hs : HandleList). is_in_use disk hs id) same
       ∙ some_alike (λ n. names_key disk n id) (λ n. plain.names_key m.nodes n id) m.handles (names_stand id)
 
   keyed_by : (claims : ClaimSet) (live : HandleList) (n : ℕ) (o : Option Context) → ((c : Context) → o ≡ Some c → length c.policy.id.0 ≡ 16)
-      → claims ≡ m.claims → live ≡ m.handles → is_keyed_under claims live n (option_map context_bytes o) ≡ plain.is_keyed_under m n o
+      → claims ≡ m.claims → live ≡ m.handles → is_unlocked_under claims live n (option_map context_bytes o) ≡ plain.is_keyed_under m n o
   keyed_by claims live n None size same_claims same_live = refl
   keyed_by claims live n (Some c) size same_claims same_live =
       λ i. is_present (same_claims i) (id_in-context_bytes c (size c refl) i) || has_handle (same_live i) n
 
-  pub keyed_stands : (claims : ClaimSet) (live : HandleList) → claims ≡ m.claims → live ≡ m.handles → (n : ℕ) → is_keyed disk claims live n ≡ plain.is_keyed m n
+  pub keyed_stands : (claims : ClaimSet) (live : HandleList) → claims ≡ m.claims → live ≡ m.handles → (n : ℕ) → is_unlocked disk claims live n ≡ plain.is_keyed m n
   keyed_stands claims live same_claims same_live n =
-      ap (is_keyed_under claims live n) (context_is n)
+      ap (is_unlocked_under claims live n) (context_is n)
       ∙ keyed_by claims live n (context_at m.nodes n) (sized n (get m.nodes n) refl) same_claims same_live
 
   -- so it does where its context was read from the disk
-  pub keyed_told : (claims : ClaimSet) (live : HandleList) → claims ≡ m.claims → live ≡ m.handles → (n : ℕ) (context : List ℕ) → context_in (get disk n) ≡ Some context
-      → (b : Bool) → b ≡ is_keyed_under claims live n (Some context) → b ≡ plain.is_keyed m n
+  pub keyed_told : (claims : ClaimSet) (live : HandleList) → claims ≡ m.claims → live ≡ m.handles → (n : ℕ) (context : List ℕ) → context_on_disk (get disk n) ≡ Some context
+      → (b : Bool) → b ≡ is_unlocked_under claims live n (Some context) → b ≡ plain.is_keyed m n
   keyed_told claims live same_claims same_live n context is b told =
-      told ∙ (sym (ap (is_keyed_under claims live n) is) ∙ keyed_stands claims live same_claims same_live n)
+      told ∙ (sym (ap (is_unlocked_under claims live n) is) ∙ keyed_stands claims live same_claims same_live n)

@@ -9,29 +9,29 @@ use Rattle.disk_tree.specs.declared.node.StoredNode.{StoredNode}
 use Rattle.disk_tree.specs.declared.node.Body.{Body}
 use Rattle.disk_tree.specs.declared.node.Body.TheVariants.{Dir, File, Link}
 use Rattle.mount_model.specs.PlainMount.{HandleList}
-use Rattle.mount_state.specs.Contexts.{context_in}
-use Rattle.mount_state.specs.Held.{is_keyed}
+use Rattle.mount_state.specs.Contexts.{context_on_disk}
+use Rattle.mount_state.specs.Held.{is_unlocked}
 
-abbrev pub is_dir : Body → Bool
-is_dir (Dir entries) = true
-is_dir (File blocks size) = false
-is_dir (Link target) = false
+abbrev pub is_dir_body : Body → Bool
+is_dir_body (Dir entries) = true
+is_dir_body (File blocks size) = false
+is_dir_body (Link target) = false
 
-abbrev pub is_dir_in : Option StoredNode → Bool
-is_dir_in None = false
-is_dir_in (Some v) = is_dir v.body
+abbrev pub is_dir_node : Option StoredNode → Bool
+is_dir_node None = false
+is_dir_node (Some v) = is_dir_body v.body
 
 -- the number is that of a directory
-abbrev pub is_dir_at : Disk → ℕ → Bool
-is_dir_at disk node = is_dir_in (get disk node)
+abbrev pub is_dir_on_disk : Disk → ℕ → Bool
+is_dir_on_disk disk node = is_dir_node (get disk node)
 
 -- ---- what must be forgotten
 
 pub record NamesForget (disk : Disk) (claims : ClaimSet) (names : NameList) (live : HandleList) : Type 0 where
   -- a name is cached only of a directory that is there
-  pub there : (pair : Pair) → Contains names.pairs pair → is_dir_at disk pair.0.dir ≡ true
+  pub there : (pair : Pair) → Contains names.pairs pair → is_dir_on_disk disk pair.0.dir ≡ true
   -- and only while its key is at hand: without a claim on it, while a handle is on this very directory
-  pub keyed : (pair : Pair) → Contains names.pairs pair → is_keyed disk claims live pair.0.dir ≡ true
+  pub keyed : (pair : Pair) → Contains names.pairs pair → is_unlocked disk claims live pair.0.dir ≡ true
 
 -- ---- what they are
 
@@ -49,4 +49,4 @@ IsKept old new dir name number =
 -- so it is in a keyed directory with a policy
 abbrev pub FillsNames : Disk → ClaimSet → HandleList → NameList → NameList → ℕ → Name → ℕ → Type 0
 FillsNames disk claims live old new dir name number =
-    IsSome (context_in (get disk dir)) → is_keyed disk claims live dir ≡ true → IsKept old new dir name number
+    IsSome (context_on_disk (get disk dir)) → is_unlocked disk claims live dir ≡ true → IsKept old new dir name number

@@ -14,9 +14,9 @@ use Rattle.disk_tree.specs.declared.node.Body.{Body}
 use Rattle.disk_tree.specs.declared.node.Body.TheVariants.{Dir, File, Link}
 
 -- the bytes of the node's context; none where there is no node
-abbrev pub context_in : Option StoredNode → Option (List ℕ)
-context_in None = None
-context_in (Some v) = v.context
+abbrev pub context_on_disk : Option StoredNode → Option (List ℕ)
+context_on_disk None = None
+context_on_disk (Some v) = v.context
 
 -- the context names the master key; so it does without flag 8, and with it
 abbrev pub names_id : KeyId → Option (List ℕ) → Bool
@@ -34,14 +34,14 @@ has_shared id (Some context) = same_id (id_in context) id && is_by_mode_in conte
 -- ---- kinds
 
 -- the contents of a file are enciphered, of a directory its names, of a symlink its target as a name
-abbrev pub kind_of : Body → KeyKind
-kind_of (Dir entries) = Names
-kind_of (File blocks size) = Contents
-kind_of (Link target) = Names
+abbrev pub disk_kind_of : Body → KeyKind
+disk_kind_of (Dir entries) = Names
+disk_kind_of (File blocks size) = Contents
+disk_kind_of (Link target) = Names
 
-abbrev pub kind_in : Option StoredNode → KeyKind
-kind_in None = Names
-kind_in (Some v) = kind_of v.body
+abbrev pub kind_on_disk : Option StoredNode → KeyKind
+kind_on_disk None = Names
+kind_on_disk (Some v) = disk_kind_of v.body
 
 abbrev pub is_of_kind : KeyKind → FileKey → Bool
 is_of_kind Contents (key.Contents bytes) = true
@@ -59,12 +59,12 @@ same_kind Names Names = true
 
 -- the node's context names the key
 abbrev pub names_key : Disk → ℕ → KeyId → Bool
-names_key disk node id = names_id id (context_in (get disk node))
+names_key disk node id = names_id id (context_on_disk (get disk node))
 
 -- it does, and the node has a file key of its own
 abbrev pub uses_own : Disk → ℕ → KeyId → Bool
-uses_own disk node id = has_own id (context_in (get disk node))
+uses_own disk node id = has_own id (context_on_disk (get disk node))
 
 -- it does, and the node uses the mode key of this kind
 abbrev pub uses_mode : Disk → KeyId → KeyKind → ℕ → Bool
-uses_mode disk id kind node = has_shared id (context_in (get disk node)) && same_kind kind (kind_in (get disk node))
+uses_mode disk id kind node = has_shared id (context_on_disk (get disk node)) && same_kind kind (kind_on_disk (get disk node))

@@ -14,7 +14,7 @@ use Rattle.disk_tree.specs.DiskTree.{Disk}
 use Rattle.mount_model.specs.PlainMount.{HandleList, has_handle}
 use Rattle.mount_model.specs.declared.limits.TheConstants.{MOST_HANDLES}
 use Rattle.mount_state.specs.Handles.{handles_on, users}
-use Rattle.mount_state.specs.Contexts.{uses_own, uses_mode, kind_in, is_of_kind}
+use Rattle.mount_state.specs.Contexts.{uses_own, uses_mode, kind_on_disk, is_of_kind}
 
 -- ---- file keys
 
@@ -24,7 +24,7 @@ pub record FileKeysForget (disk : Disk) (claims : ClaimSet) (cache : Cache) (liv
   pub named : (node : ℕ) (key : NodeKey) → key_at cache node ≡ Some key → uses_own disk node key.id ≡ true
   -- it is a contents key on a file, and a names key on any other node
   pub kind : (node : ℕ) (key : NodeKey) → key_at cache node ≡ Some key
-      → is_of_kind (kind_in (get disk node)) key.key ≡ true
+      → is_of_kind (kind_on_disk (get disk node)) key.key ≡ true
   -- a node with a handle has its file key cached
   pub kept : (node : ℕ) (id : KeyId) → uses_own disk node id ≡ true → has_handle live node ≡ true
       → is_some (key_at cache node) ≡ true

@@ -1,5 +1,5 @@
 -- What a state holds of a master key, and what its status is.
-use Rattle.std.specs.Prelude.{◌≡◌, ℕ, Bool, true, false, List, Contains, Option, Some, None, ◌||◌, if◌then◌else◌}
+use Rattle.std.specs.Prelude.{◌≡◌, ℕ, Bool, true, false, List, Contains, Option, Some, None, ◌||◌}
 use Rattle.std.specs.List.{list_any}
 use Rattle.policy_ctx.specs.declared.policy.KeyId.{KeyId}
 use Rattle.policy_ctx.specs.KeyIds.{same_id}
@@ -15,8 +15,8 @@ use Rattle.policy_ctx.specs.Context.{id_in}
 use Rattle.disk_tree.specs.DiskTree.{Disk}
 use Rattle.mount_model.specs.PlainMount.{HandleList, has_handle}
 use Rattle.mount_model.specs.declared.reply.KeyState.{KeyState}
-use Rattle.mount_model.specs.declared.reply.KeyState.TheVariants.{Absent, Present, Incomplete}
-use Rattle.mount_state.specs.Contexts.{names_key, context_in}
+use Rattle.mount_model.specs.States.{key_state_by}
+use Rattle.mount_state.specs.Contexts.{names_key, context_on_disk}
 
 -- neither the key's secret is held, nor a file key or a mode key that was drawn from it, nor a plain name of
 -- a directory whose context names it
@@ -28,18 +28,17 @@ pub record HoldsNothing (disk : Disk) (ring : Holding) (cache : Cache) (modes : 
   pub plain_names : (pair : Pair) → Contains names.pairs pair → names_key disk pair.0.dir id ≡ false
 
 -- some handle is on a node whose context names the key
-abbrev pub is_busy : Disk → HandleList → KeyId → Bool
-is_busy disk live id = list_any (λ h. names_key disk h.node id) live
+abbrev pub is_in_use : Disk → HandleList → KeyId → Bool
+is_in_use disk live id = list_any (λ h. names_key disk h.node id) live
 
 -- Present where some user has a claim, else Incomplete where a handle needs the key
 abbrev pub key_state : Disk → ClaimSet → HandleList → KeyId → KeyState
-key_state disk claims live id =
-    if is_present claims id then Present else if is_busy disk live id then Incomplete else Absent
+key_state disk claims live id = key_state_by claims (is_in_use disk live id) id
 
-abbrev pub is_keyed_under : ClaimSet → HandleList → ℕ → Option (List ℕ) → Bool
-is_keyed_under claims live node None = true
-is_keyed_under claims live node (Some context) = is_present claims (id_in context) || has_handle live node
+abbrev pub is_unlocked_under : ClaimSet → HandleList → ℕ → Option (List ℕ) → Bool
+is_unlocked_under claims live node None = true
+is_unlocked_under claims live node (Some context) = is_present claims (id_in context) || has_handle live node
 
 -- the node has no context, or the key that it names is present, or a handle is on this very node
-abbrev pub is_keyed : Disk → ClaimSet → HandleList → ℕ → Bool
-is_keyed disk claims live node = is_keyed_under claims live node (context_in (get disk node))
+abbrev pub is_unlocked : Disk → ClaimSet → HandleList → ℕ → Bool
+is_unlocked disk claims live node = is_unlocked_under claims live node (context_on_disk (get disk node))

@@ -10,7 +10,7 @@ use Rattle.key_ring.specs.Holding.{Holding, secret_of}
 use Rattle.key_ring.specs.Modes.{Modes, mode_at}
 use Rattle.inode_refs.specs.Cached.{Cache, key_at}
 use Rattle.disk_tree.specs.DiskTree.{Disk}
-use Rattle.mount_state.specs.Contexts.{context_in}
+use Rattle.mount_state.specs.Contexts.{context_on_disk}
 
 -- the key that is cached: under flag 8 that of the mode, else the directory's own
 abbrev pub cached_key : Cache → Modes → ℕ → Context → Option FileKey
@@ -31,4 +31,4 @@ IsContextIn stored read = (c : Context) → length c.policy.id.0 ≡ 16 → stor
 
 -- the same of the node of this number
 abbrev pub IsContextOf : Disk → ℕ → Option Context → Type 0
-IsContextOf disk node read = IsContextIn (context_in (get disk node)) read
+IsContextOf disk node read = IsContextIn (context_on_disk (get disk node)) read

@@ -45,20 +45,20 @@ pub record HandlesStand (handles : Handles) (m : PlainMount) : Type 0 where
 
 -- ---- what is cached
 
-abbrev pub kind_of : Body → KeyKind
-kind_of (Dir children) = Names
-kind_of (File contents) = Contents
-kind_of (Link target) = Names
+abbrev pub plain_kind_of : Body → KeyKind
+plain_kind_of (Dir children) = Names
+plain_kind_of (File contents) = Contents
+plain_kind_of (Link target) = Names
 
-abbrev pub kind_in : Option Node → KeyKind
-kind_in None = Names
-kind_in (Some v) = kind_of v.body
+abbrev pub plain_kind : Option Node → KeyKind
+plain_kind None = Names
+plain_kind (Some v) = plain_kind_of v.body
 
 pub record CachesStand (cache : Cache) (modes : Modes) (m : PlainMount) : Type 0 where
   -- a cached file key is the key of its node
   pub file_keys : (node : ℕ) (key : NodeKey) (c : Context)
       → key_at cache node ≡ Some key → context_at m.nodes node ≡ Some c
-      → key.key ≡ node_key m.raws c (kind_in (get m.nodes node))
+      → key.key ≡ node_key m.raws c (plain_kind (get m.nodes node))
   -- a mode key is drawn from the raw key of its identifier
   pub mode_keys : (id : KeyId) (kind : KeyKind) (mode : ModeKey) → mode_at modes id kind ≡ Some mode
       → mode.key ≡ mode_key_of (unwrap_or (raw_in m.raws id) []) kind

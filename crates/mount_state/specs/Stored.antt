@@ -19,15 +19,15 @@ stored_form raws n None name = name
 stored_form raws n (Some c) name = sealed_name raws n c name
 
 -- what the contents of file n are sealed with
-abbrev pub seal_of : Raws → ℕ → Option Context → Option Seal
-seal_of raws n None = None
-seal_of raws n (Some c) =
+abbrev pub contents_seal : Raws → ℕ → Option Context → Option Seal
+contents_seal raws n None = None
+contents_seal raws n (Some c) =
     Some (record { key = key_bytes (node_key raws c Contents); start = node_start n c; unit = c.policy.unit })
 
 abbrev pub stored_body : Raws → ℕ → Option Context → Body → StoredBody
 stored_body raws n context (Dir children) = stored.Dir (stored_children (stored_form raws n context) children)
 stored_body raws n context (File contents) =
-    stored.File (stored_blocks (seal_of raws n context) contents) (length contents)
+    stored.File (stored_blocks (contents_seal raws n context) contents) (length contents)
 stored_body raws n context (Link target) = stored.Link (stored_form raws n context target)
 
 -- node n: the bytes of its context, whether it has a name, and its body in its stored form

@@ -5,7 +5,7 @@ ghost use Rattle.number_map.specs.Numbered as map;
 ghost use Rattle.policy_ctx.specs.declared.policy.Context.{Context};
 ghost use Rattle.policy_ctx.specs.Context.{context_bytes, HasSizes};
 ghost use Rattle.disk_tree.specs.DiskTree.{IsDirAt};
-ghost use Rattle.mount_state.specs.Contexts.{context_in};
+ghost use Rattle.mount_state.specs.Contexts.{context_on_disk};
 ghost use Rattle.mount_state.specs.SameButCaches.{SameButCaches, StaysFor};
 
 use crate::state::MountState;
@@ -41,7 +41,7 @@ pub(crate) fn keep_key(alloc: Global, state: &mut MountState, dir: u32)
 
 // The context of the node, where it has a key of its own.
 fn own_context(disk: &DiskTree, node: u32) -> Option<Context>
-    ensures found { IfSome result (λ c. context_in (map.get disk.now node) ≡ Some (context_bytes c)) }
+    ensures found { IfSome result (λ c. context_on_disk (map.get disk.now node) ≡ Some (context_bytes c)) }
     ensures sized { IfSome result HasSizes }
     ensures own { IfSome result (λ c. c.policy.by_mode ≡ false) }
 {

@@ -8,7 +8,7 @@ ghost use Rattle.key_ring.specs.Modes.{mode_at};
 ghost use Rattle.fsc_keys.specs.declared.file_keys.KeyKind.{KeyKind};
 ghost use Rattle.mount_model.specs.PlainMount.{PlainMount, empty_mount};
 ghost use Rattle.mount_model.specs.States as plain;
-ghost use Rattle.mount_state.specs.Held.{HoldsNothing, is_busy, key_state, is_keyed, is_keyed_under};
+ghost use Rattle.mount_state.specs.Held.{HoldsNothing, is_in_use, key_state, is_unlocked, is_unlocked_under};
 ghost use Rattle.mount_state.specs.StandsFor.{StandsFor};
 
 use super::{HandleTable, KeyId, KeyState, MountState};
@@ -63,7 +63,7 @@ impl MountState {
     /// Whether some handle is on a node whose context names the key. Where none is, no mode key of it
     /// stands. It takes two look-ups: such a node has the key cached, or uses a mode key.
     pub fn is_busy(&self, id: &KeyId) -> bool
-        ensures value { result ≡ is_busy self.now.disk self.now.handles.live id.now }
+        ensures value { result ≡ is_in_use self.now.disk self.now.handles.live id.now }
         ensures modes { result ≡ false → (kind : KeyKind) → mode_at self.now.modes id.now kind ≡ None }
         ensures stands { (m : PlainMount) → StandsFor self.now m → result ≡ plain.is_busy m id.now }
     {
@@ -73,7 +73,7 @@ impl MountState {
     /// Whether the node's key is at hand: it has no context, or the key that this names is present, or
     /// a handle is open on this very node. So it is where there is no such node.
     pub fn keyed(&self, node: u32) -> bool
-        ensures value { result ≡ is_keyed self.now.disk self.now.ring.claims self.now.handles.live node }
+        ensures value { result ≡ is_unlocked self.now.disk self.now.ring.claims self.now.handles.live node }
         ensures stands { (m : PlainMount) → StandsFor self.now m → result ≡ plain.is_keyed m node }
     {
         match self.disk.node(node) {
@@ -85,7 +85,7 @@ impl MountState {
     /// The same, where the node was looked up.
     pub fn keyed_as(&self, node: u32, stored: &StoredNode) -> bool
         requires { map.get self.now.disk node ≡ Some stored.now }
-        ensures value { result ≡ is_keyed self.now.disk self.now.ring.claims self.now.handles.live node }
+        ensures value { result ≡ is_unlocked self.now.disk self.now.ring.claims self.now.handles.live node }
         ensures stands { (m : PlainMount) → StandsFor self.now m → result ≡ plain.is_keyed m node }
     {
         match &stored.context {
@@ -96,7 +96,7 @@ impl MountState {
 
     // The same of a node that has this context.
     pub(crate) fn keyed_under(&self, node: u32, context: &[u8; CONTEXT_LEN]) -> bool
-        ensures { result ≡ is_keyed_under self.now.ring.claims self.now.handles.live node (Some context.now) }
+        ensures { result ≡ is_unlocked_under self.now.ring.claims self.now.handles.live node (Some context.now) }
     {
         self.is_present(&id_in(context)) || self.inodes.pins(node) > 0
     }

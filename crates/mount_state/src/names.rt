@@ -5,8 +5,8 @@ ghost use Rattle.number_map.specs.Numbered as map;
 ghost use Rattle.dentry_cache.specs.Names.{cached};
 ghost use Rattle.disk_tree.specs.DiskTree.{IsDirAt};
 ghost use Rattle.mount_state.specs.CachedNames.{FillsNames};
-ghost use Rattle.mount_state.specs.Contexts.{context_in};
-ghost use Rattle.mount_state.specs.Held.{is_keyed};
+ghost use Rattle.mount_state.specs.Contexts.{context_on_disk};
+ghost use Rattle.mount_state.specs.Held.{is_unlocked};
 ghost use Rattle.mount_state.specs.Led.{Leads};
 ghost use Rattle.mount_state.specs.SameButCaches.{SameButCaches, StaysFor};
 
@@ -32,7 +32,7 @@ pub(crate) fn number_kept<L: Ledger>(
     ensures same { SameButCaches state.old state.new }
     ensures ticks { steps.new ≤ steps.old + 1 }
     ensures hit { IsSome (cached state.old.names dir part.now) → steps.new ≡ steps.old }
-    ensures locked { is_keyed state.old.disk state.old.ring.claims state.old.handles.live dir ≡ false
+    ensures locked { is_unlocked state.old.disk state.old.ring.claims state.old.handles.live dir ≡ false
         → steps.new ≡ steps.old }
     ensures filled { IfSome result (FillsNames state.old.disk state.old.ring.claims state.old.handles.live
         state.old.names state.new.names dir part.now) }
@@ -60,11 +60,11 @@ pub(crate) fn number_of<L: Ledger>(
     steps: &mut Steps<L>,
 ) -> (Option<u32>, bool)
     ensures found { Leads state.now dir part.now result.0 }
-    ensures keyed { result.1 ≡ true → is_keyed state.now.disk state.now.ring.claims state.now.handles.live dir ≡ true }
-    ensures by_key { IsSome (context_in (map.get state.now.disk dir)) → IsSome result.0
-        → is_keyed state.now.disk state.now.ring.claims state.now.handles.live dir ≡ true → result.1 ≡ true }
-    ensures plain { context_in (map.get state.now.disk dir) ≡ None → steps.new ≡ steps.old }
-    ensures locked { is_keyed state.now.disk state.now.ring.claims state.now.handles.live dir ≡ false
+    ensures keyed { result.1 ≡ true → is_unlocked state.now.disk state.now.ring.claims state.now.handles.live dir ≡ true }
+    ensures by_key { IsSome (context_on_disk (map.get state.now.disk dir)) → IsSome result.0
+        → is_unlocked state.now.disk state.now.ring.claims state.now.handles.live dir ≡ true → result.1 ≡ true }
+    ensures plain { context_on_disk (map.get state.now.disk dir) ≡ None → steps.new ≡ steps.old }
+    ensures locked { is_unlocked state.now.disk state.now.ring.claims state.now.handles.live dir ≡ false
         → steps.new ≡ steps.old }
     ensures ticks { steps.new ≤ steps.old + 1 }
 {

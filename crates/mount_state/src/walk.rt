@@ -9,8 +9,8 @@ ghost use Rattle.mount_model.specs.PlainMount.{PlainMount};
 ghost use Rattle.mount_model.specs.Walk.{looked_in, stepped, walked, parent, last_part};
 ghost use Rattle.mount_model.specs.Walk.{is_at_or_above};
 ghost use Rattle.mount_state.specs.CachedNames.{FillsNames};
-ghost use Rattle.mount_state.specs.Contexts.{context_in};
-ghost use Rattle.mount_state.specs.Held.{is_keyed};
+ghost use Rattle.mount_state.specs.Contexts.{context_on_disk};
+ghost use Rattle.mount_state.specs.Held.{is_unlocked};
 ghost use Rattle.mount_state.specs.Passed.{passes, with_past};
 ghost use Rattle.mount_state.specs.SameButCaches.{SameButCaches, StaysFor};
 ghost use Rattle.mount_state.specs.StandsFor.{StandsFor};
@@ -43,7 +43,7 @@ pub fn entry_of<L: Ledger>(
     ensures same { SameButCaches state.old state.new }
     ensures ticks { steps.new ≤ steps.old + 1 }
     ensures hit { IsSome (cached state.old.names dir part.now) → steps.new ≡ steps.old }
-    ensures locked { is_keyed state.old.disk state.old.ring.claims state.old.handles.live dir ≡ false
+    ensures locked { is_unlocked state.old.disk state.old.ring.claims state.old.handles.live dir ≡ false
         → steps.new ≡ steps.old }
     ensures filled { IfOk result (FillsNames state.old.disk state.old.ring.claims state.old.handles.live
         state.old.names state.new.names dir part.now) }
@@ -221,7 +221,7 @@ fn directory_for(state: &MountState, dir: u32, part: &[u8]) -> Result<bool, Refu
         → looked_in m dir part.now ≡ Err refusal) }
     ensures dir { OnOk result (IsDirAt state.now.disk dir) }
     ensures short { OnOk result (length part.now ≤ MOST_NAME_BYTES) }
-    ensures plain { result ≡ Ok false → context_in (map.get state.now.disk dir) ≡ None }
+    ensures plain { result ≡ Ok false → context_on_disk (map.get state.now.disk dir) ≡ None }
 {
     let Some(node) = state.disk.node(dir) else {
         return Err(Refusal::NotDir);

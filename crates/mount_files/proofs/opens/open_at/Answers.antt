@@ -4,7 +4,7 @@ use Rattle.mount_model.specs.FileAnswers.{is_link_at, is_out_of_handles}
 use Rattle.mount_model.specs.PlainMount.{opens_of}
 use Rattle.mount_model.specs.declared.reply.Reply.TheVariants.{Opened}
 use Rattle.mount_model.specs.States.{is_keyed}
-use Rattle.mount_files.specs.Opened.{open_told}
+use Rattle.mount_model.specs.FileAnswers.{open_told}
 use Rattle.mount_files.proofs.OpenStands.{link_lies, out_stands, told_opened, open_well, opened_stands, opened_given}
 use Rattle.mount_files.proofs.opens.open_at.Goals as goal
 

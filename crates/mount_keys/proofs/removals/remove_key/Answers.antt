@@ -2,7 +2,7 @@ use Rattle.std.proofs.Common.{◌≡◌, Bool, true, false, not, ◌&&◌, refl,
 use Rattle.user_claims.specs.Claims.{ClaimSet, has_claim, is_present}
 use Rattle.key_ring.proofs.RingLemmas.{absent_at_zero}
 use Rattle.mount_model.specs.declared.reply.Reply.TheVariants.{Removed}
-use Rattle.mount_state.specs.Held.{is_busy}
+use Rattle.mount_state.specs.Held.{is_in_use}
 use Rattle.mount_keys.specs.Told.{told_of_removal}
 use Rattle.mount_keys.proofs.FewerLemmas.{lost_stand, lost_nothing, loses_none}
 use Rattle.mount_keys.proofs.ToldLemmas.{held_told, busy_told, removal_gives}
@@ -34,7 +34,7 @@ told c =
     let held : has_claim s.ring.claims id c.args.uid ≡ true =
     ap (λ (cs : ClaimSet). has_claim cs id c.args.uid) (sym c.claims.ensures.claims)
     ∙ (sym c.has.ensures ∙ c.if-has.true) in
-    held_told s.ring.claims (is_busy s.disk s.handles.live id) c.args.uid id held c.take_claim-others.result
+    held_told s.ring.claims (is_in_use s.disk s.handles.live id) c.args.uid id held c.take_claim-others.result
     c.if-not-others.result
     (c.take_claim-others.ensures.left ∙ ap (λ (cs : ClaimSet). is_present cs id)
     c.take_claim-others.ensures.taken.claims)
@@ -74,7 +74,7 @@ needed_told : (c : goal.Then-count_of_id-eq0) → Removed false c.is_busy-busy.r
 needed_told c =
     let s = c.args.state.now in
     ap (Removed false) c.is_busy-busy.ensures.value
-    ∙ busy_told s.ring.claims (is_busy s.disk s.handles.live c.args.id.now) c.args.uid c.args.id.now
+    ∙ busy_told s.ring.claims (is_in_use s.disk s.handles.live c.args.id.now) c.args.uid c.args.id.now
     (absent c) (sym c.is_busy-busy.ensures.value ∙ c.if-busy.true)
 
 pub returns-then-count_of_id-eq0-clause-told : goal.returns-then-count_of_id-eq0-clause-told

@@ -1,8 +1,9 @@
-use Rattle.std.proofs.Common.{◌≡◌, false, ◌||◌, cond, sym, ap, subst, ◌∙◌}
-use Rattle.mount_model.specs.Answered.{Answer, refused, at_node}
+use Rattle.std.proofs.Common.{◌≡◌, false, ◌||◌, sym, ap, subst, ◌∙◌}
+use Rattle.std.proofs.lemmas.Bool.{cond-false}
+use Rattle.mount_model.specs.Answered.{Answer, refused}
 use Rattle.mount_model.specs.declared.reply.Refusal.TheVariants.{Inval}
-use Rattle.mount_model.specs.RenameAnswer.{answer_to_rename, answer_to_rename_in}
-use Rattle.mount_model.specs.Walk.{is_root, found, last_part, parent}
+use Rattle.mount_model.specs.RenameAnswer.{answer_to_rename}
+use Rattle.mount_model.specs.Walk.{is_root, found}
 use Rattle.mount_state.specs.Given.{IsGivenOrNoMemory, IsRefusedAsDue}
 use Rattle.mount_model.specs.WellFormed.{IsWellFormed}
 use Rattle.mount_names.proofs.MoveLemmas.{source_refused, source_at, rename_is, rename_well, refused_so, due_refused}
@@ -40,7 +41,7 @@ returns-in-Err-clause-stands g c = λ m st fits new_fits.
     let named : (is_root path || is_root new_path) ≡ false
     = λ i. some_parts path c.is_empty.result c.if-is_empty.false c.is_empty.ensures.1 i || some_parts new_path c.is_empty-else-is_empty.result c.if-is_empty-2.false c.is_empty-else-is_empty.ensures.1 i in
     refused_so m (answer_to_rename m path new_path) c.in-Err.refusal
-    ((λ i. cond (named i) (refused m Inval) (at_node m (answer_to_rename_in m (last_part path) new_path) (parent m path)))
+    (cond-false (is_root path || is_root new_path) (refused m Inval) _ named
     ∙ source_refused m path new_path c.in-Err.refusal (c.in-Err.ensures.value m st)) c.source_at.new.state (c.in-Err.ensures.stands m st)
 
 pub returns-in-Err-clause-due : goal.returns-in-Err-clause-due
@@ -50,5 +51,5 @@ returns-in-Err-clause-due g c = λ m st fits new_fits.
     let named : (is_root path || is_root new_path) ≡ false
     = λ i. some_parts path c.is_empty.result c.if-is_empty.false c.is_empty.ensures.1 i || some_parts new_path c.is_empty-else-is_empty.result c.if-is_empty-2.false c.is_empty-else-is_empty.ensures.1 i in
     due_refused m (answer_to_rename m path new_path) c.in-Err.refusal
-    ((λ i. cond (named i) (refused m Inval) (at_node m (answer_to_rename_in m (last_part path) new_path) (parent m path)))
+    (cond-false (is_root path || is_root new_path) (refused m Inval) _ named
     ∙ source_refused m path new_path c.in-Err.refusal (c.in-Err.ensures.value m st))

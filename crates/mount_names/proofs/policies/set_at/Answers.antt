@@ -7,7 +7,7 @@ use Rattle.policy_ctx.specs.Policy.{policy_fault}
 use Rattle.plain_tree.specs.Nodes.{context_at}
 use Rattle.mount_model.specs.Answered.{Answer}
 use Rattle.mount_model.specs.WellFormed.{IsWellFormed}
-use Rattle.mount_state.specs.Contexts.{context_in}
+use Rattle.mount_state.specs.Contexts.{context_on_disk}
 use Rattle.mount_state.specs.Given.{IsRefusedAsDue}
 use Rattle.mount_state.proofs.ContextLemmas.{no_context}
 use Rattle.mount_state.proofs.StandLemmas.{context_is}
@@ -70,13 +70,13 @@ returns-in-Some-clause-due c = λ m st.
 pub returns-in-None-clause-stands : goal.returns-in-None-clause-stands
 returns-in-None-clause-stands c = λ m st well.
     let s = c.args.state.now in
-    let none : context_in (get s.disk c.args.number) ≡ None
+    let none : context_on_disk (get s.disk c.args.number) ≡ None
     = context_is s.disk s.next_node m st.well st.tree c.args.number ∙ ap (option_map context_bytes) (sym (c.in-None.ensures m st)) in
     absurd (true≢false (sym (ap is_none none) ∙ sym c.is_plain.ensures ∙ c.if-is_plain.false))
 
 pub returns-in-None-clause-due : goal.returns-in-None-clause-due
 returns-in-None-clause-due c = λ m st.
     let s = c.args.state.now in
-    let none : context_in (get s.disk c.args.number) ≡ None
+    let none : context_on_disk (get s.disk c.args.number) ≡ None
     = context_is s.disk s.next_node m st.well st.tree c.args.number ∙ ap (option_map context_bytes) (sym (c.in-None.ensures m st)) in
     absurd (true≢false (sym (ap is_none none) ∙ sym c.is_plain.ensures ∙ c.if-is_plain.false))

@@ -1,5 +1,5 @@
 use Rattle.mount_model.specs.Walk.{walked}
-use Rattle.mount_names.specs.Encrypted.{answer_to_set_at}
+use Rattle.mount_model.specs.PolicyAnswers.{answer_to_set_at}
 use Rattle.mount_names.proofs.GivenLemmas.{answered_at, due_at}
 use Rattle.mount_names.proofs.SetLemmas.{set_policy_well}
 use Rattle.mount_names.proofs.policies.set_policy.Goals as goal

@@ -1,11 +1,12 @@
-use Rattle.std.proofs.Common.{◌≡◌, cond, ◌∙◌}
+use Rattle.std.proofs.Common.{◌≡◌, ◌∙◌}
+use Rattle.std.proofs.lemmas.Bool.{cond-false}
 use Rattle.mount_model.specs.declared.reply.Refusal.TheVariants.{Inval}
-use Rattle.mount_model.specs.Answered.{refused, at_node}
-use Rattle.mount_model.specs.NameAnswers.{unlinked_dir, answer_to_rmdir_in, answer_to_rmdir}
-use Rattle.mount_model.specs.Walk.{last_part, parent}
+use Rattle.mount_model.specs.Answered.{refused}
+use Rattle.mount_model.specs.NameAnswers.{answer_to_rmdir}
+use Rattle.mount_model.specs.Walk.{is_root}
 use Rattle.mount_names.proofs.FoundLemmas.{end_refused}
 use Rattle.mount_names.proofs.PlaceLemmas.{some_parts}
-use Rattle.mount_names.proofs.RemovalLemmas.{rmdir_well, refused_given}
+use Rattle.mount_names.proofs.RemovalLemmas.{unlinked_dir, rmdir_well, refused_given}
 use Rattle.mount_names.proofs.removals.rmdir.Goals as goal
 
 pub returns-in-Ok-clause-stands : goal.returns-in-Ok-clause-stands
@@ -19,6 +20,6 @@ returns-in-Err-clause-stands g c = λ m st fits.
     let path = c.args.path.now in
     let named = some_parts path c.is_empty.result c.if-is_empty.false c.is_empty.ensures.1 in
     let is : answer_to_rmdir m path ≡ refused m c.in-Err.refusal
-    = (λ i. cond (named i) (refused m Inval) (at_node m (answer_to_rmdir_in m (last_part path)) (parent m path)))
+    = cond-false (is_root path) (refused m Inval) _ named
     ∙ end_refused m path c.in-Err.refusal (c.in-Err.ensures.value m st) (unlinked_dir m) in
     refused_given m (answer_to_rmdir m path) c.in-Err.refusal is c.entry_at.new.state (c.in-Err.ensures.stands m st)

@@ -1,7 +1,7 @@
 use Rattle.std.proofs.Common.{is_some, inl, inr, sym, ap, subst, ◌∙◌}
 use Rattle.number_map.specs.Numbered.{get}
 use Rattle.inode_refs.specs.Cached.{Cache}
-use Rattle.mount_state.specs.Contexts.{kind_in, is_of_kind}
+use Rattle.mount_state.specs.Contexts.{kind_on_disk, is_of_kind}
 use Rattle.mount_state.specs.Discipline.{Forgets}
 use Rattle.mount_state.specs.StandsFor.{CachesStand}
 use Rattle.mount_state.proofs.KeepLemmas.{kept_rule, kept_stand, own_there, names_kind, fresh_key, either_cache}
@@ -18,7 +18,7 @@ invariant_of-state c =
             subst (λ (cache : Cache). Forgets s.disk s.ring.claims cache s.modes s.handles.live) (sym is)
             (kept_rule s.inodes c.args.dir context.policy.id key s.disk s.ring.claims s.modes s.handles.live s.forgets
             (own_there s.disk c.args.dir context c.in-Some.ensures.found c.in-Some.ensures.sized.id c.in-Some.ensures.own)
-            (ap (is_of_kind (kind_in (get s.disk c.args.dir))) c.file_key-key.ensures.key
+            (ap (is_of_kind (kind_on_disk (get s.disk c.args.dir))) c.file_key-key.ensures.key
             ∙ names_kind s.disk c.args.dir c.requires c.in-Some-secret_of.secret.now context.nonce)
             (sym (c.claims-exact.ensures.secrets context.policy.id) ∙ ap is_some (sym c.in-Some-secret_of.ensures)))
         | inr is ↦ subst (λ (cache : Cache). Forgets s.disk s.ring.claims cache s.modes s.handles.live) (sym is) s.forgets

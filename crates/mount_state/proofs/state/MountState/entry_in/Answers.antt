@@ -6,7 +6,7 @@ use Rattle.number_map.specs.Numbered.{get}
 use Rattle.policy_ctx.specs.declared.policy.Context.{Context}
 use Rattle.name_crypt.specs.StoredName.{stored_name}
 use Rattle.mount_model.specs.Sealed.{node_start}
-use Rattle.mount_state.specs.Contexts.{context_in}
+use Rattle.mount_state.specs.Contexts.{context_on_disk}
 use Rattle.mount_state.specs.NamesCipher.{own_names_key}
 use Rattle.mount_state.proofs.KeyedLemmas.{own_is, dir_kind, context_here, sized_here, led_under, led_by_other}
 use Rattle.mount_state.proofs.state.MountState.entry_in.Goals as goal
@@ -19,7 +19,7 @@ returns-in-Some-clause-stands g c m context st is_dir here keyed =
     let s = c.args.self.now in
     let d = c.args.dir in
     let was : c.context_of.result ≡ Some c.in_ok-context.context = search rules in
-    let stored = sym (ap context_in c.requires.there) ∙ context_here m d context here s.disk s.next_node st.well st.tree is_dir in
+    let stored = sym (ap context_on_disk c.requires.there) ∙ context_here m d context here s.disk s.next_node st.well st.tree is_dir in
     let read : c.in_ok-context.context ≡ context = same_context _ _ (sym was ∙ c.context_of.ensures context (sized_here m d context here s.disk s.next_node st.well st.tree is_dir) stored) in
     let found : own_names_key s.inodes d c.in_ok-context.context ≡ Some c.in-Some.cipher.now = search rules in
     let key = own_is m d context here s.inodes s.modes st.caches (dir_kind (get m.nodes d) is_dir) c.in-Some.cipher.now (subst (λ (x : Context). own_names_key s.inodes d x ≡ Some c.in-Some.cipher.now) read found) in
@@ -34,7 +34,7 @@ returns-clause-stands g c m context st is_dir here keyed =
     let s = c.args.self.now in
     let d = c.args.dir in
     let was : c.context_of.result ≡ Some c.in_ok-context.context = search rules in
-    let stored = sym (ap context_in c.requires.there) ∙ context_here m d context here s.disk s.next_node st.well st.tree is_dir in
+    let stored = sym (ap context_on_disk c.requires.there) ∙ context_here m d context here s.disk s.next_node st.well st.tree is_dir in
     let read : c.in_ok-context.context ≡ context = same_context _ _ (sym was ∙ c.context_of.ensures context (sized_here m d context here s.disk s.next_node st.well st.tree is_dir) stored) in
     let uncached : own_names_key s.inodes d c.in_ok-context.context ≡ None = search rules in
     led_by_other m d context here s.disk s.next_node st.well st.tree is_dir c.names_come_back.ensures.distinct keyed s.ring s.inodes s.modes s.handles.live s.forgets c.entry_anew.ensures.claimed
