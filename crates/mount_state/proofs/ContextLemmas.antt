@@ -13,7 +13,7 @@ use Rattle.mount_state.specs.Contexts.{has_own, has_shared, same_kind, uses_own,
 use Rattle.mount_state.specs.StandsFor.{TreeStands}
 use Rattle.mount_state.proofs.StandLemmas.{context_is}
 
-same_some : {X : Type 0} (a b : X) → Some a ≡ Some b → a ≡ b
+pub same_some : {X : Type 0} (a b : X) → Some a ≡ Some b → a ≡ b
 same_some a b is = cc
 
 none_of : {X Y : Type 0} (f : X → Y) (o : Option X) → None ≡ option_map f o → o ≡ None

@@ -13,3 +13,4 @@ pub mod KeepLemmas
 pub mod CachedLemmas
 pub mod WalkLemmas
 pub mod PassedLemmas
+pub mod OrderLemmas

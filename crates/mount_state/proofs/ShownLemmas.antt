@@ -1,30 +1,39 @@
 -- A stored name that has a text is told by what the text shows.
-use Rattle.std.proofs.Common.{◌≡◌, ℕ, ◌<◌, ◌≤◌, Bool, true, false, cond, ◌&&◌, List, [], ◌∷◌, length, Some, None, bytes_eq, inl, inr, refl, sym, ap, ◌∙◌, arith}
-use Rattle.std.specs.Map.{lookup}
+use Rattle.std.proofs.Common.{◌≡◌, ℕ, ◌<◌, ◌≤◌, Bool, true, false, cond, ◌&&◌, List, [], ◌∷◌, length, Option, Some, None, option_map, bytes_eq, inl, inr, refl, sym, ap, ◌∙◌, arith}
+use Rattle.std.specs.Map.{lookup_entry}
 use Rattle.std.proofs.lemmas.Bool.{cases_lt, true≢false, le-leb, lt-leb}
 use Rattle.std.proofs.lemmas.Slice.Eq.{bytes_eq-Decides}
 use Rattle.byte_words.specs.Bytes.{AreBytes}
 use Rattle.name_crypt.specs.declared.limits.TheConstants.{LEAST_STORED_BYTES, MOST_NAME_BYTES, MOST_SPELLED_BYTES}
 use Rattle.name_crypt.specs.NoKeyText.{nokey_text_of, shown_bytes, IsShownBy}
 use Rattle.name_crypt.proofs.TextLemmas.{shown_whole, length-shown_bytes}
-use Rattle.disk_tree.specs.Entries.{Entries, HaveByteNames}
+use Rattle.disk_tree.specs.Entries.{Entries, HaveByteNames, number_under}
 use Rattle.mount_state.specs.Led.{is_stored, is_text_of, is_shown_as}
 use Rattle.mount_state.proofs.LedLemmas.{decided}
 
 -- ---- searches
 
 -- two tests that agree on bytes find the same
-same_search : (f g : List ℕ → Bool) (es : Entries) → HaveByteNames es → ((stored : List ℕ) → AreBytes stored → f stored ≡ g stored) → lookup f es ≡ lookup g es
+same_search : (f g : List ℕ → Bool) (es : Entries) → HaveByteNames es → ((stored : List ℕ) → AreBytes stored → f stored ≡ g stored) → lookup_entry f es ≡ lookup_entry g es
 same_search f g [] ranged same = refl
-same_search f g (e ∷ es) ranged same = λ i. cond (same e.0 ranged.0 i) (Some e.1) (same_search f g es ranged.1 same i)
+same_search f g (e ∷ es) ranged same = λ i. cond (same e.0 ranged.0 i) (Some e) (same_search f g es ranged.1 same i)
 
-none_found : (f : List ℕ → Bool) (es : Entries) → ((stored : List ℕ) → f stored ≡ false) → lookup f es ≡ None
+none_found : (f : List ℕ → Bool) (es : Entries) → ((stored : List ℕ) → f stored ≡ false) → lookup_entry f es ≡ None
 none_found f [] never = refl
-none_found f (e ∷ es) never = λ i. cond (never e.0 i) (Some e.1) (none_found f es never i)
+none_found f (e ∷ es) never = λ i. cond (never e.0 i) (Some e) (none_found f es never i)
 
-all_found : (f g : List ℕ → Bool) (es : Entries) → ((stored : List ℕ) → f stored ≡ g stored) → lookup f es ≡ lookup g es
+all_found : (f g : List ℕ → Bool) (es : Entries) → ((stored : List ℕ) → f stored ≡ g stored) → lookup_entry f es ≡ lookup_entry g es
 all_found f g [] same = refl
-all_found f g (e ∷ es) same = λ i. cond (same e.0 i) (Some e.1) (all_found f g es same i)
+all_found f g (e ∷ es) same = λ i. cond (same e.0 i) (Some e) (all_found f g es same i)
+
+-- where a name is looked up, the entry that is found has it
+sought : (name : List ℕ) (es : Entries) → option_map (λ (x : ℕ). (name, x)) (number_under name es) ≡ lookup_entry (bytes_eq name) es
+sought name [] = refl
+sought name (e ∷ es) = (elim (bytes_eq name e.0) as (λ b. (b ≡ true → name ≡ e.0)
+    → option_map (λ (x : ℕ). (name, x)) (cond b (Some e.1) (number_under name es)) ≡ cond b (Some e) (lookup_entry (bytes_eq name) es)) [
+      | true ↦ λ same. ap (λ (n : List ℕ). Some (n, e.1)) (same refl)
+      | false ↦ λ same. sought name es
+    ]) (bytes_eq-Decides name e.0).0
 
 -- ---- by a text, and by what it shows
 
@@ -37,13 +46,13 @@ and_true true b is = (refl, is)
 and_true false b is = absurd (true≢false (sym is))
 
 module _ (text : List ℕ) (es : Entries) (ranged : HaveByteNames es) where
-  pub by_shown : (shown : List ℕ) → IsShownBy text (Some shown) → lookup (is_shown_as shown) es ≡ lookup (is_text_of text) es
+  pub by_shown : (shown : List ℕ) → IsShownBy text (Some shown) → lookup_entry (is_shown_as shown) es ≡ lookup_entry (is_text_of text) es
   by_shown shown is = same_search (is_shown_as shown) (is_text_of text) es ranged (λ stored bytes.
       ap (λ b. is_stored stored && b) (decided (bytes_eq shown (shown_bytes stored)) text (nokey_text_of stored)
       (λ same. (is stored bytes).1 (ap Some ((bytes_eq-Decides shown (shown_bytes stored)).0 same)))
       (λ same. let both : Some shown ≡ Some (shown_bytes stored) = (is stored bytes).0 same in (bytes_eq-Decides shown (shown_bytes stored)).1 (cc both))))
 
-  pub by_none : IsShownBy text None → None ≡ lookup (is_text_of text) es
+  pub by_none : IsShownBy text None → None ≡ lookup_entry (is_text_of text) es
   by_none is = sym (same_search (is_text_of text) (λ stored. false) es ranged (λ stored bytes. is_false (is_text_of text stored) (never stored bytes)) ∙ none_found (λ stored. false) es (λ stored. refl))
     where
       never : (stored : List ℕ) → AreBytes stored → is_text_of text stored ≡ true → ⊥
@@ -60,8 +69,13 @@ module _ (shown : List ℕ) where
       let both = and_true (is_stored stored) (bytes_eq shown (shown_bytes stored)) is in
       (both.0, (bytes_eq-Decides shown (shown_bytes stored)).0 both.1)
 
-  pub by_whole : (es : Entries) → LEAST_STORED_BYTES ≤ length shown → length shown ≤ MOST_SPELLED_BYTES → lookup (bytes_eq shown) es ≡ lookup (is_shown_as shown) es
-  by_whole es least most = sym (all_found (is_shown_as shown) (bytes_eq shown) es (λ stored. decided (is_shown_as shown stored) shown stored (to stored) (from stored)))
+  -- what was found under the name that is shown whole
+  pub by_whole : (es : Entries) → LEAST_STORED_BYTES ≤ length shown → length shown ≤ MOST_SPELLED_BYTES → (n : Option ℕ) → n ≡ number_under shown es
+      → option_map (λ (x : ℕ). (shown, x)) n ≡ lookup_entry (is_shown_as shown) es
+  by_whole es least most n is =
+      ap (option_map (λ (x : ℕ). (shown, x))) is
+      ∙ (sought shown es
+      ∙ sym (all_found (is_shown_as shown) (bytes_eq shown) es (λ stored. decided (is_shown_as shown stored) shown stored (to stored) (from stored))))
     where
       to : (stored : List ℕ) → is_shown_as shown stored ≡ true → shown ≡ stored
       to stored is =
@@ -74,7 +88,7 @@ module _ (shown : List ℕ) where
       from : (stored : List ℕ) → shown ≡ stored → is_shown_as shown stored ≡ true
       from stored same = rw (← same, shown_whole shown most, le-leb LEAST_STORED_BYTES (length shown) least, le-leb (length shown) MOST_NAME_BYTES (omega (arith, most))) ((bytes_eq-Decides shown shown).1 refl)
 
-  pub by_less : (es : Entries) → length shown < LEAST_STORED_BYTES → None ≡ lookup (is_shown_as shown) es
+  pub by_less : (es : Entries) → length shown < LEAST_STORED_BYTES → None ≡ lookup_entry (is_shown_as shown) es
   by_less es less = sym (none_found (is_shown_as shown) es (λ stored. is_false (is_shown_as shown stored) (never stored)))
     where
       never : (stored : List ℕ) → is_shown_as shown stored ≡ true → ⊥

@@ -1,10 +1,11 @@
 //! What a name leads to in one directory, and what a no-key text does.
 
-ghost use Rattle.std.specs.Prelude.{◌≡◌};
-ghost use Rattle.std.specs.Map.{lookup};
+ghost use Rattle.std.specs.Prelude.{◌≡◌, ◌≤◌, length, option_map, IfSome, IsTrue};
+ghost use Rattle.std.specs.Map.{lookup, lookup_entry};
 ghost use Rattle.disk_tree.specs.DiskTree.{children};
 ghost use Rattle.disk_tree.specs.Entries.{number_under};
 ghost use Rattle.mount_state.specs.Led.{is_shown_as, is_text_of, LeadsPlain, LeadsLocked};
+ghost use Rattle.name_crypt.specs.declared.limits.TheConstants.{MOST_NAME_BYTES};
 
 use super::MountState;
 use disk_tree::{Body, DirEntries, StoredNode};
@@ -46,8 +47,8 @@ impl MountState {
     }
 }
 
-// The node of the first entry whose stored name has the text. A text that spells a stored name whole
-// is no other name's, so that name is looked up.
+// The node of the first entry whose stored name has the text. The text is decoded once, and told by what it
+// shows.
 fn find_text(entries: &DirEntries, text: &[u8]) -> Option<u32>
     ensures { result ≡ lookup (is_text_of text.now) entries.now }
 {
@@ -56,29 +57,39 @@ fn find_text(entries: &DirEntries, text: &[u8]) -> Option<u32>
     let Some(shown) = shown_by(text) else {
         return None;
     };
-    find_shown(entries, shown.bytes())
+    match entry_shown_as(entries, shown.bytes()) {
+        Some((_name, number)) => Some(number),
+        None => None,
+    }
 }
 
-// The node of the first entry whose stored name is shown as this.
-fn find_shown(entries: &DirEntries, shown: &[u8]) -> Option<u32>
-    ensures { result ≡ lookup (is_shown_as shown.now) entries.now }
+/// The first entry whose stored name is shown as this, with that name. What is shown whole is the name itself,
+/// and is looked up, by hash; only what stands for a longer name is compared with each entry.
+pub fn entry_shown_as<'a>(entries: &'a DirEntries, shown: &'a [u8]) -> Option<(&'a [u8], u32)>
+    ensures found { option_map (λ e. (e.0.now, e.1)) result ≡ lookup_entry (is_shown_as shown.now) entries.now }
+    ensures short { IfSome result (λ e. length e.0.now ≤ MOST_NAME_BYTES) }
 {
     if shown.len() > MOST_SPELLED_BYTES {
-        return find_long(entries, shown);
+        return long_entry(entries, shown);
     }
     if shown.len() < LEAST_STORED_BYTES {
         return None;
     }
-    entries.find(shown)
+    match entries.find(shown) {
+        Some(number) => Some((shown, number)),
+        None => None,
+    }
 }
 
 // The same by a search from the first entry on.
-fn find_long(entries: &DirEntries, shown: &[u8]) -> Option<u32>
-    ensures { result ≡ lookup (is_shown_as shown.now) entries.now }
+fn long_entry<'a>(entries: &'a DirEntries, shown: &[u8]) -> Option<(&'a [u8], u32)>
+    ensures found { option_map (λ e. (e.0.now, e.1)) result ≡ lookup_entry (is_shown_as shown.now) entries.now }
+    ensures short { IfSome result (λ e. length e.0.now ≤ MOST_NAME_BYTES) }
 {
     'each: for entry in entries.iter() {
-        if is_name_shown_as(entry.0.as_slice(), shown) {
-            return Some(entry.1);
+        let stored = entry.0.as_slice();
+        if is_name_shown_as(stored, shown) {
+            return Some((stored, entry.1));
         }
     }
     None
@@ -86,7 +97,8 @@ fn find_long(entries: &DirEntries, shown: &[u8]) -> Option<u32>
 
 // Whether these bytes are a stored name that is shown as that.
 fn is_name_shown_as(stored: &[u8], shown: &[u8]) -> bool
-    ensures { result ≡ is_shown_as shown.now stored.now }
+    ensures value { result ≡ is_shown_as shown.now stored.now }
+    ensures short { IsTrue result → length stored.now ≤ MOST_NAME_BYTES }
 {
     if stored.len() < LEAST_STORED_BYTES || stored.len() > MOST_NAME_BYTES {
         return false;

@@ -1,17 +1,17 @@
 //! The key of a directory's names is cached once a walk drew it.
 
-ghost use Rattle.std.specs.Prelude.{◌≡◌, length, false, Some, IfSome};
+ghost use Rattle.std.specs.Prelude.{◌≡◌, false, Some, IfSome};
 ghost use Rattle.number_map.specs.Numbered as map;
-ghost use Rattle.policy_ctx.specs.declared.policy.Context.{Context};
 ghost use Rattle.policy_ctx.specs.Context.{context_bytes, HasSizes};
 ghost use Rattle.disk_tree.specs.DiskTree.{IsDirAt};
 ghost use Rattle.mount_state.specs.Contexts.{context_on_disk};
 ghost use Rattle.mount_state.specs.SameButCaches.{SameButCaches, StaysFor};
 
+use crate::contexts::context_of;
 use crate::state::MountState;
 use disk_tree::DiskTree;
 use fsc_keys::KeyKind;
-use policy_ctx::{CONTEXT_LEN, Context, decode_context};
+use policy_ctx::Context;
 use std::alloc::Global;
 
 // Caches the key of the directory's names, where it is the directory's own and can be drawn. Where
@@ -45,23 +45,9 @@ fn own_context(disk: &DiskTree, node: u32) -> Option<Context>
     ensures sized { IfSome result HasSizes }
     ensures own { IfSome result (λ c. c.policy.by_mode ≡ false) }
 {
-    let bytes = disk.node(node)?.context.as_ref()?;
-    let context = context_of(bytes)?;
+    let context = context_of(disk.node(node)?)?;
     if context.policy.by_mode {
         return None;
     }
     Some(context)
-}
-
-// The context of these bytes.
-fn context_of(bytes: &[u8; CONTEXT_LEN]) -> Option<Context>
-    ensures found { IfSome result (λ c. bytes.now ≡ context_bytes c) }
-    ensures sized { IfSome result HasSizes }
-    ensures every { (c : Context) → length c.policy.id.0 ≡ 16 → bytes.now ≡ context_bytes c → result ≡ Some c }
-{
-    let _forty = *bytes;
-    match decode_context(bytes) {
-        Ok(context) => Some(context),
-        Err(_) => None,
-    }
 }

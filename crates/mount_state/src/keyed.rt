@@ -14,14 +14,15 @@ ghost use Rattle.mount_model.specs.Sealed.{node_start};
 ghost use Rattle.mount_state.specs.Contexts.{is_of_kind};
 ghost use Rattle.mount_state.specs.NamesCipher.{IsCipherUnder, LeadsByOther, other_key, own_names_key};
 ghost use Rattle.mount_state.specs.NamesCipher.{used_mode_key};
-ghost use Rattle.mount_state.specs.NamesKey.{IsContextIn, drawn_key};
+ghost use Rattle.mount_state.specs.NamesKey.{drawn_key};
 ghost use Rattle.mount_state.specs.Led.{LeadsKeyed};
 
 use super::MountState;
+use crate::contexts::context_of;
 use disk_tree::StoredNode;
 use fsc_keys::{FileKey, KeyKind};
 use name_crypt::{Aes256, MOST_NAME_BYTES, Plain, Steps, encrypt_into, name_iv, names_come_back};
-use policy_ctx::{Context, decode_context};
+use policy_ctx::Context;
 use std::sync::ledger::Ledger;
 
 impl MountState {
@@ -136,8 +137,8 @@ impl MountState {
         self.modes.key_of(&context.policy.id, KeyKind::Names)
     }
 
-    // Draws the key of the names from the secret, over another one of names; not where no user has a claim.
-    fn draw_key(&self, context: &Context, key: &mut FileKey) -> bool
+    /// Draws the key of the names from the secret, over another one of names; not where no user has a claim.
+    pub fn draw_key(&self, context: &Context, key: &mut FileKey) -> bool
         requires { kind_of key.old ≡ Names }
         ensures drawn { result ≡ true → drawn_key self.now.ring context.now ≡ Some key.new }
         ensures none { result ≡ false → drawn_key self.now.ring context.now ≡ None }
@@ -153,16 +154,6 @@ impl MountState {
             }
             None => false,
         }
-    }
-}
-
-// The context of the node, where it has one.
-fn context_of(node: &StoredNode) -> Option<Context>
-    ensures { IsContextIn node.now.context result }
-{
-    match &node.context {
-        Some(context) => decode_context(context).ok(),
-        None => None,
     }
 }
 

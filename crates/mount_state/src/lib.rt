@@ -2,6 +2,7 @@
 //! open handles, in a type that keeps what must be forgotten.
 #![tactic(auto)]
 
+mod contexts;
 mod handle_fault;
 mod handle_table;
 mod in_dir;
@@ -13,8 +14,10 @@ mod names;
 mod state;
 mod walk;
 
+pub use contexts::context_of;
 pub use handle_fault::HandleFault;
 pub use handle_table::HandleTable;
+pub use in_dir::entry_shown_as;
 pub use keyed::start_of;
 pub use laws::a_state_is_its_parts;
 pub use mount_model::{Handle, KeyId, KeyState, Path, Refusal};

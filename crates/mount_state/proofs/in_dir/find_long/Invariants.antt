@@ -1,8 +1,0 @@
--- What is left answers as all entries do.
-use Rattle.std.proofs.Common.{◌≡◌}
-use Rattle.std.specs.Map.{lookup}
-use Rattle.mount_state.specs.Led.{is_shown_as}
-use Rattle.mount_state.proofs.in_dir.find_long.Given as goal
-
-abbrev pub invariant-each : goal.invariant-each
-invariant-each l = lookup (is_shown_as l.shown) l.entry-iterator ≡ lookup (is_shown_as l.shown) l.entries
