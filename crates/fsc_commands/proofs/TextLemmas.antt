@@ -21,7 +21,7 @@ use Rattle.protector_meta.specs.declared.protector.Protector.{Protector}
 use Rattle.protector_meta.specs.declared.protector.ProtectorKind.{ProtectorKind}
 use Rattle.protector_meta.specs.declared.protector.ProtectorKind.TheVariants.{Raw, Pass}
 use Rattle.protector_meta.specs.declared.wraps.Wrap.{Wrap}
-use Rattle.protector_meta.specs.RecordLines.{record_text}
+use Rattle.text_words.specs.Lines.{ended}
 use Rattle.protector_meta.specs.PolicyText.{IsPolicyFile, IsWrap, policy_text, wrap_line, options_line, option_lines, version_line}
 use Rattle.protector_meta.specs.ProtectorText.{IsKind, IsProtector, kind_text, protector_text}
 
@@ -44,12 +44,12 @@ wrap_line_short w is =
     let tag = digits_long 32 w.tag is.tag.0 in
     simp length-append (omega arith)
 
-wraps_short : (ws : List Wrap) → All IsWrap ws → length (record_text (map wrap_line ws)) ≤ 265 * length ws
+wraps_short : (ws : List Wrap) → All IsWrap ws → length (ended (map wrap_line ws)) ≤ 265 * length ws
 wraps_short [] all = omega arith
 wraps_short (w ∷ ws) all =
     let line = wrap_line_short w (All-head IsWrap w ws all) in
     let more = wraps_short ws (All-tail IsWrap w ws all) in
-    let both = length-append (wrap_line w) (10 ∷ record_text (map wrap_line ws)) in
+    let both = length-append (wrap_line w) (10 ∷ ended (map wrap_line ws)) in
     omega arith
 
 pad_small : (pad : Pad) → pad_size pad < 10 ^ 10
@@ -72,11 +72,11 @@ options_line_short o =
     simp length-append (omega arith)
 
 -- the lines of options and of wraps
-options_and_wraps : (o : Option Options) (lines : List (List ℕ)) → length (record_text (option_lines o ++ lines)) ≤ 30 + length (record_text lines)
+options_and_wraps : (o : Option Options) (lines : List (List ℕ)) → length (ended (option_lines o ++ lines)) ≤ 30 + length (ended lines)
 options_and_wraps None lines = omega arith
 options_and_wraps (Some o) lines =
     let line = options_line_short o in
-    let both = length-append (options_line o) (10 ∷ record_text lines) in
+    let both = length-append (options_line o) (10 ∷ ended lines) in
     omega arith
 
 version_long : (o : Option Options) → length (version_line o) ≡ 12
@@ -102,10 +102,10 @@ policy_text_is_short p text spelled is =
     let rest = options_and_wraps p.options (map wrap_line p.wraps) in
     let second : length (codes "name " ++ p.name) ≤ 37 = omega arith in
     let third : length (codes "id " ++ encode_lower p.id.0) ≤ 35 = omega arith in
-    let tail : length (record_text (option_lines p.options ++ map wrap_line p.wraps)) ≤ 4270 = omega arith in
+    let tail : length (ended (option_lines p.options ++ map wrap_line p.wraps)) ≤ 4270 = omega arith in
     subst (λ (t : List ℕ). length t ≤ 9000) (sym spelled)
     (three_lines (version_line p.options) (codes "name " ++ p.name) (codes "id " ++ encode_lower p.id.0)
-    (record_text (option_lines p.options ++ map wrap_line p.wraps)) (version_long p.options) second third tail)
+    (ended (option_lines p.options ++ map wrap_line p.wraps)) (version_long p.options) second third tail)
 
 -- ---- protectors
 

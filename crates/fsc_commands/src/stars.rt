@@ -1,7 +1,6 @@
 //! What the paths of a script mean: a star is a name of the caller's last listing, by number.
 
 ghost use Rattle.std.specs.Prelude.{◌≡◌, IfOk, slice_get};
-ghost use Rattle.std.specs.List.{list_any};
 ghost use Rattle.mount_model.specs.Carried as carried;
 ghost use Rattle.script_words.specs.Path as script;
 ghost use Rattle.fsc_commands.specs.Steps.{names_in};
@@ -18,7 +17,7 @@ use mount_model::{Part, Path, Reply};
 use reply_text::Shown;
 use script_lang::{ScriptPart, ScriptPath};
 use std::alloc::{AllocError, Global};
-use text_words::push_decimal;
+use text_words::{may_be_part, push_decimal};
 
 /// The path that a script's path means to a caller that was told these entries. A mount may be asked for
 /// it. A star means the name of its number, from 0, in the caller's last listing; where there is none, or
@@ -102,16 +101,4 @@ fn could_be_part(name: &[u8]) -> bool
     ensures { result ≡ spec.could_be_part name.now }
 {
     !name.is_empty() && name.len() <= MOST_PART_BYTES && may_be_part(name)
-}
-
-fn may_be_part(name: &[u8]) -> bool
-    ensures { result ≡ script.may_be_part name.now }
-{
-    !has_slash_or_nul(name) && name != b".".as_slice() && name != b"..".as_slice()
-}
-
-fn has_slash_or_nul(name: &[u8]) -> bool
-    ensures { result ≡ list_any script.is_slash_or_nul name.now }
-{
-    name.iter().any(|byte| *byte == b'/' || *byte == 0)
 }

@@ -3,13 +3,13 @@
 ghost use Rattle.std.specs.Prelude.{◌≡◌, length, Some, None, IfOk};
 ghost use Rattle.fsc_keys.specs.declared.raw_key.TheConstants.{MOST_RAW_KEY_BYTES};
 ghost use Rattle.key_wrap.specs.Wrapping.{opened_secret};
-ghost use Rattle.protector_meta.specs.Wraps.{adding_fault, is_listed};
+ghost use Rattle.protector_meta.specs.Wraps.{adding_fault};
 ghost use Rattle.fsc_commands.specs.NewRecords as new;
 ghost use Rattle.fsc_commands.specs.PolicySteps as spec;
 
 use crate::outcomes::outcome_of_wraps;
 use key_wrap::{unwrapping_undoes_wrapping, wrap};
-use protector_meta::{MOST_WRAPS, PolicyFile, Wrap, WrapFault, WrapList, add_protector};
+use protector_meta::{PolicyFile, Wrap, WrapList, add_protector};
 use reply_text::Outcome;
 use short_bytes::Label;
 use std::alloc::AllocError;
@@ -38,29 +38,10 @@ pub(crate) fn made_wrap(protector: &Label, key: &[u8; 32], iv: [u8; 16], policy_
 pub(crate) fn room_for(protector: &Label, wraps: &WrapList) -> Result<(), Outcome>
     ensures { result ≡ spec.room_for protector.now wraps.now }
 {
-    match adding_fault(protector, wraps) {
+    match wraps.adding_fault(protector) {
         Some(fault) => Err(outcome_of_wraps(fault)),
         None => Ok(()),
     }
-}
-
-// Why no wrap for the protector of this label can be added.
-fn adding_fault(protector: &Label, wraps: &WrapList) -> Option<WrapFault>
-    ensures { result ≡ adding_fault protector.now wraps.now }
-{
-    if is_listed(protector, wraps.as_slice()) {
-        return Some(WrapFault::Listed);
-    }
-    if wraps.len() >= MOST_WRAPS {
-        return Some(WrapFault::Full);
-    }
-    None
-}
-
-fn is_listed(protector: &Label, wraps: &[Wrap]) -> bool
-    ensures { result ≡ is_listed protector.now wraps.now }
-{
-    wraps.iter().any(|wrap| wrap.protector == *protector)
 }
 
 // The policy with this wrap behind its others, where there is room for it.

@@ -26,7 +26,7 @@ use Rattle.image_lines.proofs.Telling.{passes}
 use Rattle.image_lines.proofs.LineLaws.{IsNodeLine, node_told_again, entry_told_again, block_told_again}
 use Rattle.image_lines.proofs.LineLaws.{node_is_no_entry, entry_is_no_node, block_is_no_node}
 use Rattle.image_lines.proofs.LineLaws.{node_line_is_free, entry_line_is_free, block_line_is_free}
-use Rattle.image_lines.proofs.Pieces.{AreLines, AreLines-append}
+use Rattle.text_words.proofs.PieceLemmas.{AreLines, AreLines-append}
 use Rattle.image_lines.proofs.Bodies.{AreEntries, AreNodes, entries_of_rules, nodes_from_lines, line_from_node, entry_line_from}
 use Rattle.image_lines.proofs.ReadingLaws.{lines_of}
 

@@ -8,7 +8,7 @@ use Rattle.image_lines.specs.ImageText.{header, node_lines, image_text}
 use Rattle.image_lines.specs.Rules.{IsNode, IsImage, HasGoodLines}
 use Rattle.image_lines.specs.declared.place.Place.TheVariants.{AtHeader}
 use Rattle.image_lines.specs.Reading.{ImagesAreTexts, child_fault, child_fault_from, image_read, line_fault, line_fault_from, nodes_at, unless_fault}
-use Rattle.image_lines.proofs.Pieces.{AreLines, pieces_of-ended, ended-from_pieces}
+use Rattle.text_words.proofs.PieceLemmas.{AreLines, pieces_of-ended, ended-from_pieces}
 use Rattle.image_lines.proofs.ReadingLaws.{lines_of, told_from}
 use Rattle.image_lines.proofs.AgainLaws.{image_again, nodes_told, are_lines}
 use Rattle.image_lines.specs.Lines.{node_told}

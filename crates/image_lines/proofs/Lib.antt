@@ -1,5 +1,3 @@
-pub mod Cuts
-pub mod Pieces
 pub mod Telling
 pub mod LineLaws
 pub mod Chains

@@ -13,7 +13,7 @@ use Rattle.hex.specs.Hex.{encode_lower, lower_digits}
 use Rattle.hex.proofs.HexLemmas.{length-encode_with}
 use Rattle.text_words.specs.Digits.{lower_hex_bytes_of_length}
 use Rattle.text_words.specs.Numbers.{decimal_of}
-use Rattle.text_words.specs.Words.{words_of}
+use Rattle.text_words.specs.Words.{behind, words_of}
 use Rattle.byte_words.specs.Bytes.{AreBytes, AreBytesOfLength}
 use Rattle.policy_ctx.specs.Context.{context_fault}
 use Rattle.policy_ctx.specs.declared.fault.CtxFault.{CtxFault}
@@ -22,11 +22,11 @@ use Rattle.image_lines.specs.declared.node_line.NodeKind.TheVariants.{Dir, File,
 use Rattle.image_lines.specs.declared.node_line.NodeLine.{NodeLine}
 use Rattle.image_lines.specs.ImageText.{context_text, kind_text, node_line, entry_line, block_line}
 use Rattle.image_lines.specs.Rules.{IsContext, is_target}
-use Rattle.image_lines.specs.Lines.{◌>>=◌, passing, behind, number_told, stored_told, is_context, context_told, file_told, link_told, kind_told}
+use Rattle.image_lines.specs.Lines.{◌>>=◌, passing, number_told, stored_told, is_context, context_told, file_told, link_told, kind_told}
 use Rattle.image_lines.specs.Lines.{node_of, node_of_words, entry_of_words, node_told, entry_told, block_told}
-use Rattle.image_lines.proofs.Pieces.{is_free_of, split_at, split_none}
-use Rattle.image_lines.proofs.Telling.{chose, went_on, was_mapped, passed, passes, behind_again, behind_found, digits_found, digits_again}
-use Rattle.image_lines.proofs.Telling.{stored_found, stored_again, number_again, number_found, digits_are_free, number_is_free, free_of_both}
+use Rattle.text_words.proofs.PieceLemmas.{free_of_both, is_free_of, split_at, split_none}
+use Rattle.text_words.proofs.WordLemmas.{behind_again, behind_found, chose, digits_again, digits_are_free, digits_found, number_is_free}
+use Rattle.image_lines.proofs.Telling.{went_on, was_mapped, passed, passes, stored_found, stored_again, number_again, number_found}
 
 -- ---- contexts
 
@@ -204,7 +204,7 @@ cut_apart : (node : NodeLine) → IsNodeLine node → (kind : NodeKind) → node
 cut_apart node is kind e = of kind e (subst (IsKind (is_some node.context)) e is.kind)
   where
     number : is_free_of 32 (decimal_of node.number) ≡ true
-    number = number_is_free 32 node.number (omega arith) is.number
+    number = number_is_free 32 node.number (omega arith) (omega (arith, is.number))
 
     context : is_free_of 32 (context_text node.context) ≡ true
     context = context_is_free 32 node.context (omega arith) is.context
@@ -244,7 +244,7 @@ pub node_line_is_free : (node : NodeLine) → IsNodeLine node → is_free_of 10 
 node_line_is_free node is = of node.kind refl (is.kind)
   where
     number : is_free_of 10 (decimal_of node.number) ≡ true
-    number = number_is_free 10 node.number (omega arith) is.number
+    number = number_is_free 10 node.number (omega arith) (omega (arith, is.number))
 
     context : is_free_of 10 (context_text node.context) ≡ true
     context = context_is_free 10 node.context (omega arith) is.context
@@ -291,7 +291,7 @@ entry_words_found (child ∷ name ∷ next ∷ more) e h = absurd (cc h)
 pub entry_told_again : (e : List ℕ × ℕ) → IsEntryLine e → entry_told (entry_line e) ≡ Some e
 unfolding entry_told
 entry_told_again e is =
-    let number = number_is_free 32 e.1 (omega arith) is.child in
+    let number = number_is_free 32 e.1 (omega arith) (omega (arith, is.child)) in
     let name = digits_are_free 32 e.0 (omega arith) is.bytes in
     ap (λ o. o >>= λ rest. entry_of_words (words_of rest)) (behind_again (codes "entry ") (decimal_of e.1 ++ 32 ∷ encode_lower e.0))
     ∙ ap entry_of_words (split_at 32 (decimal_of e.1) (encode_lower e.0) number ∙ ap (λ l. decimal_of e.1 ∷ l) (split_none 32 (encode_lower e.0) name))
@@ -307,7 +307,7 @@ entry_told_found line e h =
 
 pub entry_line_is_free : (e : List ℕ × ℕ) → IsEntryLine e → is_free_of 10 (entry_line e) ≡ true
 entry_line_is_free e is =
-    free_of_both 10 (decimal_of e.1) (32 ∷ encode_lower e.0) (number_is_free 10 e.1 (omega arith) is.child) (digits_are_free 10 e.0 (omega arith) is.bytes)
+    free_of_both 10 (decimal_of e.1) (32 ∷ encode_lower e.0) (number_is_free 10 e.1 (omega arith) (omega (arith, is.child))) (digits_are_free 10 e.0 (omega arith) is.bytes)
 
 -- ---- the line of a block
 

@@ -25,7 +25,8 @@ use Rattle.image_lines.specs.Rules.{IsEntry, IsBody, IsNode, HasGoodLines, is_en
 use Rattle.image_lines.specs.Lines.{◌>>=◌, passing, node_told, entry_told, block_told}
 use Rattle.image_lines.specs.Reading.{place_behind, behind_node, is_dir, is_root, next_node, next_entry, next_block, step, may_end, line_fault_from}
 use Rattle.image_lines.specs.Reading.{while_some, entries_at, blocks_at, body_at, node_at, with_node_at, nodes_at}
-use Rattle.image_lines.proofs.Telling.{chose, was_mapped, passed}
+use Rattle.text_words.proofs.WordLemmas.{chose}
+use Rattle.image_lines.proofs.Telling.{was_mapped, passed}
 use Rattle.image_lines.proofs.LineLaws.{IsKind, node_told_found, entry_told_found, block_told_found}
 use Rattle.image_lines.proofs.LineLaws.{node_is_no_entry, node_is_no_block, entry_is_no_node, block_is_no_node}
 use Rattle.image_lines.proofs.Bodies.{AreEntries, AreNodes, AreNodes-none, AreNodes-more, entries_from, lines_from_nodes}

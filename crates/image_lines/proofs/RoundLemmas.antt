@@ -10,7 +10,7 @@ use Rattle.image_lines.specs.declared.round_of_lines.NodePlace.{NodePlace}
 use Rattle.image_lines.specs.Lines.{node_told}
 use Rattle.image_lines.specs.Reading.{step, may_end, or_fault, line_fault_from, nodes_at, node_at, with_node_at}
 use Rattle.image_lines.specs.Places.{node_of_place, place_told}
-use Rattle.image_lines.proofs.Pieces.{first_piece}
+use Rattle.text_words.proofs.PieceLemmas.{first_piece}
 
 -- ---- the line at fault
 

@@ -3,17 +3,13 @@ use Rattle.std.specs.Prelude.{ℕ, List, [], ◌∷◌, ◌++◌, map, codes, Op
 use Rattle.std.specs.List.{flat_map}
 use Rattle.hex.specs.Hex.{encode_lower}
 use Rattle.text_words.specs.Numbers.{decimal_of}
+pub use Rattle.text_words.specs.Lines.{ended}
 use Rattle.disk_tree.specs.declared.node.Body.{Body}
 use Rattle.disk_tree.specs.declared.node.Body.TheVariants as body
 use Rattle.image_lines.specs.declared.node_line.NodeKind.{NodeKind}
 use Rattle.image_lines.specs.declared.node_line.NodeKind.TheVariants.{Dir, File, Link}
 use Rattle.image_lines.specs.declared.node_line.NodeLine.{NodeLine}
 use Rattle.image_lines.specs.Image.{Image, ImageNode}
-
--- lines, each ended by a line feed
-abbrev pub ended : List (List ℕ) → List ℕ
-ended [] = []
-ended (line ∷ lines) = line ++ 10 ∷ ended lines
 
 -- the 80 digits of a context, or `-`
 abbrev pub context_text : Option (List ℕ) → List ℕ

@@ -1,12 +1,12 @@
 -- What the lines of an image tell, one by one.
-use Rattle.std.specs.Prelude.{ℕ, ◌^◌, ◌*◌, ◌&&◌, Bool, nat_le, List, [], ◌∷◌, length, take, drop}
+use Rattle.std.specs.Prelude.{ℕ, ◌^◌, ◌*◌, ◌&&◌, Bool, nat_le, List, [], ◌∷◌, length}
 use Rattle.std.specs.Prelude.{codes, Option, Some, None, is_some, is_none, if◌then◌else◌}
 use Rattle.std.specs.List.{list_all}
 use Rattle.std.specs.Option.{option_map}
 use Rattle.std.specs.Str.{bytes_eq}
 use Rattle.text_words.specs.Digits.{hex_bytes, is_lower_hex_digit, lower_hex_bytes_of_length}
 use Rattle.text_words.specs.Numbers.{number_below}
-use Rattle.text_words.specs.Words.{words_of}
+use Rattle.text_words.specs.Words.{behind, words_of}
 use Rattle.mount_limits.specs.declared.TheConstants.{BLOCK_SIZE, MOST_FILE_BYTES}
 use Rattle.name_crypt.specs.declared.limits.TheConstants.{MOST_NAME_BYTES}
 use Rattle.policy_ctx.specs.declared.TheConstants.{CONTEXT_LEN}
@@ -25,10 +25,6 @@ None >>= f = None
 -- the value, if it passes the test
 abbrev pub passing : {A : Type 0} → (A → Bool) → A → Option A
 passing test x = if test x then Some x else None
-
--- what stands behind a word with which the text begins
-abbrev pub behind : List ℕ → List ℕ → Option (List ℕ)
-behind word text = if bytes_eq (take (length word) text) word then Some (drop (length word) text) else None
 
 -- ---- words
 

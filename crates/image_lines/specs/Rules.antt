@@ -1,15 +1,15 @@
 -- What an image is: rules on each node and on the order of nodes, and rules on where entries lead.
-use Rattle.std.specs.Prelude.{◌≡◌, ◌≢◌, ◌≤◌, ◌<◌, ◌^◌, ◌==◌, ◌&&◌, ◌||◌, ⊤}
-use Rattle.std.specs.Prelude.{ℕ, Bool, true, false, IsTrue, not, nat_le, nat_eq, List, [], ◌∷◌, length, codes}
+use Rattle.std.specs.Prelude.{◌≡◌, ◌≢◌, ◌≤◌, ◌<◌, ◌^◌, ◌&&◌, ⊤}
+use Rattle.std.specs.Prelude.{ℕ, Bool, true, false, IsTrue, nat_le, nat_eq, List, [], ◌∷◌, length}
 use Rattle.std.specs.Prelude.{Option, None, Some, is_some, All, Contains}
 use Rattle.std.specs.Int.{div_ceil}
-use Rattle.std.specs.List.{list_any, IsDistinct}
+use Rattle.std.specs.List.{IsDistinct}
 use Rattle.std.specs.List.Sorted.{IsStrictlySortedBy}
 use Rattle.std.specs.Map.{keys_of}
 use Rattle.std.specs.Ordering.{nat_cmp}
-use Rattle.std.specs.Str.{bytes_eq}
 use Rattle.std.specs.Cmp.Lexicographic.{slice_cmp}
 use Rattle.byte_words.specs.Bytes.{AreBytes, AreBytesOfLength}
+pub use Rattle.text_words.specs.Parts.{is_slash_or_nul, may_be_part}
 use Rattle.mount_limits.specs.declared.TheConstants.{BLOCK_SIZE, MOST_FILE_BYTES}
 use Rattle.name_crypt.specs.declared.limits.TheConstants.{LEAST_STORED_BYTES, MOST_NAME_BYTES}
 use Rattle.policy_ctx.specs.Context.{context_fault}
@@ -28,18 +28,6 @@ IsContext (Some context) = (context_fault context ≡ None) × AreBytes context
 -- whether there are at least low and at most 255 bytes
 abbrev pub is_stored : ℕ → List ℕ → Bool
 is_stored low bytes = nat_le low (length bytes) && nat_le (length bytes) MOST_NAME_BYTES
-
--- whether the byte is a slash or NUL
-abbrev pub is_slash_or_nul : ℕ → Bool
-is_slash_or_nul b = (b == 47) || (b == 0)
-
--- whether the bytes are `.` or `..`
-abbrev pub is_dots : List ℕ → Bool
-is_dots bytes = bytes_eq bytes (codes ".") || bytes_eq bytes (codes "..")
-
--- whether the bytes may be a part of a path: no slash and no NUL among them, and neither `.` nor `..`
-abbrev pub may_be_part : List ℕ → Bool
-may_be_part bytes = not (list_any is_slash_or_nul bytes) && not (is_dots bytes)
 
 -- whether a directory, under a policy or not, may have the bytes as an entry's name: a part of a path, or
 -- under a policy 16 bytes or more

@@ -1,14 +1,13 @@
 //! The lines of an image, read one by one.
 
-ghost use Rattle.std.specs.Prelude.{◌≡◌, ◌∷◌, [], Option, None, Some, MatchOption, is_some, length};
+ghost use Rattle.std.specs.Prelude.{◌≡◌, Option};
 ghost use Rattle.std.specs.Option.{option_map};
-ghost use Rattle.image_lines.specs.Lines as spec;
 ghost use Rattle.image_lines.specs.Lines.{node_told, entry_told, block_told};
 
 use crate::node_line::{EntryLine, NodeLine};
 use crate::words::{entry_of_words, node_of_words};
 use mount_limits::BLOCK_SIZE;
-use text_words::lower_hex_bytes;
+use text_words::{behind, lower_hex_bytes};
 
 /// The node of which a line tells.
 #[tactic(auto, unfolding(crate::specs::Lines::node_told))]
@@ -32,11 +31,4 @@ pub fn read_block_line(line: &[u8]) -> Option<[u8; BLOCK_SIZE]>
     ensures { result ≡ block_told line.now }
 {
     lower_hex_bytes(behind(line, b"block ")?)
-}
-
-// What stands behind a word with which the line begins.
-fn behind<'a>(line: &'a [u8], word: &[u8]) -> Option<&'a [u8]>
-    ensures { option_map (λ rest. rest.now) result ≡ spec.behind word.now line.now }
-{
-    line.strip_prefix(word)
 }

@@ -1,6 +1,6 @@
 //! The first round of reading: each line may stand where it does.
 
-ghost use Rattle.std.specs.Prelude.{◌≡◌, ◌≤◌, ◌++◌, None, map, length, IfOk, IfErr, OnOk, OnErr};
+ghost use Rattle.std.specs.Prelude.{◌≡◌, ◌≤◌, ◌++◌, None, map, length, IfOk, IfErr, OnOk};
 ghost use Rattle.text_words.specs.Lines.{pieces_of};
 ghost use Rattle.image_lines.specs.Lines.{node_told};
 ghost use Rattle.image_lines.specs.Reading.{line_fault, nodes_at};

@@ -1,10 +1,10 @@
 //! Which bytes may stand as a name or a target.
 
 ghost use Rattle.std.specs.Prelude.{◌≡◌};
-ghost use Rattle.std.specs.List.{list_any};
 ghost use Rattle.image_lines.specs.Rules as spec;
 
 use name_crypt::{LEAST_STORED_BYTES, MOST_NAME_BYTES};
+use text_words::may_be_part;
 
 // Whether a directory, under a policy or not, may have the bytes as an entry's name.
 pub(crate) fn is_entry_name(under_policy: bool, name: &[u8]) -> bool
@@ -29,23 +29,4 @@ fn is_stored(least: usize, bytes: &[u8]) -> bool
     ensures { result ≡ spec.is_stored least bytes.now }
 {
     least <= bytes.len() && bytes.len() <= MOST_NAME_BYTES
-}
-
-fn may_be_part(bytes: &[u8]) -> bool
-    ensures { result ≡ spec.may_be_part bytes.now }
-{
-    !has_slash_or_nul(bytes) && !is_dots(bytes)
-}
-
-fn has_slash_or_nul(bytes: &[u8]) -> bool
-    ensures { result ≡ list_any spec.is_slash_or_nul bytes.now }
-{
-    bytes.iter().any(|b| *b == b'/' || *b == 0)
-}
-
-// Whether the bytes are `.` or `..`.
-fn is_dots(bytes: &[u8]) -> bool
-    ensures { result ≡ spec.is_dots bytes.now }
-{
-    bytes == b".".as_slice() || bytes == b"..".as_slice()
 }

@@ -1,17 +1,18 @@
 //! The words on the lines of nodes and entries.
 
-ghost use Rattle.std.specs.Prelude.{◌≡◌, ◌≢◌, ◌∷◌, [], Option, None, Some, MatchOption, is_none, is_some, length};
+ghost use Rattle.std.specs.Prelude.{◌≡◌, Option, None, Some, MatchOption, is_some};
 ghost use Rattle.std.specs.Option.{option_map};
 ghost use Rattle.text_words.specs.Words.{words_of};
 ghost use Rattle.image_lines.specs.Lines as spec;
-ghost use Rattle.image_lines.specs.Rules as rules;
 
 use crate::node_line::{EntryLine, NodeKind, NodeLine, StoredBytes};
 use crate::rules::is_target;
 use mount_limits::MOST_FILE_BYTES;
 use name_crypt::MOST_NAME_BYTES;
 use policy_ctx::{CONTEXT_LEN, decode_context};
-use text_words::{decimal_value, lower_hex_bytes, lower_hex_bytes_into, nth_word, word_count};
+use text_words::{
+    decimal_value, lower_hex_bytes, lower_hex_bytes_into, nth_word, two_words, word_count,
+};
 
 // The words behind `node`: a number, a kind and a context, and for a file or a link one more.
 #[derive(Clone, Copy)]
@@ -63,17 +64,6 @@ fn node_words(text: &[u8]) -> Option<NodeWords<'_>>
         context: nth_word(text, 2)?,
         last: nth_word(text, 3),
     })
-}
-
-// The words, if they are two.
-fn two_words(text: &[u8]) -> Option<(&[u8], &[u8])>
-    ensures { MatchOption result (length (words_of text.now) ≢ 2)
-        (λ x. words_of text.now ≡ x.0.now ∷ x.1.now ∷ []) }
-{
-    if word_count(text) != 2 {
-        return None;
-    }
-    Some((nth_word(text, 0)?, nth_word(text, 1)?))
 }
 
 // At most 255 bytes, in lower-case digits.

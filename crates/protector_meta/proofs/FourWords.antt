@@ -1,9 +1,9 @@
--- Texts of four words: the words are cut apart, and joined again. Lists of two and of four items.
+-- Texts of four words: the words are cut apart, and joined again. Lists of four items.
 use Rattle.std.proofs.Common.{◌≡◌, ℕ, true, List, [], ◌∷◌, ◌++◌, length, Some, sym, ap, ◌∙◌, arith}
 use Rattle.std.specs.List.{join_with_byte, slice_get}
 use Rattle.std.proofs.lemmas.List.Splits.{join_with_byte-slice_split}
 use Rattle.text_words.specs.Words.{words_of}
-use Rattle.protector_meta.proofs.PieceLaws.{is_free_of, split_at, split_none}
+use Rattle.text_words.proofs.PieceLemmas.{is_free_of, split_at, split_none}
 
 pub four_words_again : (a b c d : List ℕ) → is_free_of 32 a ≡ true → is_free_of 32 b ≡ true → is_free_of 32 c ≡ true → is_free_of 32 d ≡ true
     → words_of (a ++ 32 ∷ (b ++ 32 ∷ (c ++ 32 ∷ d))) ≡ a ∷ b ∷ c ∷ d ∷ []
@@ -26,10 +26,3 @@ four (p ∷ q ∷ []) a b c d len w x y z = absurd (omega arith)
 four (p ∷ q ∷ r ∷ []) a b c d len w x y z = absurd (omega arith)
 four (p ∷ q ∷ r ∷ s ∷ []) a b c d len w x y z = cc
 four (p ∷ q ∷ r ∷ s ∷ t ∷ more) a b c d len w x y z = absurd (omega arith)
-
--- a list of two is its two items
-pub two : (words : List (List ℕ)) (a b : List ℕ) → length words ≡ 2 → slice_get words 0 ≡ Some a → slice_get words 1 ≡ Some b → words ≡ a ∷ b ∷ []
-two [] a b len w x = absurd (omega arith)
-two (p ∷ []) a b len w x = absurd (omega arith)
-two (p ∷ q ∷ []) a b len w x = cc
-two (p ∷ q ∷ r ∷ more) a b len w x = absurd (omega arith)

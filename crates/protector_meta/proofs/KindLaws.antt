@@ -21,9 +21,9 @@ use Rattle.protector_meta.specs.LineValues.{word_value}
 use Rattle.protector_meta.specs.Stretching.{IsStretching}
 use Rattle.protector_meta.specs.declared.protector.ProtectorKind.{ProtectorKind}
 use Rattle.protector_meta.specs.declared.protector.ProtectorKind.TheVariants.{Raw, Pass}
-use Rattle.protector_meta.proofs.WordLaws.{chose, digits_again, digits_found, went_on, word_value_again, word_value_found}
-use Rattle.protector_meta.proofs.PieceLaws.{is_free_of}
-use Rattle.protector_meta.proofs.CharacterLaws.{digits_are_free, free_of_both, number_is_free}
+use Rattle.text_words.proofs.PieceLemmas.{free_of_both, is_free_of}
+use Rattle.text_words.proofs.WordLemmas.{chose, digits_again, digits_are_free, digits_found, number_is_free}
+use Rattle.protector_meta.proofs.WordLaws.{went_on, word_value_again, word_value_found}
 use Rattle.protector_meta.proofs.FourWords.{four, four_words_again, four_words_found}
 
 -- ---- costs

@@ -1,6 +1,4 @@
-pub mod PieceLaws
 pub mod WordLaws
-pub mod CharacterLaws
 pub mod FourWords
 pub mod DigestBytes
 pub mod LineLaws

@@ -1,17 +1,18 @@
 -- Reading a record line by line: what was read stood there, what stands there is read, and a fault is that of the first line that does not fit.
-use Rattle.std.proofs.Common.{◌≡◌, ℕ, suc, ◌<◌, ◌≤◌, ◌+◌, ◌-◌, Bool, true, false, not, ltb, append_assoc, List, [], ◌∷◌, ◌++◌, length, take, drop, get_or, Option, Some, None, Result, Ok, Err, refl, sym, ap, ◌∙◌, arith, add-one, inl, inr}
+use Rattle.std.proofs.Common.{◌≡◌, ℕ, suc, ◌<◌, ◌≤◌, ◌+◌, ◌-◌, Bool, true, false, not, ltb, append_assoc, List, [], ◌∷◌, ◌++◌, length, map, take, drop, get_or, Option, Some, None, Result, Ok, Err, refl, sym, ap, ◌∙◌, arith, add-one, inl, inr}
 use Rattle.std.specs.Prelude.{if◌then◌else◌, is_some}
-use Rattle.std.specs.List.{before_first, after_first, position_or_len}
+use Rattle.std.specs.List.{before_first, after_first, flat_map, position_or_len}
 use Rattle.std.proofs.lemmas.Bool.{and_parts, eqb-true, cases_lt, lt-ltb, le-ltb, ltb-true}
 use Rattle.std.proofs.lemmas.List.{take_at}
 use Rattle.std.proofs.lemmas.List.Sums.{split_at_first, passes_at_first, fails_before_first}
 use Rattle.std.proofs.lemmas.List.Splits.{slice_split_first, slice_split_none, length-slice_split}
 use Rattle.text_words.specs.Lines.{is_line_feed, pieces_of}
-use Rattle.protector_meta.specs.RecordLines.{LineTest, ended_lines, first_unfit, record_text}
+use Rattle.text_words.specs.Lines.{ended}
+use Rattle.protector_meta.specs.RecordLines.{LineTest, ended_lines, first_unfit}
 use Rattle.protector_meta.specs.Reading.{◌>>=◌, line_at, required, value_at}
 use Rattle.protector_meta.specs.declared.fault.MetaFault.{MetaFault}
 use Rattle.protector_meta.specs.declared.fault.MetaFault.TheVariants.{Bad}
-use Rattle.protector_meta.proofs.PieceLaws.{is_free_of}
+use Rattle.text_words.proofs.PieceLemmas.{is_free_of}
 
 feed_after : (line rest : List ℕ) → is_free_of 10 line ≡ true → position_or_len is_line_feed (line ++ 10 ∷ rest) ≡ length line
 feed_after [] rest h = refl
@@ -123,13 +124,18 @@ value_fault {A = A} fits number earlier value text next e test after h =
 
 -- ---- writing
 
+-- the text of lines that values give
+pub ended-map : {A : Type 0} (f : A → List ℕ) (xs : List A) → ended (map f xs) ≡ flat_map (λ x. f x ++ 10 ∷ []) xs
+ended-map f [] = refl
+ended-map f (x ∷ xs) = ap (λ l. f x ++ 10 ∷ l) (ended-map f xs) ∙ sym (append_assoc (f x) (10 ∷ []) (flat_map (λ x. f x ++ 10 ∷ []) xs))
+
 -- a line that is written behind others
-pub record_text-push : (lines : List (List ℕ)) (line old new : List ℕ) → old ≡ record_text lines → new ≡ old ++ line ++ 10 ∷ [] → new ≡ record_text (lines ++ line ∷ [])
-record_text-push lines line old new h e = e ∙ ap (λ (t : List ℕ). t ++ line ++ 10 ∷ []) h ∙ last lines
+pub ended-push : (lines : List (List ℕ)) (line old new : List ℕ) → old ≡ ended lines → new ≡ old ++ line ++ 10 ∷ [] → new ≡ ended (lines ++ line ∷ [])
+ended-push lines line old new h e = e ∙ ap (λ (t : List ℕ). t ++ line ++ 10 ∷ []) h ∙ last lines
   where
-    last : (lines : List (List ℕ)) → record_text lines ++ line ++ 10 ∷ [] ≡ record_text (lines ++ line ∷ [])
+    last : (lines : List (List ℕ)) → ended lines ++ line ++ 10 ∷ [] ≡ ended (lines ++ line ∷ [])
     last [] = refl
     last (first ∷ lines) =
-        ap (λ (t : List ℕ). t ++ 10 ∷ []) (append_assoc first (10 ∷ record_text lines) line)
-        ∙ append_assoc first (10 ∷ (record_text lines ++ line)) (10 ∷ [])
+        ap (λ (t : List ℕ). t ++ 10 ∷ []) (append_assoc first (10 ∷ ended lines) line)
+        ∙ append_assoc first (10 ∷ (ended lines ++ line)) (10 ∷ [])
         ∙ ap (λ (t : List ℕ). first ++ 10 ∷ t) (last lines)

@@ -17,9 +17,9 @@ use Rattle.policy_ctx.specs.declared.policy.Unit.TheVariants.{Block, U512, U1024
 use Rattle.protector_meta.specs.PolicyText.{options_line}
 use Rattle.protector_meta.specs.PolicyLines.{options_of_words, options_value, wrap_value}
 use Rattle.protector_meta.specs.declared.policy_file.Options.{Options}
+use Rattle.text_words.proofs.PieceLemmas.{free_of_both, is_free_of, split_at, split_none}
+use Rattle.text_words.proofs.WordLemmas.{number_is_free}
 use Rattle.protector_meta.proofs.WordLaws.{word_value_again, word_value_found}
-use Rattle.protector_meta.proofs.PieceLaws.{is_free_of, split_at, split_none}
-use Rattle.protector_meta.proofs.CharacterLaws.{free_of_both, number_is_free}
 
 -- ---- the numbers of paddings and units
 

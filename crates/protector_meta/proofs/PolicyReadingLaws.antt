@@ -17,16 +17,17 @@ use Rattle.protector_meta.specs.declared.policy_file.Options.{Options}
 use Rattle.protector_meta.specs.declared.policy_file.PolicyFile.{PolicyFile}
 use Rattle.protector_meta.specs.Wraps.{AreWraps}
 use Rattle.protector_meta.specs.Reading.{◌>>=◌, value_at}
-use Rattle.protector_meta.specs.RecordLines.{ended_lines, first_bad_line, first_unfit, record_text}
+use Rattle.text_words.specs.Lines.{ended}
+use Rattle.protector_meta.specs.RecordLines.{ended_lines, first_bad_line, first_unfit}
 use Rattle.byte_words.specs.Bytes.{AreBytesOfLength}
 use Rattle.protector_meta.specs.LineValues.{name_line_value}
 use Rattle.protector_meta.specs.PolicyText.{IsPolicyFile, IsWrap, option_lines, options_line, policy_text, version_line, wrap_line}
 use Rattle.protector_meta.specs.PolicyLines.{head_value, id_value, options_value, policy_line_fits, wrap_value}
 use Rattle.protector_meta.specs.PolicyReading.{GivesInMemory, behind_id, policy_read, with_wraps, wraps_from}
-use Rattle.protector_meta.proofs.WordLaws.{digits_line_again, digits_line_found, name_line_again, name_line_found}
-use Rattle.protector_meta.proofs.LineLaws.{Found, record_text-push, value_again, value_fault, value_found}
-use Rattle.protector_meta.proofs.PieceLaws.{AreLines, is_free_of, pieces_of-record_text, record_text-append, record_text-from_pieces, record_text-map}
-use Rattle.protector_meta.proofs.CharacterLaws.{digits_are_free, label_is_free}
+use Rattle.text_words.proofs.PieceLemmas.{AreLines, ended-append, ended-from_pieces, is_free_of, pieces_of-ended}
+use Rattle.text_words.proofs.WordLemmas.{digits_are_free}
+use Rattle.protector_meta.proofs.WordLaws.{digits_line_again, digits_line_found, label_is_free, name_line_again, name_line_found}
+use Rattle.protector_meta.proofs.LineLaws.{Found, ended-map, ended-push, value_again, value_fault, value_found}
 use Rattle.protector_meta.proofs.OptionsLaws.{options_again, options_found, options_line_is_free, options_line_wraps_nothing}
 use Rattle.protector_meta.proofs.WrapLineLaws.{wrap_line_is_free}
 use Rattle.protector_meta.proofs.WrapsReadingLaws.{wraps_again, wraps_bad, wraps_found, wraps_kept}
@@ -77,7 +78,7 @@ record Tail (p : PolicyFile) (name id rest : List ℕ) (options : Option Options
   name_is : name ≡ p.name
   id_is : id ≡ p.id.0
   options_are : options ≡ p.options
-  parts : rest ≡ record_text (map wrap_line p.wraps)
+  parts : rest ≡ ended (map wrap_line p.wraps)
   wraps : AreWraps p.wraps
   each : AllByRecursion IsWrap p.wraps
 
@@ -93,7 +94,7 @@ tail rest name id options first p h = go (wraps_from first [] (pieces_of rest)) 
           name_is = ap (λ (q : PolicyFile). q.name) same;
           id_is = ap (λ (q : PolicyFile). q.id.0) same;
           options_are = ap (λ (q : PolicyFile). q.options) same;
-          parts = record_text-from_pieces rest (map wrap_line p.wraps) (subst (λ (ws : List Wrap). pieces_of rest ≡ map wrap_line ws ++ [] ∷ []) more_is cut);
+          parts = ended-from_pieces rest (map wrap_line p.wraps) (subst (λ (ws : List Wrap). pieces_of rest ≡ map wrap_line ws ++ [] ∷ []) more_is cut);
           wraps = subst AreWraps own (wraps_kept first [] (pieces_of rest) wraps tt (lit≤ tt) is);
           each = subst (AllByRecursion IsWrap) more_is each;
         }
@@ -107,7 +108,7 @@ tail rest name id options first p h = go (wraps_from first [] (pieces_of rest)) 
 
 -- the text behind the identifier
 abbrev behind_text : PolicyFile → List ℕ
-behind_text p = record_text (option_lines p.options ++ map wrap_line p.wraps)
+behind_text p = ended (option_lines p.options ++ map wrap_line p.wraps)
 
 record Behind (p : PolicyFile) (has : Bool) (name id text : List ℕ) : Type 0 where
   name_is : name ≡ p.name
@@ -124,7 +125,7 @@ behind false text name id p h =
       name_is = t.name_is;
       id_is = t.id_is;
       has_is = ap is_some t.options_are;
-      parts = t.parts ∙ ap (λ (o : Option Options). record_text (option_lines o ++ map wrap_line p.wraps)) t.options_are;
+      parts = t.parts ∙ ap (λ (o : Option Options). ended (option_lines o ++ map wrap_line p.wraps)) t.options_are;
       wraps = t.wraps;
       each = t.each;
     }
@@ -137,7 +138,7 @@ behind true text name id p h = go (value_found options_value 4 text (after_optio
       has_is = ap is_some t.options_are;
       parts =
           parts ∙ ap (λ l. l ++ 10 ∷ rest) of ∙ ap (λ r. options_line options ++ 10 ∷ r) t.parts
-          ∙ ap (λ (o : Option Options). record_text (option_lines o ++ map wrap_line p.wraps)) t.options_are;
+          ∙ ap (λ (o : Option Options). ended (option_lines o ++ map wrap_line p.wraps)) t.options_are;
       wraps = t.wraps;
       each = t.each;
     }
@@ -220,19 +221,19 @@ version_is_free (Some o) = refl
 
 -- what stands behind the identifier
 module _ (name id : List ℕ) (wraps : List Wrap) (are : AreWraps wraps) (each : AllByRecursion IsWrap wraps) where
-  wraps_again_from : (first : ℕ) → wraps_from first [] (pieces_of (record_text (map wrap_line wraps))) ≡ Ok wraps
+  wraps_again_from : (first : ℕ) → wraps_from first [] (pieces_of (ended (map wrap_line wraps))) ≡ Ok wraps
   wraps_again_from first =
-      ap (wraps_from first []) (pieces_of-record_text (map wrap_line wraps) (wrap_lines_are_lines wraps each))
+      ap (wraps_from first []) (pieces_of-ended (map wrap_line wraps) (wrap_lines_are_lines wraps each))
       ∙ wraps_again first [] wraps are.distinct are.few are.some each
 
-  tail_again : (options : Option Options) (first : ℕ) → with_wraps name id options first (record_text (map wrap_line wraps)) ≡ Ok (made name id options wraps)
+  tail_again : (options : Option Options) (first : ℕ) → with_wraps name id options first (ended (map wrap_line wraps)) ≡ Ok (made name id options wraps)
   tail_again options first = ap (λ (r : Result (List Wrap) MetaFault). r >>= λ ws. let q : PolicyFile = made name id options ws in Ok q) (wraps_again_from first)
 
-  behind_again : (options : Option Options) → behind_id (is_some options) name id (record_text (option_lines options ++ map wrap_line wraps)) ≡ Ok (made name id options wraps)
+  behind_again : (options : Option Options) → behind_id (is_some options) name id (ended (option_lines options ++ map wrap_line wraps)) ≡ Ok (made name id options wraps)
   behind_again None = tail_again None 4
   behind_again (Some o) =
       ap (λ (r : Result (Options × List ℕ) MetaFault). r >>= λ options. after_options name id options.0 options.1)
-      (value_again options_value 4 (options_line o) (record_text (map wrap_line wraps)) o (options_line_is_free o) (options_again o))
+      (value_again options_value 4 (options_line o) (ended (map wrap_line wraps)) o (options_line_is_free o) (options_again o))
       ∙ tail_again (Some o) 5
 
 module _ (p : PolicyFile) (is : IsPolicyFile p) where
@@ -337,7 +338,7 @@ seen_none text r gives line p h is same = elim (seen_every text r gives p is sam
 -- the lines, written one behind the other
 pub written : (p : PolicyFile) (name t₀ t₁ t₂ t₃ t₄ t₅ : List ℕ) → name ≡ p.name
     → t₀ ≡ [] → t₁ ≡ t₀ ++ version_line p.options ++ 10 ∷ [] → t₂ ≡ t₁ ++ (codes "name " ++ name) ++ 10 ∷ [] → t₃ ≡ t₂ ++ (codes "id " ++ encode_lower p.id.0) ++ 10 ∷ []
-    → t₄ ≡ t₃ ++ record_text (option_lines p.options) → t₅ ≡ t₄ ++ flat_map (λ wrap. wrap_line wrap ++ 10 ∷ []) p.wraps → t₅ ≡ policy_text p
+    → t₄ ≡ t₃ ++ ended (option_lines p.options) → t₅ ≡ t₄ ++ flat_map (λ wrap. wrap_line wrap ++ 10 ∷ []) p.wraps → t₅ ≡ policy_text p
 written p name t₀ t₁ t₂ t₃ t₄ t₅ en e₀ e₁ e₂ e₃ e₄ e₅ =
     let head = version_line p.options in
     let named = codes "name " ++ p.name in
@@ -345,11 +346,11 @@ written p name t₀ t₁ t₂ t₃ t₄ t₅ en e₀ e₁ e₂ e₃ e₄ e₅ =
     let front : List (List ℕ) = head ∷ named ∷ identified ∷ [] in
     let options : List (List ℕ) = option_lines p.options in
     let wraps : List (List ℕ) = map wrap_line p.wraps in
-    let lines : t₃ ≡ record_text front =
-    record_text-push (head ∷ named ∷ []) identified t₂ t₃
-    (record_text-push (head ∷ []) named t₁ t₂ (record_text-push [] head t₀ t₁ e₀ e₁) (e₂ ∙ ap (λ (x : List ℕ). t₁ ++ (codes "name " ++ x) ++ 10 ∷ []) en)) e₃ in
-    e₅ ∙ ap (λ (x : List ℕ). x ++ flat_map (λ wrap. wrap_line wrap ++ 10 ∷ []) p.wraps) (e₄ ∙ ap (λ (x : List ℕ). x ++ record_text options) lines)
-    ∙ append_assoc (record_text front) (record_text options) (flat_map (λ wrap. wrap_line wrap ++ 10 ∷ []) p.wraps)
-    ∙ ap (λ (x : List ℕ). record_text front ++ (record_text options ++ x)) (sym (record_text-map wrap_line p.wraps))
-    ∙ ap (λ (x : List ℕ). record_text front ++ x) (sym (record_text-append options wraps))
-    ∙ sym (record_text-append front (options ++ wraps))
+    let lines : t₃ ≡ ended front =
+    ended-push (head ∷ named ∷ []) identified t₂ t₃
+    (ended-push (head ∷ []) named t₁ t₂ (ended-push [] head t₀ t₁ e₀ e₁) (e₂ ∙ ap (λ (x : List ℕ). t₁ ++ (codes "name " ++ x) ++ 10 ∷ []) en)) e₃ in
+    e₅ ∙ ap (λ (x : List ℕ). x ++ flat_map (λ wrap. wrap_line wrap ++ 10 ∷ []) p.wraps) (e₄ ∙ ap (λ (x : List ℕ). x ++ ended options) lines)
+    ∙ append_assoc (ended front) (ended options) (flat_map (λ wrap. wrap_line wrap ++ 10 ∷ []) p.wraps)
+    ∙ ap (λ (x : List ℕ). ended front ++ (ended options ++ x)) (sym (ended-map wrap_line p.wraps))
+    ∙ ap (λ (x : List ℕ). ended front ++ x) (sym (ended-append options wraps))
+    ∙ sym (ended-append front (options ++ wraps))

@@ -20,7 +20,8 @@ use Rattle.protector_meta.specs.declared.fault.MetaFault.{MetaFault}
 use Rattle.protector_meta.specs.declared.fault.MetaFault.TheVariants.{Bad}
 use Rattle.protector_meta.specs.declared.protector.Protector.{Protector}
 use Rattle.protector_meta.specs.declared.protector.ProtectorKind.{ProtectorKind}
-use Rattle.protector_meta.proofs.WordLaws.{chose, digits_line_found, name_line_found, word_value_found}
+use Rattle.text_words.proofs.WordLemmas.{chose}
+use Rattle.protector_meta.proofs.WordLaws.{digits_line_found, name_line_found, word_value_found}
 use Rattle.protector_meta.proofs.LineLaws.{value_found}
 use Rattle.protector_meta.proofs.KindLaws.{kind_found}
 use Rattle.protector_meta.proofs.ProtectorSteps.{behind_descriptor, behind_head, behind_iv, behind_key, behind_kind, behind_name, from_descriptor, from_end, from_iv, from_key, from_kind, from_name, from_tag}

@@ -13,10 +13,10 @@ use Rattle.protector_meta.specs.ProtectorReading.{nothing_left, protector_read}
 use Rattle.protector_meta.specs.declared.fault.MetaFault.{MetaFault}
 use Rattle.protector_meta.specs.declared.fault.MetaFault.TheVariants.{Bad}
 use Rattle.protector_meta.specs.declared.protector.Protector.{Protector}
-use Rattle.protector_meta.proofs.WordLaws.{digits_line_again, name_line_again, word_value_again}
-use Rattle.protector_meta.proofs.LineLaws.{record_text-push, value_again, value_fault}
-use Rattle.protector_meta.proofs.PieceLaws.{is_free_of}
-use Rattle.protector_meta.proofs.CharacterLaws.{digits_are_free, label_is_free, lower_digits_are_free}
+use Rattle.text_words.proofs.PieceLemmas.{is_free_of}
+use Rattle.text_words.proofs.WordLemmas.{digits_are_free, lower_digits_are_free}
+use Rattle.protector_meta.proofs.WordLaws.{digits_line_again, label_is_free, name_line_again, word_value_again}
+use Rattle.protector_meta.proofs.LineLaws.{ended-push, value_again, value_fault}
 use Rattle.protector_meta.proofs.KindLaws.{kind_again, kind_is_free}
 use Rattle.protector_meta.proofs.ProtectorSteps.{behind_descriptor, behind_head, behind_iv, behind_key, behind_kind, behind_name, from_descriptor, from_end, from_iv, from_key, from_kind, from_name, from_tag}
 use Rattle.protector_meta.proofs.ProtectorFound.{protector_found}
@@ -99,12 +99,12 @@ written p name descriptor t0 t1 t2 t3 t4 t5 t6 t7 en ed e0 e1 e2 e3 e4 e5 e6 e7 
     let described = codes "descriptor " ++ p.descriptor in
     let iv = codes "iv " ++ encode_lower p.iv in
     let key = codes "key " ++ encode_lower p.key in
-    record_text-push (head ∷ named ∷ kind ∷ described ∷ iv ∷ key ∷ []) (codes "tag " ++ encode_lower p.tag) t6 t7
-    (record_text-push (head ∷ named ∷ kind ∷ described ∷ iv ∷ []) key t5 t6
-    (record_text-push (head ∷ named ∷ kind ∷ described ∷ []) iv t4 t5
-    (record_text-push (head ∷ named ∷ kind ∷ []) described t3 t4
-    (record_text-push (head ∷ named ∷ []) kind t2 t3
-    (record_text-push (head ∷ []) named t1 t2
-    (record_text-push [] head t0 t1 e0 e1)
+    ended-push (head ∷ named ∷ kind ∷ described ∷ iv ∷ key ∷ []) (codes "tag " ++ encode_lower p.tag) t6 t7
+    (ended-push (head ∷ named ∷ kind ∷ described ∷ iv ∷ []) key t5 t6
+    (ended-push (head ∷ named ∷ kind ∷ described ∷ []) iv t4 t5
+    (ended-push (head ∷ named ∷ kind ∷ []) described t3 t4
+    (ended-push (head ∷ named ∷ []) kind t2 t3
+    (ended-push (head ∷ []) named t1 t2
+    (ended-push [] head t0 t1 e0 e1)
     (e2 ∙ ap (λ (x : List ℕ). t1 ++ (codes "name " ++ x) ++ 10 ∷ []) en)) e3)
     (e4 ∙ ap (λ (x : List ℕ). t3 ++ (codes "descriptor " ++ x) ++ 10 ∷ []) ed)) e5) e6) e7

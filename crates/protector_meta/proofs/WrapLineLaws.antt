@@ -10,9 +10,9 @@ use Rattle.short_bytes.proofs.LabelLemmas.{label_of-label, label_of-found}
 use Rattle.protector_meta.specs.PolicyText.{IsWrap, wrap_line}
 use Rattle.protector_meta.specs.PolicyLines.{wrap_of_words, wrap_value}
 use Rattle.protector_meta.specs.declared.wraps.Wrap.{Wrap}
-use Rattle.protector_meta.proofs.WordLaws.{digits_again, digits_found, word_value_again, word_value_found}
-use Rattle.protector_meta.proofs.PieceLaws.{is_free_of}
-use Rattle.protector_meta.proofs.CharacterLaws.{digits_are_free, free_of_both, label_is_free}
+use Rattle.text_words.proofs.PieceLemmas.{free_of_both, is_free_of}
+use Rattle.text_words.proofs.WordLemmas.{digits_again, digits_are_free, digits_found}
+use Rattle.protector_meta.proofs.WordLaws.{label_is_free, word_value_again, word_value_found}
 use Rattle.protector_meta.proofs.FourWords.{four_words_again, four_words_found}
 
 module _ (w : Wrap) (is : IsWrap w) where

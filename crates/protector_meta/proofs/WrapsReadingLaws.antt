@@ -19,7 +19,7 @@ use Rattle.protector_meta.specs.RecordLines.{first_unfit}
 use Rattle.protector_meta.specs.PolicyText.{IsWrap, wrap_line}
 use Rattle.protector_meta.specs.PolicyLines.{policy_line_fits, next_wrap, wrap_value}
 use Rattle.protector_meta.specs.PolicyReading.{GivesInMemory, wraps_from}
-use Rattle.protector_meta.proofs.PieceLaws.{first_piece}
+use Rattle.text_words.proofs.PieceLemmas.{first_piece}
 use Rattle.protector_meta.proofs.WrapLemmas.{AreDistinct-push}
 use Rattle.protector_meta.proofs.WrapLineLaws.{wrap_value_again, wrap_value_found}
 

@@ -1,13 +1,9 @@
 -- The values on lines of records: most stand behind a word with which the line begins.
-use Rattle.std.specs.Prelude.{ℕ, List, length, take, drop, codes, Option, Some, None, if◌then◌else◌}
+use Rattle.std.specs.Prelude.{ℕ, List, codes, Option}
 use Rattle.std.specs.Option.{option_and_then}
-use Rattle.std.specs.Str.{bytes_eq}
 use Rattle.text_words.specs.Digits.{lower_hex_bytes_of_length}
+use Rattle.text_words.specs.Words.{behind}
 use Rattle.short_bytes.specs.Label.{label_of}
-
--- what stands behind a word with which the text begins
-abbrev pub behind : List ℕ → List ℕ → Option (List ℕ)
-behind word text = if bytes_eq (take (length word) text) word then Some (drop (length word) text) else None
 
 -- the value of what stands behind a word
 abbrev pub word_value : {A : Type 0} → List ℕ → (List ℕ → Option A) → List ℕ → Option A

@@ -9,7 +9,7 @@ use Rattle.protector_meta.specs.declared.wraps.Wrap.{Wrap}
 use Rattle.protector_meta.specs.declared.policy_file.Options.{Options}
 use Rattle.protector_meta.specs.declared.policy_file.PolicyFile.{PolicyFile}
 use Rattle.byte_words.specs.Bytes.{AreBytesOfLength}
-use Rattle.protector_meta.specs.RecordLines.{record_text}
+use Rattle.text_words.specs.Lines.{ended}
 use Rattle.protector_meta.specs.Wraps.{AreWraps}
 
 -- the line of a wrap: the label of its protector, and the digits of iv, key and tag
@@ -40,7 +40,7 @@ head_lines p =
 
 -- each of the lines is ended by a line feed, those of the wraps too
 abbrev pub policy_text : PolicyFile → List ℕ
-policy_text p = record_text (head_lines p ++ map wrap_line p.wraps)
+policy_text p = ended (head_lines p ++ map wrap_line p.wraps)
 
 -- what the types of the fields keep of every wrap: all of what a line can spell
 pub record IsWrap (wrap : Wrap) : Type 0 where

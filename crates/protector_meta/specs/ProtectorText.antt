@@ -6,7 +6,7 @@ use Rattle.short_bytes.specs.Label.{IsLabel}
 use Rattle.argon_kdf.specs.declared.costs.Costs.{Costs}
 use Rattle.protector_meta.specs.Descriptor.{IsDescriptor}
 use Rattle.protector_meta.specs.Stretching.{IsStretching}
-use Rattle.protector_meta.specs.RecordLines.{record_text}
+use Rattle.text_words.specs.Lines.{ended}
 use Rattle.byte_words.specs.Bytes.{AreBytesOfLength}
 use Rattle.protector_meta.specs.declared.protector.ProtectorKind.{ProtectorKind}
 use Rattle.protector_meta.specs.declared.protector.ProtectorKind.TheVariants.{Raw, Pass}
@@ -37,7 +37,7 @@ protector_lines p =
 
 -- each of the lines is ended by a line feed
 unfoldable pub protector_text : Protector → List ℕ
-protector_text p = record_text (protector_lines p)
+protector_text p = ended (protector_lines p)
 
 -- a raw secret, or a passphrase with a stretching that a record can spell
 abbrev pub IsKind : ProtectorKind → Type 0

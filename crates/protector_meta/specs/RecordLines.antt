@@ -1,11 +1,6 @@
--- Records: texts of lines, and which line is at fault in a text that is no record.
+-- Which line is at fault in a text that is no record.
 use Rattle.std.specs.Prelude.{ℕ, ◌+◌, ◌-◌, Bool, List, [], ◌∷◌, ◌++◌, length, take, if◌then◌else◌}
 use Rattle.text_words.specs.Lines.{pieces_of}
-
--- the text of these lines, each ended by a line feed
-abbrev pub record_text : List (List ℕ) → List ℕ
-record_text [] = []
-record_text (line ∷ lines) = line ++ 10 ∷ record_text lines
 
 -- the lines of a text that a line feed ends; what stands behind the last line feed is none of them
 abbrev pub ended_lines : List ℕ → List (List ℕ)

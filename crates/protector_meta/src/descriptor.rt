@@ -1,6 +1,6 @@
 //! Descriptors, by which a wrong key of a protector is told.
 
-ghost use Rattle.std.specs.Prelude.{◌≡◌, ◌↔◌, ℕ, List, IsSome, IfSome, IsTrue, length};
+ghost use Rattle.std.specs.Prelude.{◌≡◌, ◌↔◌, ℕ, List, IsSome, IfSome};
 ghost use Rattle.std.specs.List.{list_all};
 ghost use Rattle.fsc_keys.specs.Keys.{descriptor_of};
 ghost use Rattle.text_words.specs.Digits.{is_lower_hex_digit};

@@ -1,7 +1,6 @@
 //! The lines of records, and the values on them, read and written.
 
-ghost use Rattle.std.specs.Prelude.{◌≡◌, ◌∷◌, [], ◌++◌, OnOk, OnErr};
-ghost use Rattle.std.specs.Option.{option_map};
+ghost use Rattle.std.specs.Prelude.{◌≡◌, ◌∷◌, [], ◌++◌, OnOk};
 ghost use Rattle.byte_words.specs.Bytes.{AreBytes};
 ghost use Rattle.hex.specs.Hex.{encode_lower};
 ghost use Rattle.protector_meta.specs.Reading.{Gives, line_at};
@@ -10,7 +9,7 @@ ghost use Rattle.protector_meta.specs.LineValues as spec;
 use crate::fault::MetaFault;
 use short_bytes::Label;
 use std::alloc::AllocError;
-use text_words::{lower_hex_bytes, next_line, push_lower_hex};
+use text_words::{behind, lower_hex_bytes, next_line, push_lower_hex};
 
 // The first line, where a line feed ends it, and the text behind the line feed. Else the line of
 // this number is at fault.
@@ -23,13 +22,6 @@ pub(crate) fn ended_line(text: &[u8], number: u32) -> Result<(&[u8], &[u8]), Met
     } else {
         Err(MetaFault::Bad { line: number })
     }
-}
-
-// What stands behind a word with which the text begins.
-pub(crate) fn behind<'a>(text: &'a [u8], word: &[u8]) -> Option<&'a [u8]>
-    ensures { option_map (λ rest. rest.now) result ≡ spec.behind word.now text.now }
-{
-    text.strip_prefix(word)
 }
 
 // The label on the line of a name.

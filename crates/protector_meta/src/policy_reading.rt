@@ -16,7 +16,7 @@ ghost use Rattle.protector_meta.specs.PolicyLines.{wrap_of_words, wrap_value};
 ghost use Rattle.protector_meta.specs.PolicyReading.{GivesInMemory, policy_read, wraps_from};
 
 use crate::fault::MetaFault;
-use crate::lines::{behind, digits_line_value, ended_line, name_line_value};
+use crate::lines::{digits_line_value, ended_line, name_line_value};
 use crate::policy_file::{Options, PolicyFile};
 use crate::policy_text::{HEAD, HEAD_WITH_OPTIONS};
 use crate::wraps::{Wrap, WrapFault, WrapList};
@@ -24,7 +24,9 @@ use fsc_keys::KeyId;
 use policy_ctx::{Pad, Unit};
 use short_bytes::Label;
 use std::alloc::Global;
-use text_words::{decimal_value, lower_hex_bytes, next_line, nth_word, word_count};
+use text_words::{
+    behind, decimal_value, lower_hex_bytes, next_line, nth_word, two_words, word_count,
+};
 
 /// The number of the first line behind the identifier: of the options, or else of the first wrap.
 const FOURTH_LINE: u32 = 4;
@@ -108,17 +110,6 @@ fn options_of_words(text: &[u8]) -> Option<Options>
         pad: Pad::of_size(size)?,
         unit: Unit::of_log2(log)?,
     })
-}
-
-// The words of a text, if they are two.
-fn two_words(text: &[u8]) -> Option<(&[u8], &[u8])>
-    ensures { MatchOption result (length (words_of text.now) ≢ 2) (λ x.
-        words_of text.now ≡ x.0.now ∷ x.1.now ∷ []) }
-{
-    if word_count(text) != 2 {
-        return None;
-    }
-    Some((nth_word(text, 0)?, nth_word(text, 1)?))
 }
 
 fn read_id(line: &[u8]) -> Option<KeyId>

@@ -4,7 +4,7 @@ ghost use Rattle.std.specs.Prelude.{◌≡◌, ◌++◌, ◌∷◌, [], IfOk, On
 ghost use Rattle.std.specs.List.{All, flat_map};
 ghost use Rattle.byte_words.specs.Bytes.{AreBytes};
 ghost use Rattle.hex.specs.Hex.{encode_lower};
-ghost use Rattle.protector_meta.specs.RecordLines.{record_text};
+ghost use Rattle.text_words.specs.Lines.{ended};
 ghost use Rattle.protector_meta.specs.PolicyText as spec;
 ghost use Rattle.protector_meta.specs.PolicyText.{IsPolicyFile, IsWrap, option_lines, policy_text, wrap_line};
 
@@ -47,7 +47,7 @@ fn version_line(options: &Option<Options>) -> &'static [u8]
 
 // Writes the line of the options, where there are any.
 fn push_options(text: &mut Vec<u8>, options: &Option<Options>) -> Result<(), AllocError>
-    ensures { OnOk result (text.new.items ≡ text.old.items ++ record_text (option_lines options.now)) }
+    ensures { OnOk result (text.new.items ≡ text.old.items ++ ended (option_lines options.now)) }
 {
     let Some(options) = *options else {
         return Ok(());

@@ -12,15 +12,13 @@ ghost use Rattle.protector_meta.specs.Stretching.{IsStretching};
 
 use crate::descriptor::Descriptor;
 use crate::fault::MetaFault;
-use crate::lines::{
-    behind, digits_line_value, ended_line, name_line_value, push_digits_line, push_line,
-};
+use crate::lines::{digits_line_value, ended_line, name_line_value, push_digits_line, push_line};
 use crate::protector::{Protector, ProtectorKind, Stretching};
 use argon_kdf::Costs;
 use item_list::Bytes;
 use std::alloc::{AllocError, Global};
 use text_words::{
-    decimal_value, lower_hex_bytes, nth_word, push_decimal, push_lower_hex, word_count,
+    behind, decimal_value, lower_hex_bytes, nth_word, push_decimal, push_lower_hex, word_count,
 };
 
 /// The first line of the record.

@@ -138,14 +138,25 @@ impl WrapList {
         ensures accepted { IfNone (adding_fault wrap.protector self.old)
             (IsOkUnless result WrapFault.NoMemory) }
     {
-        if is_listed(&self.wraps, &wrap.protector) {
-            return Err(WrapFault::Listed);
-        }
-        if self.wraps.len() >= MOST_WRAPS {
-            return Err(WrapFault::Full);
+        if let Some(fault) = self.adding_fault(&wrap.protector) {
+            return Err(fault);
         }
         self.wraps.push(wrap)?;
         Ok(())
+    }
+
+    /// Why no wrap for the protector of this label can be added: `Listed` where it has one already, else
+    /// `Full` where there are `MOST_WRAPS`.
+    pub fn adding_fault(&self, label: &Label) -> Option<WrapFault>
+        ensures { result ≡ adding_fault label.now self.now }
+    {
+        if is_listed(&self.wraps, label) {
+            return Some(WrapFault::Listed);
+        }
+        if self.wraps.len() >= MOST_WRAPS {
+            return Some(WrapFault::Full);
+        }
+        None
     }
 
     /// Takes out the wrap for the protector of this label. Refused with `NotListed` where there is

@@ -1,12 +1,12 @@
 -- What is written of words reads back.
-use Rattle.std.proofs.Common.{◌≡◌, ℕ, suc, ◌<◌, ◌≤◌, ◌^◌, ◌*◌, ◌+◌, ◌==◌, ◌&&◌, Bool, true, false, List, [], ◌∷◌, ◌++◌, length, take, drop, get_or, codes, Option, Some, None, Ok, refl, sym, ap, ◌∙◌, arith, eq-eqb, append_assoc, length-append}
+use Rattle.std.proofs.Common.{◌≡◌, ℕ, suc, ◌<◌, ◌≤◌, ◌^◌, ◌*◌, ◌+◌, ◌==◌, ◌&&◌, Bool, true, false, List, [], ◌∷◌, ◌++◌, length, take, drop, codes, Option, Some, None, Ok, refl, ap, ◌∙◌, arith, eq-eqb, append_assoc, length-append}
 use Rattle.std.specs.Prelude.{nat_le, nat_lt, is_ok, if◌then◌else◌}
-use Rattle.std.specs.List.{All, AllPass, position_or_len, before_first, after_first}
+use Rattle.std.specs.List.{position_or_len, before_first, after_first}
 use Rattle.std.specs.Char.{is_ascii_digit}
 use Rattle.std.specs.Option.{option_map, option_and_then}
 use Rattle.std.specs.Result.{result_ok}
 use Rattle.std.specs.Str.{bytes_eq}
-use Rattle.std.proofs.lemmas.Bool.{and_from, le-leb, leb-true, leb-false, lt-ltb}
+use Rattle.std.proofs.lemmas.Bool.{and_from, le-leb, lt-ltb}
 use Rattle.std.proofs.lemmas.Bool.Decides.{nat_tests}
 use Rattle.std.proofs.lemmas.List.{get_or_append_left}
 use Rattle.std.proofs.Math.Seq.{get_or-append_seam}
@@ -25,10 +25,10 @@ use Rattle.policy_ctx.specs.declared.policy.Pad.TheVariants.{P4, P8, P16, P32}
 use Rattle.policy_ctx.specs.declared.policy.Unit.{Unit as DataUnit}
 use Rattle.policy_ctx.specs.declared.policy.Unit.TheVariants.{Block, U512, U1024, U2048, U4096}
 use Rattle.fsc_keys.specs.declared.raw_key.TheConstants.{LEAST_RAW_KEY_BYTES, MOST_RAW_KEY_BYTES}
-use Rattle.script_words.specs.Keys.{hex_of_size, hex_or_none, id_of, key_ref_of, key_ref_text, hex_or_none_text}
+use Rattle.script_words.specs.Keys.{hex_of_size, hex_or_none, key_ref_of, key_ref_text, hex_or_none_text}
 use Rattle.script_words.specs.Numbers.{number_of, at_most, number_up_to, pad_of, unit_of, pad_text, unit_text}
 use Rattle.script_words.specs.Records.{record_of, record_name, IsRecord}
-use Rattle.script_words.specs.Secrets.{is_colon, raw_secret_of, secret_of, number_and_rest, costs_of, behind_costs, stretched_of, new_secret_of, secret_text, new_secret_text, costs_text, cost_text, IsSecret, IsNewSecret}
+use Rattle.script_words.specs.Secrets.{is_colon, secret_of, number_and_rest, costs_of, stretched_of, new_secret_of, secret_text, new_secret_text, costs_text, IsSecret, IsNewSecret}
 use Rattle.script_words.specs.Word.{word_bytes, word_text}
 use Rattle.script_words.specs.Keys.{IsKey}
 use Rattle.script_words.specs.declared.limits.TheConstants.{RAW_SECRET_BYTES}

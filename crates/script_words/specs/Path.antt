@@ -1,30 +1,14 @@
 -- Paths of a script: `/`, or a `/` before each of 1 to 32 parts.
-use Rattle.std.specs.Prelude.{ℕ, ◌^◌, ◌<◌, ◌≤◌, ◌==◌, Bool, not, ◌&&◌, ◌||◌, nat_le, IsTrue, List}
+use Rattle.std.specs.Prelude.{ℕ, ◌^◌, ◌<◌, ◌≤◌, ◌==◌, not, nat_le, IsTrue, List}
 use Rattle.std.specs.Prelude.{[], ◌∷◌, ◌++◌, length, codes, Option, Some, None, if◌then◌else◌}
-use Rattle.std.specs.List.{All, list_any, slice_split}
+use Rattle.std.specs.List.{All, slice_split}
 use Rattle.std.specs.Option.{option_map, option_or}
-use Rattle.std.specs.Str.{bytes_eq}
 use Rattle.text_words.specs.Numbers.{number_below, decimal_of}
+pub use Rattle.text_words.specs.Parts.{is_dots, is_slash, is_slash_or_nul, may_be_part}
 use Rattle.script_words.specs.Word.{IsWord, word_bytes, passing, word_text}
 use Rattle.script_words.specs.declared.limits.TheConstants.{MOST_PARTS}
 use Rattle.script_words.specs.declared.path.ScriptPart.{ScriptPart}
 use Rattle.script_words.specs.declared.path.ScriptPart.TheVariants.{Given, Star}
-
--- whether the byte is `/`
-abbrev pub is_slash : ℕ → Bool
-is_slash b = b == 47
-
--- whether the byte is `/` or NUL
-abbrev pub is_slash_or_nul : ℕ → Bool
-is_slash_or_nul b = is_slash b || b == 0
-
--- whether the bytes are `.` or `..`
-abbrev pub is_dots : List ℕ → Bool
-is_dots bytes = bytes_eq bytes (codes ".") || bytes_eq bytes (codes "..")
-
--- whether the bytes may be a part: none is `/` or NUL, and they are neither `.` nor `..`
-abbrev pub may_be_part : List ℕ → Bool
-may_be_part bytes = not (list_any is_slash_or_nul bytes) && not (is_dots bytes)
 
 -- the number of a star: `*` and a decimal number, as they stand
 abbrev pub star_number : List ℕ → Option ℕ

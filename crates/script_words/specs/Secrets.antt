@@ -1,5 +1,5 @@
 -- The words for secrets: `raw:` and 64 digits, or `pass:` and a passphrase, of a new one behind its costs.
-use Rattle.std.specs.Prelude.{ℕ, ◌<◌, ◌==◌, ◌≡◌, ◌++◌, ◌∷◌, Bool, nat_eq, nat_lt, is_ok, List}
+use Rattle.std.specs.Prelude.{ℕ, ◌==◌, ◌≡◌, ◌++◌, Bool, nat_eq, nat_lt, is_ok, List}
 use Rattle.std.specs.Prelude.{length, drop, codes, Option, Some, None, Ok, if◌then◌else◌}
 use Rattle.std.specs.List.{starts_with, before_first, after_first, position_or_len}
 use Rattle.std.specs.Option.{option_map, option_and_then}

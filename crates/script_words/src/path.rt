@@ -1,8 +1,7 @@
 //! Paths: `/`, or a `/` before each of 1 to 32 parts. A part is a word, or a star.
 
-ghost use Rattle.std.specs.Prelude.{◌≡◌, Some, List, IfOk, OnOk, OnErr, ◌++◌, string_bytes};
-ghost use Rattle.std.specs.List.{list_any, slice_split};
-ghost use Rattle.script_words.specs.Path as spec;
+ghost use Rattle.std.specs.Prelude.{◌≡◌, Some, List, IfOk, OnOk, ◌++◌, string_bytes};
+ghost use Rattle.std.specs.List.{slice_split};
 ghost use Rattle.script_words.specs.Path.{IsPath, part_of, path_of, path_text};
 ghost use Rattle.script_words.specs.Path.{part_text, is_slash, few_parts, star_number};
 
@@ -11,7 +10,7 @@ use crate::word::{append_word, read_word};
 use item_list::{Bytes, Items};
 use std::alloc::{AllocError, Global};
 use std::marker::Model;
-use text_words::decimal_value;
+use text_words::{decimal_value, may_be_part};
 
 /// A part of a path.
 #[derive(Drop)]
@@ -116,26 +115,6 @@ fn read_star(text: &[u8]) -> Option<u32>
         [b'*', number @ ..] => decimal_value(number),
         _ => None,
     }
-}
-
-// Whether bytes may be a part.
-fn may_be_part(bytes: &[u8]) -> bool
-    ensures { result ≡ spec.may_be_part bytes.now }
-{
-    !has_slash_or_nul(bytes) && !is_dots(bytes)
-}
-
-fn has_slash_or_nul(bytes: &[u8]) -> bool
-    ensures { result ≡ list_any spec.is_slash_or_nul bytes.now }
-{
-    bytes.iter().any(|b| *b == b'/' || *b == 0)
-}
-
-// Whether bytes are `.` or `..`.
-fn is_dots(bytes: &[u8]) -> bool
-    ensures { result ≡ spec.is_dots bytes.now }
-{
-    bytes == b".".as_slice() || bytes == b"..".as_slice()
 }
 
 /// Writes a path: `/`, or `/` and the part for each part. A star is written as `*` and its number,

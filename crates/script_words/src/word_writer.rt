@@ -1,7 +1,7 @@
 //! The writer of words. Each writes a space behind a text, and then the word; after want of memory the text
 //! may have a part of it.
 
-ghost use Rattle.std.specs.Prelude.{◌≡◌, ◌<◌, ◌^◌, ◌++◌, ◌∷◌, OnOk};
+ghost use Rattle.std.specs.Prelude.{◌≡◌, ◌<◌, ◌++◌, ◌∷◌, OnOk};
 ghost use Rattle.hex.specs.Hex.{encode_lower};
 ghost use Rattle.text_words.specs.Numbers.{decimal_of};
 ghost use Rattle.script_words.specs.Keys.{key_ref_text, hex_or_none_text};

@@ -26,7 +26,7 @@ kept : (len want : ℕ) (r : Result (List ℕ) FromHexError) → len ≡ want
     → (let o : Option (List ℕ) = if len == want then result_ok r else None in o ≡ result_ok r)
 kept len want r e = grind arith
 
-was_ok : (r : Result (List ℕ) FromHexError) (bytes : List ℕ) → result_ok r ≡ Some bytes → r ≡ Ok bytes
+pub was_ok : (r : Result (List ℕ) FromHexError) (bytes : List ℕ) → result_ok r ≡ Some bytes → r ≡ Ok bytes
 was_ok (Ok xs) bytes h = cc h
 was_ok (Err e) bytes h = absurd (cc h)
 

@@ -1,3 +1,5 @@
 pub mod NumberLemmas
 pub mod LineLemmas
 pub mod DigitLemmas
+pub mod PieceLemmas
+pub mod WordLemmas

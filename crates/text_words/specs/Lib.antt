@@ -2,3 +2,4 @@ pub mod Numbers
 pub mod Digits
 pub mod Lines
 pub mod Words
+pub mod Parts

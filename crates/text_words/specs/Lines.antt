@@ -1,6 +1,6 @@
 -- Lines of a text: each is ended by a line feed, and what follows the last line feed is a piece that
 -- nothing ended.
-use Rattle.std.specs.Prelude.{ℕ, ◌==◌, ◌+◌, ◌-◌, Bool, true, List, length, slice_get, count_by, if◌then◌else◌}
+use Rattle.std.specs.Prelude.{ℕ, ◌==◌, ◌+◌, ◌-◌, Bool, true, List, [], ◌∷◌, ◌++◌, length, slice_get, count_by, if◌then◌else◌}
 use Rattle.std.specs.List.{slice_split}
 use Rattle.std.specs.Option.{option_map_or}
 
@@ -19,3 +19,8 @@ is_ended text = option_map_or is_line_feed (slice_get text (length text - 1)) tr
 -- how many lines a text has, a last piece that nothing ended counted as one
 abbrev pub line_count : List ℕ → ℕ
 line_count text = count_by is_line_feed text + (if is_ended text then 0 else 1)
+
+-- the text of these lines, each ended by a line feed
+abbrev pub ended : List (List ℕ) → List ℕ
+ended [] = []
+ended (line ∷ lines) = line ++ 10 ∷ ended lines

@@ -1,6 +1,7 @@
 -- Words of a line: they are parted by one space each.
-use Rattle.std.specs.Prelude.{ℕ, ◌==◌, Bool, List}
+use Rattle.std.specs.Prelude.{ℕ, ◌==◌, Bool, List, length, take, drop, Option, Some, None, if◌then◌else◌}
 use Rattle.std.specs.List.{slice_split}
+use Rattle.std.specs.Str.{bytes_eq}
 
 -- whether the byte is a space
 abbrev pub is_space : ℕ → Bool
@@ -10,3 +11,7 @@ is_space b = b == 32
 -- between them
 abbrev pub words_of : List ℕ → List (List ℕ)
 words_of line = slice_split is_space line
+
+-- what stands behind a word with which the text begins
+abbrev pub behind : List ℕ → List ℕ → Option (List ℕ)
+behind word text = if bytes_eq (take (length word) text) word then Some (drop (length word) text) else None

@@ -1,4 +1,4 @@
-//! Numbers, hexadecimal digits, lines and words of a text, read and written.
+//! Numbers, hexadecimal digits, lines and words of a text, read and written, and parts of a path.
 //! What each reader takes is exactly what `specs/` says of the text; none takes memory. The writers
 //! put digits at the end of a text, and take memory for these alone.
 #![tactic(auto)]
@@ -6,11 +6,13 @@
 mod digits;
 mod lines;
 mod numbers;
+mod parts;
 mod words;
 mod writing;
 
 pub use digits::{hex_bytes, hex_bytes_into, lower_hex_bytes, lower_hex_bytes_into};
 pub use lines::{Line, line_count, next_line};
 pub use numbers::{DecimalText, decimal_digits, decimal_value, decimal_value_u64};
-pub use words::{nth_word, word_count};
+pub use parts::may_be_part;
+pub use words::{behind, nth_word, two_words, word_count};
 pub use writing::{push_decimal, push_lower_hex};

@@ -4,7 +4,7 @@ use Rattle.sha2.specs.Sha512.{sha512}
 use Rattle.hex.specs.Hex.{encode_lower}
 use Rattle.text_words.specs.Digits.{is_lower_hex_digit}
 use Rattle.protector_meta.proofs.DigestBytes.{first_digest_bytes}
-use Rattle.protector_meta.proofs.WordLaws.{digits_are_lower}
+use Rattle.text_words.proofs.WordLemmas.{digits_are_lower}
 use Rattle.protector_meta.proofs.descriptor.Descriptor.of_key.Goals as goal
 
 -- the digits spell the first 8 bytes of a digest

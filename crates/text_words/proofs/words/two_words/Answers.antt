@@ -1,7 +1,7 @@
 use Rattle.std.proofs.Common.{◌∙◌, sym, ap}
 use Rattle.std.specs.Option.{option_map}
-use Rattle.protector_meta.proofs.FourWords.{two}
-use Rattle.protector_meta.proofs.policy_reading.two_words.Goals as goal
+use Rattle.text_words.proofs.PieceLemmas.{two}
+use Rattle.text_words.proofs.words.two_words.Goals as goal
 
 pub returns : goal.returns
 returns c =
