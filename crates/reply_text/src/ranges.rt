@@ -5,6 +5,7 @@ ghost use Rattle.std.specs.Prelude.{◌<◌, ◌^◌, length, All};
 ghost use Rattle.hex.specs.Hex.{IsBytes};
 ghost use Rattle.reply_text.specs.Ranges.{CallIsInRange, EntryIsInRange, RefusalIsInRange, ReplyIsInRange};
 
+use byte_words::slice_is_bytes;
 use call_history::Entry;
 use item_list::Bytes;
 use mount_model::{Call, Op, Refusal, Reply};
@@ -32,17 +33,17 @@ pub fn reply_in_range(reply: &Reply)
     ensures { ReplyIsInRange reply.now }
 {
     match reply {
-        Reply::Added(id) => are_bytes(&id.0),
-        Reply::PolicyIs(policy) => are_bytes(policy),
+        Reply::Added(id) => slice_is_bytes(&id.0),
+        Reply::PolicyIs(policy) => slice_is_bytes(policy),
         Reply::Names { names, .. } => names_in_range(names.as_slice()),
         Reply::Stat { node, size, .. } => {
             let _node = *node;
             let _size = *size;
         }
-        Reply::Content(bytes) | Reply::Target(bytes) => are_bytes(bytes.as_slice()),
+        Reply::Content(bytes) | Reply::Target(bytes) => slice_is_bytes(bytes.as_slice()),
         Reply::Held { version, bytes } => {
             let _version = *version;
-            are_bytes(bytes.as_slice());
+            slice_is_bytes(bytes.as_slice());
         }
         Reply::Status { users: number, .. } | Reply::Opened(number) | Reply::Stored(number) => {
             let _number = *number;
@@ -60,8 +61,10 @@ fn op_in_range(op: &Op)
         Op::AddKey { raw } => {
             let _count = raw.len();
         }
-        Op::RemoveKey { id } | Op::RemoveKeyAll { id } | Op::KeyStatus { id } => are_bytes(&id.0),
-        Op::SetPolicy { policy, .. } => are_bytes(policy),
+        Op::RemoveKey { id } | Op::RemoveKeyAll { id } | Op::KeyStatus { id } => slice_is_bytes(
+            &id.0,
+        ),
+        Op::SetPolicy { policy, .. } => slice_is_bytes(policy),
         Op::List { start: number, .. } | Op::Close { handle: number } => {
             let _number = *number;
         }
@@ -115,13 +118,6 @@ fn names_in_range(names: &[Bytes])
     ensures bytes { All IsBytes names.now }
 {
     'names: for number in 0..names.len() {
-        are_bytes(names[number].as_slice());
+        slice_is_bytes(names[number].as_slice());
     }
-}
-
-// Each number of a slice of bytes lies below 256.
-fn are_bytes(bytes: &[u8])
-    ensures { IsBytes bytes.now }
-{
-    let _len = bytes.len();
 }

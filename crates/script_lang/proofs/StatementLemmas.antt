@@ -1,18 +1,15 @@
 -- What a line of a script can say.
-use Rattle.std.proofs.Common.{◌≡◌, ℕ, ◌<◌, ◌^◌, Bool, true, false, List, [], ◌∷◌, codes, Option, Some, None, refl}
-use Rattle.std.specs.Prelude.{IfSome, if◌then◌else◌}
-use Rattle.std.specs.Option.{option_map}
+use Rattle.std.proofs.Common.{ℕ, ◌<◌, ◌^◌, List, [], ◌∷◌, codes, Option, Some, None}
+use Rattle.std.specs.Prelude.{IfSome}
 use Rattle.std.specs.Str.{bytes_eq}
 use Rattle.text_words.specs.Words.{words_of}
-use Rattle.script_lang.specs.Names.{name_of, name_in}
+use Rattle.script_lang.specs.Names.{name_of}
 use Rattle.script_lang.specs.Forms.{word, whole}
 use Rattle.script_words.specs.Numbers.{number_of}
-use Rattle.script_lang.specs.Commands.{command_named, verb_of}
+use Rattle.script_lang.specs.Commands.{verb_of}
 use Rattle.script_lang.specs.Statements.{statement_of_words, statement_of}
-use Rattle.script_words.specs.Numbers.{IsNumber}
 use Rattle.script_lang.specs.Asked.{IsAskable}
 use Rattle.script_lang.specs.declared.names.CommandName.{CommandName}
-use Rattle.script_lang.specs.declared.verb.Verb.{Verb}
 use Rattle.script_lang.specs.declared.statements.Statement.{Statement}
 use Rattle.script_lang.specs.declared.statements.Statement.TheVariants.{Nothing, Caller, Order}
 use Rattle.script_words.proofs.WordSpells.{chosen_some, mapped_some, then_some}

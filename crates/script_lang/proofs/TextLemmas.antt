@@ -1,7 +1,7 @@
 -- What the lines say that are written of callers and commands.
-use Rattle.std.proofs.Common.{◌≡◌, ℕ, suc, ◌<◌, ◌≤◌, ◌^◌, ◌==◌, ◌&&◌, ◌||◌, not, Bool, true, false, List, [], ◌∷◌, ◌++◌, length, codes, Option, Some, None, refl, sym, ap, ◌∙◌, arith, append-nil, subst}
-use Rattle.std.specs.Prelude.{nat_le, nat_lt, slice_index, if◌then◌else◌}
-use Rattle.std.specs.List.{All, list_all}
+use Rattle.std.proofs.Common.{◌≡◌, ℕ, suc, ◌<◌, ◌^◌, ◌==◌, ◌||◌, not, Bool, true, false, List, [], ◌∷◌, ◌++◌, length, codes, Option, Some, refl, sym, ap, ◌∙◌, arith, append-nil, subst}
+use Rattle.std.specs.Prelude.{slice_index, if◌then◌else◌}
+use Rattle.std.specs.List.{All}
 use Rattle.std.specs.Option.{option_map, option_and_then}
 use Rattle.std.specs.Str.{bytes_eq}
 use Rattle.std.proofs.lemmas.Bool.{and_parts, ltb-true}
@@ -12,7 +12,7 @@ use Rattle.text_words.specs.Lines.{is_line_feed}
 use Rattle.text_words.specs.Numbers.{decimal_of}
 use Rattle.text_words.specs.Words.{words_of, is_space}
 use Rattle.script_lang.specs.Forms.{word, whole}
-use Rattle.script_lang.specs.Names.{name_text, name_of, name_in}
+use Rattle.script_lang.specs.Names.{name_text, name_in}
 use Rattle.script_words.specs.Numbers.{number_of}
 use Rattle.script_lang.specs.Commands.{command_named, verb_of}
 use Rattle.script_lang.specs.VerbText.{verb_words, verb_text, spaced}
@@ -24,7 +24,7 @@ use Rattle.script_lang.specs.declared.verb.Verb.{Verb}
 use Rattle.script_lang.specs.declared.statements.Statement.{Statement}
 use Rattle.script_lang.specs.declared.statements.Statement.TheVariants.{Nothing, Caller, Order}
 use Rattle.script_lang.proofs.NameLaws.{is_name_word, name_text-good, name_of-text}
-use Rattle.script_words.proofs.PlainWords.{IsPlain, ArePlain, IsPlain-from_test, IsPlain-append, IsPlain-decimal_of, without}
+use Rattle.script_words.proofs.PlainWords.{IsPlain, ArePlain, IsPlain-from_test, IsPlain-decimal_of, without}
 use Rattle.script_lang.proofs.VerbLaws.{command_named-words, verb_words-plain}
 use Rattle.script_words.proofs.WordReadings.{number_of-text}
 

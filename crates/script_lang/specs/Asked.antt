@@ -1,5 +1,5 @@
 -- What the words of a command can ask for.
-use Rattle.std.specs.Prelude.{ℕ, ◌≡◌, ◌≤◌, ⊤, IsTrue, IfSome, List, length, Option}
+use Rattle.std.specs.Prelude.{◌≡◌, ◌≤◌, ⊤, IsTrue, IfSome, length}
 use Rattle.hex.specs.Hex.{IsBytes}
 use Rattle.short_bytes.specs.Label.{IsLabel}
 use Rattle.script_words.specs.Word.{IsWord, may_be_target}

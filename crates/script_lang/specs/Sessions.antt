@@ -1,5 +1,4 @@
 -- The session commands: behind each name, the words that it takes.
-use Rattle.std.specs.Prelude.{ℕ, List, Option}
 use Rattle.short_bytes.specs.Label.{label_of}
 use Rattle.script_words.specs.Secrets.{secret_of, new_secret_of}
 use Rattle.script_words.specs.Path.{path_of}

@@ -1,20 +1,13 @@
 -- The commands: behind each name, the words that it takes.
-use Rattle.std.specs.Prelude.{ℕ, List, Option}
-use Rattle.std.specs.Option.{option_and_then}
 use Rattle.text_words.specs.Digits.{hex_bytes_of_length}
-use Rattle.short_bytes.specs.Label.{label_of}
-use Rattle.script_words.specs.Keys.{hex_of_size, hex_or_none, key_ref_of}
+use Rattle.script_words.specs.Keys.{hex_or_none, key_ref_of}
 use Rattle.script_words.specs.Numbers.{number_of, number_up_to, pad_of, unit_of}
 use Rattle.script_words.specs.Records.{record_of}
-use Rattle.script_words.specs.Secrets.{secret_of, new_secret_of}
 use Rattle.script_words.specs.Word.{target_bytes}
 use Rattle.script_words.specs.Path.{path_of}
-use Rattle.script_lang.specs.Forms.{Form, ◌>>=◌, says, word, only, optional, whole}
-use Rattle.script_lang.specs.Names.{name_of}
-use Rattle.script_lang.specs.declared.limits.TheConstants.{MOST_ADDED_BYTES, MOST_WRITTEN_BYTES}
+use Rattle.script_lang.specs.Forms.{Form, ◌>>=◌, says, word, optional}
+use Rattle.script_lang.specs.declared.limits.TheConstants.{MOST_WRITTEN_BYTES}
 use Rattle.script_lang.specs.declared.limits.TheConstants.{MOST_FILLED_BYTES, MOST_PUT_BYTES, POLICY_BYTES}
-use Rattle.script_lang.specs.declared.names.CommandName.{CommandName}
-use Rattle.script_lang.specs.declared.names.CommandName.TheVariants as name
 use Rattle.script_lang.specs.declared.verb.Verb.{Verb}
 use Rattle.script_lang.specs.declared.verb.Verb.TheVariants as verb
 use Rattle.script_lang.specs.declared.verb.Settings.{Settings}

@@ -1,6 +1,4 @@
 //! The words behind a command's name, each read as what it must be.
-
-ghost use Rattle.std.specs.Prelude.{◌≡◌};
 ghost use Rattle.text_words.specs.Digits.{hex_bytes_of_length};
 ghost use Rattle.short_bytes.specs.Label.{label_of};
 ghost use Rattle.script_lang.specs.Forms.{Takes, word, optional};

@@ -1,7 +1,6 @@
 //! What one line of a script says by itself, wherever it stands.
 
 ghost use Rattle.std.specs.Prelude.{◌≡◌, ◌==◌, ◌||◌, IfOk, length, slice_index};
-ghost use Rattle.text_words.specs.Words.{words_of};
 ghost use Rattle.script_lang.specs.Forms.{word, whole};
 ghost use Rattle.script_words.specs.Numbers.{number_of};
 ghost use Rattle.script_lang.specs.Statements.{statement_named, statement_of, statement_of_words};

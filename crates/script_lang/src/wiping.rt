@@ -64,7 +64,28 @@ fn wipe_verb(alloc: Global, verb: &mut Verb)
             wipe_secret(alloc, added_secret);
         }
         Verb::Unlock { secret, .. } => wipe_secret(alloc, secret),
-        _ => {}
+        Verb::SetPolicyBytes { .. }
+        | Verb::GetPolicy(_)
+        | Verb::Mkdir(_)
+        | Verb::Create(_)
+        | Verb::ReadLink(_)
+        | Verb::Unlink(_)
+        | Verb::Rmdir(_)
+        | Verb::Rename { .. }
+        | Verb::List { .. }
+        | Verb::Stat(_)
+        | Verb::Open(_)
+        | Verb::Close(_)
+        | Verb::Read { .. }
+        | Verb::Fill { .. }
+        | Verb::DropCaches
+        | Verb::MetaGet(_)
+        | Verb::ProtectorLink(_)
+        | Verb::PolicyDrop { .. }
+        | Verb::Lock(_)
+        | Verb::Status(_)
+        | Verb::Encrypt { .. }
+        | Verb::Migrate(_) => {}
     }
 }
 
