@@ -1,7 +1,6 @@
 pub mod BegunLemmas
 pub mod CallLemmas
 pub mod OpeningLemmas
-pub mod PartLemmas
 pub mod StarLemmas
 pub mod StepsLemmas
 pub mod TextLemmas

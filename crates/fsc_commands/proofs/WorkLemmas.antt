@@ -1,53 +1,216 @@
--- A session's work where a part of it opened a record: the key is overwritten before the outcome is handed on.
-use Rattle.std.proofs.Common.{◌≡◌, ℕ, ◌+◌, ◌≤◌, ◌++◌, Some, Ok, Err, sym, subst, arith, length-append}
-use Rattle.std.specs.Prelude.{Result, IfOk}
+-- A command's work, part after part.
+use Rattle.std.proofs.Common.{rules, ◌≡◌, ℕ, ◌+◌, ◌≤◌, ◌++◌, [], ◌∷◌, Some, Ok, Err, refl, ap, sym, subst, ◌∙◌, arith, length-append}
+use Rattle.std.specs.Prelude.{Option, Result}
+use Rattle.std.specs.Result.{IsErrAnd}
 use Rattle.call_history.specs.Placed.{entries_of}
 use Rattle.mount_model.specs.Port.{PlacedCalls}
-use Rattle.reply_text.specs.Shown.{PlacedShown}
+use Rattle.mount_model.specs.declared.call.Call.{Call}
+use Rattle.mount_model.specs.declared.reply.Reply.{Reply}
+use Rattle.reply_text.specs.Shown.{ShownEntry, shown_entry}
 use Rattle.reply_text.specs.declared.outcome.Outcome.{Outcome}
+use Rattle.fsc_commands.specs.declared.stop.Stop.{Stop}
+use Rattle.fsc_commands.specs.declared.stop.Stop.TheVariants.{Ended, NoMemory}
+use Rattle.fsc_commands.specs.declared.work.Caller.{Caller}
 use Rattle.fsc_commands.specs.Steps.{Reaches}
-use Rattle.fsc_commands.specs.Steps.Steps.{Done}
-use Rattle.fsc_commands.specs.CommandSteps.{CommandSteps, when_ok, ended}
-use Rattle.fsc_commands.specs.Made.{Made, MadePart}
+use Rattle.fsc_commands.specs.Steps.Steps.{Done, Ask}
+use Rattle.fsc_commands.specs.CommandSteps.{CommandSteps, ended, when_ok}
+use Rattle.fsc_commands.specs.Made.{Made, MadePart, Begun, asked}
+use Rattle.fsc_commands.specs.Stopped.{Gives}
+use Rattle.fsc_commands.specs.Work.{IsSameCaller, Worked, WorkedPart}
 use Rattle.fsc_commands.proofs.StepsLemmas.{entries_of-append, grown_twice, Reaches-on}
 
--- what a part got ends the work, of which it is at most so much
-pub work_ends : {P A : Type 0} {came : PlacedCalls → P → Type 0} {port : P} {left before_left most : ℕ} {got : Result A Outcome} {old new : PlacedShown}
-    (all : ℕ) (steps : (A → CommandSteps) → CommandSteps) (next : A → CommandSteps) (outcome : Outcome) → most ≤ all → when_ok got next ≡ ended outcome
-    → MadePart came port left before_left most steps got old new → Made came port left before_left all (steps next) (Some outcome) old new
-work_ends all steps next outcome low is part =
-    let few = part.few in
+same_still : {P : Type 0} {who : P → ℕ} {old middle new : Caller P} → IsSameCaller who old middle → IsSameCaller who middle new → IsSameCaller who old new
+same_still first second = record {
+  number = second.number ∙ first.number;
+  port = second.port ∙ first.port;
+  entries = second.entries ∙ first.entries;
+}
+
+-- a part that is one call, with whose reply the work goes on or ends
+pub one_call : {P A : Type 0} {came : P → PlacedCalls → P → Type 0} {who left : P → ℕ} {old new : Caller P} {caller : ℕ} {call wanted : Call} {placed : ℕ × ShownEntry}
+    (told : Reply → Result A Outcome) (result : Result A Stop) → call ≡ wanted → came old.port.now (asked caller call placed ∷ []) new.port.now → placed ≡ (placed.0, shown_entry (asked caller call placed).1)
+    → left new.port.now + 1 ≡ left old.port.now → new.entries.now ≡ old.entries.now ++ placed ∷ [] → IsSameCaller who old new → Gives result (told placed.1.reply)
+    → WorkedPart came who left old new 1 (λ next. Ask caller wanted (λ reply. when_ok (told reply) next)) result
+one_call {old = old} {caller = caller} {call} {placed = placed} told (Ok value) is came_by shown fewer listed same gives = record {
+  ends = record {
+    made = asked caller call placed ∷ [];
+    came_by = came_by;
+    follows = λ next. (refl, is, ap (λ got. when_ok got next) gives);
+    grown = listed ∙ ap (λ p. old.entries.now ++ p ∷ []) shown;
+    few = search rules;
+    counted = fewer;
+  };
+  same = same;
+}
+one_call {old = old} {caller = caller} {call} {placed = placed} told (Err (Ended outcome)) is came_by shown fewer listed same gives = record {
+  ends = record {
+    made = asked caller call placed ∷ [];
+    came_by = came_by;
+    follows = λ next. (refl, is, ap (λ got. when_ok got next) gives);
+    grown = listed ∙ ap (λ p. old.entries.now ++ p ∷ []) shown;
+    few = search rules;
+    counted = fewer;
+  };
+  same = same;
+}
+one_call {old = old} {caller = caller} {call} {placed = placed} told (Err NoMemory) is came_by shown fewer listed same gives = record {
+  ends = record {
+    made = asked caller call placed ∷ [];
+    came_by = came_by;
+    begins = λ next. (when_ok (told placed.1.reply) next, (refl, is, refl));
+    few = search rules;
+  };
+  same = same;
+}
+
+-- a part that stops stops the work
+pub stops : {P A : Type 0} {came : P → PlacedCalls → P → Type 0} {who left : P → ℕ} {old new : Caller P} {most : ℕ} {steps : (A → CommandSteps) → CommandSteps} {next : A → CommandSteps}
+    (all : ℕ) (stop : Stop) → most ≤ all → WorkedPart came who left old new most steps (Err stop) → Worked came who left old new all (steps next) (Err stop)
+stops {next = next} all (Ended outcome) low part =
+    let few = part.ends.few in
     record {
-      made = part.made;
-      came_by = part.came_by;
-      follows = subst (λ rest. Reaches (steps next) (entries_of part.made) rest) is (part.follows next);
-      grown = part.grown;
-      few = omega (arith, few, low);
-      counted = part.counted;
+      ends = record {
+        made = part.ends.made;
+        came_by = part.ends.came_by;
+        follows = part.ends.follows next;
+        grown = part.ends.grown;
+        few = omega (arith, few, low);
+        counted = part.ends.counted;
+      };
+      same = part.same;
+    }
+stops {next = next} all NoMemory low part =
+    let few = part.ends.few in
+    record {
+      ends = record {
+        made = part.ends.made;
+        rest = (part.ends.begins next).0;
+        came_by = part.ends.came_by;
+        begins = (part.ends.begins next).1;
+        few = omega (arith, few, low);
+      };
+      same = part.same;
     }
 
--- what a part got goes on with other work
-pub work_goes_on : {P A E : Type 0} (came : P → PlacedCalls → P → Type 0)
+-- ---- a part, and then the rest of the work
+
+made_then : {P A : Type 0} (came : P → PlacedCalls → P → Type 0) (left : P → ℕ)
     (by_more : (first second third : P) (e f : PlacedCalls) → came first e second → came second f third → came first (e ++ f) third)
-    (first second third : P) (left between before_left most rest all : ℕ) (steps : (A → CommandSteps) → CommandSteps) (next : A → CommandSteps)
-    (got : Result A Outcome) (after : CommandSteps) (result : Result Outcome E) (old middle new : PlacedShown) → most + rest ≤ all → when_ok got next ≡ after
-    → MadePart (came first) second between before_left most steps got old middle
-    → IfOk result (λ outcome. Made (came second) third left between rest after (Some outcome) middle new)
-    → IfOk result (λ outcome. Made (came first) third left before_left all (steps next) (Some outcome) old new)
-work_goes_on came by_more first second third left between before_left most rest all steps next got after (Err fault) old middle new low is part more = tt
-work_goes_on came by_more first second third left between before_left most rest all steps next got after (Ok outcome) old middle new low is part more =
+    (old middle new : Caller P) (most rest all : ℕ) (steps : (A → CommandSteps) → CommandSteps) (next : A → CommandSteps) (value : A) (outcome : Option Outcome)
+    → most + rest ≤ all
+    → MadePart (came old.port.now) middle.port.now (left middle.port.now) (left old.port.now) most steps (Ok value) old.entries.now middle.entries.now
+    → Made (came middle.port.now) new.port.now (left new.port.now) (left middle.port.now) rest (next value) outcome middle.entries.now new.entries.now
+    → Made (came old.port.now) new.port.now (left new.port.now) (left old.port.now) all (steps next) outcome old.entries.now new.entries.now
+made_then came left by_more old middle new most rest all steps next value outcome low part more =
     let few = part.few in
     let few' = more.few in
     let counted = part.counted in
     let counted' = more.counted in
     let sum = length-append part.made more.made in
-    let reached : Reaches (steps next) (entries_of part.made) after = subst (λ rest. Reaches (steps next) (entries_of part.made) rest) is (part.follows next) in
     record {
       made = part.made ++ more.made;
-      came_by = by_more first second third part.made more.made part.came_by more.came_by;
-      follows = subst (λ es. Reaches (steps next) es (Done (Some outcome))) (sym (entries_of-append part.made more.made))
-          (Reaches-on (steps next) after (Done (Some outcome)) (entries_of part.made) (entries_of more.made) reached more.follows);
-      grown = grown_twice old middle new part.made more.made part.grown more.grown;
+      came_by = by_more old.port.now middle.port.now new.port.now part.made more.made part.came_by more.came_by;
+      follows = subst (λ es. Reaches (steps next) es (Done outcome)) (sym (entries_of-append part.made more.made))
+          (Reaches-on (steps next) (next value) (Done outcome) (entries_of part.made) (entries_of more.made) (part.follows next) more.follows);
+      grown = grown_twice old.entries.now middle.entries.now new.entries.now part.made more.made part.grown more.grown;
       few = omega (arith, few, few', sum, low);
       counted = omega (arith, counted, counted', sum);
     }
+
+begun_then : {P A : Type 0} (came : P → PlacedCalls → P → Type 0) (left : P → ℕ)
+    (by_more : (first second third : P) (e f : PlacedCalls) → came first e second → came second f third → came first (e ++ f) third)
+    (old middle new : Caller P) (most rest all : ℕ) (steps : (A → CommandSteps) → CommandSteps) (next : A → CommandSteps) (value : A)
+    → most + rest ≤ all
+    → MadePart (came old.port.now) middle.port.now (left middle.port.now) (left old.port.now) most steps (Ok value) old.entries.now middle.entries.now
+    → Begun (came middle.port.now) new.port.now rest (next value) → Begun (came old.port.now) new.port.now all (steps next)
+begun_then came left by_more old middle new most rest all steps next value low part more =
+    let few = part.few in
+    let few' = more.few in
+    let sum = length-append part.made more.made in
+    record {
+      made = part.made ++ more.made;
+      rest = more.rest;
+      came_by = by_more old.port.now middle.port.now new.port.now part.made more.made part.came_by more.came_by;
+      begins = subst (λ es. Reaches (steps next) es more.rest) (sym (entries_of-append part.made more.made))
+          (Reaches-on (steps next) (next value) more.rest (entries_of part.made) (entries_of more.made) (part.follows next) more.begins);
+      few = omega (arith, few, few', sum, low);
+    }
+
+-- work goes on with what a part got
+pub goes_on : {P A : Type 0} {came : P → PlacedCalls → P → Type 0} {who left : P → ℕ}
+    (by_more : (first second third : P) (e f : PlacedCalls) → came first e second → came second f third → came first (e ++ f) third)
+    {old middle new : Caller P} {most rest : ℕ} {steps : (A → CommandSteps) → CommandSteps} {next : A → CommandSteps} {value : A}
+    (all : ℕ) (result : Result (Option Outcome) Stop) → most + rest ≤ all → WorkedPart came who left old middle most steps (Ok value)
+    → Worked came who left middle new rest (next value) result → Worked came who left old new all (steps next) result
+goes_on {came = came} {left = left} by_more {old} {middle} {new} {most} {rest} {steps} {next} {value} all (Ok outcome) low part more = record {
+  ends = made_then came left by_more old middle new most rest all steps next value outcome low part.ends more.ends;
+  same = same_still part.same more.same;
+}
+goes_on {came = came} {left = left} by_more {old} {middle} {new} {most} {rest} {steps} {next} {value} all (Err (Ended outcome)) low part more = record {
+  ends = made_then came left by_more old middle new most rest all steps next value (Some outcome) low part.ends more.ends;
+  same = same_still part.same more.same;
+}
+goes_on {came = came} {left = left} by_more {old} {middle} {new} {most} {rest} {steps} {next} {value} all (Err NoMemory) low part more = record {
+  ends = begun_then came left by_more old middle new most rest all steps next value low part.ends more.ends;
+  same = same_still part.same more.same;
+}
+
+-- ---- work that ends without a call
+
+-- with an outcome
+pub ends_now : {P : Type 0} {came : P → PlacedCalls → P → Type 0} {who left : P → ℕ} (by_none : (port : P) → came port [] port) (caller : Caller P) (outcome : Outcome)
+    → Worked came who left caller caller 0 (ended outcome) (Err (Ended outcome))
+ends_now by_none caller outcome = record {
+  ends = record { made = []; came_by = by_none caller.port.now; follows = refl; grown = search rules; few = search rules; counted = search rules };
+  same = record { number = refl; port = refl; entries = refl };
+}
+
+-- for want of memory
+pub stops_now : {P : Type 0} {came : P → PlacedCalls → P → Type 0} {who left : P → ℕ} (by_none : (port : P) → came port [] port) (caller : Caller P) (steps : CommandSteps)
+    → Worked came who left caller caller 0 steps (Err NoMemory)
+stops_now by_none caller steps = record {
+  ends = record { made = []; rest = steps; came_by = by_none caller.port.now; begins = refl; few = search rules };
+  same = record { number = refl; port = refl; entries = refl };
+}
+
+-- few calls are no more than this
+pub by_more_calls : {P : Type 0} {came : P → PlacedCalls → P → Type 0} {who left : P → ℕ} {old new : Caller P} {most : ℕ} {steps : CommandSteps}
+    (all : ℕ) (result : Result (Option Outcome) Stop) → most ≤ all → Worked came who left old new most steps result → Worked came who left old new all steps result
+by_more_calls all (Ok outcome) low work =
+    let few = work.ends.few in
+    record {
+      ends = record { made = work.ends.made; came_by = work.ends.came_by; follows = work.ends.follows; grown = work.ends.grown; few = omega (arith, few, low); counted = work.ends.counted };
+      same = work.same;
+    }
+by_more_calls all (Err (Ended outcome)) low work =
+    let few = work.ends.few in
+    record {
+      ends = record { made = work.ends.made; came_by = work.ends.came_by; follows = work.ends.follows; grown = work.ends.grown; few = omega (arith, few, low); counted = work.ends.counted };
+      same = work.same;
+    }
+by_more_calls all (Err NoMemory) low work =
+    let few = work.ends.few in
+    record {
+      ends = record { made = work.ends.made; rest = work.ends.rest; came_by = work.ends.came_by; begins = work.ends.begins; few = omega (arith, few, low) };
+      same = work.same;
+    }
+
+-- ---- in an answer
+
+-- it is enough to show of the error that `?` hands on
+pub by_err : {P : Type 0} {came : P → PlacedCalls → P → Type 0} {who left : P → ℕ} {old new : Caller P} {most : ℕ} {steps : CommandSteps} {stop : Stop}
+    (result : Result (Option Outcome) Stop) → IsErrAnd result (λ error. error ≡ stop)
+    → Worked came who left old new most steps (Err stop) → Worked came who left old new most steps result
+by_err (Ok outcome) is work = absurd is
+by_err {came = came} {who} {left} {old} {new} {most} {steps} (Err error) is work = subst (λ s. Worked came who left old new most steps (Err s)) (sym is) work
+
+-- where a step was allowed
+pub allowed : {P A : Type 0} {came : P → PlacedCalls → P → Type 0} {who left : P → ℕ} {old new : Caller P} {most : ℕ} {got : Result A Outcome} {value : A}
+    (after : A → CommandSteps) (result : Result (Option Outcome) Stop) → Ok value ≡ got → Worked came who left old new most (after value) result → Worked came who left old new most (when_ok got after) result
+allowed {came = came} {who} {left} {old} {new} {most} after result is work = subst (λ g. Worked came who left old new most (when_ok g after) result) is work
+
+-- where it was refused
+pub refused : {P A : Type 0} {came : P → PlacedCalls → P → Type 0} {who left : P → ℕ} {got : Result A Outcome} {outcome : Outcome}
+    (after : A → CommandSteps) (by_none : (port : P) → came port [] port) (caller : Caller P) → Err outcome ≡ got → Worked came who left caller caller 0 (when_ok got after) (Err (Ended outcome))
+refused {came = came} {who} {left} {outcome = outcome} after by_none caller is =
+    subst (λ g. Worked came who left caller caller 0 (when_ok g after) (Err (Ended outcome))) is (ends_now by_none caller outcome)

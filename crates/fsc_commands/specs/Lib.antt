@@ -13,4 +13,6 @@ pub mod Records
 pub mod SessionSteps
 pub mod Stars
 pub mod Steps
+pub mod Stopped
 pub mod Wiped
+pub mod Work

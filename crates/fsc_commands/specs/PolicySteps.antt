@@ -1,9 +1,11 @@
 -- A session's work with policies.
 use Rattle.std.specs.Prelude.{ℕ, ◌++◌, false, List, [], ◌∷◌, Option, Some, None, Result, Ok, Err, ⊤}
+use Rattle.policy_ctx.specs.declared.policy.KeyId.{KeyId}
 use Rattle.policy_ctx.specs.declared.policy.Pad.{Pad}
 use Rattle.policy_ctx.specs.declared.policy.Policy.{Policy as NodePolicy}
 use Rattle.policy_ctx.specs.declared.policy.Unit.{Unit as DataUnit}
 use Rattle.policy_ctx.specs.Policy.{policy_bytes}
+use Rattle.mount_model.specs.declared.call.Op.{Op}
 use Rattle.mount_model.specs.declared.call.Op.TheVariants.{AddKey, RemoveKey, KeyStatus, SetPolicy}
 use Rattle.protector_meta.specs.declared.policy_file.Options.{Options}
 use Rattle.protector_meta.specs.declared.policy_file.PolicyFile.{PolicyFile}
@@ -21,7 +23,10 @@ use Rattle.script_words.specs.declared.record_words.Record.TheVariants.{Policy}
 use Rattle.script_lang.specs.declared.verb.Settings.{Settings}
 use Rattle.fsc_commands.specs.declared.draws.Purpose.TheVariants.{NonceOrKey, Iv}
 use Rattle.fsc_commands.specs.declared.loaded.LoadedPolicy.{LoadedPolicy}
+use Rattle.fsc_commands.specs.declared.outcomes.Wanted.{Wanted}
 use Rattle.fsc_commands.specs.declared.outcomes.Wanted.TheVariants as wanted
+use Rattle.fsc_commands.specs.declared.policies.AskedOfKey.{AskedOfKey}
+use Rattle.fsc_commands.specs.declared.policies.AskedOfKey.TheVariants.{Removal, Status}
 use Rattle.fsc_commands.specs.CommandSteps.{CommandSteps, when_ok, last_call}
 use Rattle.fsc_commands.specs.NewRecords.{first_drawn, made_policy, made_wrap, options_said, usual_options}
 use Rattle.fsc_commands.specs.Opening.{loading_policy, opening_policy, opening_protector, storing}
@@ -30,17 +35,20 @@ use Rattle.fsc_commands.specs.Stars.{path_meant}
 
 -- ---- with the record alone
 
--- the claim to a policy's key is removed
-abbrev pub lock_steps : ℕ → ℕ → List ℕ → CommandSteps
-lock_steps caller uid label =
-    loading_policy caller uid label
-    (λ loaded. last_call caller uid (RemoveKey loaded.policy.id) wanted.Removed)
+-- the call that is asked of a policy's key, and the reply that it is meant to have
+abbrev pub key_op : AskedOfKey → KeyId → Op
+key_op Removal id = RemoveKey id
+key_op Status id = KeyStatus id
 
--- it is told whether a policy's key is there
-abbrev pub status_steps : ℕ → ℕ → List ℕ → CommandSteps
-status_steps caller uid label =
+abbrev pub key_wanted : AskedOfKey → Wanted
+key_wanted Removal = wanted.Removed
+key_wanted Status = wanted.Status
+
+-- the claim to a policy's key is removed, or it is told whether it is there
+abbrev pub key_steps : AskedOfKey → ℕ → ℕ → List ℕ → CommandSteps
+key_steps asked caller uid label =
     loading_policy caller uid label
-    (λ loaded. last_call caller uid (KeyStatus loaded.policy.id) wanted.Status)
+    (λ loaded. last_call caller uid (key_op asked loaded.policy.id) (key_wanted asked))
 
 -- how a session's work ends where a list of wraps refuses a change
 abbrev pub outcome_of_wraps : WrapFault → Outcome

@@ -4,7 +4,8 @@ use Rattle.script_lang.specs.declared.verb.Verb.{Verb}
 use Rattle.script_lang.specs.declared.verb.Verb.TheVariants as verb
 use Rattle.fsc_commands.specs.Steps.Steps.{Done}
 use Rattle.fsc_commands.specs.CommandSteps.{CommandSteps}
-use Rattle.fsc_commands.specs.PolicySteps.{lock_steps, status_steps, policy_drop_steps, migrate_steps}
+use Rattle.fsc_commands.specs.declared.policies.AskedOfKey.TheVariants.{Removal, Status}
+use Rattle.fsc_commands.specs.PolicySteps.{key_steps, policy_drop_steps, migrate_steps}
 use Rattle.fsc_commands.specs.PolicySteps.{encrypt_steps, unlock_steps, policy_new_steps, policy_add_steps}
 use Rattle.fsc_commands.specs.ProtectorSteps.{protector_steps, protector_change_steps, protector_link_steps}
 
@@ -29,8 +30,8 @@ session_steps seed caller uid number names (verb.ProtectorLink protector) =
     protector_link_steps caller uid protector
 session_steps seed caller uid number names (verb.PolicyDrop policy protector) =
     policy_drop_steps caller uid policy protector
-session_steps seed caller uid number names (verb.Lock policy) = lock_steps caller uid policy
-session_steps seed caller uid number names (verb.Status policy) = status_steps caller uid policy
+session_steps seed caller uid number names (verb.Lock policy) = key_steps Removal caller uid policy
+session_steps seed caller uid number names (verb.Status policy) = key_steps Status caller uid policy
 session_steps seed caller uid number names (verb.Encrypt path policy settings) =
     encrypt_steps seed caller uid number names path policy settings
 session_steps seed caller uid number names (verb.Migrate policy) = migrate_steps caller uid policy

@@ -7,15 +7,16 @@ ghost use Rattle.fsc_commands.specs.Commands.{command_steps, plain_or_session};
 ghost use Rattle.fsc_commands.specs.CommandSteps.{CommandSteps};
 ghost use Rattle.fsc_commands.specs.Steps.{names_in};
 ghost use Rattle.fsc_commands.specs.Made.{Made, Begun};
+ghost use Rattle.fsc_commands.specs.Work.{MayAsk, Worked};
 ghost use Rattle.fsc_commands.specs.declared.TheConstants.{MOST_CALLS};
 
 use crate::calls::plain_op;
-use crate::parts::ask;
-use crate::session::run_session;
+use crate::stop::Stop;
 use crate::stretches::Stretches;
 use crate::turn::Turn;
+use crate::work::{Caller, Work};
 use crate::{EntryList, MOST_CALLS};
-use mount_model::{Call, MountPort, Op};
+use mount_model::{MountPort, Op};
 use reply_text::Outcome;
 use script_lang::Verb;
 use std::alloc::{AllocError, Global};
@@ -46,35 +47,55 @@ pub fn run_command<P: MountPort, S: Stretches>(
     ensures failed { OnErr result (Begun (P.came port.old) port.new MOST_CALLS
         (command_steps seed.now turn.caller turn.uid turn.number (names_in entries.old) verb.now)) }
 {
-    match plain_op(alloc, seed, turn, entries, verb)? {
-        Some(op) => {
-            let outcome = make_call(alloc, port, turn, op, entries)?;
-            Ok(outcome)
-        }
-        None => run_session(alloc, port, stretches, seed, turn, verb, entries),
+    let work = Work {
+        alloc,
+        stretches,
+        seed,
+        turn,
+    };
+    let mut caller = Caller { port, entries };
+    match work.run(&mut caller, verb) {
+        Ok(outcome) => Ok(outcome),
+        Err(Stop::Ended(outcome)) => Ok(Some(outcome)),
+        Err(Stop::NoMemory) => Err(AllocError),
     }
 }
 
-// Makes the one call of a command, and puts what was replied behind the caller's other entries.
-fn make_call<P: MountPort>(
-    alloc: Global,
-    port: &mut P,
-    turn: Turn,
-    op: Op,
-    entries: &mut EntryList,
-) -> Result<Option<Outcome>, AllocError>
-    requires caller { turn.caller ≡ P.who port.old }
-    requires left { MOST_CALLS ≤ P.calls_left port.old }
-    requires fits { OpFits op }
-    ensures made { IfOk result (λ outcome. (session : CommandSteps) → Made (P.came port.old) port.new
-        (P.calls_left port.new) (P.calls_left port.old) MOST_CALLS
-        (plain_or_session turn.caller turn.uid (Some op) session) outcome entries.old entries.new) }
-    ensures caller { P.who port.new ≡ P.who port.old }
-    ensures failed { OnErr result ((session : CommandSteps) → Begun (P.came port.old) port.new MOST_CALLS
-        (plain_or_session turn.caller turn.uid (Some op) session)) }
-{
-    let mut call = Call { uid: turn.uid, op };
-    let placed = ask(alloc, port, turn, &mut call)?;
-    entries.push(placed)?;
-    Ok(None)
+impl<'a, S: Stretches> Work<'a, S> {
+    // Runs a command: the one call that it is, or a session's work.
+    fn run<P: MountPort>(
+        &self,
+        caller: &mut Caller<P>,
+        verb: &Verb,
+    ) -> Result<Option<Outcome>, Stop>
+        requires stretches { S.ready self.now.stretches.now }
+        requires ready { MayAsk P.who P.calls_left MOST_CALLS self.now.turn caller.old }
+        requires asked { IsAskable verb.now }
+        ensures { Worked P.came P.who P.calls_left caller.old caller.new MOST_CALLS
+            (command_steps self.now.seed.now self.now.turn.caller self.now.turn.uid self.now.turn.number
+            (names_in caller.old.entries.now) verb.now) result }
+    {
+        match plain_op(self.alloc, self.seed, self.turn, caller.entries, verb)? {
+            Some(op) => self.make_call(caller, op),
+            None => self.run_session(caller, verb),
+        }
+    }
+}
+
+impl<'a, S> Work<'a, S> {
+    // Makes the one call of a command.
+    fn make_call<P: MountPort>(
+        &self,
+        caller: &mut Caller<P>,
+        op: Op,
+    ) -> Result<Option<Outcome>, Stop>
+        requires ready { MayAsk P.who P.calls_left MOST_CALLS self.now.turn caller.old }
+        requires fits { OpFits op }
+        ensures { (session : CommandSteps) → Worked P.came P.who P.calls_left caller.old caller.new MOST_CALLS
+            (plain_or_session self.now.turn.caller self.now.turn.uid (Some op) session) result }
+    {
+        let placed = self.ask_for(caller, op)?;
+        caller.entries.push(placed)?;
+        Ok(None)
+    }
 }

@@ -1,61 +1,47 @@
 //! Directories that a session encrypts under a policy's record.
 
-ghost use Rattle.std.specs.Prelude.{◌≡◌, ◌≤◌, Some, IfOk, OnErr};
+ghost use Rattle.std.specs.Prelude.{◌≡◌};
 ghost use Rattle.fsc_commands.specs.PolicySteps as spec;
 ghost use Rattle.fsc_commands.specs.PolicySteps.{encrypt_steps};
 ghost use Rattle.fsc_commands.specs.Steps.{names_in};
-ghost use Rattle.fsc_commands.specs.Made.{Made, Begun};
+ghost use Rattle.fsc_commands.specs.Work.{MayAsk, Worked};
 ghost use Rattle.fsc_commands.specs.declared.TheConstants.{MOST_CALLS};
 
 use crate::draws::nonce_drawn;
 use crate::new_records::usual_options;
 use crate::outcomes::Wanted;
-use crate::parts::{finish, load_policy};
 use crate::stars::path_meant;
-use crate::turn::Turn;
-use crate::{EntryList, MOST_CALLS};
+use crate::stop::Stop;
+use crate::work::{Caller, Work};
 use mount_model::{MountPort, Op};
 use policy_ctx::{Pad, Policy, Unit, encode_policy};
 use protector_meta::{Options, PolicyFile};
 use reply_text::Outcome;
 use script_lang::{ScriptPath, Settings};
 use short_bytes::Label;
-use std::alloc::{AllocError, Global};
 
-// Encrypts a directory from now on, under a policy and a nonce that is drawn.
-pub(crate) fn encrypt<P: MountPort>(
-    alloc: Global,
-    port: &mut P,
-    seed: &[u8; 32],
-    turn: Turn,
-    path: &ScriptPath,
-    policy: &Label,
-    settings: Option<Settings>,
-    entries: &mut EntryList,
-) -> Result<Outcome, AllocError>
-    requires caller { turn.caller ≡ P.who port.old }
-    requires left { MOST_CALLS ≤ P.calls_left port.old }
-    ensures made { IfOk result (λ outcome. Made (P.came port.old) port.new (P.calls_left port.new)
-        (P.calls_left port.old) MOST_CALLS
-        (encrypt_steps seed.now turn.caller turn.uid turn.number (names_in entries.old) path.now
-        policy.now settings) (Some outcome) entries.old entries.new) }
-    ensures caller { P.who port.new ≡ P.who port.old }
-    ensures failed { OnErr result (Begun (P.came port.old) port.new MOST_CALLS
-        (encrypt_steps seed.now turn.caller turn.uid turn.number (names_in entries.old) path.now policy.now
-        settings)) }
-{
-    let meant = path_meant(alloc, entries, path)?;
-    match load_policy(alloc, port, turn, policy, entries)? {
-        Ok(loaded) => {
-            let op = Op::SetPolicy {
-                path: meant,
-                policy: encode_policy(&node_policy(&loaded.policy, settings)),
-                nonce: nonce_drawn(seed, turn),
-            };
-            let outcome = finish(alloc, port, turn, op, Wanted::Done, entries)?;
-            Ok(outcome)
-        }
-        Err(outcome) => Ok(outcome),
+impl<'a, S> Work<'a, S> {
+    // Encrypts a directory from now on, under a policy and a nonce that is drawn.
+    pub(crate) fn encrypt<P: MountPort>(
+        &self,
+        caller: &mut Caller<P>,
+        path: &ScriptPath,
+        policy: &Label,
+        settings: Option<Settings>,
+    ) -> Result<Option<Outcome>, Stop>
+        requires ready { MayAsk P.who P.calls_left MOST_CALLS self.now.turn caller.old }
+        ensures { Worked P.came P.who P.calls_left caller.old caller.new MOST_CALLS
+            (encrypt_steps self.now.seed.now self.now.turn.caller self.now.turn.uid self.now.turn.number
+            (names_in caller.old.entries.now) path.now policy.now settings) result }
+    {
+        let meant = path_meant(self.alloc, caller.entries, path)?;
+        let loaded = self.load_policy(caller, policy)?;
+        let op = Op::SetPolicy {
+            path: meant,
+            policy: encode_policy(&node_policy(&loaded.policy, settings)),
+            nonce: nonce_drawn(self.seed, self.turn),
+        };
+        self.finish(caller, op, Wanted::Done)
     }
 }
 

@@ -23,12 +23,14 @@ mod policy_new;
 mod protectors;
 mod session;
 mod stars;
+mod stop;
 mod stores;
 mod stretches;
 mod told;
 mod turn;
 mod unlocking;
 mod wiping;
+mod work;
 mod wrapping;
 
 use call_history::Entry;

@@ -1,16 +1,18 @@
 //! Records as they were loaded.
 
-ghost use Rattle.std.specs.Prelude.{◌≡◌, IfOk};
+ghost use Rattle.std.specs.Prelude.{◌≡◌};
 ghost use Rattle.protector_meta.specs.PolicyReading.{policy_read};
 ghost use Rattle.protector_meta.specs.ProtectorReading.{protector_read};
 ghost use Rattle.fsc_commands.specs.Records as spec;
+ghost use Rattle.fsc_commands.specs.Stopped.{Gives};
 
 use crate::outcomes::outcome_of_other;
+use crate::stop::Stop;
 use mount_model::Reply;
 use protector_meta::{MetaFault, PolicyFile, Protector, decode_policy_file, decode_protector};
 use reply_text::Outcome;
 use short_bytes::Label;
-use std::alloc::{AllocError, Global};
+use std::alloc::Global;
 
 // A policy's record, and its version.
 #[derive(Drop)]
@@ -31,12 +33,12 @@ pub(crate) fn policy_loaded(
     alloc: Global,
     label: &Label,
     reply: &Reply,
-) -> Result<Result<LoadedPolicy, Outcome>, AllocError>
-    ensures { IfOk result (λ loaded. loaded ≡ spec.policy_loaded label.now reply.now) }
+) -> Result<LoadedPolicy, Stop>
+    ensures { Gives result (spec.policy_loaded label.now reply.now) }
 {
     match reply {
         Reply::Held { version, bytes } => { policy_read(alloc, label, *version, bytes.as_slice()) }
-        _ => Ok(Err(outcome_of_other(reply))),
+        _ => Err(Stop::Ended(outcome_of_other(reply))),
     }
 }
 
@@ -46,13 +48,13 @@ fn policy_read(
     label: &Label,
     version: u32,
     bytes: &[u8],
-) -> Result<Result<LoadedPolicy, Outcome>, AllocError>
-    ensures { IfOk result (λ loaded. loaded ≡ spec.policy_named label.now version (policy_read bytes.now)) }
+) -> Result<LoadedPolicy, Stop>
+    ensures { Gives result (spec.policy_named label.now version (policy_read bytes.now)) }
 {
     match decode_policy_file(alloc, bytes) {
-        Ok(policy) if policy.name == *label => Ok(Ok(LoadedPolicy { version, policy })),
-        Err(MetaFault::NoMemory) => Err(AllocError),
-        _ => Ok(Err(Outcome::BadRecord)),
+        Ok(policy) if policy.name == *label => Ok(LoadedPolicy { version, policy }),
+        Err(MetaFault::NoMemory) => Err(Stop::NoMemory),
+        _ => Err(Stop::Ended(Outcome::BadRecord)),
     }
 }
 

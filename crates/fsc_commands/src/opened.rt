@@ -1,13 +1,15 @@
 //! How a protector opens with a secret, and a policy with a protector's key.
 
-ghost use Rattle.std.specs.Prelude.{◌≡◌, ◌≤◌, [], length, Some, Ok, IfOk, OnErr};
+ghost use Rattle.std.specs.Prelude.{◌≡◌, ◌≤◌, [], length, Some, Ok, IfOk};
 ghost use Rattle.argon_kdf.specs.Argon2id.{argon2id_tag};
 ghost use Rattle.fsc_keys.specs.Keys.{key_id_of};
 ghost use Rattle.fsc_keys.specs.declared.raw_key.TheConstants.{MOST_RAW_KEY_BYTES};
 ghost use Rattle.script_words.specs.Secrets.{IsSecret};
 ghost use Rattle.fsc_commands.specs.Records as spec;
+ghost use Rattle.fsc_commands.specs.Stopped.{Gives, IfNoMemory};
 
 use crate::loaded::{LoadedPolicy, LoadedProtector, policy_loaded, protector_loaded};
+use crate::stop::Stop;
 use crate::stretches::Stretches;
 use byte_words::wipe;
 use fsc_keys::{KeyId, RawKey, key_id};
@@ -40,14 +42,14 @@ pub(crate) fn protector_opened<S: Stretches>(
     label: &Label,
     secret: &Secret,
     reply: &Reply,
-) -> Result<Result<OpenedProtector, Outcome>, AllocError>
+) -> Result<OpenedProtector, Stop>
     requires ready { S.ready stretches.now }
     requires secret { IsSecret secret.now }
-    ensures { IfOk result (λ opened. opened ≡ spec.protector_opened label.now secret.now reply.now) }
+    ensures { Gives result (spec.protector_opened label.now secret.now reply.now) }
 {
     match protector_loaded(label, reply) {
         Ok(loaded) => protector_by(alloc, stretches, secret, loaded),
-        Err(outcome) => Ok(Err(outcome)),
+        Err(outcome) => Err(Stop::Ended(outcome)),
     }
 }
 
@@ -57,21 +59,21 @@ fn protector_by<S: Stretches>(
     stretches: &S,
     secret: &Secret,
     loaded: LoadedProtector,
-) -> Result<Result<OpenedProtector, Outcome>, AllocError>
+) -> Result<OpenedProtector, Stop>
     requires ready { S.ready stretches.now }
     requires secret { IsSecret secret.now }
-    ensures { IfOk result (λ opened. opened ≡ spec.protector_by secret.now (Ok loaded)) }
+    ensures { Gives result (spec.protector_by secret.now (Ok loaded)) }
 {
-    match wrapping_key(alloc, stretches, secret, &loaded.protector.kind)? {
+    match wrapping_key(alloc, stretches, secret, &loaded.protector.kind) {
         Ok(mut wrapping) => {
             let key = protector_key(&loaded.protector, &wrapping);
             wipe(&mut wrapping);
             match key {
-                Ok(key) => Ok(Ok(OpenedProtector { loaded, key })),
-                Err(outcome) => Ok(Err(outcome)),
+                Ok(key) => Ok(OpenedProtector { loaded, key }),
+                Err(outcome) => Err(Stop::Ended(outcome)),
             }
         }
-        Err(outcome) => Ok(Err(outcome)),
+        Err(stop) => Err(stop),
     }
 }
 
@@ -83,19 +85,17 @@ pub(crate) fn policy_opened(
     protector: &Label,
     key: &[u8; 32],
     reply: &Reply,
-) -> Result<Result<OpenedPolicy, Outcome>, AllocError>
-    ensures value { IfOk result (λ opened.
-        opened ≡ spec.policy_opened label.now protector.now key.now reply.now) }
-    ensures identified { IfOk result (λ got. IfOk got (λ opened.
-        key_id_of opened.key ≡ opened.loaded.policy.id)) }
-    ensures whole { IfOk result (λ got. IfOk got (λ opened. length opened.key ≡ MOST_RAW_KEY_BYTES)) }
+) -> Result<OpenedPolicy, Stop>
+    ensures value { Gives result (spec.policy_opened label.now protector.now key.now reply.now) }
+    ensures identified { IfOk result (λ opened. key_id_of opened.key ≡ opened.loaded.policy.id) }
+    ensures whole { IfOk result (λ opened. length opened.key ≡ MOST_RAW_KEY_BYTES) }
 {
-    match policy_loaded(alloc, label, reply)? {
+    match policy_loaded(alloc, label, reply) {
         Ok(loaded) => match policy_key(&loaded.policy, protector, key) {
-            Ok(key) => Ok(Ok(OpenedPolicy { loaded, key })),
-            Err(outcome) => Ok(Err(outcome)),
+            Ok(key) => Ok(OpenedPolicy { loaded, key }),
+            Err(outcome) => Err(Stop::Ended(outcome)),
         },
-        Err(outcome) => Ok(Err(outcome)),
+        Err(stop) => Err(stop),
     }
 }
 
@@ -107,22 +107,22 @@ pub(crate) fn wrapping_key<S: Stretches>(
     stretches: &S,
     secret: &Secret,
     kind: &ProtectorKind,
-) -> Result<Result<[u8; 32], Outcome>, AllocError>
+) -> Result<[u8; 32], Stop>
     requires ready { S.ready stretches.now }
     requires secret { IsSecret secret.now }
-    ensures value { IfOk result (λ key. key ≡ spec.wrapping_key secret.now kind.now) }
-    ensures memory { OnErr result (spec.IsStretched secret.now kind.now) }
+    ensures value { Gives result (spec.wrapping_key secret.now kind.now) }
+    ensures memory { IfNoMemory result (spec.IsStretched secret.now kind.now) }
 {
     match secret {
         Secret::Raw(raw) => match kind {
-            ProtectorKind::Raw => Ok(Ok(*raw)),
-            ProtectorKind::Pass(_) => Ok(Err(Outcome::WrongKind)),
+            ProtectorKind::Raw => Ok(*raw),
+            ProtectorKind::Pass(_) => Err(Stop::Ended(Outcome::WrongKind)),
         },
         Secret::Pass(passphrase) => match kind {
-            ProtectorKind::Raw => Ok(Err(Outcome::WrongKind)),
+            ProtectorKind::Raw => Err(Stop::Ended(Outcome::WrongKind)),
             ProtectorKind::Pass(stretching) => {
                 let key = stretched(alloc, stretches, passphrase.as_slice(), stretching)?;
-                Ok(Ok(key))
+                Ok(key)
             }
         },
     }

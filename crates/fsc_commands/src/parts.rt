@@ -4,20 +4,20 @@ ghost use Rattle.std.specs.Prelude.{◌≡◌, ◌≤◌, ◌<◌, ◌+◌, [], 
 ghost use Rattle.mount_model.specs.declared.call.Call.{Call};
 ghost use Rattle.mount_model.specs.Fits.{Fits, OpFits};
 ghost use Rattle.fsc_commands.specs.Wiped.{wiped_call};
-ghost use Rattle.mount_model.specs.declared.call.Op.TheVariants.{MetaLoad};
 ghost use Rattle.fsc_commands.specs.CommandSteps.{last_call, called};
 ghost use Rattle.fsc_commands.specs.Opening.{loading_policy};
-ghost use Rattle.fsc_commands.specs.Made.{Made, MadePart, Begun, BegunPart, asked};
+ghost use Rattle.fsc_commands.specs.Made.{asked};
+ghost use Rattle.fsc_commands.specs.Work.{Answered, IsSameCaller, MayAsk, Worked, WorkedPart};
 ghost use Rattle.reply_text.specs.Shown.{shown_entry};
 
-use crate::EntryList;
 use crate::loaded::{LoadedPolicy, policy_loaded};
 use crate::meant::record_name;
 use crate::outcomes::{Wanted, outcome_of};
+use crate::stop::Stop;
 use crate::turn::Turn;
 use crate::wiping::wipe_call;
+use crate::work::{Caller, Work};
 use call_history::Entry;
-use item_list::Bytes;
 use mount_model::{Call, MountPort, Op, Reply};
 use reply_text::{Outcome, Shown, shown_of};
 use script_lang::Record;
@@ -26,7 +26,7 @@ use std::alloc::{AllocError, Global};
 
 // Makes a call of the caller, and gives what is shown of its entry, with its place. Want of memory comes
 // before the call. Either way the bytes that the call carries are overwritten.
-pub(crate) fn ask<P: MountPort>(
+fn ask<P: MountPort>(
     alloc: Global,
     port: &mut P,
     turn: Turn,
@@ -79,63 +79,61 @@ fn ask_lent<P: MountPort>(
     Ok((placed.place, entry))
 }
 
-// The call that loads the record of this name.
-pub(crate) fn meta_load(turn: Turn, name: Bytes) -> Call
-    ensures { result ≡ called turn.uid (MetaLoad name) }
-{
-    Call {
-        uid: turn.uid,
-        op: Op::MetaLoad { name },
+impl<'a, S> Work<'a, S> {
+    // Makes a call for the user whose turn it is, and gives what is shown of its entry, with its place, which
+    // isn't in the list yet.
+    pub(crate) fn ask_for<P: MountPort>(
+        &self,
+        caller: &mut Caller<P>,
+        op: Op,
+    ) -> Result<(u64, Entry<Shown, Reply>), AllocError>
+        requires ready { MayAsk P.who P.calls_left 1 self.now.turn caller.old }
+        requires fits { OpFits op }
+        ensures answered { IfOk result (Answered P.came P.calls_left caller.old caller.new
+            self.now.turn.caller (called self.now.turn.uid op)) }
+        ensures same { IsSameCaller P.who caller.old caller.new }
+        ensures failed { OnErr result (P.came caller.old.port.now [] caller.new.port.now) }
+    {
+        let mut call = Call {
+            uid: self.turn.uid,
+            op,
+        };
+        let placed = ask(self.alloc, caller.port, self.turn, &mut call)?;
+        Ok(placed)
     }
-}
 
-// Makes the last call of a session's work, which ends as the reply to it tells.
-pub(crate) fn finish<P: MountPort>(
-    alloc: Global,
-    port: &mut P,
-    turn: Turn,
-    op: Op,
-    wanted: Wanted,
-    entries: &mut EntryList,
-) -> Result<Outcome, AllocError>
-    requires caller { turn.caller ≡ P.who port.old }
-    requires left { 0 < P.calls_left port.old }
-    requires fits { OpFits op }
-    ensures made { IfOk result (λ outcome. Made (P.came port.old) port.new (P.calls_left port.new)
-        (P.calls_left port.old) 1 (last_call turn.caller turn.uid op wanted) (Some outcome)
-        entries.old entries.new) }
-    ensures caller { P.who port.new ≡ P.who port.old }
-    ensures failed { OnErr result (Begun (P.came port.old) port.new 1
-        (last_call turn.caller turn.uid op wanted)) }
-{
-    let mut call = Call { uid: turn.uid, op };
-    let placed = ask(alloc, port, turn, &mut call)?;
-    let outcome = outcome_of(wanted, &placed.1.reply);
-    entries.push(placed)?;
-    Ok(outcome)
-}
+    // Makes the last call of a session's work, which ends as the reply to it tells.
+    pub(crate) fn finish<P: MountPort>(
+        &self,
+        caller: &mut Caller<P>,
+        op: Op,
+        wanted: Wanted,
+    ) -> Result<Option<Outcome>, Stop>
+        requires ready { MayAsk P.who P.calls_left 1 self.now.turn caller.old }
+        requires fits { OpFits op }
+        ensures { Worked P.came P.who P.calls_left caller.old caller.new 1
+            (last_call self.now.turn.caller self.now.turn.uid op wanted) result }
+    {
+        let placed = self.ask_for(caller, op)?;
+        let outcome = outcome_of(wanted, &placed.1.reply);
+        caller.entries.push(placed)?;
+        Ok(Some(outcome))
+    }
 
-// Loads the policy of this label.
-pub(crate) fn load_policy<P: MountPort>(
-    alloc: Global,
-    port: &mut P,
-    turn: Turn,
-    label: &Label,
-    entries: &mut EntryList,
-) -> Result<Result<LoadedPolicy, Outcome>, AllocError>
-    requires caller { turn.caller ≡ P.who port.old }
-    requires left { 0 < P.calls_left port.old }
-    ensures made { IfOk result (λ got. MadePart (P.came port.old) port.new (P.calls_left port.new)
-        (P.calls_left port.old) 1 (loading_policy turn.caller turn.uid label.now) got
-        entries.old entries.new) }
-    ensures caller { P.who port.new ≡ P.who port.old }
-    ensures failed { OnErr result (BegunPart (P.came port.old) port.new 1
-        (loading_policy turn.caller turn.uid label.now)) }
-{
-    let name = record_name(alloc, &Record::Policy(*label))?;
-    let mut call = meta_load(turn, name);
-    let placed = ask(alloc, port, turn, &mut call)?;
-    let loaded = policy_loaded(alloc, label, &placed.1.reply)?;
-    entries.push(placed)?;
-    Ok(loaded)
+    // Loads the policy of this label.
+    pub(crate) fn load_policy<P: MountPort>(
+        &self,
+        caller: &mut Caller<P>,
+        label: &Label,
+    ) -> Result<LoadedPolicy, Stop>
+        requires ready { MayAsk P.who P.calls_left 1 self.now.turn caller.old }
+        ensures { WorkedPart P.came P.who P.calls_left caller.old caller.new 1
+            (loading_policy self.now.turn.caller self.now.turn.uid label.now) result }
+    {
+        let name = record_name(self.alloc, &Record::Policy(*label))?;
+        let placed = self.ask_for(caller, Op::MetaLoad { name })?;
+        let loaded = policy_loaded(self.alloc, label, &placed.1.reply);
+        caller.entries.push(placed)?;
+        loaded
+    }
 }

@@ -1,73 +1,61 @@
 //! A session's work with policies that are there.
 
-ghost use Rattle.std.specs.Prelude.{◌≡◌, ◌≤◌, Some, IfOk, OnErr};
-ghost use Rattle.fsc_commands.specs.PolicySteps.{lock_steps, status_steps};
-ghost use Rattle.fsc_commands.specs.Made.{Made, Begun};
+ghost use Rattle.std.specs.Prelude.{◌≡◌};
+ghost use Rattle.fsc_commands.specs.PolicySteps as spec;
+ghost use Rattle.fsc_commands.specs.PolicySteps.{key_steps};
+ghost use Rattle.fsc_commands.specs.Work.{MayAsk, Worked};
 ghost use Rattle.fsc_commands.specs.declared.TheConstants.{MOST_CALLS};
 
 use crate::outcomes::Wanted;
-use crate::parts::{finish, load_policy};
-use crate::turn::Turn;
-use crate::{EntryList, MOST_CALLS};
+use crate::stop::Stop;
+use crate::work::{Caller, Work};
 use mount_model::{MountPort, Op};
+use policy_ctx::KeyId;
 use reply_text::Outcome;
 use short_bytes::Label;
-use std::alloc::{AllocError, Global};
 
-// Removes the caller's claim to the key of a policy.
-pub(crate) fn lock<P: MountPort>(
-    alloc: Global,
-    port: &mut P,
-    turn: Turn,
-    policy: &Label,
-    entries: &mut EntryList,
-) -> Result<Outcome, AllocError>
-    requires caller { turn.caller ≡ P.who port.old }
-    requires left { MOST_CALLS ≤ P.calls_left port.old }
-    ensures made { IfOk result (λ outcome. Made (P.came port.old) port.new (P.calls_left port.new)
-        (P.calls_left port.old) MOST_CALLS (lock_steps turn.caller turn.uid policy.now) (Some outcome)
-        entries.old entries.new) }
-    ensures caller { P.who port.new ≡ P.who port.old }
-    ensures failed { OnErr result (Begun (P.came port.old) port.new MOST_CALLS
-        (lock_steps turn.caller turn.uid policy.now)) }
-{
-    match load_policy(alloc, port, turn, policy, entries)? {
-        Ok(loaded) => {
-            let op = Op::RemoveKey {
-                id: loaded.policy.id,
-            };
-            let outcome = finish(alloc, port, turn, op, Wanted::Removed, entries)?;
-            Ok(outcome)
-        }
-        Err(outcome) => Ok(outcome),
+// What is asked of the key of a policy.
+#[derive(Clone, Copy)]
+pub(crate) enum AskedOfKey {
+    // That the caller's claim to it is removed.
+    Removal,
+    // Whether it is there.
+    Status,
+}
+
+impl<'a, S> Work<'a, S> {
+    // Makes the call that is asked of the key of a policy.
+    pub(crate) fn ask_of_key<P: MountPort>(
+        &self,
+        caller: &mut Caller<P>,
+        policy: &Label,
+        asked: AskedOfKey,
+    ) -> Result<Option<Outcome>, Stop>
+        requires ready { MayAsk P.who P.calls_left MOST_CALLS self.now.turn caller.old }
+        ensures { Worked P.came P.who P.calls_left caller.old caller.new MOST_CALLS
+            (key_steps asked self.now.turn.caller self.now.turn.uid policy.now) result }
+    {
+        let loaded = self.load_policy(caller, policy)?;
+        self.finish(caller, key_op(asked, loaded.policy.id), key_wanted(asked))
     }
 }
 
-// Tells whether the key of a policy is there.
-pub(crate) fn status<P: MountPort>(
-    alloc: Global,
-    port: &mut P,
-    turn: Turn,
-    policy: &Label,
-    entries: &mut EntryList,
-) -> Result<Outcome, AllocError>
-    requires caller { turn.caller ≡ P.who port.old }
-    requires left { MOST_CALLS ≤ P.calls_left port.old }
-    ensures made { IfOk result (λ outcome. Made (P.came port.old) port.new (P.calls_left port.new)
-        (P.calls_left port.old) MOST_CALLS (status_steps turn.caller turn.uid policy.now) (Some outcome)
-        entries.old entries.new) }
-    ensures caller { P.who port.new ≡ P.who port.old }
-    ensures failed { OnErr result (Begun (P.came port.old) port.new MOST_CALLS
-        (status_steps turn.caller turn.uid policy.now)) }
+// The call of a key.
+fn key_op(asked: AskedOfKey, id: KeyId) -> Op
+    ensures { result ≡ spec.key_op asked id }
 {
-    match load_policy(alloc, port, turn, policy, entries)? {
-        Ok(loaded) => {
-            let op = Op::KeyStatus {
-                id: loaded.policy.id,
-            };
-            let outcome = finish(alloc, port, turn, op, Wanted::Status, entries)?;
-            Ok(outcome)
-        }
-        Err(outcome) => Ok(outcome),
+    match asked {
+        AskedOfKey::Removal => Op::RemoveKey { id },
+        AskedOfKey::Status => Op::KeyStatus { id },
+    }
+}
+
+// The reply that it is meant to have.
+fn key_wanted(asked: AskedOfKey) -> Wanted
+    ensures { result ≡ spec.key_wanted asked }
+{
+    match asked {
+        AskedOfKey::Removal => Wanted::Removed,
+        AskedOfKey::Status => Wanted::Status,
     }
 }

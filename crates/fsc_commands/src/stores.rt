@@ -1,18 +1,16 @@
 //! The last part of a session's work that stores a record.
 
-ghost use Rattle.std.specs.Prelude.{◌≡◌, ◌≤◌, ◌<◌, length, Some, IfOk, OnErr};
+ghost use Rattle.std.specs.Prelude.{◌≡◌, ◌≤◌, length, IfOk};
 ghost use Rattle.mount_limits.specs.declared.TheConstants.{MOST_CARRIED_BYTES};
 ghost use Rattle.protector_meta.specs.PolicyText.{policy_text};
 ghost use Rattle.protector_meta.specs.ProtectorText.{protector_text};
-ghost use Rattle.fsc_commands.specs.CommandSteps.{when_ok};
 ghost use Rattle.fsc_commands.specs.Opening.{storing};
-ghost use Rattle.fsc_commands.specs.Made.{Made, Begun};
+ghost use Rattle.fsc_commands.specs.Work.{MayAsk, Worked};
 
-use crate::EntryList;
 use crate::meant::record_name;
 use crate::outcomes::Wanted;
-use crate::parts::finish;
-use crate::turn::Turn;
+use crate::stop::Stop;
+use crate::work::{Caller, Work};
 use item_list::Bytes;
 use mount_model::{MountPort, Op};
 use protector_meta::{PolicyFile, Protector, encode_policy_file, encode_protector};
@@ -22,7 +20,7 @@ use short_bytes::Label;
 use std::alloc::{AllocError, Global};
 
 // The text of a policy's record. A call can carry it.
-pub(crate) fn stored_policy(alloc: Global, policy: &PolicyFile) -> Result<Bytes, AllocError>
+fn stored_policy(alloc: Global, policy: &PolicyFile) -> Result<Bytes, AllocError>
     ensures text { IfOk result (λ text. text ≡ policy_text policy.now) }
     ensures few { IfOk result (λ text. length text ≤ MOST_CARRIED_BYTES) }
 {
@@ -32,7 +30,7 @@ pub(crate) fn stored_policy(alloc: Global, policy: &PolicyFile) -> Result<Bytes,
 
 // The text of a protector's record. A call can carry it.
 #[tactic(auto, using(crate::proofs::TextLemmas::protector_text_is_short))]
-pub(crate) fn stored_protector(alloc: Global, protector: &Protector) -> Result<Bytes, AllocError>
+fn stored_protector(alloc: Global, protector: &Protector) -> Result<Bytes, AllocError>
     ensures text { IfOk result (λ text. text ≡ protector_text protector.now) }
     ensures few { IfOk result (λ text. length text ≤ MOST_CARRIED_BYTES) }
 {
@@ -40,64 +38,59 @@ pub(crate) fn stored_protector(alloc: Global, protector: &Protector) -> Result<B
     Ok(text)
 }
 
-// Stores a record in place of the version that is expected; 0 stands for none.
-pub(crate) fn store_record<P: MountPort>(
-    alloc: Global,
-    port: &mut P,
-    turn: Turn,
-    stored: &Record,
-    expected: u32,
-    text: Bytes,
-    entries: &mut EntryList,
-) -> Result<Outcome, AllocError>
-    requires caller { turn.caller ≡ P.who port.old }
-    requires left { 0 < P.calls_left port.old }
-    requires few { length text ≤ MOST_CARRIED_BYTES }
-    ensures made { IfOk result (λ outcome. Made (P.came port.old) port.new (P.calls_left port.new)
-        (P.calls_left port.old) 1 (storing turn.caller turn.uid stored.now expected text) (Some outcome)
-        entries.old entries.new) }
-    ensures caller { P.who port.new ≡ P.who port.old }
-    ensures failed { OnErr result (Begun (P.came port.old) port.new 1
-        (storing turn.caller turn.uid stored.now expected text)) }
-{
-    let op = Op::MetaStore {
-        name: record_name(alloc, stored)?,
-        expected,
-        bytes: text,
-    };
-    let outcome = finish(alloc, port, turn, op, Wanted::Stored, entries)?;
-    Ok(outcome)
-}
+impl<'a, S> Work<'a, S> {
+    // Stores a record in place of the version that is expected; 0 stands for none.
+    pub(crate) fn store_record<P: MountPort>(
+        &self,
+        caller: &mut Caller<P>,
+        stored: Record,
+        expected: u32,
+        text: Bytes,
+    ) -> Result<Option<Outcome>, Stop>
+        requires ready { MayAsk P.who P.calls_left 1 self.now.turn caller.old }
+        requires few { length text ≤ MOST_CARRIED_BYTES }
+        ensures { Worked P.came P.who P.calls_left caller.old caller.new 1
+            (storing self.now.turn.caller self.now.turn.uid stored expected text) result }
+    {
+        let op = Op::MetaStore {
+            name: record_name(self.alloc, &stored)?,
+            expected,
+            bytes: text,
+        };
+        self.finish(caller, op, Wanted::Stored)
+    }
 
-// Stores what a policy was changed to, in place of the version that was loaded; where the change was
-// refused, nothing is asked.
-pub(crate) fn store_changed<P: MountPort>(
-    alloc: Global,
-    port: &mut P,
-    turn: Turn,
-    label: &Label,
-    version: u32,
-    changed: Result<PolicyFile, Outcome>,
-    entries: &mut EntryList,
-) -> Result<Outcome, AllocError>
-    requires caller { turn.caller ≡ P.who port.old }
-    requires left { 0 < P.calls_left port.old }
-    ensures made { IfOk result (λ outcome. Made (P.came port.old) port.new (P.calls_left port.new)
-        (P.calls_left port.old) 1 (when_ok changed (λ policy.
-        storing turn.caller turn.uid (Record.Policy label.now) version (policy_text policy)))
-        (Some outcome) entries.old entries.new) }
-    ensures caller { P.who port.new ≡ P.who port.old }
-    ensures failed { OnErr result (Begun (P.came port.old) port.new 1
-        (when_ok changed (λ policy. storing turn.caller turn.uid (Record.Policy label.now) version
-        (policy_text policy)))) }
-{
-    match changed {
-        Ok(policy) => {
-            let text = stored_policy(alloc, &policy)?;
-            let stored = Record::Policy(*label);
-            let outcome = store_record(alloc, port, turn, &stored, version, text, entries)?;
-            Ok(outcome)
-        }
-        Err(outcome) => Ok(outcome),
+    // The same of a policy's record.
+    pub(crate) fn store_policy<P: MountPort>(
+        &self,
+        caller: &mut Caller<P>,
+        label: &Label,
+        expected: u32,
+        policy: &PolicyFile,
+    ) -> Result<Option<Outcome>, Stop>
+        requires ready { MayAsk P.who P.calls_left 1 self.now.turn caller.old }
+        ensures { Worked P.came P.who P.calls_left caller.old caller.new 1
+            (storing self.now.turn.caller self.now.turn.uid (Record.Policy label.now) expected
+            (policy_text policy.now)) result }
+    {
+        let text = stored_policy(self.alloc, policy)?;
+        self.store_record(caller, Record::Policy(*label), expected, text)
+    }
+
+    // The same of a protector's.
+    pub(crate) fn store_protector<P: MountPort>(
+        &self,
+        caller: &mut Caller<P>,
+        label: &Label,
+        expected: u32,
+        protector: &Protector,
+    ) -> Result<Option<Outcome>, Stop>
+        requires ready { MayAsk P.who P.calls_left 1 self.now.turn caller.old }
+        ensures { Worked P.came P.who P.calls_left caller.old caller.new 1
+            (storing self.now.turn.caller self.now.turn.uid (Record.Protector label.now) expected
+            (protector_text protector.now)) result }
+    {
+        let text = stored_protector(self.alloc, protector)?;
+        self.store_record(caller, Record::Protector(*label), expected, text)
     }
 }

@@ -1,0 +1,30 @@
+//! What commands are run with: their methods lie with the work that they do.
+
+use crate::EntryList;
+use crate::turn::Turn;
+use script_lang::Secret;
+use short_bytes::Label;
+use std::alloc::Global;
+
+// What a command is run with: the seed of what it draws, how it stretches passphrases, and whose it is.
+#[derive(Drop)]
+pub(crate) struct Work<'a, S> {
+    pub(crate) alloc: Global,
+    pub(crate) stretches: &'a S,
+    pub(crate) seed: &'a [u8; 32],
+    pub(crate) turn: Turn,
+}
+
+// Whose command it is: its port, and the list of what is shown of its calls, to which each new one is added.
+#[derive(Drop)]
+pub(crate) struct Caller<'a, P> {
+    pub(crate) port: &'a mut P,
+    pub(crate) entries: &'a mut EntryList,
+}
+
+// A protector, and the secret that opens it.
+#[derive(Clone, Copy)]
+pub(crate) struct Opener<'a> {
+    pub(crate) protector: &'a Label,
+    pub(crate) secret: &'a Secret,
+}
