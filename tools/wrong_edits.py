@@ -253,16 +253,19 @@ def is_checked(said, crate, place):
     return any(re.match(rf"fn {crate}::{re.escape(place)}: (proved|no holes|depends on a hole)\b", it) for it in said)
 
 
-def in_rounds(edits):
-    """The edits in rounds, the k-th of each function in round k, and those that go alone."""
-    rounds, numbers, alone = [], {}, []
+def in_rounds(edits, texts, most):
+    """The edits in as few rounds as there can be of at most this many, each of a function of its own; and those that go alone.
+    Functions whose place isn't sure come first, so that few rounds have one: such a round goes over the whole crate."""
+    of_function, alone = {}, [it for it in edits if not it.function]
     for edit in edits:
-        if not edit.function:
-            alone.append(edit)
-            continue
-        number = numbers[edit.function] = numbers.get(edit.function, -1) + 1
-        rounds += [[]] if number == len(rounds) else []
-        rounds[number].append(edit)
+        if edit.function:
+            of_function.setdefault(edit.function, []).append(edit)
+    number = max([-(-sum(map(len, of_function.values())) // most), *map(len, of_function.values())], default=0)
+    rounds = [[] for _ in range(number)]
+    for function in sorted(of_function, key=lambda it: (place_of(it, texts) is not None, -len(of_function[it]))):
+        free = sorted(rounds, key=len)
+        for edit, made in zip(of_function[function], free):
+            made.append(edit)
     return rounds, alone
 
 
