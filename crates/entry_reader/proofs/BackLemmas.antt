@@ -1,5 +1,5 @@
 -- What is written of a value reads back, word by word.
-use Rattle.std.proofs.Common.{◌≡◌, ◌≢◌, ℕ, ◌+◌, ◌*◌, ◌/◌, ◌<◌, ◌≤◌, ◌^◌, ◌==◌, Bool, true, false, List, [], ◌∷◌, ◌++◌, length, map, drop, replicate, codes, Option, Some, None, refl, ap, sym, ◌∙◌, subst, arith, le-leb}
+use Rattle.std.proofs.Common.{◌≡◌, ℕ, ◌+◌, ◌/◌, ◌<◌, ◌≤◌, ◌^◌, Bool, true, false, List, [], ◌∷◌, ◌++◌, length, map, replicate, codes, Option, refl, ap, sym, ◌∙◌, arith, le-leb}
 use Rattle.std.specs.Prelude.{nat_le, unwrap_or, if◌then◌else◌}
 use Rattle.std.specs.List.{All, flat_map, slice_split}
 use Rattle.std.proofs.lemmas.Bool.{lt-leb}

@@ -19,11 +19,11 @@ use Rattle.script_lang.proofs.NameLaws.{name_of-text}
 use Rattle.reply_text.specs.Names.{path_text, record_text}
 use Rattle.reply_text.specs.Calls.{call_text, span_text, store_text}
 use Rattle.reply_text.specs.Ranges.{CallIsInRange}
-use Rattle.reply_text.proofs.FieldLemmas.{field_literal, IsField-decimal, IsField-digits, IsField-word, IsField-record, IsField-path}
+use Rattle.reply_text.proofs.FieldLemmas.{field_literal, IsField-word, IsField-record, IsField-path}
 use Rattle.entry_reader.specs.Fields.{number_in, zeros_in, id_in, path_in}
 use Rattle.entry_reader.specs.CallForms.{no_nonce, call_named, call_behind, call_form}
 use Rattle.entry_reader.specs.Reading.{CallIsTyped}
-use Rattle.entry_reader.proofs.WordLemmas.{IsWord, field_is_word, spaced}
+use Rattle.entry_reader.proofs.WordLemmas.{IsWord, field_is_word, spaced, number_word, small_word, digits_word, one}
 use Rattle.entry_reader.proofs.BackLemmas.{number_back, zeros_back, zeros_counted, id_back, policy_back, word_back, record_back, path_back}
 
 -- the name of a call, and the words behind it
@@ -102,23 +102,8 @@ call_text-words (op.MetaStore label expected bytes) = refl
 
 -- ---- of which bytes the words are
 
-wide : (n : ℕ) → n < 2 ^ 32 → n < 2 ^ 64
-wide n small = omega arith
-
 path_word : (path : List (List ℕ)) → IsWord (path_text path)
 path_word path = field_is_word (path_text path) (IsField-path path)
-
-number_word : (n : ℕ) → n < 2 ^ 64 → IsWord (decimal_of n)
-number_word n small = field_is_word (decimal_of n) (IsField-decimal n small)
-
-small_word : (n : ℕ) → n < 2 ^ 32 → IsWord (decimal_of n)
-small_word n small = number_word n (wide n small)
-
-digits_word : (bytes : List ℕ) → IsBytes bytes → IsWord (encode_lower bytes)
-digits_word bytes h = field_is_word (encode_lower bytes) (IsField-digits bytes h)
-
-one : (a : List ℕ) → IsWord a → All IsWord (a ∷ [])
-one a ha = All-cons IsWord a [] ha (All-nil IsWord)
 
 two : (a b : List ℕ) → IsWord a → IsWord b → All IsWord (a ∷ b ∷ [])
 two a b ha hb = All-cons IsWord a (b ∷ []) ha (one b hb)

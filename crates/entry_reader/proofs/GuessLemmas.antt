@@ -6,17 +6,16 @@ use Rattle.text_words.specs.Numbers.{decimal_of}
 use Rattle.text_words.specs.Words.{words_of}
 use Rattle.mount_model.specs.declared.call.Op.{Op}
 use Rattle.mount_model.specs.declared.reply.Reply.{Reply}
-use Rattle.mount_model.specs.Fits.{Fits, OpFits}
+use Rattle.mount_model.specs.Fits.{Fits}
 use Rattle.mount_model.specs.History.{MountEntry}
 use Rattle.script_lang.specs.Names as commands
 use Rattle.reply_text.specs.Calls.{call_text}
 use Rattle.reply_text.specs.Replies.{reply_text}
-use Rattle.reply_text.specs.Log.{head_text, entry_text}
+use Rattle.reply_text.specs.Log.{entry_text}
 use Rattle.reply_text.specs.LogLaws.{told}
 use Rattle.reply_text.proofs.FieldLemmas.{IsField-decimal}
 use Rattle.entry_reader.specs.declared.reader.LogEntry.{LogEntry}
 use Rattle.entry_reader.specs.Fields.{number_in, place_in}
-use Rattle.entry_reader.specs.CallForms.{call_form}
 use Rattle.entry_reader.specs.ReplyForms.{reply_form}
 use Rattle.entry_reader.specs.Names.{name_text}
 use Rattle.entry_reader.specs.Guess.{entry_behind, entry_form, guess_of}
@@ -24,7 +23,7 @@ use Rattle.entry_reader.specs.Reading.{IsEntry, IsLineOf, Keeps, TellsLine, Read
 use Rattle.reply_text.proofs.LineLemmas.{lines_tell}
 use Rattle.entry_reader.proofs.WordLemmas.{IsWord, field_is_word, spaced, spaced-append, words_of-spaced, without_last}
 use Rattle.entry_reader.proofs.BackLemmas.{number_back, place_back}
-use Rattle.entry_reader.proofs.CallLemmas.{CallRead, call_name, call_words, call_text-words, call_name-word, call_words-words, call_read}
+use Rattle.entry_reader.proofs.CallLemmas.{call_name, call_words, call_text-words, call_name-word, call_words-words, call_read}
 use Rattle.entry_reader.proofs.ReplyLemmas.{reply_name, reply_words, reply_text-words, reply_name-word, reply_words-words, reply_read}
 
 -- the words of a reply, behind a `=`

@@ -1,12 +1,14 @@
 -- The words of a reply are read as the reply.
-use Rattle.std.proofs.Common.{◌≡◌, ℕ, ◌<◌, ◌≤◌, ◌^◌, Bool, true, false, List, [], ◌∷◌, ◌++◌, length, map, codes, Some, Option, refl, ap, ap₂, sym, ◌∙◌, arith, leb-true, append_assoc, append-nil}
-use Rattle.std.specs.Prelude.{nat_le}
+use Rattle.std.proofs.Common.{◌≡◌, ℕ, ◌<◌, ◌+◌, ◌-◌, ◌==◌, ◌^◌, Bool, true, false, List, [], ◌∷◌, ◌++◌, length, map, codes, Some, Option, refl, ap, ap₂, ◌∙◌, arith, leb-true, append-nil, length-append}
+use Rattle.std.specs.Prelude.{nat_le, slice_get}
+use Rattle.std.specs.Option.{option_map_or}
+use Rattle.std.proofs.Math.Seq.{get_or-append_seam}
+use Rattle.std.proofs.lemmas.Option.{slice_get-get_or}
 use Rattle.std.specs.Fmt.{digits}
-use Rattle.std.specs.List.{All, list_all, flat_map}
+use Rattle.std.specs.List.{All, list_all}
 use Rattle.std.proofs.lemmas.List.Elements.{All-nil, All-cons, All-append}
 use Rattle.std.proofs.lemmas.List.Sums.{AllPass-from_list_all}
-use Rattle.hex.specs.Hex.{IsBytes, encode_lower}
-use Rattle.percent_encoding.specs.Percent.{percent_decode}
+use Rattle.hex.specs.Hex.{encode_lower}
 use Rattle.text_words.specs.Numbers.{decimal_of}
 use Rattle.policy_ctx.specs.declared.policy.KeyId.{KeyId}
 use Rattle.mount_model.specs.declared.reply.KeyState.{KeyState}
@@ -22,15 +24,15 @@ use Rattle.reply_text.specs.Words.{bit, flag_text, state_text, kind_text, refusa
 use Rattle.reply_text.specs.Names.{bytes_text, names_text}
 use Rattle.reply_text.specs.Replies.{reply_text}
 use Rattle.reply_text.specs.Ranges.{RefusalIsInRange, ReplyIsInRange}
-use Rattle.reply_text.proofs.FieldLemmas.{field_literal, bit-small, IsField-decimal, IsField-digits, IsField-word, IsField-bytes}
+use Rattle.reply_text.proofs.FieldLemmas.{bit-small, IsField-word, IsField-bytes}
 use Rattle.reply_text.proofs.ReplyLemmas.{IsField-state, IsField-kind}
-use Rattle.entry_reader.specs.Fields.{number_in, id_in, policy_in, bytes_in, flag_in, users_in}
+use Rattle.entry_reader.specs.Fields.{number_in, flag_in, users_in}
 use Rattle.entry_reader.specs.Names.{name_text, name_of, state_in, kind_in}
 use Rattle.entry_reader.specs.ReplyForms.{refused, reply_named, reply_behind, reply_form}
 use Rattle.entry_reader.specs.Reading.{ReplyIsTyped}
 use Rattle.entry_reader.specs.declared.names.ReplyName.{ReplyName}
 use Rattle.entry_reader.specs.declared.names.ReplyName.TheVariants as name
-use Rattle.entry_reader.proofs.WordLemmas.{IsWordByte, IsWord, field_is_word, spaced}
+use Rattle.entry_reader.proofs.WordLemmas.{IsWordByte, IsWord, field_is_word, spaced, number_word, small_word, digits_word, one}
 use Rattle.entry_reader.proofs.BackLemmas.{number_back, id_back, policy_back, bytes_back, word_back, words_back}
 
 -- ---- names
@@ -134,26 +136,11 @@ reply_text-words (reply.Refused refusal) = refusal-spaced refusal
 
 -- ---- of which bytes the words are
 
-wide : (n : ℕ) → n < 2 ^ 32 → n < 2 ^ 64
-wide n small = omega arith
-
-number_word : (n : ℕ) → n < 2 ^ 64 → IsWord (decimal_of n)
-number_word n small = field_is_word (decimal_of n) (IsField-decimal n small)
-
-small_word : (n : ℕ) → n < 2 ^ 32 → IsWord (decimal_of n)
-small_word n small = number_word n (wide n small)
-
 literal : (word : List ℕ) → list_all (λ b. nat_le 33 b) word ≡ true → IsWord word
 literal word h k d within = leb-true 33 _ (AllPass-from_list_all (λ b. nat_le 33 b) word h k d within)
 
 flag_is_word : (name : List ℕ) (value : Bool) → IsWord name → IsWord (flag_word name value)
 flag_is_word name value h = All-append IsWordByte name (decimal_of (bit value)) h (number_word (bit value) (bit-small value))
-
-digits_word : (bytes : List ℕ) → IsBytes bytes → IsWord (encode_lower bytes)
-digits_word bytes h = field_is_word (encode_lower bytes) (IsField-digits bytes h)
-
-one : (a : List ℕ) → IsWord a → All IsWord (a ∷ [])
-one a ha = All-cons IsWord a [] ha (All-nil IsWord)
 
 and_more : (a : List ℕ) (more : List (List ℕ)) → IsWord a → All IsWord more → All IsWord (a ∷ more)
 and_more a more ha hm = All-cons IsWord a more ha hm
@@ -245,35 +232,17 @@ kind_back Dir = refl
 kind_back File = refl
 kind_back Link = refl
 
-others_back : (v : Bool) → flag_in (flag_word (codes "others=") v) ≡ v
-unfolding digits
-others_back true = refl
-others_back false = refl
+-- the byte behind a text
+last_is : (text : List ℕ) (b : ℕ) → slice_get (text ++ b ∷ []) (length (text ++ b ∷ []) - 1) ≡ Some b
+last_is text b =
+    let long : length (text ++ b ∷ []) ≡ length text + 1 = length-append text (b ∷ []) in
+    let place : length (text ++ b ∷ []) - 1 ≡ length text = omega (arith, long) in
+    rw place (slice_get-get_or (text ++ b ∷ []) (length text) 0 (omega (arith, long)) ∙ ap Some (get_or-append_seam text b [] 0))
 
-busy_back : (v : Bool) → flag_in (flag_word (codes "busy=") v) ≡ v
+flag_back : (name : List ℕ) (v : Bool) → flag_in (flag_word name v) ≡ v
 unfolding digits
-busy_back true = refl
-busy_back false = refl
-
-self_back : (v : Bool) → flag_in (flag_word (codes "self=") v) ≡ v
-unfolding digits
-self_back true = refl
-self_back false = refl
-
-more_back : (v : Bool) → flag_in (flag_word (codes "more=") v) ≡ v
-unfolding digits
-more_back true = refl
-more_back false = refl
-
-enc_back : (v : Bool) → flag_in (flag_word (codes "enc=") v) ≡ v
-unfolding digits
-enc_back true = refl
-enc_back false = refl
-
-key_back : (v : Bool) → flag_in (flag_word (codes "key=") v) ≡ v
-unfolding digits
-key_back true = refl
-key_back false = refl
+flag_back name true = ap (λ (o : Option ℕ). option_map_or (λ b. b == 49) o false) (last_is name 49)
+flag_back name false = ap (λ (o : Option ℕ). option_map_or (λ b. b == 49) o false) (last_is name 48)
 
 users_back : (n : ℕ) → n < 2 ^ 32 → users_in (codes "users=" ++ decimal_of n) ≡ n
 users_back n small = number_back n small
@@ -300,19 +269,19 @@ refused_read NoMemory h = refl
 
 named : (r : Reply) → ReplyIsInRange r → ReplyIsTyped r → reply_named (reply_name r) (reply_words r) ≡ made_of r
 named (reply.Added id) h t = ap (λ (i : KeyId). made_of (reply.Added i)) (id_back id t h)
-named (reply.Removed others busy) h t = ap₂ (λ (o b : Bool). made_of (reply.Removed o b)) (others_back others) (busy_back busy)
+named (reply.Removed others busy) h t = ap₂ (λ (o b : Bool). made_of (reply.Removed o b)) (flag_back (codes "others=") others) (flag_back (codes "busy=") busy)
 named (reply.Status state by_self users) h t =
-    ap₂ (λ (s : KeyState) (v : Bool). made_of (reply.Status s v (users_in (codes "users=" ++ decimal_of users)))) (state_back state) (self_back by_self)
+    ap₂ (λ (s : KeyState) (v : Bool). made_of (reply.Status s v (users_in (codes "users=" ++ decimal_of users)))) (state_back state) (flag_back (codes "self=") by_self)
     ∙ ap (λ (n : ℕ). made_of (reply.Status state by_self n)) (users_back users h)
 named reply.Done h t = refl
 named (reply.PolicyIs policy) h t = ap (λ (p : List ℕ). made_of (reply.PolicyIs p)) (policy_back policy t h)
 named (reply.Names names more) h t =
-    ap₂ (λ (l : List (List ℕ)) (v : Bool). made_of (reply.Names l v)) (words_back names h.1) (more_back more)
+    ap₂ (λ (l : List (List ℕ)) (v : Bool). made_of (reply.Names l v)) (words_back names h.1) (flag_back (codes "more=") more)
 named (reply.Stat kind node size encrypted keyed) h t =
     ap₂ (λ (k : NodeKind) (n : ℕ). made_of (reply.Stat k n (number_in (decimal_of size)) (flag_in (flag_word (codes "enc=") encrypted)) (flag_in (flag_word (codes "key=") keyed))))
     (kind_back kind) (number_back node h.0)
-    ∙ ap₂ (λ (n : ℕ) (v : Bool). made_of (reply.Stat kind node n v (flag_in (flag_word (codes "key=") keyed)))) (number_back size h.1) (enc_back encrypted)
-    ∙ ap (λ (v : Bool). made_of (reply.Stat kind node size encrypted v)) (key_back keyed)
+    ∙ ap₂ (λ (n : ℕ) (v : Bool). made_of (reply.Stat kind node n v (flag_in (flag_word (codes "key=") keyed)))) (number_back size h.1) (flag_back (codes "enc=") encrypted)
+    ∙ ap (λ (v : Bool). made_of (reply.Stat kind node size encrypted v)) (flag_back (codes "key=") keyed)
 named (reply.Opened n) h t = ap (λ (m : ℕ). made_of (reply.Opened m)) (number_back n h)
 named (reply.Content bytes) h t = ap (λ (b : List ℕ). made_of (reply.Content b)) (bytes_back bytes h)
 named (reply.Target bytes) h t = ap (λ (b : List ℕ). made_of (reply.Target b)) (word_back bytes h)

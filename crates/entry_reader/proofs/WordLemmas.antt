@@ -1,11 +1,13 @@
 -- The words of a line.
-use Rattle.std.proofs.Common.{◌≡◌, ℕ, ◌+◌, ◌-◌, ◌<◌, ◌≤◌, ◌==◌, Bool, true, false, List, [], ◌∷◌, ◌++◌, length, take, codes, refl, ap, sym, ◌∙◌, append_assoc, arith, length-append, ne_eqb}
+use Rattle.std.proofs.Common.{◌≡◌, ℕ, ◌+◌, ◌-◌, ◌^◌, ◌<◌, ◌≤◌, false, List, [], ◌∷◌, ◌++◌, length, take, refl, ap, sym, ◌∙◌, append_assoc, arith, length-append, ne_eqb}
 use Rattle.std.specs.List.{All}
 use Rattle.std.proofs.Math.Seq.{take-append_seam}
-use Rattle.std.proofs.lemmas.List.Elements.{All-nil, All-cons, All-head, All-tail, All-weaker}
+use Rattle.std.proofs.lemmas.List.Elements.{All-cons, All-head, All-nil, All-tail}
 use Rattle.std.proofs.lemmas.List.Splits.{slice_split_at, slice_split_none}
+use Rattle.hex.specs.Hex.{IsBytes, encode_lower}
+use Rattle.text_words.specs.Numbers.{decimal_of}
 use Rattle.text_words.specs.Words.{words_of, is_space}
-use Rattle.reply_text.proofs.FieldLemmas.{IsFieldByte}
+use Rattle.reply_text.proofs.FieldLemmas.{IsField-decimal, IsField-digits, IsFieldByte}
 
 -- a byte of a word
 abbrev pub IsWordByte : ℕ → Type 0
@@ -16,6 +18,21 @@ IsWord word = All IsWordByte word
 
 pub field_is_word : (word : List ℕ) → All IsFieldByte word → IsWord word
 field_is_word word h k d within = (h k d within).0
+
+wide : (n : ℕ) → n < 2 ^ 32 → n < 2 ^ 64
+wide n small = omega arith
+
+pub number_word : (n : ℕ) → n < 2 ^ 64 → IsWord (decimal_of n)
+number_word n small = field_is_word (decimal_of n) (IsField-decimal n small)
+
+pub small_word : (n : ℕ) → n < 2 ^ 32 → IsWord (decimal_of n)
+small_word n small = number_word n (wide n small)
+
+pub digits_word : (bytes : List ℕ) → IsBytes bytes → IsWord (encode_lower bytes)
+digits_word bytes h = field_is_word (encode_lower bytes) (IsField-digits bytes h)
+
+pub one : (a : List ℕ) → IsWord a → All IsWord (a ∷ [])
+one a ha = All-cons IsWord a [] ha (All-nil IsWord)
 
 -- a word and others, with a space between each and the next
 abbrev pub spaced : List ℕ → List (List ℕ) → List ℕ

@@ -19,6 +19,12 @@ set_policy = do
   policy ← word policy_in
   says (op.SetPolicy path policy no_nonce)
 
+abbrev pub mkdir : Form Op
+mkdir = only (λ path. op.Mkdir path no_nonce) path_in
+
+abbrev pub create : Form Op
+create = only (λ path. op.Create path no_nonce) path_in
+
 abbrev pub symlink : Form Op
 symlink = do
   path ← word path_in
@@ -36,6 +42,9 @@ list = do
   path ← word path_in
   start ← word number_in
   says (op.List path start)
+
+abbrev pub close : Form Op
+close = only op.Close number_in
 
 abbrev pub read : Form Op
 read = do
@@ -74,8 +83,8 @@ call_named name.RemoveKeyAll = one op.RemoveKeyAll id_in
 call_named name.KeyStatus = one op.KeyStatus id_in
 call_named name.SetPolicy = some set_policy
 call_named name.GetPolicy = one op.GetPolicy path_in
-call_named name.Mkdir = one (λ path. op.Mkdir path no_nonce) path_in
-call_named name.Create = one (λ path. op.Create path no_nonce) path_in
+call_named name.Mkdir = some mkdir
+call_named name.Create = some create
 call_named name.Symlink = some symlink
 call_named name.ReadLink = one op.ReadLink path_in
 call_named name.Unlink = one op.Unlink path_in
@@ -84,13 +93,25 @@ call_named name.Rename = some rename
 call_named name.List = some list
 call_named name.Stat = one op.Stat path_in
 call_named name.Open = one op.OpenNode path_in
-call_named name.Close = one op.Close number_in
+call_named name.Close = some close
 call_named name.Read = some read
 call_named name.Write = some write
 call_named name.DropCaches = says (Some op.DropCaches)
 call_named name.MetaGet = one op.MetaLoad percent_decode
 call_named name.MetaPut = some meta_put
-call_named other = says None
+call_named name.SetPolicyBytes = says None
+call_named name.Fill = says None
+call_named name.Protector = says None
+call_named name.ProtectorChange = says None
+call_named name.ProtectorLink = says None
+call_named name.PolicyNew = says None
+call_named name.PolicyAdd = says None
+call_named name.PolicyDrop = says None
+call_named name.Unlock = says None
+call_named name.Lock = says None
+call_named name.Status = says None
+call_named name.Encrypt = says None
+call_named name.Migrate = says None
 
 -- behind its name, where that is one
 abbrev pub call_behind : Option CommandName → Form (Option Op)

@@ -3,7 +3,7 @@
 -- written again.
 use Rattle.std.specs.Prelude.{ℕ, ◌≡◌, ◌^◌, ◌/◌, ◌-◌, ◌==◌, ⊤, Bool, false, nat_le, nat_eq, List, [], length}
 use Rattle.std.specs.Prelude.{drop, map, replicate}
-use Rattle.std.specs.Prelude.{codes, slice_get, Option, unwrap_or, Result, Ok, Err, if◌then◌else◌}
+use Rattle.std.specs.Prelude.{codes, slice_get, unwrap_or, Result, Ok, Err, if◌then◌else◌}
 use Rattle.std.specs.List.{slice_split, starts_with}
 use Rattle.std.specs.Option.{option_map_or}
 use Rattle.percent_encoding.specs.Percent.{percent_decode}

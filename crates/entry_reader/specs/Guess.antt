@@ -1,5 +1,5 @@
 -- What entry a line may be of: the only one, but for what no line shows, if it is of one at all.
-use Rattle.std.specs.Prelude.{ℕ, ◌-◌, List, length, take, drop, Option, Some, None}
+use Rattle.std.specs.Prelude.{ℕ, ◌-◌, List, length, take, Option, Some, None}
 use Rattle.text_words.specs.Words.{words_of}
 use Rattle.mount_model.specs.declared.call.Op.{Op}
 use Rattle.entry_reader.specs.declared.reader.LogEntry.{LogEntry}

@@ -1,6 +1,6 @@
 //! The call of a line.
 
-ghost use Rattle.std.specs.Prelude.{◌≡◌, IfOk};
+ghost use Rattle.std.specs.Prelude.{◌≡◌};
 ghost use Rattle.entry_reader.specs.Fields.{Makes};
 ghost use Rattle.entry_reader.specs.CallForms as forms;
 
@@ -33,60 +33,28 @@ fn read_named(
 {
     match name {
         CommandName::AddKey => {
-            let raw = zeros(alloc, words, MOST_RAW_BYTES)?;
-            Ok(Some(Op::AddKey { raw }))
+            zeros(alloc, words, MOST_RAW_BYTES).map(|raw| Some(Op::AddKey { raw }))
         }
         CommandName::RemoveKey => Ok(Some(Op::RemoveKey { id: id(words) })),
         CommandName::RemoveKeyAll => Ok(Some(Op::RemoveKeyAll { id: id(words) })),
         CommandName::KeyStatus => Ok(Some(Op::KeyStatus { id: id(words) })),
         CommandName::SetPolicy => Ok(Some(set_policy(alloc, words)?)),
-        CommandName::GetPolicy => {
-            let path = path(alloc, words)?;
-            Ok(Some(Op::GetPolicy { path }))
-        }
-        CommandName::Mkdir => {
-            let path = path(alloc, words)?;
-            let nonce = NO_NONCE;
-            Ok(Some(Op::Mkdir { path, nonce }))
-        }
-        CommandName::Create => {
-            let path = path(alloc, words)?;
-            let nonce = NO_NONCE;
-            Ok(Some(Op::Create { path, nonce }))
-        }
+        CommandName::GetPolicy => path(alloc, words).map(|path| Some(Op::GetPolicy { path })),
+        CommandName::Mkdir => Ok(Some(mkdir(alloc, words)?)),
+        CommandName::Create => Ok(Some(create(alloc, words)?)),
         CommandName::Symlink => Ok(Some(symlink(alloc, words)?)),
-        CommandName::ReadLink => {
-            let path = path(alloc, words)?;
-            Ok(Some(Op::ReadLink { path }))
-        }
-        CommandName::Unlink => {
-            let path = path(alloc, words)?;
-            Ok(Some(Op::Unlink { path }))
-        }
-        CommandName::Rmdir => {
-            let path = path(alloc, words)?;
-            Ok(Some(Op::Rmdir { path }))
-        }
+        CommandName::ReadLink => path(alloc, words).map(|path| Some(Op::ReadLink { path })),
+        CommandName::Unlink => path(alloc, words).map(|path| Some(Op::Unlink { path })),
+        CommandName::Rmdir => path(alloc, words).map(|path| Some(Op::Rmdir { path })),
         CommandName::Rename => Ok(Some(rename(alloc, words)?)),
         CommandName::List => Ok(Some(list(alloc, words)?)),
-        CommandName::Stat => {
-            let path = path(alloc, words)?;
-            Ok(Some(Op::Stat { path }))
-        }
-        CommandName::Open => {
-            let path = path(alloc, words)?;
-            Ok(Some(Op::OpenNode { path }))
-        }
-        CommandName::Close => Ok(Some(Op::Close {
-            handle: number(words),
-        })),
+        CommandName::Stat => path(alloc, words).map(|path| Some(Op::Stat { path })),
+        CommandName::Open => path(alloc, words).map(|path| Some(Op::OpenNode { path })),
+        CommandName::Close => Ok(Some(close(words))),
         CommandName::Read => Ok(Some(read(words))),
         CommandName::Write => Ok(Some(write(alloc, words)?)),
         CommandName::DropCaches => Ok(Some(Op::DropCaches)),
-        CommandName::MetaGet => {
-            let name = unescaped(alloc, words)?;
-            Ok(Some(Op::MetaLoad { name }))
-        }
+        CommandName::MetaGet => unescaped(alloc, words).map(|name| Some(Op::MetaLoad { name })),
         CommandName::MetaPut => Ok(Some(meta_put(alloc, words)?)),
         CommandName::SetPolicyBytes
         | CommandName::Fill
@@ -116,6 +84,22 @@ fn set_policy(alloc: Global, words: &mut Words<'_>) -> Result<Op, AllocError>
     })
 }
 
+fn mkdir(alloc: Global, words: &mut Words<'_>) -> Result<Op, AllocError>
+    ensures { Makes result (forms.mkdir words.old) words.new }
+{
+    let path = path(alloc, words)?;
+    let nonce = NO_NONCE;
+    Ok(Op::Mkdir { path, nonce })
+}
+
+fn create(alloc: Global, words: &mut Words<'_>) -> Result<Op, AllocError>
+    ensures { Makes result (forms.create words.old) words.new }
+{
+    let path = path(alloc, words)?;
+    let nonce = NO_NONCE;
+    Ok(Op::Create { path, nonce })
+}
+
 fn symlink(alloc: Global, words: &mut Words<'_>) -> Result<Op, AllocError>
     ensures { Makes result (forms.symlink words.old) words.new }
 {
@@ -142,6 +126,13 @@ fn list(alloc: Global, words: &mut Words<'_>) -> Result<Op, AllocError>
     let path = path(alloc, words)?;
     let start = number(words);
     Ok(Op::List { path, start })
+}
+
+fn close(words: &mut Words<'_>) -> Op
+    ensures { forms.close words.old ≡ (result, words.new) }
+{
+    let handle = number(words);
+    Op::Close { handle }
 }
 
 fn read(words: &mut Words<'_>) -> Op

@@ -3,7 +3,6 @@
 
 ghost use Rattle.std.specs.Prelude.{◌≡◌, ◌↔◌, ◌-◌, ◌<◌, ◌^◌, IfOk, IsTrue, length, take};
 ghost use Rattle.mount_model.specs.Fits.{Fits};
-ghost use Rattle.mount_model.specs.declared.call.Op.{Op};
 ghost use Rattle.reply_text.specs.Log.{entry_text};
 ghost use Rattle.entry_reader.specs.Fields.{Makes};
 ghost use Rattle.entry_reader.specs.Guess.{entry_behind, guess_of};
@@ -14,7 +13,7 @@ use crate::fields::{number, place, take_word};
 use crate::replies::read_reply;
 use crate::types::{call_is_typed, reply_is_typed};
 use call_history::Entry;
-use mount_model::{Call, Op, Reply};
+use mount_model::{Call, Reply};
 use reply_text::{entry_in_range, entry_line};
 use script_lang::Words;
 use std::alloc::{AllocError, Global};

@@ -1,6 +1,6 @@
 //! The reply of a line.
 
-ghost use Rattle.std.specs.Prelude.{◌≡◌, IfOk};
+ghost use Rattle.std.specs.Prelude.{◌≡◌};
 ghost use Rattle.entry_reader.specs.Fields.{Makes, word};
 ghost use Rattle.entry_reader.specs.Names as names;
 ghost use Rattle.entry_reader.specs.ReplyForms as forms;

@@ -2,9 +2,9 @@
 //! names of records are of bytes. The functions here do nothing; each says so by its contract.
 
 ghost use Rattle.std.specs.Prelude.{◌≡◌, length};
-ghost use Rattle.hex.specs.Hex.{IsBytes};
 ghost use Rattle.entry_reader.specs.Reading.{CallIsTyped, ReplyIsTyped};
 
+use byte_words::slice_is_bytes;
 use mount_model::{KeyId, Op, Reply};
 
 pub(crate) fn call_is_typed(op: &Op)
@@ -13,7 +13,7 @@ pub(crate) fn call_is_typed(op: &Op)
     match op {
         Op::RemoveKey { id } | Op::RemoveKeyAll { id } | Op::KeyStatus { id } => id_has_size(id),
         Op::SetPolicy { policy, .. } => policy_has_size(policy),
-        Op::MetaLoad { name } | Op::MetaStore { name, .. } => are_bytes(name.as_slice()),
+        Op::MetaLoad { name } | Op::MetaStore { name, .. } => slice_is_bytes(name.as_slice()),
         Op::AddKey { .. }
         | Op::GetPolicy { .. }
         | Op::Mkdir { .. }
@@ -63,11 +63,4 @@ fn policy_has_size(policy: &[u8; 24])
     ensures { length policy.now ≡ 24 }
 {
     let _bytes = *policy;
-}
-
-// Each number of a slice of bytes lies below 256.
-fn are_bytes(bytes: &[u8])
-    ensures { IsBytes bytes.now }
-{
-    let _len = bytes.len();
 }
