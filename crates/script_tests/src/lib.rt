@@ -12,6 +12,10 @@ mod kinds;
 #[cfg(test)]
 mod linked;
 #[cfg(test)]
+mod linked_commands;
+#[cfg(test)]
+mod linked_wanting;
+#[cfg(test)]
 mod outside;
 #[cfg(test)]
 mod replaced;

@@ -1,0 +1,201 @@
+//! A command of a caller on two mounts, of which one call wants memory, for tests.
+
+use crate::replaced::Replaced;
+use fsc_outside::{CallList, FixedSeed, MemSink, MemSource};
+use fsc_tool::tool_serial;
+use mount_model::{Refusal, Reply};
+use mount_shared::Mount;
+use std::alloc::{AllocError, Global};
+
+// Three protectors on mount 0 with their links on mount 1, where one lies that is no link, a policy that two of the
+// linked ones open, a policy of the first version, and an empty directory.
+const BEFORE: &str = "\
+caller 0
+protector login raw:\
+1111111111111111111111111111111111111111111111111111111111111111
+protector spare raw:\
+2222222222222222222222222222222222222222222222222222222222222222
+protector third raw:\
+3333333333333333333333333333333333333333333333333333333333333333
+caller 1000
+protector-link login
+protector-link spare
+protector-link third
+protector here raw:\
+4444444444444444444444444444444444444444444444444444444444444444
+policy-new docs login raw:\
+1111111111111111111111111111111111111111111111111111111111111111
+policy-add docs login raw:\
+1111111111111111111111111111111111111111111111111111111111111111 \
+spare raw:\
+2222222222222222222222222222222222222222222222222222222222222222
+meta-put policy/old 0 \
+6673632d706f6c69637920310a6e616d65206f6c640a6964203030303030303030303030303030303030303030303030\
+3030303030303030300a77726170206c6f67696e20303030303030303030303030303030303030303030303030303030\
+303030303020303030303030303030303030303030303030303030303030303030303030303030303030303030303030\
+303030303030303030303030303030303030303030303030303030303030303030303030303030303030303030303030\
+303030303030303030303030303030303030303030303030303030303030303030303030303020303030303030303030\
+303030303030303030303030303030303030303030303030303030303030303030303030303030303030303030303030\
+303030303030300a
+mkdir /e
+";
+
+// How many calls they make on the far mount and on the own one, and their notes.
+const FAR_BEFORE: u64 = 6;
+
+const OWN_BEFORE: u64 = 16;
+
+const NOTES_BEFORE: u64 = 9;
+
+const SEED: &str = "0000000000000000000000000000000000000000000000000000000000000000";
+
+// No run has so many calls.
+const NEVER: u64 = u64::MAX;
+
+// Where a call of the command is made.
+#[derive(Clone, Copy, Debug, PartialEq, Eq)]
+pub(crate) enum On {
+    Own,
+    Far,
+}
+
+// What a command asks: on which mount, and in which words of the log.
+pub(crate) type Asked = (On, &'static str);
+
+// A mount whose call of this number, from 0, wants memory.
+fn wanting(alloc: Global, at: u64) -> Result<Replaced, AllocError> {
+    Ok(Replaced {
+        mount: Mount::new(alloc)?,
+        calls: 0,
+        at,
+        reply: Some(Reply::Refused(Refusal::NoMemory)),
+    })
+}
+
+// The logs of a run of the command behind those above, on two mounts of which the calls of these numbers want memory.
+fn logs(alloc: Global, command: &str, far: u64, own: u64) -> Result<Vec<u8>, AllocError> {
+    let mut words = Vec::new(alloc);
+    for word in ["replay-linked", "--serial", "--seed", SEED] {
+        words.push(String::from_str(alloc, word)?)?;
+    }
+    let mut script = String::from_str(alloc, BEFORE)?;
+    script.push_str(command)?;
+    let mut source = MemSource::new(script.into_bytes(), 4_096, CallList::new(alloc));
+    let mut sink = MemSink::new(alloc, 65_536, 4_096, CallList::new(alloc))?;
+    let _ = tool_serial(
+        alloc,
+        &words,
+        &mut source,
+        &mut sink,
+        &mut FixedSeed::failing(),
+        wanting(alloc, far)?,
+        wanting(alloc, own)?,
+    );
+    Vec::from_slice(alloc, sink.got())
+}
+
+// How many of these are made on this mount.
+fn count(calls: &[Asked], on: On) -> u64 {
+    let mut count = 0u64;
+    for call in calls {
+        if call.0 == on {
+            count = count.wrapping_add(1);
+        }
+    }
+    count
+}
+
+// Puts so many lines of the text, from this one on, behind the others.
+fn put_lines(got: &mut Vec<u8>, text: &[u8], first: u64, count: u64) -> Result<(), AllocError> {
+    let mut line = 0u64;
+    for byte in text {
+        if first <= line && line < first.wrapping_add(count) {
+            got.push(*byte)?;
+        }
+        if *byte == b'\n' {
+            line = line.wrapping_add(1);
+        }
+    }
+    Ok(())
+}
+
+// Puts the line of a call that wants memory.
+fn put_wanting(
+    got: &mut Vec<u8>,
+    alloc: Global,
+    place: u64,
+    words: &str,
+) -> Result<(), AllocError> {
+    let line = format!(in alloc; "{place} 1 1000 {words} = refused no-memory\n")?;
+    got.extend_from_slice(line.as_bytes())?;
+    Ok(())
+}
+
+// The logs of a run whose last call is this one, which wants memory, behind these of the command: what was asked
+// before stands as in the logs of the whole command, which makes all of these calls.
+fn logs_until(
+    alloc: Global,
+    whole: &[u8],
+    calls: &[Asked],
+    made: &[Asked],
+    call: Asked,
+) -> Result<Vec<u8>, AllocError> {
+    let far = FAR_BEFORE.wrapping_add(count(made, On::Far));
+    let own = OWN_BEFORE.wrapping_add(count(made, On::Own));
+    let mount_1 = FAR_BEFORE
+        .wrapping_add(count(calls, On::Far))
+        .wrapping_add(1);
+    let notes = mount_1
+        .wrapping_add(OWN_BEFORE)
+        .wrapping_add(count(calls, On::Own))
+        .wrapping_add(1);
+    let mut got = Vec::new(alloc);
+    put_lines(&mut got, whole, 0, far.wrapping_add(1))?;
+    if call.0 == On::Far {
+        put_wanting(&mut got, alloc, far, call.1)?;
+    }
+    put_lines(&mut got, whole, mount_1, own.wrapping_add(1))?;
+    if call.0 == On::Own {
+        put_wanting(&mut got, alloc, own, call.1)?;
+    }
+    put_lines(&mut got, whole, notes, NOTES_BEFORE)?;
+    got.extend_from_slice(b"note 1 14 no-memory\n")?;
+    Ok(got)
+}
+
+// The logs of the command where the call wants memory that it makes behind these.
+fn logs_at(alloc: Global, command: &str, made: &[Asked], on: On) -> Result<Vec<u8>, AllocError> {
+    match on {
+        On::Far => logs(
+            alloc,
+            command,
+            FAR_BEFORE.wrapping_add(count(made, on)),
+            NEVER,
+        ),
+        On::Own => logs(
+            alloc,
+            command,
+            NEVER,
+            OWN_BEFORE.wrapping_add(count(made, on)),
+        ),
+    }
+}
+
+// The first of a command's calls, line 14 of its script, at which want of memory isn't the command's end, behind the
+// calls before it and no other.
+pub(crate) fn first_wrong(
+    alloc: Global,
+    command: &str,
+    calls: &[Asked],
+) -> Result<Option<usize>, AllocError> {
+    let whole = logs(alloc, command, NEVER, NEVER)?;
+    for at in 0..calls.len() {
+        let (made, call) = (&calls[..at], calls[at]);
+        let got = logs_at(alloc, command, made, call.0)?;
+        let wanted = logs_until(alloc, &whole, calls, made, call)?;
+        if got.as_slice() != wanted.as_slice() {
+            return Ok(Some(at));
+        }
+    }
+    Ok(None)
+}
