@@ -1,8 +1,6 @@
 -- What commands carry fits a call.
-use Rattle.std.proofs.Common.{◌≡◌, Some, None, ap, subst, ◌∙◌, ℕ, zero, suc, ◌<◌, ◌≤◌, ◌==◌, List, length, replicate, refl, lit<, arith}
-use Rattle.std.specs.Prelude.{IsTrue, Option}
-use Rattle.mount_model.specs.declared.call.Op.{Op}
-use Rattle.fsc_commands.specs.PlainCalls.{MayWantMemory, or_else}
+use Rattle.std.proofs.Common.{◌≡◌, ℕ, zero, suc, ◌<◌, ◌≤◌, ◌==◌, List, length, replicate, refl, lit<, arith}
+use Rattle.std.specs.Prelude.{IsTrue}
 use Rattle.byte_words.specs.Bytes.{AreBytes}
 use Rattle.mount_model.specs.Carried as carried
 use Rattle.script_words.specs.Keys as script
@@ -30,18 +28,3 @@ alike_length (suc len) byte = let more = alike_length len byte in omega (arith, 
 
 pub filled_fits : (len byte : ℕ) → len ≤ 65536 → byte ≤ 255 → carried.AreFewBytes (replicate len byte) 65536
 filled_fits len byte few small = let long = alike_length len byte in (alike_bytes len byte (omega (arith, small)), omega (arith, long, few))
-
--- ---- the first of several
-
-pub first_wants : (first other : Option Op) → MayWantMemory first → MayWantMemory (or_else first other)
-first_wants None other wants = absurd wants
-first_wants (Some op) other wants = wants
-
-pub other_wants : (first other : Option Op) → None ≡ first → MayWantMemory other → MayWantMemory (or_else first other)
-other_wants first other none wants = subst (λ o. MayWantMemory (or_else o other)) none wants
-
-pub first_is : (op : Op) (first other : Option Op) → Some op ≡ first → Some op ≡ or_else first other
-first_is op first other is = ap (λ o. or_else o other) is
-
-pub other_is : (asked first other : Option Op) → None ≡ first → asked ≡ other → asked ≡ or_else first other
-other_is asked first other none is = is ∙ ap (λ o. or_else o other) none

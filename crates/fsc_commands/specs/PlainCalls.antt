@@ -44,64 +44,55 @@ abbrev pub number_said : Option ℕ → ℕ
 number_said None = 0
 number_said (Some number) = number
 
--- of keys
-abbrev pub key_op : Verb → Option Op
-key_op (verb.AddKey raw) = Some (op.AddKey raw)
-key_op (verb.RemoveKey key) = Some (op.RemoveKey (id_meant key))
-key_op (verb.RemoveKeyAll key) = Some (op.RemoveKeyAll (id_meant key))
-key_op (verb.KeyStatus key) = Some (op.KeyStatus (id_meant key))
-key_op other = None
-
--- of what is open, and of what is kept for speed
-abbrev pub handle_op : Verb → Option Op
-handle_op (verb.Close handle) = Some (op.Close handle)
-handle_op (verb.Read handle offset len) = Some (op.Read handle offset len)
-handle_op (verb.Write handle offset bytes) = Some (op.Write handle offset bytes)
-handle_op (verb.Fill handle offset len byte) = Some (op.Write handle offset (replicate len byte))
-handle_op verb.DropCaches = Some op.DropCaches
-handle_op other = None
-
--- of records
-abbrev pub record_op : Verb → Option Op
-record_op (verb.MetaGet name) = Some (op.MetaLoad (record_name name))
-record_op (verb.MetaPut name expected bytes) = Some (op.MetaStore (record_name name) expected bytes)
-record_op other = None
-
--- of what a path leads to, where the caller was last told these names
-abbrev pub path_op : List (List ℕ) → Verb → Option Op
-path_op names (verb.GetPolicy path) = Some (op.GetPolicy (path_meant names path))
-path_op names (verb.ReadLink path) = Some (op.ReadLink (path_meant names path))
-path_op names (verb.Unlink path) = Some (op.Unlink (path_meant names path))
-path_op names (verb.Rmdir path) = Some (op.Rmdir (path_meant names path))
-path_op names (verb.Rename old_path new_path) =
-    Some (op.Rename (path_meant names old_path) (path_meant names new_path))
-path_op names (verb.List path start) = Some (op.List (path_meant names path) (number_said start))
-path_op names (verb.Stat path) = Some (op.Stat (path_meant names path))
-path_op names (verb.Open path) = Some (op.OpenNode (path_meant names path))
-path_op names other = None
-
--- of what is made, or encrypted from now on, under this nonce
-abbrev pub making_op : List ℕ → List (List ℕ) → Verb → Option Op
-making_op nonce names (verb.SetPolicy path key settings) =
-    Some (op.SetPolicy (path_meant names path) (policy_bytes (policy_said (id_meant key) settings)) nonce)
-making_op nonce names (verb.SetPolicyBytes path policy) =
-    Some (op.SetPolicy (path_meant names path) policy nonce)
-making_op nonce names (verb.Mkdir path) = Some (op.Mkdir (path_meant names path) nonce)
-making_op nonce names (verb.Create path) = Some (op.Create (path_meant names path) nonce)
-making_op nonce names (verb.Symlink path target) = Some (op.Symlink (path_meant names path) target nonce)
-making_op nonce names other = None
-
--- the first, where there is one
-abbrev pub or_else : Option Op → Option Op → Option Op
-or_else (Some op) other = Some op
-or_else None other = other
-
 -- what a command asks for that is a single call, where it has this number in its caller's section and the
--- caller was last told these names; nothing where the command is a session's work
+-- caller was last told these names
 abbrev pub plain_op : List ℕ → ℕ → ℕ → List (List ℕ) → Verb → Option Op
-plain_op seed caller number names asked =
-    or_else (key_op asked) (or_else (handle_op asked) (or_else (record_op asked)
-    (or_else (path_op names asked) (making_op (nonce_drawn seed caller number) names asked))))
+plain_op seed caller number names (verb.AddKey raw) = Some (op.AddKey raw)
+plain_op seed caller number names (verb.RemoveKey key) = Some (op.RemoveKey (id_meant key))
+plain_op seed caller number names (verb.RemoveKeyAll key) = Some (op.RemoveKeyAll (id_meant key))
+plain_op seed caller number names (verb.KeyStatus key) = Some (op.KeyStatus (id_meant key))
+plain_op seed caller number names (verb.SetPolicy path key settings) =
+    Some (op.SetPolicy (path_meant names path) (policy_bytes (policy_said (id_meant key) settings))
+    (nonce_drawn seed caller number))
+plain_op seed caller number names (verb.SetPolicyBytes path policy) =
+    Some (op.SetPolicy (path_meant names path) policy (nonce_drawn seed caller number))
+plain_op seed caller number names (verb.GetPolicy path) = Some (op.GetPolicy (path_meant names path))
+plain_op seed caller number names (verb.Mkdir path) =
+    Some (op.Mkdir (path_meant names path) (nonce_drawn seed caller number))
+plain_op seed caller number names (verb.Create path) =
+    Some (op.Create (path_meant names path) (nonce_drawn seed caller number))
+plain_op seed caller number names (verb.Symlink path target) =
+    Some (op.Symlink (path_meant names path) target (nonce_drawn seed caller number))
+plain_op seed caller number names (verb.ReadLink path) = Some (op.ReadLink (path_meant names path))
+plain_op seed caller number names (verb.Unlink path) = Some (op.Unlink (path_meant names path))
+plain_op seed caller number names (verb.Rmdir path) = Some (op.Rmdir (path_meant names path))
+plain_op seed caller number names (verb.Rename old_path new_path) =
+    Some (op.Rename (path_meant names old_path) (path_meant names new_path))
+plain_op seed caller number names (verb.List path start) =
+    Some (op.List (path_meant names path) (number_said start))
+plain_op seed caller number names (verb.Stat path) = Some (op.Stat (path_meant names path))
+plain_op seed caller number names (verb.Open path) = Some (op.OpenNode (path_meant names path))
+plain_op seed caller number names (verb.Close handle) = Some (op.Close handle)
+plain_op seed caller number names (verb.Read handle offset len) = Some (op.Read handle offset len)
+plain_op seed caller number names (verb.Write handle offset bytes) = Some (op.Write handle offset bytes)
+plain_op seed caller number names (verb.Fill handle offset len byte) =
+    Some (op.Write handle offset (replicate len byte))
+plain_op seed caller number names verb.DropCaches = Some op.DropCaches
+plain_op seed caller number names (verb.MetaGet name) = Some (op.MetaLoad (record_name name))
+plain_op seed caller number names (verb.MetaPut name expected bytes) =
+    Some (op.MetaStore (record_name name) expected bytes)
+-- and nothing where the command is a session's work
+plain_op seed caller number names (verb.Protector protector secret) = None
+plain_op seed caller number names (verb.ProtectorChange protector secret new) = None
+plain_op seed caller number names (verb.ProtectorLink protector) = None
+plain_op seed caller number names (verb.PolicyNew policy protector secret options) = None
+plain_op seed caller number names (verb.PolicyAdd policy protector secret added added_secret) = None
+plain_op seed caller number names (verb.PolicyDrop policy protector) = None
+plain_op seed caller number names (verb.Unlock policy protector secret) = None
+plain_op seed caller number names (verb.Lock policy) = None
+plain_op seed caller number names (verb.Status policy) = None
+plain_op seed caller number names (verb.Encrypt path policy settings) = None
+plain_op seed caller number names (verb.Migrate policy) = None
 
 -- where there is a call, a mount may be asked it
 abbrev pub AnyFits : Option Op → Type 0

@@ -32,28 +32,6 @@ pub(crate) fn plain_op(
     ensures memory { OnErr result (MayWantMemory
         (spec.plain_op seed.now turn.caller turn.number (names_in told.now) verb.now)) }
 {
-    if let Some(op) = key_op(alloc, verb)? {
-        return Ok(Some(op));
-    }
-    if let Some(op) = handle_op(alloc, verb)? {
-        return Ok(Some(op));
-    }
-    if let Some(op) = record_op(alloc, verb)? {
-        return Ok(Some(op));
-    }
-    if let Some(op) = path_op(alloc, told, verb)? {
-        return Ok(Some(op));
-    }
-    making_op(alloc, seed, turn, told, verb)
-}
-
-// Of keys.
-fn key_op(alloc: Global, verb: &Verb) -> Result<Option<Op>, AllocError>
-    requires { IsAskable verb.now }
-    ensures value { IfOk result (λ op. op ≡ spec.key_op verb.now) }
-    ensures fits { IfOk result AnyFits }
-    ensures memory { OnErr result (MayWantMemory (spec.key_op verb.now)) }
-{
     match verb {
         Verb::AddKey(raw) => Ok(Some(Op::AddKey {
             raw: raw.copy(alloc)?,
@@ -61,18 +39,59 @@ fn key_op(alloc: Global, verb: &Verb) -> Result<Option<Op>, AllocError>
         Verb::RemoveKey(key) => Ok(Some(Op::RemoveKey { id: id_meant(key) })),
         Verb::RemoveKeyAll(key) => Ok(Some(Op::RemoveKeyAll { id: id_meant(key) })),
         Verb::KeyStatus(key) => Ok(Some(Op::KeyStatus { id: id_meant(key) })),
-        _ => Ok(None),
-    }
-}
-
-// Of what is open, and of what is kept for speed.
-fn handle_op(alloc: Global, verb: &Verb) -> Result<Option<Op>, AllocError>
-    requires { IsAskable verb.now }
-    ensures value { IfOk result (λ op. op ≡ spec.handle_op verb.now) }
-    ensures fits { IfOk result AnyFits }
-    ensures memory { OnErr result (MayWantMemory (spec.handle_op verb.now)) }
-{
-    match verb {
+        Verb::SetPolicy {
+            path,
+            key,
+            settings,
+        } => Ok(Some(Op::SetPolicy {
+            path: path_meant(alloc, told, path)?,
+            policy: encode_policy(&policy_said(id_meant(key), *settings)),
+            nonce: nonce_drawn(seed, turn),
+        })),
+        Verb::SetPolicyBytes { path, policy } => Ok(Some(Op::SetPolicy {
+            path: path_meant(alloc, told, path)?,
+            policy: *policy,
+            nonce: nonce_drawn(seed, turn),
+        })),
+        Verb::GetPolicy(path) => Ok(Some(Op::GetPolicy {
+            path: path_meant(alloc, told, path)?,
+        })),
+        Verb::Mkdir(path) => Ok(Some(Op::Mkdir {
+            path: path_meant(alloc, told, path)?,
+            nonce: nonce_drawn(seed, turn),
+        })),
+        Verb::Create(path) => Ok(Some(Op::Create {
+            path: path_meant(alloc, told, path)?,
+            nonce: nonce_drawn(seed, turn),
+        })),
+        Verb::Symlink { path, target } => Ok(Some(Op::Symlink {
+            path: path_meant(alloc, told, path)?,
+            target: target.copy(alloc)?,
+            nonce: nonce_drawn(seed, turn),
+        })),
+        Verb::ReadLink(path) => Ok(Some(Op::ReadLink {
+            path: path_meant(alloc, told, path)?,
+        })),
+        Verb::Unlink(path) => Ok(Some(Op::Unlink {
+            path: path_meant(alloc, told, path)?,
+        })),
+        Verb::Rmdir(path) => Ok(Some(Op::Rmdir {
+            path: path_meant(alloc, told, path)?,
+        })),
+        Verb::Rename { old_path, new_path } => Ok(Some(Op::Rename {
+            old_path: path_meant(alloc, told, old_path)?,
+            new_path: path_meant(alloc, told, new_path)?,
+        })),
+        Verb::List { path, start } => Ok(Some(Op::List {
+            path: path_meant(alloc, told, path)?,
+            start: number_said(*start),
+        })),
+        Verb::Stat(path) => Ok(Some(Op::Stat {
+            path: path_meant(alloc, told, path)?,
+        })),
+        Verb::Open(path) => Ok(Some(Op::OpenNode {
+            path: path_meant(alloc, told, path)?,
+        })),
         Verb::Close(handle) => Ok(Some(Op::Close { handle: *handle })),
         Verb::Read {
             handle,
@@ -103,18 +122,6 @@ fn handle_op(alloc: Global, verb: &Verb) -> Result<Option<Op>, AllocError>
             bytes: filled(alloc, *len, *byte)?,
         })),
         Verb::DropCaches => Ok(Some(Op::DropCaches)),
-        _ => Ok(None),
-    }
-}
-
-// Of records.
-fn record_op(alloc: Global, verb: &Verb) -> Result<Option<Op>, AllocError>
-    requires { IsAskable verb.now }
-    ensures value { IfOk result (λ op. op ≡ spec.record_op verb.now) }
-    ensures fits { IfOk result AnyFits }
-    ensures memory { OnErr result (MayWantMemory (spec.record_op verb.now)) }
-{
-    match verb {
         Verb::MetaGet(record) => Ok(Some(Op::MetaLoad {
             name: record_name(alloc, record)?,
         })),
@@ -127,91 +134,16 @@ fn record_op(alloc: Global, verb: &Verb) -> Result<Option<Op>, AllocError>
             expected: *expected,
             bytes: bytes.copy(alloc)?,
         })),
-        _ => Ok(None),
-    }
-}
-
-// Of what a path leads to.
-fn path_op(alloc: Global, told: &EntryList, verb: &Verb) -> Result<Option<Op>, AllocError>
-    requires { IsAskable verb.now }
-    ensures value { IfOk result (λ op. op ≡ spec.path_op (names_in told.now) verb.now) }
-    ensures fits { IfOk result AnyFits }
-    ensures memory { OnErr result (MayWantMemory (spec.path_op (names_in told.now) verb.now)) }
-{
-    match verb {
-        Verb::GetPolicy(path) => Ok(Some(Op::GetPolicy {
-            path: path_meant(alloc, told, path)?,
-        })),
-        Verb::ReadLink(path) => Ok(Some(Op::ReadLink {
-            path: path_meant(alloc, told, path)?,
-        })),
-        Verb::Unlink(path) => Ok(Some(Op::Unlink {
-            path: path_meant(alloc, told, path)?,
-        })),
-        Verb::Rmdir(path) => Ok(Some(Op::Rmdir {
-            path: path_meant(alloc, told, path)?,
-        })),
-        Verb::Rename { old_path, new_path } => Ok(Some(Op::Rename {
-            old_path: path_meant(alloc, told, old_path)?,
-            new_path: path_meant(alloc, told, new_path)?,
-        })),
-        Verb::List { path, start } => Ok(Some(Op::List {
-            path: path_meant(alloc, told, path)?,
-            start: number_said(*start),
-        })),
-        Verb::Stat(path) => Ok(Some(Op::Stat {
-            path: path_meant(alloc, told, path)?,
-        })),
-        Verb::Open(path) => Ok(Some(Op::OpenNode {
-            path: path_meant(alloc, told, path)?,
-        })),
-        _ => Ok(None),
-    }
-}
-
-// Of what is made, or encrypted from now on, under a drawn nonce.
-fn making_op(
-    alloc: Global,
-    seed: &[u8; 32],
-    turn: Turn,
-    told: &EntryList,
-    verb: &Verb,
-) -> Result<Option<Op>, AllocError>
-    requires { IsAskable verb.now }
-    ensures value { IfOk result (λ op. op
-        ≡ spec.making_op (nonce_drawn seed.now turn.caller turn.number) (names_in told.now) verb.now) }
-    ensures fits { IfOk result AnyFits }
-    ensures memory { OnErr result (MayWantMemory
-        (spec.making_op (nonce_drawn seed.now turn.caller turn.number) (names_in told.now) verb.now)) }
-{
-    match verb {
-        Verb::SetPolicy {
-            path,
-            key,
-            settings,
-        } => Ok(Some(Op::SetPolicy {
-            path: path_meant(alloc, told, path)?,
-            policy: encode_policy(&policy_said(id_meant(key), *settings)),
-            nonce: nonce_drawn(seed, turn),
-        })),
-        Verb::SetPolicyBytes { path, policy } => Ok(Some(Op::SetPolicy {
-            path: path_meant(alloc, told, path)?,
-            policy: *policy,
-            nonce: nonce_drawn(seed, turn),
-        })),
-        Verb::Mkdir(path) => Ok(Some(Op::Mkdir {
-            path: path_meant(alloc, told, path)?,
-            nonce: nonce_drawn(seed, turn),
-        })),
-        Verb::Create(path) => Ok(Some(Op::Create {
-            path: path_meant(alloc, told, path)?,
-            nonce: nonce_drawn(seed, turn),
-        })),
-        Verb::Symlink { path, target } => Ok(Some(Op::Symlink {
-            path: path_meant(alloc, told, path)?,
-            target: target.copy(alloc)?,
-            nonce: nonce_drawn(seed, turn),
-        })),
-        _ => Ok(None),
+        Verb::Protector { .. }
+        | Verb::ProtectorChange { .. }
+        | Verb::ProtectorLink(_)
+        | Verb::PolicyNew { .. }
+        | Verb::PolicyAdd { .. }
+        | Verb::PolicyDrop { .. }
+        | Verb::Unlock { .. }
+        | Verb::Lock(_)
+        | Verb::Status(_)
+        | Verb::Encrypt { .. }
+        | Verb::Migrate(_) => Ok(None),
     }
 }
