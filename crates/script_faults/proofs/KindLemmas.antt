@@ -1,5 +1,5 @@
 -- The words that a form of the grammar takes are of the kinds that are told, one by one.
-use Rattle.std.proofs.Common.{◌≡◌, ℕ, suc, ◌==◌, ◌&&◌, Bool, true, false, List, [], ◌∷◌, ◌++◌, length, Option, Some, None, refl, sym, ap, ◌∙◌, arith, append-nil}
+use Rattle.std.proofs.Common.{◌≡◌, ℕ, suc, ◌==◌, true, false, List, [], ◌∷◌, ◌++◌, length, Option, Some, None, refl, sym, ap, ◌∙◌, arith, append-nil}
 use Rattle.std.specs.Prelude.{IfSome, is_some, if◌then◌else◌}
 use Rattle.std.specs.Option.{option_map, option_and_then, unwrap_or}
 use Rattle.std.proofs.lemmas.Bool.{and_parts, false≢true}
@@ -67,57 +67,6 @@ took_optional form kinds [] took = λ more fits. refl
 took_optional {A = A} form kinds (w ∷ words) took =
     rw (one_more (length words)) (took_then (λ x. says (Some x.0) x.1) kinds (w ∷ words) (form (w ∷ words)) took (λ a rest. λ more fits. fits))
 
-took_number : (words : List (List ℕ)) → Took (kind.Number ∷ []) words (optional (word number_of) words)
-took_number words = took_optional (word number_of) (kind.Number ∷ []) words (took_one kind.Number number_of (λ w. refl) words)
-
-took_settings : (words : List (List ℕ)) → Took (kind.Pad ∷ kind.Unit ∷ []) words (settings words)
-took_settings words = took_word kind.Pad pad_of _ (kind.Unit ∷ []) (λ w. refl) (λ pad rest. took_then _ (kind.Unit ∷ []) rest _ (took_optional (word unit_of) (kind.Unit ∷ []) rest (took_one kind.Unit unit_of (λ w. refl) rest)) (λ unit rest. λ more fits. fits)) words
-
-took_said_settings : (words : List (List ℕ)) → Took (kind.Pad ∷ kind.Unit ∷ []) words (optional settings words)
-took_said_settings words = took_optional settings (kind.Pad ∷ kind.Unit ∷ []) words (took_settings words)
-
-took_said_options : (words : List (List ℕ)) → Took (kind.Pad ∷ kind.Unit ∷ []) words (optional options words)
-took_said_options words = took_optional options (kind.Pad ∷ kind.Unit ∷ []) words
-    (took_word kind.Pad pad_of _ (kind.Unit ∷ []) (λ w. refl) (λ pad rest. took_word kind.Unit unit_of _ [] (λ w. refl) (λ unit rest. λ more fits. fits) rest) words)
-
--- what the words behind a name have to be
-form_of-took : (name : CommandName) (words : List (List ℕ)) → Took (kinds_of name) words (form_of name words)
-form_of-took name.AddKey words = took_word kind.AddedBytes (hex_of_size 1 MOST_ADDED_BYTES) _ [] (λ w. refl) (λ a rest. λ more fits. fits) words
-form_of-took name.RemoveKey words = took_word kind.Key key_ref_of _ [] (λ w. refl) (λ a rest. λ more fits. fits) words
-form_of-took name.RemoveKeyAll words = took_word kind.Key key_ref_of _ [] (λ w. refl) (λ a rest. λ more fits. fits) words
-form_of-took name.KeyStatus words = took_word kind.Key key_ref_of _ [] (λ w. refl) (λ a rest. λ more fits. fits) words
-form_of-took name.SetPolicy words = took_word kind.Path path_of _ (kind.Key ∷ kind.Pad ∷ kind.Unit ∷ []) (λ w. refl) (λ a rest. took_word kind.Key key_ref_of _ (kind.Pad ∷ kind.Unit ∷ []) (λ w. refl) (λ a rest. took_then _ (kind.Pad ∷ kind.Unit ∷ []) rest _ (took_settings rest) (λ a rest. λ more fits. fits)) rest) words
-form_of-took name.SetPolicyBytes words = took_word kind.Path path_of _ (kind.PolicyBytes ∷ []) (λ w. refl) (λ a rest. took_word kind.PolicyBytes (hex_bytes_of_length POLICY_BYTES) _ [] (λ w. refl) (λ a rest. λ more fits. fits) rest) words
-form_of-took name.GetPolicy words = took_word kind.Path path_of _ [] (λ w. refl) (λ a rest. λ more fits. fits) words
-form_of-took name.Mkdir words = took_word kind.Path path_of _ [] (λ w. refl) (λ a rest. λ more fits. fits) words
-form_of-took name.Create words = took_word kind.Path path_of _ [] (λ w. refl) (λ a rest. λ more fits. fits) words
-form_of-took name.Symlink words = took_word kind.Path path_of _ (kind.Target ∷ []) (λ w. refl) (λ a rest. took_word kind.Target target_bytes _ [] (λ w. refl) (λ a rest. λ more fits. fits) rest) words
-form_of-took name.ReadLink words = took_word kind.Path path_of _ [] (λ w. refl) (λ a rest. λ more fits. fits) words
-form_of-took name.Unlink words = took_word kind.Path path_of _ [] (λ w. refl) (λ a rest. λ more fits. fits) words
-form_of-took name.Rmdir words = took_word kind.Path path_of _ [] (λ w. refl) (λ a rest. λ more fits. fits) words
-form_of-took name.Rename words = took_word kind.Path path_of _ (kind.Path ∷ []) (λ w. refl) (λ a rest. took_word kind.Path path_of _ [] (λ w. refl) (λ a rest. λ more fits. fits) rest) words
-form_of-took name.List words = took_word kind.Path path_of _ (kind.Number ∷ []) (λ w. refl) (λ a rest. took_then _ (kind.Number ∷ []) rest _ (took_number rest) (λ a rest. λ more fits. fits)) words
-form_of-took name.Stat words = took_word kind.Path path_of _ [] (λ w. refl) (λ a rest. λ more fits. fits) words
-form_of-took name.Open words = took_word kind.Path path_of _ [] (λ w. refl) (λ a rest. λ more fits. fits) words
-form_of-took name.Close words = took_word kind.Number number_of _ [] (λ w. refl) (λ a rest. λ more fits. fits) words
-form_of-took name.Read words = took_word kind.Number number_of _ (kind.Number ∷ kind.Number ∷ []) (λ w. refl) (λ a rest. took_word kind.Number number_of _ (kind.Number ∷ []) (λ w. refl) (λ a rest. took_word kind.Number number_of _ [] (λ w. refl) (λ a rest. λ more fits. fits) rest) rest) words
-form_of-took name.Write words = took_word kind.Number number_of _ (kind.Number ∷ kind.WrittenBytes ∷ []) (λ w. refl) (λ a rest. took_word kind.Number number_of _ (kind.WrittenBytes ∷ []) (λ w. refl) (λ a rest. took_word kind.WrittenBytes (hex_or_none MOST_WRITTEN_BYTES) _ [] (λ w. refl) (λ a rest. λ more fits. fits) rest) rest) words
-form_of-took name.Fill words = took_word kind.Number number_of _ (kind.Number ∷ kind.FilledLength ∷ kind.Byte ∷ []) (λ w. refl) (λ a rest. took_word kind.Number number_of _ (kind.FilledLength ∷ kind.Byte ∷ []) (λ w. refl) (λ a rest. took_word kind.FilledLength (number_up_to MOST_FILLED_BYTES) _ (kind.Byte ∷ []) (λ w. refl) (λ a rest. took_word kind.Byte (number_up_to 255) _ [] (λ w. refl) (λ a rest. λ more fits. fits) rest) rest) rest) words
-form_of-took name.DropCaches words = λ more fits. fits
-form_of-took name.MetaGet words = took_word kind.Record record_of _ [] (λ w. refl) (λ a rest. λ more fits. fits) words
-form_of-took name.MetaPut words = took_word kind.Record record_of _ (kind.Number ∷ kind.PutBytes ∷ []) (λ w. refl) (λ a rest. took_word kind.Number number_of _ (kind.PutBytes ∷ []) (λ w. refl) (λ a rest. took_word kind.PutBytes (hex_or_none MOST_PUT_BYTES) _ [] (λ w. refl) (λ a rest. λ more fits. fits) rest) rest) words
-form_of-took name.Protector words = took_word kind.Label label_of _ (kind.NewSecret ∷ []) (λ w. refl) (λ a rest. took_word kind.NewSecret new_secret_of _ [] (λ w. refl) (λ a rest. λ more fits. fits) rest) words
-form_of-took name.ProtectorChange words = took_word kind.Label label_of _ (kind.Secret ∷ kind.NewSecret ∷ []) (λ w. refl) (λ a rest. took_word kind.Secret secret_of _ (kind.NewSecret ∷ []) (λ w. refl) (λ a rest. took_word kind.NewSecret new_secret_of _ [] (λ w. refl) (λ a rest. λ more fits. fits) rest) rest) words
-form_of-took name.ProtectorLink words = took_word kind.Label label_of _ [] (λ w. refl) (λ a rest. λ more fits. fits) words
-form_of-took name.PolicyNew words = took_word kind.Label label_of _ (kind.Label ∷ kind.Secret ∷ kind.Pad ∷ kind.Unit ∷ []) (λ w. refl) (λ a rest. took_word kind.Label label_of _ (kind.Secret ∷ kind.Pad ∷ kind.Unit ∷ []) (λ w. refl) (λ a rest. took_word kind.Secret secret_of _ (kind.Pad ∷ kind.Unit ∷ []) (λ w. refl) (λ a rest. took_then _ (kind.Pad ∷ kind.Unit ∷ []) rest _ (took_said_options rest) (λ a rest. λ more fits. fits)) rest) rest) words
-form_of-took name.PolicyAdd words = took_word kind.Label label_of _ (kind.Label ∷ kind.Secret ∷ kind.Label ∷ kind.Secret ∷ []) (λ w. refl) (λ a rest. took_word kind.Label label_of _ (kind.Secret ∷ kind.Label ∷ kind.Secret ∷ []) (λ w. refl) (λ a rest. took_word kind.Secret secret_of _ (kind.Label ∷ kind.Secret ∷ []) (λ w. refl) (λ a rest. took_word kind.Label label_of _ (kind.Secret ∷ []) (λ w. refl) (λ a rest. took_word kind.Secret secret_of _ [] (λ w. refl) (λ a rest. λ more fits. fits) rest) rest) rest) rest) words
-form_of-took name.PolicyDrop words = took_word kind.Label label_of _ (kind.Label ∷ []) (λ w. refl) (λ a rest. took_word kind.Label label_of _ [] (λ w. refl) (λ a rest. λ more fits. fits) rest) words
-form_of-took name.Unlock words = took_word kind.Label label_of _ (kind.Label ∷ kind.Secret ∷ []) (λ w. refl) (λ a rest. took_word kind.Label label_of _ (kind.Secret ∷ []) (λ w. refl) (λ a rest. took_word kind.Secret secret_of _ [] (λ w. refl) (λ a rest. λ more fits. fits) rest) rest) words
-form_of-took name.Lock words = took_word kind.Label label_of _ [] (λ w. refl) (λ a rest. λ more fits. fits) words
-form_of-took name.Status words = took_word kind.Label label_of _ [] (λ w. refl) (λ a rest. λ more fits. fits) words
-form_of-took name.Encrypt words = took_word kind.Path path_of _ (kind.Label ∷ kind.Pad ∷ kind.Unit ∷ []) (λ w. refl) (λ a rest. took_word kind.Label label_of _ (kind.Pad ∷ kind.Unit ∷ []) (λ w. refl) (λ a rest. took_then _ (kind.Pad ∷ kind.Unit ∷ []) rest _ (took_said_settings rest) (λ a rest. λ more fits. fits)) rest) words
-form_of-took name.Migrate words = took_word kind.Label label_of _ [] (λ w. refl) (λ a rest. λ more fits. fits) words
-
 -- ---- words of all these kinds are read, and leave the rest
 
 -- the rest behind words of these kinds, if they are there
@@ -159,55 +108,84 @@ gave_optional form wanted kinds [] gave left h = absurd (false≢true (ap is_som
 gave_optional {A = A} form wanted kinds (w ∷ words) gave left h =
     rw (one_more (length words)) (gave_then (λ x. says (Some x.0) x.1) (wanted ∷ kinds) (w ∷ words) (form (w ∷ words)) gave (λ a rest. λ left h. h) left h)
 
-gave_number : (words : List (List ℕ)) → Gave (kind.Number ∷ []) words (optional (word number_of) words)
-gave_number words = gave_optional (word number_of) kind.Number [] words (gave_one kind.Number number_of (λ w. refl) words)
+-- ---- both
 
-gave_settings : (words : List (List ℕ)) → Gave (kind.Pad ∷ kind.Unit ∷ []) words (settings words)
-gave_settings words = gave_word kind.Pad pad_of _ (kind.Unit ∷ []) (λ w. refl) (λ pad rest. gave_then _ (kind.Unit ∷ []) rest _ (gave_optional (word unit_of) kind.Unit [] rest (gave_one kind.Unit unit_of (λ w. refl) rest)) (λ unit rest. λ left h. h)) words
+abbrev Told : {A : Type 0} → List WordKind → List (List ℕ) → Option (A × List (List ℕ)) → Type 0
+Told kinds words read = Took kinds words read × Gave kinds words read
 
-gave_said_settings : (words : List (List ℕ)) → Gave (kind.Pad ∷ kind.Unit ∷ []) words (optional settings words)
-gave_said_settings words = gave_optional settings kind.Pad (kind.Unit ∷ []) words (gave_settings words)
+-- no further word
+ends : (rest : List (List ℕ)) → Told {A = ℕ} [] rest (Some (0, rest))
+ends rest = (λ more fits. fits, λ left h. h)
 
-gave_said_options : (words : List (List ℕ)) → Gave (kind.Pad ∷ kind.Unit ∷ []) words (optional options words)
-gave_said_options words = gave_optional options kind.Pad (kind.Unit ∷ []) words
-    (gave_word kind.Pad pad_of _ (kind.Unit ∷ []) (λ w. refl) (λ pad rest. gave_word kind.Unit unit_of _ [] (λ w. refl) (λ unit rest. λ left h. h) rest) words)
+told_word : {A B : Type 0} (wanted : WordKind) (read : List ℕ → Option A) (next : A × List (List ℕ) → Option (B × List (List ℕ))) (kinds : List WordKind)
+    → ((w : List ℕ) → is_some (read w) ≡ is_one wanted w) → ((a : A) (rest : List (List ℕ)) → Told kinds rest (next (a, rest)))
+    → (words : List (List ℕ)) → Told (wanted ∷ kinds) words (option_and_then next (word read words))
+told_word wanted read next kinds same after words =
+    (took_word wanted read next kinds same (λ a rest. (after a rest).0) words, gave_word wanted read next kinds same (λ a rest. (after a rest).1) words)
 
-form_of-gave : (name : CommandName) (words : List (List ℕ)) → Gave (kinds_of name) words (form_of name words)
-form_of-gave name.AddKey words = gave_word kind.AddedBytes (hex_of_size 1 MOST_ADDED_BYTES) _ [] (λ w. refl) (λ a rest. λ left h. h) words
-form_of-gave name.RemoveKey words = gave_word kind.Key key_ref_of _ [] (λ w. refl) (λ a rest. λ left h. h) words
-form_of-gave name.RemoveKeyAll words = gave_word kind.Key key_ref_of _ [] (λ w. refl) (λ a rest. λ left h. h) words
-form_of-gave name.KeyStatus words = gave_word kind.Key key_ref_of _ [] (λ w. refl) (λ a rest. λ left h. h) words
-form_of-gave name.SetPolicy words = gave_word kind.Path path_of _ (kind.Key ∷ kind.Pad ∷ kind.Unit ∷ []) (λ w. refl) (λ a rest. gave_word kind.Key key_ref_of _ (kind.Pad ∷ kind.Unit ∷ []) (λ w. refl) (λ a rest. gave_then _ (kind.Pad ∷ kind.Unit ∷ []) rest _ (gave_settings rest) (λ a rest. λ left h. h)) rest) words
-form_of-gave name.SetPolicyBytes words = gave_word kind.Path path_of _ (kind.PolicyBytes ∷ []) (λ w. refl) (λ a rest. gave_word kind.PolicyBytes (hex_bytes_of_length POLICY_BYTES) _ [] (λ w. refl) (λ a rest. λ left h. h) rest) words
-form_of-gave name.GetPolicy words = gave_word kind.Path path_of _ [] (λ w. refl) (λ a rest. λ left h. h) words
-form_of-gave name.Mkdir words = gave_word kind.Path path_of _ [] (λ w. refl) (λ a rest. λ left h. h) words
-form_of-gave name.Create words = gave_word kind.Path path_of _ [] (λ w. refl) (λ a rest. λ left h. h) words
-form_of-gave name.Symlink words = gave_word kind.Path path_of _ (kind.Target ∷ []) (λ w. refl) (λ a rest. gave_word kind.Target target_bytes _ [] (λ w. refl) (λ a rest. λ left h. h) rest) words
-form_of-gave name.ReadLink words = gave_word kind.Path path_of _ [] (λ w. refl) (λ a rest. λ left h. h) words
-form_of-gave name.Unlink words = gave_word kind.Path path_of _ [] (λ w. refl) (λ a rest. λ left h. h) words
-form_of-gave name.Rmdir words = gave_word kind.Path path_of _ [] (λ w. refl) (λ a rest. λ left h. h) words
-form_of-gave name.Rename words = gave_word kind.Path path_of _ (kind.Path ∷ []) (λ w. refl) (λ a rest. gave_word kind.Path path_of _ [] (λ w. refl) (λ a rest. λ left h. h) rest) words
-form_of-gave name.List words = gave_word kind.Path path_of _ (kind.Number ∷ []) (λ w. refl) (λ a rest. gave_then _ (kind.Number ∷ []) rest _ (gave_number rest) (λ a rest. λ left h. h)) words
-form_of-gave name.Stat words = gave_word kind.Path path_of _ [] (λ w. refl) (λ a rest. λ left h. h) words
-form_of-gave name.Open words = gave_word kind.Path path_of _ [] (λ w. refl) (λ a rest. λ left h. h) words
-form_of-gave name.Close words = gave_word kind.Number number_of _ [] (λ w. refl) (λ a rest. λ left h. h) words
-form_of-gave name.Read words = gave_word kind.Number number_of _ (kind.Number ∷ kind.Number ∷ []) (λ w. refl) (λ a rest. gave_word kind.Number number_of _ (kind.Number ∷ []) (λ w. refl) (λ a rest. gave_word kind.Number number_of _ [] (λ w. refl) (λ a rest. λ left h. h) rest) rest) words
-form_of-gave name.Write words = gave_word kind.Number number_of _ (kind.Number ∷ kind.WrittenBytes ∷ []) (λ w. refl) (λ a rest. gave_word kind.Number number_of _ (kind.WrittenBytes ∷ []) (λ w. refl) (λ a rest. gave_word kind.WrittenBytes (hex_or_none MOST_WRITTEN_BYTES) _ [] (λ w. refl) (λ a rest. λ left h. h) rest) rest) words
-form_of-gave name.Fill words = gave_word kind.Number number_of _ (kind.Number ∷ kind.FilledLength ∷ kind.Byte ∷ []) (λ w. refl) (λ a rest. gave_word kind.Number number_of _ (kind.FilledLength ∷ kind.Byte ∷ []) (λ w. refl) (λ a rest. gave_word kind.FilledLength (number_up_to MOST_FILLED_BYTES) _ (kind.Byte ∷ []) (λ w. refl) (λ a rest. gave_word kind.Byte (number_up_to 255) _ [] (λ w. refl) (λ a rest. λ left h. h) rest) rest) rest) words
-form_of-gave name.DropCaches words = λ left h. h
-form_of-gave name.MetaGet words = gave_word kind.Record record_of _ [] (λ w. refl) (λ a rest. λ left h. h) words
-form_of-gave name.MetaPut words = gave_word kind.Record record_of _ (kind.Number ∷ kind.PutBytes ∷ []) (λ w. refl) (λ a rest. gave_word kind.Number number_of _ (kind.PutBytes ∷ []) (λ w. refl) (λ a rest. gave_word kind.PutBytes (hex_or_none MOST_PUT_BYTES) _ [] (λ w. refl) (λ a rest. λ left h. h) rest) rest) words
-form_of-gave name.Protector words = gave_word kind.Label label_of _ (kind.NewSecret ∷ []) (λ w. refl) (λ a rest. gave_word kind.NewSecret new_secret_of _ [] (λ w. refl) (λ a rest. λ left h. h) rest) words
-form_of-gave name.ProtectorChange words = gave_word kind.Label label_of _ (kind.Secret ∷ kind.NewSecret ∷ []) (λ w. refl) (λ a rest. gave_word kind.Secret secret_of _ (kind.NewSecret ∷ []) (λ w. refl) (λ a rest. gave_word kind.NewSecret new_secret_of _ [] (λ w. refl) (λ a rest. λ left h. h) rest) rest) words
-form_of-gave name.ProtectorLink words = gave_word kind.Label label_of _ [] (λ w. refl) (λ a rest. λ left h. h) words
-form_of-gave name.PolicyNew words = gave_word kind.Label label_of _ (kind.Label ∷ kind.Secret ∷ kind.Pad ∷ kind.Unit ∷ []) (λ w. refl) (λ a rest. gave_word kind.Label label_of _ (kind.Secret ∷ kind.Pad ∷ kind.Unit ∷ []) (λ w. refl) (λ a rest. gave_word kind.Secret secret_of _ (kind.Pad ∷ kind.Unit ∷ []) (λ w. refl) (λ a rest. gave_then _ (kind.Pad ∷ kind.Unit ∷ []) rest _ (gave_said_options rest) (λ a rest. λ left h. h)) rest) rest) words
-form_of-gave name.PolicyAdd words = gave_word kind.Label label_of _ (kind.Label ∷ kind.Secret ∷ kind.Label ∷ kind.Secret ∷ []) (λ w. refl) (λ a rest. gave_word kind.Label label_of _ (kind.Secret ∷ kind.Label ∷ kind.Secret ∷ []) (λ w. refl) (λ a rest. gave_word kind.Secret secret_of _ (kind.Label ∷ kind.Secret ∷ []) (λ w. refl) (λ a rest. gave_word kind.Label label_of _ (kind.Secret ∷ []) (λ w. refl) (λ a rest. gave_word kind.Secret secret_of _ [] (λ w. refl) (λ a rest. λ left h. h) rest) rest) rest) rest) words
-form_of-gave name.PolicyDrop words = gave_word kind.Label label_of _ (kind.Label ∷ []) (λ w. refl) (λ a rest. gave_word kind.Label label_of _ [] (λ w. refl) (λ a rest. λ left h. h) rest) words
-form_of-gave name.Unlock words = gave_word kind.Label label_of _ (kind.Label ∷ kind.Secret ∷ []) (λ w. refl) (λ a rest. gave_word kind.Label label_of _ (kind.Secret ∷ []) (λ w. refl) (λ a rest. gave_word kind.Secret secret_of _ [] (λ w. refl) (λ a rest. λ left h. h) rest) rest) words
-form_of-gave name.Lock words = gave_word kind.Label label_of _ [] (λ w. refl) (λ a rest. λ left h. h) words
-form_of-gave name.Status words = gave_word kind.Label label_of _ [] (λ w. refl) (λ a rest. λ left h. h) words
-form_of-gave name.Encrypt words = gave_word kind.Path path_of _ (kind.Label ∷ kind.Pad ∷ kind.Unit ∷ []) (λ w. refl) (λ a rest. gave_word kind.Label label_of _ (kind.Pad ∷ kind.Unit ∷ []) (λ w. refl) (λ a rest. gave_then _ (kind.Pad ∷ kind.Unit ∷ []) rest _ (gave_said_settings rest) (λ a rest. λ left h. h)) rest) words
-form_of-gave name.Migrate words = gave_word kind.Label label_of _ [] (λ w. refl) (λ a rest. λ left h. h) words
+told_one : {A : Type 0} (wanted : WordKind) (read : List ℕ → Option A) → ((w : List ℕ) → is_some (read w) ≡ is_one wanted w)
+    → (words : List (List ℕ)) → Told (wanted ∷ []) words (word read words)
+told_one wanted read same words = (took_one wanted read same words, gave_one wanted read same words)
+
+told_then : {A B : Type 0} (next : A × List (List ℕ) → Option (B × List (List ℕ))) (kinds : List WordKind) (words : List (List ℕ)) (read : Option (A × List (List ℕ)))
+    → Told kinds words read → ((a : A) (rest : List (List ℕ)) → Told [] rest (next (a, rest))) → Told kinds words (option_and_then next read)
+told_then next kinds words read both last =
+    (took_then next kinds words read both.0 (λ a rest. (last a rest).0), gave_then next kinds words read both.1 (λ a rest. (last a rest).1))
+
+told_optional : {A : Type 0} (form : Form A) (wanted : WordKind) (kinds : List WordKind) (words : List (List ℕ))
+    → Told (wanted ∷ kinds) words (form words) → Told (wanted ∷ kinds) words (optional form words)
+told_optional form wanted kinds words both = (took_optional form (wanted ∷ kinds) words both.0, gave_optional form wanted kinds words both.1)
+
+told_number : (words : List (List ℕ)) → Told (kind.Number ∷ []) words (optional (word number_of) words)
+told_number words = told_optional (word number_of) kind.Number [] words (told_one kind.Number number_of (λ w. refl) words)
+
+told_settings : (words : List (List ℕ)) → Told (kind.Pad ∷ kind.Unit ∷ []) words (settings words)
+told_settings words = told_word kind.Pad pad_of _ (kind.Unit ∷ []) (λ w. refl) (λ pad rest. told_then _ (kind.Unit ∷ []) rest _ (told_optional (word unit_of) kind.Unit [] rest (told_one kind.Unit unit_of (λ w. refl) rest)) (λ unit rest. ends rest)) words
+
+told_said_settings : (words : List (List ℕ)) → Told (kind.Pad ∷ kind.Unit ∷ []) words (optional settings words)
+told_said_settings words = told_optional settings kind.Pad (kind.Unit ∷ []) words (told_settings words)
+
+told_said_options : (words : List (List ℕ)) → Told (kind.Pad ∷ kind.Unit ∷ []) words (optional options words)
+told_said_options words = told_optional options kind.Pad (kind.Unit ∷ []) words
+    (told_word kind.Pad pad_of _ (kind.Unit ∷ []) (λ w. refl) (λ pad rest. told_word kind.Unit unit_of _ [] (λ w. refl) (λ unit rest. ends rest) rest) words)
+
+-- what the words behind a name have to be
+form_of-told : (name : CommandName) (words : List (List ℕ)) → Told (kinds_of name) words (form_of name words)
+form_of-told name.AddKey words = told_word kind.AddedBytes (hex_of_size 1 MOST_ADDED_BYTES) _ [] (λ w. refl) (λ a rest. ends rest) words
+form_of-told name.RemoveKey words = told_word kind.Key key_ref_of _ [] (λ w. refl) (λ a rest. ends rest) words
+form_of-told name.RemoveKeyAll words = told_word kind.Key key_ref_of _ [] (λ w. refl) (λ a rest. ends rest) words
+form_of-told name.KeyStatus words = told_word kind.Key key_ref_of _ [] (λ w. refl) (λ a rest. ends rest) words
+form_of-told name.SetPolicy words = told_word kind.Path path_of _ (kind.Key ∷ kind.Pad ∷ kind.Unit ∷ []) (λ w. refl) (λ a rest. told_word kind.Key key_ref_of _ (kind.Pad ∷ kind.Unit ∷ []) (λ w. refl) (λ a rest. told_then _ (kind.Pad ∷ kind.Unit ∷ []) rest _ (told_settings rest) (λ a rest. ends rest)) rest) words
+form_of-told name.SetPolicyBytes words = told_word kind.Path path_of _ (kind.PolicyBytes ∷ []) (λ w. refl) (λ a rest. told_word kind.PolicyBytes (hex_bytes_of_length POLICY_BYTES) _ [] (λ w. refl) (λ a rest. ends rest) rest) words
+form_of-told name.GetPolicy words = told_word kind.Path path_of _ [] (λ w. refl) (λ a rest. ends rest) words
+form_of-told name.Mkdir words = told_word kind.Path path_of _ [] (λ w. refl) (λ a rest. ends rest) words
+form_of-told name.Create words = told_word kind.Path path_of _ [] (λ w. refl) (λ a rest. ends rest) words
+form_of-told name.Symlink words = told_word kind.Path path_of _ (kind.Target ∷ []) (λ w. refl) (λ a rest. told_word kind.Target target_bytes _ [] (λ w. refl) (λ a rest. ends rest) rest) words
+form_of-told name.ReadLink words = told_word kind.Path path_of _ [] (λ w. refl) (λ a rest. ends rest) words
+form_of-told name.Unlink words = told_word kind.Path path_of _ [] (λ w. refl) (λ a rest. ends rest) words
+form_of-told name.Rmdir words = told_word kind.Path path_of _ [] (λ w. refl) (λ a rest. ends rest) words
+form_of-told name.Rename words = told_word kind.Path path_of _ (kind.Path ∷ []) (λ w. refl) (λ a rest. told_word kind.Path path_of _ [] (λ w. refl) (λ a rest. ends rest) rest) words
+form_of-told name.List words = told_word kind.Path path_of _ (kind.Number ∷ []) (λ w. refl) (λ a rest. told_then _ (kind.Number ∷ []) rest _ (told_number rest) (λ a rest. ends rest)) words
+form_of-told name.Stat words = told_word kind.Path path_of _ [] (λ w. refl) (λ a rest. ends rest) words
+form_of-told name.Open words = told_word kind.Path path_of _ [] (λ w. refl) (λ a rest. ends rest) words
+form_of-told name.Close words = told_word kind.Number number_of _ [] (λ w. refl) (λ a rest. ends rest) words
+form_of-told name.Read words = told_word kind.Number number_of _ (kind.Number ∷ kind.Number ∷ []) (λ w. refl) (λ a rest. told_word kind.Number number_of _ (kind.Number ∷ []) (λ w. refl) (λ a rest. told_word kind.Number number_of _ [] (λ w. refl) (λ a rest. ends rest) rest) rest) words
+form_of-told name.Write words = told_word kind.Number number_of _ (kind.Number ∷ kind.WrittenBytes ∷ []) (λ w. refl) (λ a rest. told_word kind.Number number_of _ (kind.WrittenBytes ∷ []) (λ w. refl) (λ a rest. told_word kind.WrittenBytes (hex_or_none MOST_WRITTEN_BYTES) _ [] (λ w. refl) (λ a rest. ends rest) rest) rest) words
+form_of-told name.Fill words = told_word kind.Number number_of _ (kind.Number ∷ kind.FilledLength ∷ kind.Byte ∷ []) (λ w. refl) (λ a rest. told_word kind.Number number_of _ (kind.FilledLength ∷ kind.Byte ∷ []) (λ w. refl) (λ a rest. told_word kind.FilledLength (number_up_to MOST_FILLED_BYTES) _ (kind.Byte ∷ []) (λ w. refl) (λ a rest. told_word kind.Byte (number_up_to 255) _ [] (λ w. refl) (λ a rest. ends rest) rest) rest) rest) words
+form_of-told name.DropCaches words = ends words
+form_of-told name.MetaGet words = told_word kind.Record record_of _ [] (λ w. refl) (λ a rest. ends rest) words
+form_of-told name.MetaPut words = told_word kind.Record record_of _ (kind.Number ∷ kind.PutBytes ∷ []) (λ w. refl) (λ a rest. told_word kind.Number number_of _ (kind.PutBytes ∷ []) (λ w. refl) (λ a rest. told_word kind.PutBytes (hex_or_none MOST_PUT_BYTES) _ [] (λ w. refl) (λ a rest. ends rest) rest) rest) words
+form_of-told name.Protector words = told_word kind.Label label_of _ (kind.NewSecret ∷ []) (λ w. refl) (λ a rest. told_word kind.NewSecret new_secret_of _ [] (λ w. refl) (λ a rest. ends rest) rest) words
+form_of-told name.ProtectorChange words = told_word kind.Label label_of _ (kind.Secret ∷ kind.NewSecret ∷ []) (λ w. refl) (λ a rest. told_word kind.Secret secret_of _ (kind.NewSecret ∷ []) (λ w. refl) (λ a rest. told_word kind.NewSecret new_secret_of _ [] (λ w. refl) (λ a rest. ends rest) rest) rest) words
+form_of-told name.ProtectorLink words = told_word kind.Label label_of _ [] (λ w. refl) (λ a rest. ends rest) words
+form_of-told name.PolicyNew words = told_word kind.Label label_of _ (kind.Label ∷ kind.Secret ∷ kind.Pad ∷ kind.Unit ∷ []) (λ w. refl) (λ a rest. told_word kind.Label label_of _ (kind.Secret ∷ kind.Pad ∷ kind.Unit ∷ []) (λ w. refl) (λ a rest. told_word kind.Secret secret_of _ (kind.Pad ∷ kind.Unit ∷ []) (λ w. refl) (λ a rest. told_then _ (kind.Pad ∷ kind.Unit ∷ []) rest _ (told_said_options rest) (λ a rest. ends rest)) rest) rest) words
+form_of-told name.PolicyAdd words = told_word kind.Label label_of _ (kind.Label ∷ kind.Secret ∷ kind.Label ∷ kind.Secret ∷ []) (λ w. refl) (λ a rest. told_word kind.Label label_of _ (kind.Secret ∷ kind.Label ∷ kind.Secret ∷ []) (λ w. refl) (λ a rest. told_word kind.Secret secret_of _ (kind.Label ∷ kind.Secret ∷ []) (λ w. refl) (λ a rest. told_word kind.Label label_of _ (kind.Secret ∷ []) (λ w. refl) (λ a rest. told_word kind.Secret secret_of _ [] (λ w. refl) (λ a rest. ends rest) rest) rest) rest) rest) words
+form_of-told name.PolicyDrop words = told_word kind.Label label_of _ (kind.Label ∷ []) (λ w. refl) (λ a rest. told_word kind.Label label_of _ [] (λ w. refl) (λ a rest. ends rest) rest) words
+form_of-told name.Unlock words = told_word kind.Label label_of _ (kind.Label ∷ kind.Secret ∷ []) (λ w. refl) (λ a rest. told_word kind.Label label_of _ (kind.Secret ∷ []) (λ w. refl) (λ a rest. told_word kind.Secret secret_of _ [] (λ w. refl) (λ a rest. ends rest) rest) rest) words
+form_of-told name.Lock words = told_word kind.Label label_of _ [] (λ w. refl) (λ a rest. ends rest) words
+form_of-told name.Status words = told_word kind.Label label_of _ [] (λ w. refl) (λ a rest. ends rest) words
+form_of-told name.Encrypt words = told_word kind.Path path_of _ (kind.Label ∷ kind.Pad ∷ kind.Unit ∷ []) (λ w. refl) (λ a rest. told_word kind.Label label_of _ (kind.Pad ∷ kind.Unit ∷ []) (λ w. refl) (λ a rest. told_then _ (kind.Pad ∷ kind.Unit ∷ []) rest _ (told_said_settings rest) (λ a rest. ends rest)) rest) words
+form_of-told name.Migrate words = told_word kind.Label label_of _ [] (λ w. refl) (λ a rest. ends rest) words
 
 -- ---- whole commands
 
@@ -224,7 +202,7 @@ of_read {A = A} kinds words (Some x) took some = by_left x.0 x.1 took some
 
 pub words_of_commands : (name : CommandName) (words : List (List ℕ)) → is_some (command_named name words) ≡ true → are_of words (kinds_of name) ≡ true
 unfolding command_named
-words_of_commands name words some = of_read (kinds_of name) words (form_of name words) (form_of-took name words) some
+words_of_commands name words some = of_read (kinds_of name) words (form_of name words) (form_of-told name words).0 some
 
 all_taken : (kinds : List WordKind) (words : List (List ℕ)) → length words ≡ length kinds → are_of words kinds ≡ true → taken kinds words ≡ Some []
 all_taken [] [] same fits = refl
@@ -244,4 +222,4 @@ whole_read {A = A} (Some x) none = by_left x.0 x.1 (ap (λ o. unwrap_or o []) no
 pub commands_of_words : (name : CommandName) (words : List (List ℕ)) → length words ≡ length (kinds_of name) → are_of words (kinds_of name) ≡ true
     → is_some (command_named name words) ≡ true
 unfolding command_named
-commands_of_words name words many fits = whole_read (form_of name words) (form_of-gave name words [] (all_taken (kinds_of name) words many fits))
+commands_of_words name words many fits = whole_read (form_of name words) ((form_of-told name words).1 [] (all_taken (kinds_of name) words many fits))

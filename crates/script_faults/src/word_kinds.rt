@@ -81,6 +81,41 @@ impl WordKind {
     }
 }
 
+// What the words of these commands have to be.
+const SET_POLICY: [WordKind; 4] = [WordKind::Path, WordKind::Key, WordKind::Pad, WordKind::Unit];
+
+const FILL: [WordKind; 4] = [
+    WordKind::Number,
+    WordKind::Number,
+    WordKind::FilledLength,
+    WordKind::Byte,
+];
+
+const PROTECTOR_CHANGE: [WordKind; 3] = [WordKind::Label, WordKind::Secret, WordKind::NewSecret];
+
+const POLICY_NEW: [WordKind; 5] = [
+    WordKind::Label,
+    WordKind::Label,
+    WordKind::Secret,
+    WordKind::Pad,
+    WordKind::Unit,
+];
+
+const POLICY_ADD: [WordKind; 5] = [
+    WordKind::Label,
+    WordKind::Label,
+    WordKind::Secret,
+    WordKind::Label,
+    WordKind::Secret,
+];
+
+const ENCRYPT: [WordKind; 4] = [
+    WordKind::Path,
+    WordKind::Label,
+    WordKind::Pad,
+    WordKind::Unit,
+];
+
 // What the words behind the name have to be, those that may be left out too.
 pub(crate) fn kinds_of(name: CommandName) -> &'static [WordKind]
     ensures { result.now ≡ spec.kinds_of name }
@@ -90,9 +125,7 @@ pub(crate) fn kinds_of(name: CommandName) -> &'static [WordKind]
         CommandName::RemoveKey => &[WordKind::Key],
         CommandName::RemoveKeyAll => &[WordKind::Key],
         CommandName::KeyStatus => &[WordKind::Key],
-        CommandName::SetPolicy => {
-            &[WordKind::Path, WordKind::Key, WordKind::Pad, WordKind::Unit]
-        }
+        CommandName::SetPolicy => &SET_POLICY,
         CommandName::SetPolicyBytes => &[WordKind::Path, WordKind::PolicyBytes],
         CommandName::GetPolicy => &[WordKind::Path],
         CommandName::Mkdir => &[WordKind::Path],
@@ -108,46 +141,20 @@ pub(crate) fn kinds_of(name: CommandName) -> &'static [WordKind]
         CommandName::Close => &[WordKind::Number],
         CommandName::Read => &[WordKind::Number, WordKind::Number, WordKind::Number],
         CommandName::Write => &[WordKind::Number, WordKind::Number, WordKind::WrittenBytes],
-        CommandName::Fill => &[
-            WordKind::Number,
-            WordKind::Number,
-            WordKind::FilledLength,
-            WordKind::Byte,
-        ],
+        CommandName::Fill => &FILL,
         CommandName::DropCaches => &[],
         CommandName::MetaGet => &[WordKind::Record],
         CommandName::MetaPut => &[WordKind::Record, WordKind::Number, WordKind::PutBytes],
         CommandName::Protector => &[WordKind::Label, WordKind::NewSecret],
-        CommandName::ProtectorChange => {
-            &[WordKind::Label, WordKind::Secret, WordKind::NewSecret]
-        }
+        CommandName::ProtectorChange => &PROTECTOR_CHANGE,
         CommandName::ProtectorLink => &[WordKind::Label],
-        CommandName::PolicyNew => &[
-            WordKind::Label,
-            WordKind::Label,
-            WordKind::Secret,
-            WordKind::Pad,
-            WordKind::Unit,
-        ],
-        CommandName::PolicyAdd => &[
-            WordKind::Label,
-            WordKind::Label,
-            WordKind::Secret,
-            WordKind::Label,
-            WordKind::Secret,
-        ],
+        CommandName::PolicyNew => &POLICY_NEW,
+        CommandName::PolicyAdd => &POLICY_ADD,
         CommandName::PolicyDrop => &[WordKind::Label, WordKind::Label],
         CommandName::Unlock => &[WordKind::Label, WordKind::Label, WordKind::Secret],
         CommandName::Lock => &[WordKind::Label],
         CommandName::Status => &[WordKind::Label],
-        CommandName::Encrypt => {
-            &[
-                WordKind::Path,
-                WordKind::Label,
-                WordKind::Pad,
-                WordKind::Unit,
-            ]
-        }
+        CommandName::Encrypt => &ENCRYPT,
         CommandName::Migrate => &[WordKind::Label],
     }
 }

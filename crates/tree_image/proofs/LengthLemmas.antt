@@ -11,7 +11,7 @@ use Rattle.disk_tree.specs.declared.node.StoredNode.{StoredNode}
 use Rattle.image_lines.specs.ImageText.{ended, entry_line, node_lines}
 use Rattle.tree_image.specs.Images.{image_from, image_node}
 use Rattle.tree_image.specs.Order.{entry_cmp, put_in_order, in_order}
-use Rattle.tree_image.proofs.TextLemmas.{ended-append}
+use Rattle.text_words.proofs.PieceLemmas.{ended-append}
 
 pub line_longer : (line : List ℕ) (lines : List (List ℕ)) → length (ended (line ∷ lines)) ≡ length line + 1 + length (ended lines)
 line_longer line lines = omega (arith, length-append line (10 ∷ ended lines))

@@ -1,16 +1,12 @@
 -- Lines behind lines, and that each loop writes one more.
-use Rattle.std.proofs.Common.{◌≡◌, ℕ, true, cond, List, [], ◌∷◌, ◌++◌, map, refl, sym, ap, ◌∙◌, append_assoc}
+use Rattle.std.proofs.Common.{◌≡◌, ℕ, true, cond, List, ◌∷◌, ◌++◌, map, sym, ap, ◌∙◌, append_assoc}
 use Rattle.std.specs.List.{flat_map}
 use Rattle.std.proofs.lemmas.List.Concat.{flat_map-cons}
 use Rattle.std.specs.Prelude.{filter}
+use Rattle.text_words.proofs.PieceLemmas.{ended-append}
 use Rattle.disk_tree.specs.declared.node.StoredNode.{StoredNode}
 use Rattle.image_lines.specs.ImageText.{ended, node_lines}
 use Rattle.tree_image.specs.Images.{image_node, image_from}
-
-pub ended-append : (first others : List (List ℕ)) → ended (first ++ others) ≡ ended first ++ ended others
-ended-append [] others = refl
-ended-append (line ∷ lines) others =
-    ap (λ rest. line ++ 10 ∷ rest) (ended-append lines others) ∙ sym (append_assoc line (10 ∷ ended lines) (ended others))
 
 -- ---- nodes
 

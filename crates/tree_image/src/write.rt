@@ -5,11 +5,11 @@ ghost use Rattle.std.specs.List.{flat_map};
 ghost use Rattle.image_lines.specs.ImageText.{block_line, body_lines, context_text, ended, entry_line, image_text};
 ghost use Rattle.image_lines.specs.ImageText.{kind_of, kind_text, node_lines};
 ghost use Rattle.tree_image.specs.Images.{image_node, image_of};
-ghost use Rattle.tree_image.specs.Order.{in_order, ordered};
+ghost use Rattle.tree_image.specs.Order.{ordered};
 
 use crate::length::image_len;
 use crate::order::entries_in_order;
-use disk_tree::{BlockList, Body, DirEntries, DiskTree, StoredNode};
+use disk_tree::{BlockList, Body, DiskTree, StoredNode};
 use item_list::Bytes;
 use std::alloc::{AllocError, Global};
 use text_words::{push_decimal, push_lower_hex};
