@@ -9,13 +9,13 @@ use text_words::{next_line, nth_word};
 const MOST_SHOWN: usize = 60;
 
 // More bytes than any input that is read, and so few that each line has a number.
-const MOST_INPUT_BYTES: usize = 4_294_967_295;
+const MOST_NUMBERED_BYTES: usize = 4_294_967_295;
 
 const LISTED: &str = "fsc --help lists the commands";
 
 /// Tells on standard error of the first line at fault of an input.
 pub(crate) fn show_line(rt: &HostRuntime, input: &[u8]) {
-    if input.len() > MOST_INPUT_BYTES {
+    if input.len() > MOST_NUMBERED_BYTES {
         return;
     }
     if let Ok(Some(found)) = line_fault(rt.alloc(), input) {
