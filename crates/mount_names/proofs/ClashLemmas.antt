@@ -1,5 +1,5 @@
 -- Whether a name would clash, told by stored names.
-use Rattle.std.proofs.Common.{◌≡◌, ℕ, ◌≤◌, Bool, true, false, cond, ◌&&◌, ◌||◌, List, [], ◌∷◌, length, Some, None, is_some, bytes_eq, inl, inr, refl, sym, ap, subst, ◌∙◌}
+use Rattle.std.proofs.Common.{◌≡◌, ℕ, ◌≤◌, Bool, true, false, cond, ◌&&◌, ◌||◌, List, [], ◌∷◌, length, Some, is_some, bytes_eq, inl, inr, refl, sym, ap, subst, ◌∙◌}
 use Rattle.std.specs.List.{list_any}
 use Rattle.std.specs.Map.{lookup}
 use Rattle.std.proofs.lemmas.Bool.{cases_Bool, cases_lt, true≢false, le-leb}
@@ -53,9 +53,6 @@ name_plain name is = (is.0.size.0, is.1, is.0.nul)
 
 module _ (disk : Disk) (next : ℕ) (m : PlainMount) (well : IsWellFormed m) (tree : TreeStands disk next m) (d : ℕ) (name : Name) (plain : IsPlain name) (bytes : AreBytes name) where
   -- without policy nothing clashes
-  pub plain_apart : context_at m.nodes d ≡ None → clashes m d name ≡ false
-  plain_apart none = ap (has_text_of m d name) none
-
   module _ (c : Context) (here : context_at m.nodes d ≡ Some c) (fits : StoredNamesFit) where
     abbrev sealed : Name → List ℕ
     sealed n = sealed_name m.raws d c n

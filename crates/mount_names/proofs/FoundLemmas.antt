@@ -1,5 +1,5 @@
 -- The entry that is found by the name as it is stored is the one that the mount finds by the part.
-use Rattle.std.proofs.Common.{◌≡◌, ℕ, Bool, true, false, cond, ◌&&◌, List, [], ◌∷◌, Result, Option, Some, None, option_map, is_some, IfSome, Ok, Err, bytes_eq, inl, inr, refl, sym, ap, subst, ◌∙◌}
+use Rattle.std.proofs.Common.{◌≡◌, ℕ, Bool, true, false, cond, not, ◌&&◌, List, [], ◌∷◌, Result, Option, Some, None, option_map, is_some, IfSome, Ok, Err, bytes_eq, inl, inr, refl, sym, ap, subst, ◌∙◌}
 use Rattle.std.specs.Map.{lookup, lookup_entry}
 use Rattle.std.proofs.lemmas.Bool.{true≢false, le-leb}
 use Rattle.byte_words.specs.Bytes.{AreBytes}
@@ -16,7 +16,7 @@ use Rattle.disk_tree.specs.DiskTree.{Disk}
 use Rattle.disk_tree.specs.DiskTree.{children as stored_entries}
 use Rattle.disk_tree.specs.Entries.{number_under}
 use Rattle.mount_model.specs.declared.reply.Refusal.{Refusal}
-use Rattle.mount_model.specs.declared.reply.Refusal.TheVariants.{NotFound}
+use Rattle.mount_model.specs.declared.reply.Refusal.TheVariants.{NoKey, NotFound}
 use Rattle.mount_model.specs.PlainMount.{PlainMount}
 use Rattle.mount_model.specs.Answered.{Answer, refused, at_node, at_entry}
 use Rattle.mount_model.specs.Sealed.{sealed_name, texts}
@@ -30,7 +30,7 @@ use Rattle.mount_state.proofs.EntryLemmas.{children_stand, name_there}
 use Rattle.mount_state.proofs.KeyedLemmas.{keyed_led}
 use Rattle.mount_state.proofs.LedLemmas.{plain_led}
 use Rattle.mount_names.specs.Places.{Entry}
-use Rattle.mount_names.specs.Found.{form_in, entry_in, entry_found, IsStoredFor, or_not_found, entry_walked, entry_end}
+use Rattle.mount_names.specs.Found.{form_in, entry_in, entry_found, IsStoredFor, or_not_found, entry_sought, entry_walked, entry_end}
 use Rattle.mount_names.specs.Made.{HasByteKey}
 use Rattle.mount_names.specs.Removed.{IsEntryOf}
 use Rattle.mount_names.specs.Shown.{ShowsAs}
@@ -208,20 +208,32 @@ ok_entry e = Ok e
 abbrev pub no_entry : Refusal → Result Entry Refusal
 no_entry r = Err r
 
-pub record IsAt (m : PlainMount) (path : PathParts) (entry : Entry) : Type 0 where
+pub record IsAt (m : PlainMount) (path : PathParts) (by_name : Bool) (entry : Entry) : Type 0 where
   pub name : Name
   pub led : parent m path ≡ Ok entry.dir
+  pub free : (by_name && not (is_keyed m entry.dir)) ≡ false
   pub found_so : found m entry.dir (last_part path) ≡ Some (name, entry.number)
   pub of : IsEntryOf m name entry
 
-module _ (m : PlainMount) (path : PathParts) where
+-- whether it is asked for by its name where no name is told
+pub sought_so : (m : PlainMount) (part : Name) (d : ℕ) (by_name : Bool) (keyed : Bool) → keyed ≡ is_keyed m d → (barred : Bool) → (by_name && not keyed) ≡ barred
+    → cond barred (no_entry NoKey) (or_not_found (entry_found m d part)) ≡ entry_sought by_name m part d
+sought_so m part d by_name keyed is barred told = ap (λ b. cond b (no_entry NoKey) (or_not_found (entry_found m d part))) (sym told ∙ ap (λ b. by_name && not b) is)
+
+module _ (m : PlainMount) (path : PathParts) (by_name : Bool) where
   abbrev ends_in : ℕ → Option (Name × ℕ) → Result Entry Refusal
   ends_in d o = or_not_found (option_map (entry_in m d) o)
 
-  -- what a call on the entry answers where there is none
-  pub end_refused : (r : Refusal) → Err r ≡ entry_end m path → (f : ℕ → Name → ℕ → Answer)
-      → at_node m (parent m path) (λ d. at_entry m (found m d (last_part path)) (f d)) ≡ refused m r
-  end_refused r is f = by (parent m path) is
+  abbrev on_entry : (ℕ → Name → ℕ → Answer) → ℕ → Answer
+  on_entry f d = cond (by_name && not (is_keyed m d)) (refused m NoKey) (at_entry m (found m d (last_part path)) (f d))
+
+  -- what a call on the entry answers, which is refused so at the root
+  abbrev answer : Bool → Refusal → (ℕ → Name → ℕ → Answer) → Answer
+  answer at_root root f = cond at_root (refused m root) (at_node m (parent m path) (on_entry f))
+
+  -- the same where there is no entry
+  pub end_refused : (r : Refusal) → Err r ≡ entry_end by_name m path → (at_root : Bool) → at_root ≡ false → (root : Refusal) (f : ℕ → Name → ℕ → Answer) → answer at_root root f ≡ refused m r
+  end_refused r is at_root named root f = ap (λ b. answer b root f) named ∙ by (parent m path) is
     where
       same : (a b : Refusal) → no_entry a ≡ no_entry b → a ≡ b
       same a b e = cc
@@ -230,27 +242,43 @@ module _ (m : PlainMount) (path : PathParts) where
       in_dir d None is = ap (refused m) (sym (same r NotFound is))
       in_dir d (Some e) is = let bad : no_entry r ≡ ok_entry (entry_in m d e) = is in absurd (cc)
 
-      by : (w : Walked) → Err r ≡ entry_walked m (last_part path) w → at_node m w (λ d. at_entry m (found m d (last_part path)) (f d)) ≡ refused m r
-      by (Err q) is = ap (refused m) (sym (same r q is))
-      by (Ok d) is = in_dir d (found m d (last_part path)) is
+      free_or : (d : ℕ) (barred : Bool) → Err r ≡ cond barred (Err NoKey) (ends_in d (found m d (last_part path)))
+          → cond barred (refused m NoKey) (at_entry m (found m d (last_part path)) (f d)) ≡ refused m r
+      free_or d true is = ap (refused m) (sym (same r NoKey is))
+      free_or d false is = in_dir d (found m d (last_part path)) is
 
-  pub end_at : (entry : Entry) → Ok entry ≡ entry_end m path → IsAt m path entry
+      by : (w : Walked) → Err r ≡ entry_walked by_name m (last_part path) w → at_node m w (on_entry f) ≡ refused m r
+      by (Err q) is = ap (refused m) (sym (same r q is))
+      by (Ok d) is = free_or d (by_name && not (is_keyed m d)) is
+
+  pub end_at : (entry : Entry) → Ok entry ≡ entry_end by_name m path → IsAt m path by_name entry
   end_at entry is = by (parent m path) refl is
     where
       same : (a b : Entry) → ok_entry a ≡ ok_entry b → a ≡ b
       same a b e = cc
 
-      in_dir : (d : ℕ) → parent m path ≡ Ok d → (o : Option (Name × ℕ)) → found m d (last_part path) ≡ o → Ok entry ≡ ends_in d o → IsAt m path entry
-      in_dir d led None none is = let bad : ok_entry entry ≡ no_entry NotFound = is in absurd (cc)
-      in_dir d led (Some e) here is =
+      in_dir : (d : ℕ) → parent m path ≡ Ok d → (by_name && not (is_keyed m d)) ≡ false → (o : Option (Name × ℕ)) → found m d (last_part path) ≡ o → Ok entry ≡ ends_in d o → IsAt m path by_name entry
+      in_dir d led free None none is = let bad : ok_entry entry ≡ no_entry NotFound = is in absurd (cc)
+      in_dir d led free (Some e) here is =
           let entry_is : entry ≡ entry_in m d e = same entry (entry_in m d e) is in
-          subst (IsAt m path) (sym entry_is) (record {
+          subst (IsAt m path by_name) (sym entry_is) (record {
             name = e.0;
             led = led;
+            free = free;
             found_so = here;
             of = record { there = found_entry m.nodes d (λ n. bytes_eq (last_part path) (shown m d n)) e here; stored = refl };
           })
 
-      by : (w : Walked) → parent m path ≡ w → Ok entry ≡ entry_walked m (last_part path) w → IsAt m path entry
+      free_or : (d : ℕ) → parent m path ≡ Ok d → (barred : Bool) → (by_name && not (is_keyed m d)) ≡ barred → Ok entry ≡ cond barred (Err NoKey) (ends_in d (found m d (last_part path))) → IsAt m path by_name entry
+      free_or d led true barred is = let bad : ok_entry entry ≡ no_entry NoKey = is in absurd (cc)
+      free_or d led false free is = in_dir d led free (found m d (last_part path)) refl is
+
+      by : (w : Walked) → parent m path ≡ w → Ok entry ≡ entry_walked by_name m (last_part path) w → IsAt m path by_name entry
       by (Err q) led is = let bad : ok_entry entry ≡ no_entry q = is in absurd (cc)
-      by (Ok d) led is = in_dir d led (found m d (last_part path)) refl is
+      by (Ok d) led is = free_or d led (by_name && not (is_keyed m d)) refl is
+
+  -- at the entry
+  pub end_is : (e : Entry) (at : IsAt m path by_name e) (at_root : Bool) → at_root ≡ false → (root : Refusal) (f : ℕ → Name → ℕ → Answer) → answer at_root root f ≡ f e.dir at.name e.number
+  end_is e at at_root named root f =
+      (λ i. cond (named i) (refused m root) (at_node m (at.led i) (on_entry f)))
+      ∙ (λ i. cond (at.free i) (refused m NoKey) (at_entry m (at.found_so i) (f e.dir)))

@@ -1,10 +1,14 @@
 -- What a call answers at the node to which a walk led.
-use Rattle.std.proofs.Common.{◌≡◌, ℕ, Ok, Option, Some, None, inl, inr, refl, sym, subst}
+use Rattle.std.proofs.Common.{◌≡◌, ℕ, Ok, Option, Some, None, inl, inr, refl, sym, ap, subst, ◌∙◌}
+use Rattle.std.proofs.lemmas.Bool.{true≢false}
 use Rattle.plain_tree.specs.Nodes.{Node, Body, Dir, File, Link}
 use Rattle.policy_ctx.specs.declared.policy.Context.{Context}
+use Rattle.mount_model.specs.ClaimHistory.{is_refused}
+use Rattle.mount_model.specs.declared.reply.Refusal.{Refusal}
 use Rattle.mount_model.specs.declared.reply.Reply.{Reply}
+use Rattle.mount_model.specs.declared.reply.Reply.TheVariants.{Refused}
 use Rattle.mount_model.specs.PlainMount.{PlainMount}
-use Rattle.mount_model.specs.Answered.{Answer, at_node}
+use Rattle.mount_model.specs.Answered.{Answer, refused, done, at_node}
 use Rattle.mount_model.specs.LookAnswers.{node_told, target_told}
 use Rattle.mount_model.specs.PolicyAnswers.{policy_told}
 use Rattle.mount_model.specs.Walk.{Walked}
@@ -51,3 +55,17 @@ due_at m f w n led reply due = subst (λ (x : Walked). IsRefusedAsDue (at_node m
 pub answered_at : (m : PlainMount) (f : ℕ → Answer) (w : Walked) (n : ℕ) → Ok n ≡ w → (new : MountState) (reply : Reply) → IsGivenOrNoMemory m (f n) reply new
     → IsGivenOrNoMemory m (at_node m w f) reply new
 answered_at m f w n led new reply given = subst (λ (x : Walked). IsGivenOrNoMemory m (at_node m x f) reply new) led given
+
+-- ---- what was answered
+
+pub due_refused : (m : PlainMount) (answer : Answer) (r : Refusal) → answer ≡ refused m r → IsRefusedAsDue answer (Refused r)
+due_refused m answer r is _ = sym (ap (λ (a : Answer). a.reply) is)
+
+pub due_done : (after : PlainMount) (answer : Answer) (reply : Reply) → answer ≡ done after → IsRefusedAsDue answer reply
+due_done after answer reply is bad = absurd (true≢false (sym bad ∙ ap (λ (a : Answer). is_refused a.reply) is))
+
+pub refused_so : (m : PlainMount) (answer : Answer) (r : Refusal) → answer ≡ refused m r → (new : MountState) → StandsFor new m → IsGivenOrNoMemory m answer (Refused r) new
+refused_so m answer r is new st = inl (sym (ap (λ (a : Answer). a.reply) is), subst (StandsFor new) (sym (ap (λ (a : Answer). a.mount) is)) st)
+
+pub given_by : (m : PlainMount) (a b : Answer) (reply : Reply) (new : MountState) → a ≡ b → IsGivenOrNoMemory m b reply new → IsGivenOrNoMemory m a reply new
+given_by m a b reply new is given = subst (λ (x : Answer). IsGivenOrNoMemory m x reply new) (sym is) given

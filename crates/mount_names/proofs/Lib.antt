@@ -20,7 +20,6 @@ pub mod PolicyRules
 pub mod PolicyStands
 pub mod SetLemmas
 pub mod FoundLemmas
-pub mod TextLemmas
 pub mod NodesLemmas
 pub mod RemovalLemmas
 pub mod MoveLemmas

@@ -1,17 +1,14 @@
 -- The target of a symlink that is made, as it is stored.
-use Rattle.std.proofs.Common.{◌≡◌, ℕ, Bool, true, false, not, ◌≤◌, List, [], length, Option, Some, None, option_map, inl, inr, refl, sym, ap, ◌∙◌}
-use Rattle.std.proofs.lemmas.Bool.{cases_lt, true≢false, lt-ltb}
+use Rattle.std.proofs.Common.{◌≡◌, ℕ, Bool, true, false, not, List, [], Option, Some, None, option_map, inl, refl, sym, ap}
 use Rattle.policy_ctx.specs.declared.policy.Context.{Context}
 use Rattle.name_crypt.specs.declared.cipher.NameCipher.{NameCipher}
-use Rattle.name_crypt.specs.declared.limits.TheConstants.{MOST_NAME_BYTES}
-use Rattle.name_crypt.specs.Plain.{IsPlain}
 use Rattle.number_map.specs.Numbered.{insert}
 use Rattle.number_map.proofs.NumberedLemmas.{insert_here}
 use Rattle.key_ring.specs.Holding.{Holding, HoldsClaimedSecrets}
 use Rattle.plain_tree.specs.Nodes.{Node, Link, context_in, context_at}
 use Rattle.mount_model.specs.PlainMount.{PlainMount}
 use Rattle.mount_model.specs.Carried.{IsPath, IsTarget}
-use Rattle.mount_model.specs.NameAnswers.{lacks_key, is_long_target, inherited, answer_to_make}
+use Rattle.mount_model.specs.NameAnswers.{lacks_key, inherited, answer_to_make}
 use Rattle.mount_model.specs.WellFormed.{IsWellFormed}
 use Rattle.mount_model.specs.Walk.{PathParts}
 use Rattle.mount_model.specs.declared.call.Op.TheVariants as op
@@ -45,17 +42,6 @@ module _ (m : PlainMount) (n : ℕ) (c : Context) where
   coming_cipher ring stand secrets holds cipher is =
       drawn_cipher_is with_link n c link_has ring (keys_stand ring stand) cipher is
       (secret_there with_link n c link_has ring (keys_stand ring stand) secrets (present_then _ holds))
-
--- ---- targets
-
-pub target_plain : (target : List ℕ) → IsTarget target → is_long_target (Link target) ≡ false → IsPlain target
-target_plain target is short = (is.size.0, few, is.nul)
-  where
-    few : length target ≤ MOST_NAME_BYTES
-    few = elim (cases_lt MOST_NAME_BYTES (length target)) [
-      | inl more ↦ absurd (true≢false (sym (lt-ltb _ _ more) ∙ short))
-      | inr most ↦ most
-    ]
 
 -- the policy is that of the directory
 pub inherits_key : (m : PlainMount) (nonce : List ℕ) (o : Option Context) → lacks_key m (inherited nonce o) ≡ lacks_key m o

@@ -1,18 +1,12 @@
 -- Names in the order of their bytes: of the same names there is one list in order.
-use Rattle.std.proofs.Common.{drop, ◌≡◌, ℕ, ◌<◌, ◌++◌, Some, Bool, true, false, cond, not, List, [], ◌∷◌, map, bytes_eq, inl, inr, ◌⊎◌, refl, sym, ap, subst, ◌∙◌, arith}
-use Rattle.std.specs.Bool.{⊤}
+use Rattle.std.proofs.Common.{drop, ◌≡◌, ℕ, ◌<◌, ◌++◌, Some, Bool, true, false, cond, not, List, [], ◌∷◌, map, ◌⊎◌, refl, sym, ap, subst, ◌∙◌}
 use Rattle.std.specs.List.{sum_by, AllZip}
-use Rattle.std.specs.declared.cmp.Ordering.{Ordering}
-use Rattle.std.specs.declared.cmp.Ordering.TheVariants.{Less, Equal, Greater}
-use Rattle.std.specs.Ordering.{nat_cmp, ordering_reverse, is_lt, is_gt, is_eq}
+use Rattle.std.specs.Ordering.{nat_cmp, is_lt, is_eq}
 use Rattle.std.specs.Cmp.{IsStrictWeakOrder}
 use Rattle.std.specs.Cmp.Lexicographic.{slice_cmp, nat_list_cmp_total}
-use Rattle.std.proofs.lemmas.Bool.{cases_Bool}
 use Rattle.std.proofs.lemmas.List.{append_assoc, append-nil}
 use Rattle.std.proofs.lemmas.List.MinMax.{ranks_by}
-use Rattle.std.proofs.lemmas.List.Sums.{sum_by-cons}
 use Rattle.std.proofs.lemmas.Map.Text.{is_eq-slice_cmp}
-use Rattle.std.proofs.lemmas.Slice.Eq.{bytes_eq-Decides}
 use Rattle.byte_words.specs.Bytes.{AreBytes}
 use Rattle.name_crypt.specs.Plain.{IsPlain}
 use Rattle.plain_tree.specs.Nodes.{Name, Children, children, context_at, is_dir_at}
@@ -35,6 +29,7 @@ use Rattle.mount_model.specs.States.{shown}
 use Rattle.mount_model.specs.WellFormed.{IsWellFormed}
 use Rattle.mount_state.specs.Stored.{stored_form}
 use Rattle.mount_state.specs.StandsFor.{TreeStands}
+use Rattle.mount_state.proofs.OrderLemmas as orders
 use Rattle.mount_state.proofs.EntryLemmas.{children_stand, name_there}
 use Rattle.mount_names.specs.declared.reading.Reading.{Reading}
 use Rattle.mount_names.specs.declared.reading.Reading.TheVariants.{Plain}
@@ -50,132 +45,32 @@ below a b = is_lt (slice_cmp nat_cmp a b)
 pub order : IsStrictWeakOrder below
 order = ranks_by nat_list_cmp_total (λ (x : Name). x)
 
-reversed : (o : Ordering) → is_gt (ordering_reverse o) ≡ is_lt o
-reversed Less = refl
-reversed Equal = refl
-reversed Greater = refl
-
-above_is : (a b : Name) → is_gt (slice_cmp nat_cmp a b) ≡ below b a
-above_is a b = ap is_gt (nat_list_cmp_total.antisymm a b) ∙ reversed (slice_cmp nat_cmp b a)
-
-neither : (o : Ordering) → is_lt o ≡ false → is_gt o ≡ false → is_eq o ≡ true
-neither Less bad other = sym bad
-neither Equal one other = refl
-neither Greater one bad = sym bad
-
-same_from : (a b : Name) → below a b ≡ false → below b a ≡ false → a ≡ b
-same_from a b up down = same_name a b (sym (is_eq-slice_cmp a b) ∙ neither (slice_cmp nat_cmp a b) up (above_is a b ∙ down))
-
-not_itself : (x : Name) → below x x ≡ false
-not_itself x = elim (cases_Bool (below x x)) [
-  | inl is ↦ order.one_way x x is
-  | inr not_so ↦ not_so
-]
-
--- ---- how often a name stands
+pub same_names : (a b : Name) → is_eq (slice_cmp nat_cmp a b) ≡ true → a ≡ b
+same_names a b tie = same_name a b (sym (is_eq-slice_cmp a b) ∙ tie)
 
 abbrev pub one : Name → Name → ℕ
-one z x = cond (bytes_eq z x) 1 0
+one z x = cond (is_eq (slice_cmp nat_cmp z x)) 1 0
 
 abbrev pub count : Name → List Name → ℕ
 count z xs = sum_by (one z) xs
 
 pub at_head : (x : Name) (xs : List Name) → 0 < count x (x ∷ xs)
-at_head x xs =
-    let parts = sum_by-cons (one x) x xs in
-    let is : one x x ≡ 1 = ap (λ b. cond b 1 0) ((bytes_eq-Decides x x).1 refl) in
-    omega arith
+at_head = orders.at_head (slice_cmp nat_cmp) nat_list_cmp_total same_names
 
 pub head_or_behind : (z x : Name) (xs : List Name) → 0 < count z (x ∷ xs) → (z ≡ x) ⊎ (0 < count z xs)
-head_or_behind z x xs there = elim (cases_Bool (bytes_eq z x)) [
-  | inl is ↦ inl (same_name z x is)
-  | inr other ↦ inr (
-      let parts = sum_by-cons (one z) x xs in
-      let none : one z x ≡ 0 = ap (λ b. cond b 1 0) other in
-      omega arith)
-]
-
--- ---- lists in order
+head_or_behind = orders.head_or_behind (slice_cmp nat_cmp) nat_list_cmp_total same_names
 
 abbrev pub Rises : List Name → Type 0
-Rises [] = ⊤
-Rises (x ∷ xs) = ((z : Name) → 0 < count z xs → below z x ≡ false) × Rises xs
-
-least : (x : Name) (xs : List Name) → Rises (x ∷ xs) → (z : Name) → 0 < count z (x ∷ xs) → below z x ≡ false
-least x xs rises z there = elim (head_or_behind z x xs there) [
-  | inl same ↦ ap (λ y. below y x) same ∙ not_itself x
-  | inr behind ↦ rises.0 z behind
-]
+Rises xs = orders.Rises (slice_cmp nat_cmp) nat_list_cmp_total same_names xs
 
 pub unique : (xs ys : List Name) → Rises xs → Rises ys → ((z : Name) → count z xs ≡ count z ys) → xs ≡ ys
-unique [] [] up too same = refl
-unique [] (y ∷ ys) up too same =
-    let here = at_head y ys in
-    let none : count y [] ≡ 0 = refl in
-    let tied = same y in
-    absurd (omega arith)
-unique (x ∷ xs) [] up too same =
-    let here = at_head x xs in
-    let none : count x [] ≡ 0 = refl in
-    let tied = same x in
-    absurd (omega arith)
-unique (x ∷ xs) (y ∷ ys) up too same =
-    let first : x ≡ y = same_from x y
-    (least y ys too x (let here = at_head x xs in let tied = same x in omega arith))
-    (least x xs up y (let here = at_head y ys in let tied = same y in omega arith)) in
-    let rest : xs ≡ ys = unique xs ys up.1 too.1 (λ z.
-    let parts = sum_by-cons (one z) x xs in
-    let others = sum_by-cons (one z) y ys in
-    let heads : one z x ≡ one z y = ap (one z) first in
-    let tied = same z in
-    omega arith) in
-    λ i. first i ∷ rest i
-
-put_count : (z x : Name) (xs : List Name) → count z (put_in_order x xs) ≡ count z (x ∷ xs)
-put_count z x [] = refl
-put_count z x (y ∷ ys) = elim (is_gt (slice_cmp nat_cmp x y)) as (λ b. count z (cond b (y ∷ put_in_order x ys) (x ∷ y ∷ ys)) ≡ count z (x ∷ y ∷ ys)) [
-  | true ↦
-      let a = sum_by-cons (one z) y (put_in_order x ys) in
-      let b = sum_by-cons (one z) x (y ∷ ys) in
-      let c = sum_by-cons (one z) y ys in
-      let d = sum_by-cons (one z) x ys in
-      let e = put_count z x ys in
-      omega arith
-  | false ↦ refl
-]
-
-put_rises : (x : Name) (xs : List Name) → Rises xs → Rises (put_in_order x xs)
-put_rises x [] rises = ((λ z there. let none : count z [] ≡ 0 = refl in absurd (omega arith)), tt)
-put_rises x (y ∷ ys) rises = by_case (put_rises x ys rises.1) (is_gt (slice_cmp nat_cmp x y)) (above_is x y)
-  where
-    by_case : Rises (put_in_order x ys) → (b : Bool) → b ≡ below y x → Rises (cond b (y ∷ put_in_order x ys) (x ∷ y ∷ ys))
-    by_case later true is = (
-      (λ z there. elim (head_or_behind z x ys (let tied = put_count z x ys in omega arith)) [
-        | inl same ↦ ap (λ w. below w y) same ∙ order.one_way y x (sym is)
-        | inr behind ↦ rises.0 z behind
-      ]),
-      later,
-    )
-    by_case later false is = (
-      (λ z there. elim (head_or_behind z y ys there) [
-        | inl same ↦ ap (λ w. below w x) same ∙ sym is
-        | inr behind ↦ order.chain z y x (rises.0 z behind) (sym is)
-      ]),
-      rises,
-    )
+unique = orders.unique (slice_cmp nat_cmp) nat_list_cmp_total same_names
 
 pub order_count : (z : Name) (xs : List Name) → count z (in_order xs) ≡ count z xs
-order_count z [] = refl
-order_count z (x ∷ xs) =
-    let a = put_count z x (in_order xs) in
-    let b = sum_by-cons (one z) x (in_order xs) in
-    let c = sum_by-cons (one z) x xs in
-    let d = order_count z xs in
-    omega arith
+order_count = orders.order_count (slice_cmp nat_cmp) nat_list_cmp_total same_names put_in_order (λ x. refl) (λ x y ys. refl) in_order refl (λ x xs. refl)
 
 pub order_rises : (xs : List Name) → Rises (in_order xs)
-order_rises [] = tt
-order_rises (x ∷ xs) = put_rises x (in_order xs) (order_rises xs)
+order_rises = orders.order_rises (slice_cmp nat_cmp) nat_list_cmp_total same_names put_in_order (λ x. refl) (λ x y ys. refl) in_order refl (λ x xs. refl)
 
 -- ---- the names as which entries are shown
 

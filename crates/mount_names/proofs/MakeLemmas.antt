@@ -19,7 +19,6 @@ use Rattle.dentry_cache.specs.Names.{Pair, NameList}
 use Rattle.mount_state.specs.CachedNames.{NamesStand, is_dir_node}
 use Rattle.mount_state.specs.Handles.{Handles}
 use Rattle.mount_model.specs.declared.reply.Reply.TheVariants.{Done}
-use Rattle.mount_model.specs.ClaimHistory.{is_refused}
 use Rattle.mount_model.specs.declared.reply.Reply.{Reply}
 use Rattle.mount_model.specs.PlainMount.{PlainMount}
 use Rattle.mount_model.specs.Answered.{Answer, done}
@@ -41,6 +40,7 @@ use Rattle.mount_names.specs.Made.{IsPlaceAt}
 use Rattle.mount_names.proofs.AgreeLemmas.{made_agrees}
 use Rattle.mount_names.proofs.CachedStands.{names_made}
 use Rattle.mount_names.proofs.DiskRules.{none_at_next, unheld}
+use Rattle.mount_names.proofs.GivenLemmas.{due_done, given_by}
 use Rattle.mount_names.proofs.EditLemmas.{read_changed, read_inserted}
 use Rattle.mount_names.proofs.HeldLemmas.{IsHeld, by_key, caches_alike}
 use Rattle.mount_names.proofs.PlaceLemmas.{at_parent, not_refused}
@@ -136,14 +136,11 @@ module _ (old : MountState) (m : PlainMount) (st : StandsFor old m) (path : Path
   }
 
   pub made_given : is_long_target body ≡ false → (new : MountState) → StandsFor new after → IsGivenOrNoMemory m (answer_to_make m path nonce body) Done new
-  made_given short new stands = inl (
-    sym (ap (λ (a : Answer). a.reply) (answer_is short)),
-    subst (StandsFor new) (sym (ap (λ (a : Answer). a.mount) (answer_is short))) stands,
-  )
+  made_given short new stands = given_by m _ _ Done new (answer_is short) (inl (refl, stands))
 
   -- where it can be made it isn't refused
   pub made_due : is_long_target body ≡ false → (reply : Reply) → IsRefusedAsDue (answer_to_make m path nonce body) reply
-  made_due short reply due = absurd (true≢false (sym due ∙ ap (λ (a : Answer). is_refused a.reply) (answer_is short)))
+  made_due short reply = due_done after (answer_to_make m path nonce body) reply (answer_is short)
 
   pub well_after : is_long_target body ≡ false → IsWellFormed (answer_to_make m path nonce body).mount → IsWellFormed after
   well_after short well = subst IsWellFormed (ap (λ (a : Answer). a.mount) (answer_is short)) well

@@ -1,5 +1,5 @@
 -- What a rename is refused, cause by cause, and the state in which a name was moved.
-use Rattle.std.proofs.Common.{◌≡◌, ℕ, ◌≤◌, length, arith, Bool, true, false, cond, not, ◌||◌, bytes_eq, List, Option, option_map, IfSome, OnOk, OnErr, Some, None, is_some, Result, Ok, Err, inl, refl, sym, ap, subst, ◌∙◌}
+use Rattle.std.proofs.Common.{◌≡◌, ℕ, ◌≤◌, length, arith, Bool, true, false, cond, not, ◌||◌, List, Option, option_map, IfSome, OnOk, OnErr, Some, None, is_some, Result, Ok, Err, inl, refl, sym, ap, subst, ◌∙◌}
 use Rattle.number_map.specs.Numbered.{changed}
 use Rattle.inode_refs.specs.Cached.{Cache}
 use Rattle.plain_tree.specs.Nodes.{Name, Nodes, context_at, context_in, entry}
@@ -7,7 +7,6 @@ use Rattle.plain_tree.specs.Changes.{on_children, name_taken, moved}
 use Rattle.plain_tree.specs.Nodes.{without_child}
 use Rattle.plain_tree.specs.Facts.{AgreesBy}
 use Rattle.plain_tree.proofs.ChildLemmas.{itself}
-use Rattle.plain_tree.proofs.FoundLemmas.{found_entry}
 use Rattle.disk_tree.specs.DiskTree.{Disk}
 use Rattle.disk_tree.specs.DiskTree as disk
 use Rattle.disk_tree.specs.DiskTree.{children as stored_entries}
@@ -19,19 +18,15 @@ use Rattle.policy_ctx.specs.declared.policy.Policy.{Policy}
 use Rattle.policy_ctx.specs.Policy.{policy_bytes}
 use Rattle.mount_model.specs.PolicyAnswers.{is_same_policy}
 use Rattle.mount_model.specs.declared.reply.Refusal.{Refusal}
-use Rattle.mount_model.specs.declared.reply.Refusal.TheVariants.{NoKey, Inval, Exists, XDev, NoSpace, NoKeyClash, NotFound}
-use Rattle.mount_model.specs.declared.reply.Reply.{Reply}
-use Rattle.mount_model.specs.declared.reply.Reply.TheVariants.{Refused}
-use Rattle.mount_model.specs.ClaimHistory.{is_refused}
-use Rattle.std.proofs.lemmas.Bool.{true≢false, ne_eqb}
-use Rattle.mount_state.specs.Given.{IsGivenOrNoMemory, IsRefusedAsDue}
+use Rattle.mount_model.specs.declared.reply.Refusal.TheVariants.{NoKey, Inval, Exists, XDev, NoSpace, NoKeyClash}
+use Rattle.std.proofs.lemmas.Bool.{ne_eqb}
 use Rattle.mount_state.specs.Passed.{with_past}
 use Rattle.mount_model.specs.PlainMount.{PlainMount}
-use Rattle.mount_model.specs.Answered.{Answer, refused, done, at_node, at_entry}
-use Rattle.mount_model.specs.States.{is_keyed, shown}
+use Rattle.mount_model.specs.Answered.{Answer, refused, done, at_node}
+use Rattle.mount_model.specs.States.{is_keyed}
 use Rattle.mount_model.specs.NameAnswers.{clashes}
 use Rattle.mount_model.specs.RenameAnswer.{may_hold, has_policy, is_full_elsewhere, with_moved, answer_to_move_from, answer_to_rename}
-use Rattle.mount_model.specs.Walk.{PathParts, Walked, found, is_root, last_part, parent, is_at_or_above}
+use Rattle.mount_model.specs.Walk.{PathParts, Walked, is_root, last_part, parent, is_at_or_above}
 use Rattle.mount_model.specs.WellFormed.{IsWellFormed}
 use Rattle.mount_model.specs.Carried.{IsPath}
 use Rattle.mount_model.specs.declared.call.Op.TheVariants as op
@@ -42,8 +37,9 @@ use Rattle.mount_state.specs.StandsFor.{StandsFor, CachesStand}
 use Rattle.mount_state.specs.StandsFor.{plain_kind}
 use Rattle.mount_state.specs.declared.state.MountState.{MountState}
 use Rattle.mount_names.specs.Places.{Entry, Place}
-use Rattle.mount_names.specs.Found.{IsEntryOn, entry_in, entry_found, or_not_found}
-use Rattle.mount_names.specs.Moved.{source_in, source_walked, source_end, IsNewName, name_refusal, place_refusal, first_of, move_refusal, target_walked, target_refusal, IsTargetAt}
+use Rattle.mount_names.specs.Found.{IsEntryOn, entry_end}
+use Rattle.mount_names.specs.Made.{IsNewName}
+use Rattle.mount_names.specs.Moved.{name_refusal, place_refusal, first_of, move_refusal, target_walked, target_refusal, IsTargetAt}
 use Rattle.mount_names.specs.Removed.{IsEntryOf}
 use Rattle.mount_names.specs.SameButTree.{SameButTree}
 use Rattle.mount_names.proofs.AgreeLemmas.{put_agrees, taken_agrees}
@@ -54,7 +50,7 @@ use Rattle.dentry_cache.specs.Names.{NameList}
 use Rattle.mount_names.proofs.CachedRules.{moved_names, names_on}
 use Rattle.mount_names.proofs.DiskRules.{moved_rule, moved_safe}
 use Rattle.mount_names.proofs.EditLemmas.{read_changed}
-use Rattle.mount_names.proofs.FoundLemmas.{stored_apart, ok_entry, no_entry}
+use Rattle.mount_names.proofs.FoundLemmas.{IsAt, stored_apart, end_refused, end_is}
 use Rattle.mount_names.proofs.HeldLemmas.{caches_alike}
 use Rattle.mount_names.proofs.NodesLemmas.{with_nodes, nodes_stand, context_left_so, kind_left_so, read_moved}
 
@@ -80,72 +76,14 @@ may_stay m well old e of = under (context_at m.nodes e.dir) refl
     under None here = refl
     under (Some c) here = held c (context_at m.nodes e.number) (well.nodes.sealed.inherits e.dir old e.number c here of.there)
 
--- ---- where the name comes from
+-- ---- at the end of the old path
 
-pub record IsFrom (m : PlainMount) (path : PathParts) (e : Entry) : Type 0 where
-  pub name : Name
-  pub led : parent m path ≡ Ok e.dir
-  pub keyed : not (is_keyed m e.dir) ≡ false
-  pub found_so : found m e.dir (last_part path) ≡ Some (name, e.number)
-  pub of : IsEntryOf m name e
+module _ (m : PlainMount) (path new_path : PathParts) (named : (is_root path || is_root new_path) ≡ false) where
+  pub source_refused : (r : Refusal) → Err r ≡ entry_end true m path → answer_to_rename m path new_path ≡ refused m r
+  source_refused r is = end_refused m path true r is (is_root path || is_root new_path) named Inval (answer_to_move_from m new_path)
 
-pub source_keyed : (m : PlainMount) (part : Name) (d : ℕ) → is_keyed m d ≡ true → source_in m part d ≡ or_not_found (entry_found m d part)
-source_keyed m part d keyed = ap (λ b. cond (not b) (no_entry NoKey) (or_not_found (entry_found m d part))) keyed
-
-module _ (m : PlainMount) (path new_path : PathParts) where
-  abbrev rename_at : Walked → Answer
-  rename_at w = at_node m w (λ d.
-      cond (not (is_keyed m d)) (refused m NoKey) (at_entry m (found m d (last_part path)) (answer_to_move_from m new_path d)))
-
-  same_refusal : (a b : Refusal) → no_entry a ≡ no_entry b → a ≡ b
-  same_refusal a b e = cc
-
-  same_entry : (a b : Entry) → ok_entry a ≡ ok_entry b → a ≡ b
-  same_entry a b e = cc
-
-  pub source_refused : (r : Refusal) → Err r ≡ source_end m path → rename_at (parent m path) ≡ refused m r
-  source_refused r is = by (parent m path) is
-    where
-      in_dir : (d : ℕ) (o : Option (Name × ℕ)) → Err r ≡ or_not_found (option_map (entry_in m d) o) → at_entry m o (answer_to_move_from m new_path d) ≡ refused m r
-      in_dir d None is = ap (refused m) (sym (same_refusal r NotFound is))
-      in_dir d (Some e) is = let bad : no_entry r ≡ ok_entry (entry_in m d e) = is in absurd (cc)
-
-      keyed_or : (d : ℕ) (locked : Bool) → Err r ≡ cond locked (Err NoKey) (or_not_found (entry_found m d (last_part path)))
-          → cond locked (refused m NoKey) (at_entry m (found m d (last_part path)) (answer_to_move_from m new_path d)) ≡ refused m r
-      keyed_or d true is = ap (refused m) (sym (same_refusal r NoKey is))
-      keyed_or d false is = in_dir d (found m d (last_part path)) is
-
-      by : (w : Walked) → Err r ≡ source_walked m (last_part path) w → rename_at w ≡ refused m r
-      by (Err q) is = ap (refused m) (sym (same_refusal r q is))
-      by (Ok d) is = keyed_or d (not (is_keyed m d)) is
-
-  pub source_at : (entry : Entry) → Ok entry ≡ source_end m path → IsFrom m path entry
-  source_at entry is = by (parent m path) refl is
-    where
-      in_dir : (d : ℕ) → parent m path ≡ Ok d → not (is_keyed m d) ≡ false → (o : Option (Name × ℕ)) → found m d (last_part path) ≡ o → Ok entry ≡ or_not_found (option_map (entry_in m d) o) → IsFrom m path entry
-      in_dir d led keyed None none is = let bad : ok_entry entry ≡ no_entry NotFound = is in absurd (cc)
-      in_dir d led keyed (Some e) here is =
-          let entry_is : entry ≡ entry_in m d e = same_entry entry (entry_in m d e) is in
-          subst (IsFrom m path) (sym entry_is) (record {
-            name = e.0;
-            led = led;
-            keyed = keyed;
-            found_so = here;
-            of = record { there = found_entry m.nodes d (λ n. bytes_eq (last_part path) (shown m d n)) e here; stored = refl };
-          })
-
-      keyed_or : (d : ℕ) → parent m path ≡ Ok d → (locked : Bool) → not (is_keyed m d) ≡ locked → Ok entry ≡ cond locked (Err NoKey) (or_not_found (entry_found m d (last_part path))) → IsFrom m path entry
-      keyed_or d led true locked is = let bad : ok_entry entry ≡ no_entry NoKey = is in absurd (cc)
-      keyed_or d led false keyed is = in_dir d led keyed (found m d (last_part path)) refl is
-
-      by : (w : Walked) → parent m path ≡ w → Ok entry ≡ source_walked m (last_part path) w → IsFrom m path entry
-      by (Err q) led is = let bad : ok_entry entry ≡ no_entry q = is in absurd (cc)
-      by (Ok d) led is = keyed_or d led (not (is_keyed m d)) refl is
-
-  pub rename_is : (is_root path || is_root new_path) ≡ false → (e : Entry) (from : IsFrom m path e) → answer_to_rename m path new_path ≡ answer_to_move_from m new_path e.dir from.name e.number
-  rename_is named e from =
-      (λ i. cond (named i) (refused m Inval) (rename_at (from.led i)))
-      ∙ (λ i. cond (from.keyed i) (refused m NoKey) (at_entry m (from.found_so i) (answer_to_move_from m new_path e.dir)))
+  pub rename_is : (e : Entry) (from : IsAt m path true e) → answer_to_rename m path new_path ≡ answer_to_move_from m new_path e.dir from.name e.number
+  rename_is e from = end_is m path true e from (is_root path || is_root new_path) named Inval (answer_to_move_from m new_path)
 
 -- ---- where it goes
 
@@ -334,19 +272,8 @@ module _ (m : PlainMount) (e : Entry) (path : PathParts) where
       → target_refusal m e path ≡ move_refusal m e to past part
   target_there to past part led passed is = ap (target_walked m e path) (sym led) ∙ (λ i. move_refusal m e to (sym passed i) (sym is i))
 
--- ---- what was answered
-
-pub due_refused : (m : PlainMount) (answer : Answer) (r : Refusal) → answer ≡ refused m r → IsRefusedAsDue answer (Refused r)
-due_refused m answer r is _ = sym (ap (λ (a : Answer). a.reply) is)
-
-pub due_done : (after : PlainMount) (answer : Answer) (reply : Reply) → answer ≡ done after → IsRefusedAsDue answer reply
-due_done after answer reply is bad = absurd (true≢false (sym bad ∙ ap (λ (a : Answer). is_refused a.reply) is))
-
 pub named_path : (path : PathParts) → 1 ≤ length path → is_root path ≡ false
 named_path path some = ne_eqb (length path) 0 (λ none. absurd (omega arith))
-
-pub same_bytes : (a b : List ℕ) → Some a ≡ Some b → a ≡ b
-same_bytes a b is = cc
 
 -- what is told at the place's own directory is told at this one
 pub why_here : (m : PlainMount) (e : Entry) (to : ℕ) (past : Bool) (name : Name) (place : Place) → IsNewName m to name place → (r : Option Refusal)
@@ -372,15 +299,8 @@ module _ (m : PlainMount) (e : Entry) (name : Name) (path : PathParts) (place : 
   pub moved_is : answer_to_move_from m path e.dir name e.number ≡ done after_moving
   moved_is = target_free m e name path place.dir at.led at.free
 
-  pub moved_given : (reply : Reply) (new : MountState) → IsGivenOrNoMemory m (done after_moving) reply new → IsGivenOrNoMemory m (answer_to_move_from m path e.dir name e.number) reply new
-  moved_given reply new given = subst (λ (a : Answer). IsGivenOrNoMemory m a reply new) (sym moved_is) given
-
   pub moved_well : IsWellFormed (answer_to_move_from m path e.dir name e.number).mount → IsWellFormed after_moving
   moved_well well = subst IsWellFormed (ap (λ (a : Answer). a.mount) moved_is) well
-
--- a refusal is answered
-pub refused_so : (m : PlainMount) (answer : Answer) (r : Refusal) → answer ≡ refused m r → (new : MountState) → StandsFor new m → IsGivenOrNoMemory m answer (Refused r) new
-refused_so m answer r is new st = inl (sym (ap (λ (a : Answer). a.reply) is), subst (StandsFor new) (sym (ap (λ (a : Answer). a.mount) is)) st)
 
 -- ---- what must be forgotten goes on being forgotten, whether the entry was moved or not
 

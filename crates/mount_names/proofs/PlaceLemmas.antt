@@ -1,23 +1,18 @@
 -- What a creation is refused, cause by cause, and what the place of a name tells.
-use Rattle.std.proofs.Common.{◌≡◌, ℕ, ◌-◌, Bool, true, false, cond, not, ◌||◌, List, [], ◌∷◌, length, Option, Some, None, option_map, is_some, Ok, Err, bytes_eq, unwrap_or, refl, sym, ap, subst, ◌∙◌, arith, Result, IfOk, IfErr}
-use Rattle.std.specs.List.{slice_get}
+use Rattle.std.proofs.Common.{◌≡◌, ℕ, Bool, true, false, cond, not, ◌||◌, List, [], ◌∷◌, length, Option, Some, None, option_map, is_some, Ok, Err, bytes_eq, refl, sym, ap, subst, ◌∙◌, arith, Result, IfOk, IfErr}
 use Rattle.std.specs.Map.{lookup, lookup_entry}
 use Rattle.std.proofs.lemmas.Bool.{true≢false, ne_eqb}
-use Rattle.std.proofs.lemmas.Option.{unwrap_or-slice_get}
 use Rattle.policy_ctx.specs.declared.policy.Context.{Context}
 use Rattle.user_claims.specs.Claims.{is_present}
 use Rattle.fsc_keys.specs.declared.file_keys.KeyKind.TheVariants.{Names}
-use Rattle.name_crypt.specs.Laws.{NamesStayDistinct}
 use Rattle.name_crypt.specs.Plain.{IsPlain}
 use Rattle.number_map.specs.Numbered.{get}
 use Rattle.plain_tree.specs.Nodes.{Name, Children, Node, Body, Dir, File, Link, children, context_at, is_dir_in, is_dir_at, entry}
 use Rattle.disk_tree.specs.DiskTree.{Disk}
-use Rattle.disk_tree.specs.DiskTree.{children as stored_entries}
 use Rattle.mount_model.specs.declared.reply.Refusal.{Refusal}
 use Rattle.mount_model.specs.declared.reply.Refusal.TheVariants.{NoKey, Exists, NameTooLong, NoSpace, NoKeyClash}
 use Rattle.mount_model.specs.PlainMount.{PlainMount, has_handle}
-use Rattle.mount_model.specs.States.{is_keyed, is_keyed_under, shown, shown_under}
-use Rattle.mount_model.specs.Sealed.{sealed_name, texts}
+use Rattle.mount_model.specs.States.{is_keyed_under}
 use Rattle.mount_model.specs.Walk.{PathParts, is_root, last_part, parent}
 use Rattle.mount_model.specs.WellFormed.{IsWellFormed, IsName}
 use Rattle.mount_model.specs.NameAnswers.{lacks_key, clashes, is_full, is_long_target, new_node, with_node, answer_to_make_in, answer_to_make}
@@ -25,12 +20,10 @@ use Rattle.mount_model.specs.Answered.{Answer, refused, done, at_node}
 use Rattle.mount_model.specs.Carried.{IsPath}
 use Rattle.mount_model.proofs.TreeCalls.{is_name}
 use Rattle.mount_model.proofs.WalkLemmas.{parent_ok}
-use Rattle.mount_state.specs.Led.{led_to}
-use Rattle.mount_state.specs.Stored.{stored_form}
-use Rattle.mount_state.specs.StandsFor.{TreeStands, plain_kind}
-use Rattle.mount_state.proofs.LedLemmas.{plain_led}
-use Rattle.mount_state.proofs.KeyedLemmas.{keyed_led}
-use Rattle.mount_names.specs.Made.{HasByteKey}
+use Rattle.mount_state.specs.StandsFor.{StandsFor, TreeStands, plain_kind}
+use Rattle.mount_state.specs.declared.state.MountState.{MountState}
+use Rattle.mount_names.specs.Made.{IsAskedIn, IsNewName, IsPlaceOf}
+use Rattle.mount_names.specs.Places.{Place}
 use Rattle.mount_names.specs.Shown.{HasNames}
 
 -- ---- the refusals, in their order
@@ -44,12 +37,6 @@ module _ (m : PlainMount) (name : Name) (nonce : List ℕ) (body : Body) (d : �
 
   abbrev after_free : Answer
   after_free = cond (is_long_target body) (refused m NameTooLong) after_long
-
-  abbrev after_key : Answer
-  after_key = cond (is_some (entry m.nodes d name)) (refused m Exists) after_free
-
-  pub refused_key : lacks_key m (context_at m.nodes d) ≡ true → answer_to_make_in m name nonce body d ≡ refused m NoKey
-  refused_key lacks = ap (λ b. cond b (refused m NoKey) after_key) lacks
 
   module _ (keyed : lacks_key m (context_at m.nodes d) ≡ false) where
     pub refused_taken : is_some (entry m.nodes d name) ≡ true → answer_to_make_in m name nonce body d ≡ refused m Exists
@@ -84,17 +71,12 @@ not_root (p ∷ ps) some = ne_eqb (length (p ∷ ps)) 0 (λ bad. absurd (omega a
 pub some_parts : (path : PathParts) (b : Bool) → b ≡ false → (path ≡ [] → b ≡ true) → is_root path ≡ false
 some_parts path b off empty = not_root path (λ is. true≢false (sym (empty is) ∙ off))
 
-pub last_is : (path : PathParts) (part : Name) → Some part ≡ slice_get path (length path - 1) → part ≡ last_part path
-last_is path part there = ap (λ (o : Option Name). unwrap_or o []) there ∙ unwrap_or-slice_get path (length path - 1) []
+pub both_named : (p q : PathParts) (a b : Bool) → a ≡ false → (p ≡ [] → a ≡ true) → b ≡ false → (q ≡ [] → b ≡ true) → (is_root p || is_root q) ≡ false
+both_named p q a b off empty other_off other_empty = λ i. some_parts p a off empty i || some_parts q b other_off other_empty i
 
 pub at_parent : (m : PlainMount) (path : PathParts) (nonce : List ℕ) (body : Body) (d : ℕ) → is_root path ≡ false → Ok d ≡ parent m path
     → answer_to_make m path nonce body ≡ answer_to_make_in m (last_part path) nonce body d
 at_parent m path nonce body d named led =
-    λ i. cond (named i) (refused m Exists) (at_node m (sym led i) (answer_to_make_in m (last_part path) nonce body))
-
-at_refusal : (m : PlainMount) (path : PathParts) (nonce : List ℕ) (body : Body) (r : Refusal) → is_root path ≡ false → Err r ≡ parent m path
-    → answer_to_make m path nonce body ≡ refused m r
-at_refusal m path nonce body r named led =
     λ i. cond (named i) (refused m Exists) (at_node m (sym led i) (answer_to_make_in m (last_part path) nonce body))
 
 -- what is told in the directory is told at the path
@@ -154,28 +136,30 @@ module _ (disk : Disk) (next : ℕ) (m : PlainMount) (well : IsWellFormed m) (tr
   pub dir_names : HasNames m d
   dir_names = dir_kind (get m.nodes d) is_dir
 
-  module _ (context : Option Context) (is : context ≡ context_at m.nodes d) (holds : lacks_key m context ≡ false) where
-    pub is_held : lacks_key m (context_at m.nodes d) ≡ false
-    is_held = ap (lacks_key m) (sym is) ∙ holds
+-- a directory whose key is present is keyed
+pub asked_here : (s : MountState) (m : PlainMount) → StandsFor s m → (d : ℕ) → is_dir_at m.nodes d ≡ true → (name : Name) → IsName name
+    → (context : Option Context) → context ≡ context_at m.nodes d → (lacks : Bool) → lacks ≡ lacks_key m context → lacks ≡ false
+    → IsAskedIn s m d context name × (lacks_key m (context_at m.nodes d) ≡ false)
+asked_here s m st d is_dir name named context is lacks lacks_is holds =
+    let held : lacks_key m (context_at m.nodes d) ≡ false = ap (lacks_key m) (sym is) ∙ (sym lacks_is ∙ holds) in (
+      record { stands = st; is_dir = is_dir; named = named; keyed = keyed_under m d (context_at m.nodes d) held; context = is },
+      held,
+    )
 
-    pub keyed_here : is_keyed m d ≡ true
-    keyed_here = keyed_under m d (context_at m.nodes d) is_held
+-- the place of a new name of the directory is there
+module _ (m : PlainMount) (d : ℕ) (name : Name) (place : Place) (at : IsNewName m d name place) where
+  pub placed_here : IsNewName m place.dir name place
+  placed_here = subst (λ (x : ℕ). IsNewName m x name place) (sym at.dir) at
 
-    shown_plain : (o : Option Context) → context_at m.nodes d ≡ o → (n : Name) → shown_under m d n o ≡ n
-    shown_plain None none n = refl
-    shown_plain (Some c) here n = ap (λ b. cond b n (texts m.raws d c n)) keyed_here
+  pub clash_here : (b : Bool) → b ≡ clashes m place.dir name → b ≡ clashes m d name
+  clash_here b is = is ∙ ap (λ (x : ℕ). clashes m x name) at.dir
 
-    led_plainly : (name : Name) → led_to m d name ≡ entry m.nodes d name
-    led_plainly name = by_itself name (shown m d) (children m.nodes d) (λ n. shown_plain (context_at m.nodes d) refl n)
-
-    module _ (name : Name) (named : IsName name) (distinct : NamesStayDistinct) (key : HasByteKey m d) where
-      by_case : (o : Option Context) → context_at m.nodes d ≡ o → lookup (bytes_eq (stored_form m.raws d o name)) (stored_entries disk d) ≡ led_to m d name
-      unfolding sealed_name
-      by_case None none = plain_led disk next m well tree d name none
-      by_case (Some c) here = keyed_led m d c here disk next well tree is_dir distinct keyed_here (key c here) name (name_plain name named) named.0.bytes
-
-      -- the stored form leads where the name does
-      pub taken_is : (stored : List ℕ) → stored ≡ stored_form m.raws d context name → lookup (bytes_eq stored) (stored_entries disk d) ≡ entry m.nodes d name
-      taken_is stored form =
-          ap (λ x. lookup (bytes_eq x) (stored_entries disk d)) (form ∙ ap (λ o. stored_form m.raws d o name) is)
-          ∙ (by_case (context_at m.nodes d) refl ∙ led_plainly name)
+  pub place_here : lacks_key m (context_at m.nodes d) ≡ false → clashes m d name ≡ false → is_full m d ≡ false → IsPlaceOf m name place
+  place_here held apart room = record {
+    context = placed_here.context;
+    stored = placed_here.stored;
+    keyed = ap (λ (x : ℕ). lacks_key m (context_at m.nodes x)) at.dir ∙ held;
+    free = placed_here.free;
+    apart = ap (λ (x : ℕ). clashes m x name) at.dir ∙ apart;
+    room = ap (λ (x : ℕ). is_full m x) at.dir ∙ room;
+  }

@@ -7,7 +7,6 @@ use Rattle.number_map.specs.Numbered.{get}
 use Rattle.plain_tree.specs.Nodes.{Node, Body, Dir, File, Link, is_dir, is_dir_in, is_dir_at, context_at}
 use Rattle.disk_tree.specs.DiskTree.{Disk, IsDirAt, of_node}
 use Rattle.disk_tree.specs.Nodes.{IsDir}
-use Rattle.disk_tree.specs.declared.node.StoredNode.{StoredNode}
 use Rattle.mount_model.specs.PlainMount.{PlainMount, Raws}
 use Rattle.mount_model.specs.WellFormed.{IsWellFormed}
 use Rattle.mount_state.specs.Contexts.{context_on_disk}
@@ -15,9 +14,6 @@ use Rattle.mount_state.specs.NamesKey.{IsContextOf}
 use Rattle.mount_state.specs.Stored.{stored_node}
 use Rattle.mount_state.specs.StandsFor.{TreeStands}
 use Rattle.mount_state.proofs.StandLemmas.{context_is, id_sized}
-
-same_node : (a b : StoredNode) → Some a ≡ Some b → a ≡ b
-same_node a b is = cc
 
 dir_from : (raws : Raws) (n : ℕ) (o : Option Node) → of_node ⊥ (λ node. IsDir node.body) (option_map (stored_node raws n) o) → is_dir_in o ≡ true
 dir_from raws n None is = absurd is
@@ -38,21 +34,6 @@ dir_to raws n (Some v) is = at v.body is
     at (Link target) bad = absurd (true≢false (sym bad))
 
 module _ (disk : Disk) (next : ℕ) (m : PlainMount) (tree : TreeStands disk next m) (n : ℕ) where
-  pub node_read : (w : StoredNode) → Some w ≡ get disk n → (v : Node) × ((get m.nodes n ≡ Some v) × (w ≡ stored_node m.raws n v))
-  node_read w there = by_case (get m.nodes n) refl (there ∙ tree.nodes n)
-    where
-      by_case : (o : Option Node) → get m.nodes n ≡ o → Some w ≡ option_map (stored_node m.raws n) o
-          → (v : Node) × ((get m.nodes n ≡ Some v) × (w ≡ stored_node m.raws n v))
-      by_case None none bad = absurd (cc)
-      by_case (Some v) is same = (v, (is, same_node w (stored_node m.raws n v) same))
-
-  pub none_read : None ≡ get disk n → get m.nodes n ≡ None
-  none_read there = by_case (get m.nodes n) refl (there ∙ tree.nodes n)
-    where
-      by_case : (o : Option Node) → get m.nodes n ≡ o → None ≡ option_map (stored_node m.raws n) o → get m.nodes n ≡ None
-      by_case None is same = is
-      by_case (Some v) is bad = absurd (cc)
-
   pub dir_read : IsDirAt disk n → is_dir_at m.nodes n ≡ true
   dir_read is = dir_from m.raws n (get m.nodes n) (subst (of_node ⊥ (λ node. IsDir node.body)) (tree.nodes n) is)
 

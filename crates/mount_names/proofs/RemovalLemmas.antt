@@ -13,12 +13,12 @@ use Rattle.disk_tree.specs.DiskTree as disk
 use Rattle.disk_tree.specs.DiskTree.{children as stored_entries}
 use Rattle.disk_tree.specs.Entries.{number_under}
 use Rattle.mount_model.specs.declared.reply.Refusal.{Refusal}
-use Rattle.mount_model.specs.declared.reply.Refusal.TheVariants.{IsDir, Inval, NotDir, NotEmpty}
+use Rattle.mount_model.specs.declared.reply.Refusal.TheVariants.{IsDir, NotDir, NotEmpty}
 use Rattle.mount_model.specs.declared.reply.Reply.TheVariants.{Refused, Done}
 use Rattle.mount_model.specs.PlainMount.{PlainMount, HandleList, has_handle}
-use Rattle.mount_model.specs.Answered.{Answer, refused, done, at_node, at_entry}
+use Rattle.mount_model.specs.Answered.{Answer, refused, done}
 use Rattle.mount_model.specs.NameAnswers.{without_name, answer_to_unlink, answer_to_rmdir}
-use Rattle.mount_model.specs.Walk.{PathParts, found, is_root, last_part, parent}
+use Rattle.mount_model.specs.Walk.{PathParts}
 use Rattle.mount_model.specs.WellFormed.{IsWellFormed}
 use Rattle.mount_model.specs.Carried.{IsPath}
 use Rattle.mount_model.specs.declared.call.Op.TheVariants as op
@@ -39,7 +39,7 @@ use Rattle.mount_state.specs.Discipline.{Forgets}
 use Rattle.mount_state.specs.Safe.{IsSafe}
 use Rattle.mount_names.proofs.DiskRules.{still, dropped_rule, dropped_safe, gone_rule, gone_safe}
 use Rattle.mount_names.proofs.EditLemmas.{read_removed}
-use Rattle.mount_names.proofs.FoundLemmas.{IsAt, stored_apart}
+use Rattle.mount_names.proofs.FoundLemmas.{stored_apart}
 use Rattle.mount_names.proofs.HeldLemmas.{caches_alike, fewer_stand}
 use Rattle.mount_names.proofs.NodesLemmas.{with_nodes, nodes_stand, context_left_so, kind_left_so, read_dropped}
 use Rattle.mount_names.proofs.ReadLemmas.{dir_read, dir_lies}
@@ -113,19 +113,6 @@ module _ (m : PlainMount) where
   abbrev pub unlinked_dir : ℕ → Name → ℕ → Answer
   unlinked_dir d name x = cond (not (is_dir_at m.nodes x)) (refused m NotDir)
       (cond (not (length (children m.nodes x) == 0)) (refused m NotEmpty) (done (without_name m d name x)))
-
-  -- what a call answers that goes on so at the entry
-  module _ (path : PathParts) (named : is_root path ≡ false) (e : Entry) (at : IsAt m path e) where
-    called_at : (first : Answer) (f : ℕ → Name → ℕ → Answer)
-        → cond (is_root path) first (at_node m (parent m path) (λ d. at_entry m (found m d (last_part path)) (f d))) ≡ f e.dir at.name e.number
-    called_at first f = (λ i. cond (named i) first (at_node m (at.led i) (λ d. at_entry m (found m d (last_part path)) (f d))))
-        ∙ ap (λ o. at_entry m o (f e.dir)) at.found_so
-
-    pub unlink_is : answer_to_unlink m path ≡ unlinked e.dir at.name e.number
-    unlink_is = called_at (refused m IsDir) unlinked
-
-    pub rmdir_is : answer_to_rmdir m path ≡ unlinked_dir e.dir at.name e.number
-    rmdir_is = called_at (refused m Inval) unlinked_dir
 
 -- ---- a mount from which a name goes stays well formed
 

@@ -1,11 +1,12 @@
 -- The entry of a directory that is found by a part, as the state has it: with the name as it is stored.
-use Rattle.std.specs.Prelude.{◌≡◌, ℕ, List, Option, Some, None, IfSome, option_map, Result, Ok, Err}
+use Rattle.std.specs.Prelude.{◌≡◌, ℕ, Bool, ◌&&◌, not, List, Option, Some, None, IfSome, option_map, Result, Ok, Err, if◌then◌else◌}
 use Rattle.plain_tree.specs.Nodes.{Name, context_at}
 use Rattle.disk_tree.specs.DiskTree.{Disk, children}
 use Rattle.disk_tree.specs.Entries.{number_under}
 use Rattle.mount_model.specs.declared.reply.Refusal.{Refusal}
-use Rattle.mount_model.specs.declared.reply.Refusal.TheVariants.{NotFound}
+use Rattle.mount_model.specs.declared.reply.Refusal.TheVariants.{NoKey, NotFound}
 use Rattle.mount_model.specs.PlainMount.{PlainMount}
+use Rattle.mount_model.specs.States.{is_keyed}
 use Rattle.mount_model.specs.Walk.{PathParts, Walked, found, last_part, parent}
 use Rattle.mount_state.specs.Stored.{stored_form}
 use Rattle.mount_names.specs.Places.{Entry}
@@ -38,10 +39,15 @@ abbrev pub or_not_found : Option Entry → Result Entry Refusal
 or_not_found None = Err NotFound
 or_not_found (Some entry) = Ok entry
 
-abbrev pub entry_walked : PlainMount → Name → Walked → Result Entry Refusal
-entry_walked m part (Err refusal) = Err refusal
-entry_walked m part (Ok d) = or_not_found (entry_found m d part)
+-- the entry of the directory that is found by the part, or why there is none; by its name alone where that is asked for,
+-- and then a locked directory has none
+abbrev pub entry_sought : Bool → PlainMount → Name → ℕ → Result Entry Refusal
+entry_sought by_name m part d = if by_name && not (is_keyed m d) then Err NoKey else or_not_found (entry_found m d part)
+
+abbrev pub entry_walked : Bool → PlainMount → Name → Walked → Result Entry Refusal
+entry_walked by_name m part (Err refusal) = Err refusal
+entry_walked by_name m part (Ok d) = entry_sought by_name m part d
 
 -- the entry that is found by the path's last part, or why there is none
-abbrev pub entry_end : PlainMount → PathParts → Result Entry Refusal
-entry_end m path = entry_walked m (last_part path) (parent m path)
+abbrev pub entry_end : Bool → PlainMount → PathParts → Result Entry Refusal
+entry_end by_name m path = entry_walked by_name m (last_part path) (parent m path)

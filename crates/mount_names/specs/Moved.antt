@@ -1,6 +1,5 @@
--- A name that moves: where it comes from, why it can't come to the new place, and what is left.
-use Rattle.std.specs.Prelude.{◌≡◌, ℕ, Bool, true, false, Option, Some, None, is_some, not, Result}
-use Rattle.std.specs.Prelude.{Ok, Err, if◌then◌else◌}
+-- A name that moves: why it can't come to the new place, and what is left.
+use Rattle.std.specs.Prelude.{◌≡◌, ℕ, Bool, Option, Some, None, is_some, not, Ok, Err, if◌then◌else◌}
 use Rattle.plain_tree.specs.Nodes.{Name, context_at, entry}
 use Rattle.mount_model.specs.declared.reply.Refusal.{Refusal}
 use Rattle.mount_model.specs.declared.reply.Refusal.TheVariants.{NoKey, Inval, Exists, XDev, NoSpace, NoKeyClash}
@@ -16,34 +15,11 @@ use Rattle.mount_model.specs.Carried.{IsPath}
 use Rattle.mount_state.specs.StandsFor.{StandsFor}
 use Rattle.mount_state.specs.declared.state.MountState.{MountState}
 use Rattle.mount_names.specs.Places.{Entry, Place}
-use Rattle.mount_names.specs.Found.{form_in, entry_found, or_not_found}
 use Rattle.mount_state.specs.Given.{IsGivenOrNoMemory, IsRefusedAsDue}
-use Rattle.mount_names.specs.Made.{HasByteKey}
+use Rattle.mount_names.specs.Made.{IsNewName}
 use Rattle.mount_names.specs.Removed.{IsEntryOf, IsFoundBy}
 
--- ---- where it comes from
-
-abbrev pub source_in : PlainMount → Name → ℕ → Result Entry Refusal
-source_in m part d = if not (is_keyed m d) then Err NoKey else or_not_found (entry_found m d part)
-
-abbrev pub source_walked : PlainMount → Name → Walked → Result Entry Refusal
-source_walked m part (Err refusal) = Err refusal
-source_walked m part (Ok d) = source_in m part d
-
--- the entry at the end of the path, of a keyed directory, or why there is none
-abbrev pub source_end : PlainMount → PathParts → Result Entry Refusal
-source_end m path = source_walked m (last_part path) (parent m path)
-
 -- ---- where it goes
-
--- the directory is keyed and has no such name, and the place has the name's stored form
-pub record IsNewName (m : PlainMount) (d : ℕ) (name : Name) (place : Place) : Type 0 where
-  pub dir : place.dir ≡ d
-  pub context : place.context ≡ context_at m.nodes d
-  pub stored : place.stored ≡ form_in m d name
-  pub keyed : is_keyed m d ≡ true
-  pub free : is_some (entry m.nodes d name) ≡ false
-  pub key : HasByteKey m d
 
 -- why no name can come to the directory, or not this one
 abbrev pub name_refusal : PlainMount → ℕ → Name → Option Refusal

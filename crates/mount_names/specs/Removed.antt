@@ -32,10 +32,10 @@ Drops old new e part = (m : PlainMount) (name : Name) → StandsFor old m → Is
 -- the entry at the end of the path, whose last part is this, is dropped, as the call answers
 abbrev pub Unlinks : MountState → MountState → Entry → Name → Reply → Type 0
 Unlinks old new e part reply = (m : PlainMount) (path : PathParts) → StandsFor old m → is_root path ≡ false
-    → Ok e ≡ entry_end m path → part ≡ last_part path → IsWellFormed (answer_to_unlink m path).mount
+    → Ok e ≡ entry_end false m path → part ≡ last_part path → IsWellFormed (answer_to_unlink m path).mount
     → IsGiven (answer_to_unlink m path) reply new
 
 abbrev pub RemovesDir : MountState → MountState → Entry → Name → Reply → Type 0
 RemovesDir old new e part reply = (m : PlainMount) (path : PathParts) → StandsFor old m → is_root path ≡ false
-    → Ok e ≡ entry_end m path → part ≡ last_part path → IsWellFormed (answer_to_rmdir m path).mount
+    → Ok e ≡ entry_end false m path → part ≡ last_part path → IsWellFormed (answer_to_rmdir m path).mount
     → IsGiven (answer_to_rmdir m path) reply new

@@ -72,11 +72,11 @@ pub(crate) fn drawn_key(state: &MountState, context: &Context) -> Option<FileKey
     ensures claimed { HoldsClaimedSecrets state.now.ring }
 {
     let _claims = state.ring.claims();
-    match state.ring.secret_of(&context.policy.id) {
-        Some(secret) if context.policy.by_mode => Some(secret.mode_key(KeyKind::Names)),
-        Some(secret) => Some(secret.file_key(KeyKind::Names, &context.nonce)),
-        None => None,
+    let mut key = FileKey::zeros(KeyKind::Names);
+    if state.draw_key(context, &mut key) {
+        return Some(key);
     }
+    None
 }
 
 // The cipher under the key. A contents key enciphers no name.

@@ -9,7 +9,7 @@ ghost use Rattle.mount_state.specs.StandsFor.{StandsFor};
 ghost use Rattle.mount_state.specs.Given.{IsGivenOrNoMemory, IsToldOrNoMemory, IsRefusedAsDue};
 
 use crate::reading::reading_of;
-use disk_tree::{Body, StoredNode};
+use disk_tree::Body;
 use item_list::Bytes;
 use mount_model::{Path, Refusal, Reply};
 use mount_state::{MountState, walked_node};

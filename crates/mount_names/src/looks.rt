@@ -13,7 +13,7 @@ ghost use Rattle.mount_state.specs.StandsFor.{StandsFor};
 ghost use Rattle.mount_state.specs.Stored.{stored_body};
 ghost use Rattle.mount_state.specs.Given.{IsGiven};
 
-use crate::contexts::context_of;
+use crate::contexts::context_at;
 use crate::reading::reading_of;
 use disk_tree::Body;
 use mount_model::{NodeKind, Path, Refusal, Reply};
@@ -71,7 +71,7 @@ fn policy_told(state: &MountState, number: u32) -> Reply
     ensures { (m : PlainMount) → StandsFor state.now m
         → result ≡ (policy.policy_told m (context_at m.nodes number)).reply }
 {
-    match context_of(state, number) {
+    match context_at(state, number) {
         Some(context) => Reply::PolicyIs(encode_policy(&context.policy)),
         None => Reply::Refused(Refusal::NoData),
     }

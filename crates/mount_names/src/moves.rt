@@ -1,28 +1,27 @@
 //! The call that moves a name: within a directory, or to another one.
 
-ghost use Rattle.std.specs.Prelude.{◌≡◌, ◌+◌, ◌≤◌, true, Some, length, IfErr, IfOk, OnOk};
+ghost use Rattle.std.specs.Prelude.{◌≡◌, ◌+◌, ◌≤◌, true, Some, length, IfErr, IfOk};
 ghost use Rattle.disk_tree.specs.DiskTree.{IsDirAt};
 ghost use Rattle.plain_tree.specs.Nodes.{Name};
 ghost use Rattle.mount_model.specs.Carried.{IsPath};
 ghost use Rattle.mount_model.specs.ClaimHistory.{is_refused};
 ghost use Rattle.mount_model.specs.PlainMount.{PlainMount};
 ghost use Rattle.mount_model.specs.RenameAnswer.{answer_to_rename};
-ghost use Rattle.mount_model.specs.Walk.{last_part};
 ghost use Rattle.mount_state.specs.SameButCaches.{SameButCaches, StaysFor};
 ghost use Rattle.mount_state.specs.StandsFor.{StandsFor};
 ghost use Rattle.mount_names.specs.Found.{IsEntryOn};
 ghost use Rattle.mount_state.specs.Given.{IsGivenOrNoMemory, IsRefusedAsDue};
-ghost use Rattle.mount_names.specs.Moved.{IsTargetAt, Moves, RefusesAsDue, Renames, source_end, target_refusal};
+ghost use Rattle.mount_names.specs.Moved.{IsTargetAt, Moves, RefusesAsDue, Renames, target_refusal};
 ghost use Rattle.mount_names.specs.Removed.{IsEntryOf};
 ghost use Rattle.mount_names.specs.SameButTree.{SameButTree};
 ghost use Rattle.mount_names.specs.Places.{IsBlank};
 
-use crate::entries::{Entry, entry_named};
+use crate::entries::{Entry, entry_at};
 use crate::places::Place;
 use crate::stored_names::NameRoom;
 use crate::targets::target_in;
 use mount_model::{Path, Refusal, Reply};
-use mount_state::{MountState, last_bytes, walked_parent, walked_parent_past};
+use mount_state::{MountState, last_bytes, walked_parent_past};
 use name_crypt::{MOST_NAME_BYTES, Steps};
 use std::alloc::Global;
 use std::sync::ledger::Ledger;
@@ -54,7 +53,7 @@ pub fn rename<L: Ledger>(
         return Reply::Refused(Refusal::Inval);
     }
     let mut room = [0; MOST_NAME_BYTES];
-    match source_at(alloc, state, old_path, &mut room, steps) {
+    match entry_at(alloc, state, old_path, true, &mut room, steps) {
         Ok(entry) => rename_entry(alloc, state, &entry, last_bytes(old_path), new_path, steps),
         Err(refusal) => Reply::Refused(refusal),
     }
@@ -85,34 +84,6 @@ fn rename_entry<L: Ledger>(
     }
 }
 
-// The entry at the end of the old path, of a directory that is keyed.
-fn source_at<'a, L: Ledger>(
-    alloc: Global,
-    state: &mut MountState,
-    path: &'a Path,
-    room: &'a mut NameRoom,
-    steps: &mut Steps<L>,
-) -> Result<Entry<'a>, Refusal>
-    requires some { 1 ≤ length path.now }
-    requires blank { IsBlank room.old }
-    ensures value { (m : PlainMount) → StandsFor state.old m → result ≡ source_end m path.now }
-    ensures there { IfOk result (IsEntryOn state.old.disk) }
-    ensures short { OnOk result (length (last_part path.now) ≤ MOST_NAME_BYTES) }
-    ensures stands { StaysFor state.old state.new }
-    ensures same { SameButCaches state.old state.new }
-    ensures ticks { steps.new ≤ steps.old + length path.now }
-{
-    let last = path.len() - 1;
-    let dir = match walked_parent(alloc, state, path, steps) {
-        Ok(dir) => dir,
-        Err(refusal) => return Err(refusal),
-    };
-    let Some(part) = path.part(last) else {
-        unreachable!()
-    };
-    entry_named(state, dir, part.bytes(), room, steps)
-}
-
 // The place of the new path's last part, where the entry can be moved to it.
 fn target_at<'a, L: Ledger>(
     alloc: Global,
@@ -134,12 +105,8 @@ fn target_at<'a, L: Ledger>(
     ensures same { SameButCaches state.old state.new }
     ensures ticks { steps.new ≤ steps.old + length path.now }
 {
-    let last = path.len() - 1;
     match walked_parent_past(alloc, state, path, entry.number, steps) {
-        Ok((dir, past)) => match path.part(last) {
-            Some(part) => target_in(state, entry, dir, past, part.bytes(), room, steps),
-            None => unreachable!(),
-        },
+        Ok((dir, past)) => target_in(state, entry, dir, past, last_bytes(path), room, steps),
         Err(refusal) => Err(refusal),
     }
 }

@@ -1,24 +1,24 @@
 //! Where a creation puts its name: the directory, its context, and the name's stored form.
 
-ghost use Rattle.std.specs.Prelude.{◌≡◌, ◌+◌, ◌<◌, ◌≤◌, ◌^◌, true, false, length, nat_le, IfErr, IfOk};
+ghost use Rattle.std.specs.Prelude.{◌≡◌, ◌+◌, ◌<◌, ◌≤◌, ◌^◌, true, false, Some, is_some, length, nat_le, IfErr, IfOk};
 ghost use Rattle.disk_tree.specs.DiskTree.{IsDirAt};
 ghost use Rattle.number_map.specs.Numbered.{get, len};
-ghost use Rattle.plain_tree.specs.Nodes.{children, is_dir_at};
+ghost use Rattle.plain_tree.specs.Nodes.{Name, children, entry, is_dir_at};
 ghost use Rattle.mount_model.specs.Carried.{IsPath};
 ghost use Rattle.mount_model.specs.NameAnswers as plain;
 ghost use Rattle.mount_model.specs.PlainMount.{PlainMount};
 ghost use Rattle.mount_model.specs.WellFormed.{IsName};
 ghost use Rattle.mount_state.specs.SameButCaches.{SameButCaches, StaysFor};
 ghost use Rattle.mount_state.specs.StandsFor.{StandsFor};
-ghost use Rattle.mount_names.specs.Made.{IsPlaceAt, IsPlaceOf, IsRefusedAt, IsRefusedIn};
+ghost use Rattle.mount_names.specs.Made.{IsAskedIn, IsNewName, IsPlaceAt, IsPlaceOf, IsRefusedAt, IsRefusedIn};
 ghost use Rattle.mount_names.specs.Places.{IsBlank};
 
 use crate::contexts::context_told;
-use crate::stored_names::{NameRoom, clashes, stored_as};
+use crate::stored_names::{NameRoom, shares_text, stored_as};
 use disk_tree::StoredNode;
 use mount_limits::{MOST_CHILDREN, MOST_NODES};
 use mount_model::{Path, Refusal};
-use mount_state::{MountState, walked_parent};
+use mount_state::{MountState, last_bytes, walked_parent};
 use name_crypt::{Steps, is_plain, names_come_back};
 use policy_ctx::Context;
 use std::alloc::Global;
@@ -65,12 +65,8 @@ pub(crate) fn place_at<'a, L: Ledger>(
     if path.is_empty() {
         return Err(Refusal::Exists);
     }
-    let last = path.len() - 1;
     match walked_parent(alloc, state, path, steps) {
-        Ok(dir) => match path.part(last) {
-            Some(part) => place_in(state, dir, part.bytes(), long, room, steps),
-            None => unreachable!(),
-        },
+        Ok(dir) => place_in(state, dir, last_bytes(path), long, room, steps),
         Err(refusal) => Err(refusal),
     }
 }
@@ -93,8 +89,6 @@ fn place_in<'a, L: Ledger>(
     ensures room { IfOk result (λ _. state.now.next_node + 1 < 2 ^ 32) }
     ensures ticks { steps.new ≤ steps.old + 1 }
 {
-    // That two names are stored alike only where they are the same.
-    names_come_back();
     let Some(node) = state.disk.node(dir) else {
         return Err(Refusal::NotDir);
     };
@@ -105,6 +99,44 @@ fn place_in<'a, L: Ledger>(
     if lacks_key(state, &context) {
         return Err(Refusal::NoKey);
     }
+    let place = match free_place(state, dir, node, context, part, room, steps) {
+        Ok(place) => place,
+        Err(refusal) => return Err(refusal),
+    };
+    if long {
+        return Err(Refusal::NameTooLong);
+    }
+    if clashes(state, &place) {
+        return Err(Refusal::NoKeyClash);
+    }
+    if is_full(state, dir, node) {
+        return Err(Refusal::NoSpace);
+    }
+    Ok(place)
+}
+
+// The place of the name in the directory, which was looked up and has this context, where it is keyed: Exists
+// where there is such a name.
+pub(crate) fn free_place<'a, L: Ledger>(
+    state: &MountState,
+    dir: u32,
+    node: &StoredNode,
+    context: Option<Context>,
+    part: &'a [u8],
+    room: &'a mut NameRoom,
+    steps: &mut Steps<L>,
+) -> Result<Place<'a>, Refusal>
+    requires there { get state.now.disk dir ≡ Some node.now }
+    requires blank { IsBlank room.old }
+    ensures refused { IfErr result (λ refusal. (m : PlainMount) → IsAskedIn state.now m dir context part.now
+        → (refusal ≡ Refusal.Exists) × (is_some (entry m.nodes dir part.now) ≡ true)) }
+    ensures placed { IfOk result (λ place. (m : PlainMount) → IsAskedIn state.now m dir context part.now
+        → IsNewName m dir part.now place) }
+    ensures dir { IfOk result (λ place. place.dir ≡ dir) }
+    ensures ticks { steps.new ≤ steps.old + 1 }
+{
+    // That two names are stored alike only where they are the same.
+    names_come_back();
     if !is_plain(part) {
         return Err(Refusal::Inval);
     }
@@ -114,20 +146,23 @@ fn place_in<'a, L: Ledger>(
     if node.body.find(stored).is_some() {
         return Err(Refusal::Exists);
     }
-    if long {
-        return Err(Refusal::NameTooLong);
-    }
-    if clashes(state, dir, &context, stored) {
-        return Err(Refusal::NoKeyClash);
-    }
-    if is_full(state, dir, node) {
-        return Err(Refusal::NoSpace);
-    }
     Ok(Place {
         dir,
         context,
         stored,
     })
+}
+
+// Whether the place's directory has a policy, and a name in it has the no-key text of the place's stored one,
+// which isn't there itself.
+pub(crate) fn clashes(state: &MountState, place: &Place) -> bool
+    ensures { (m : PlainMount) (name : Name) → StandsFor state.now m → IsName name
+        → IsNewName m place.now.dir name place.now → result ≡ plain.clashes m place.now.dir name }
+{
+    match &place.context {
+        Some(_context) => shares_text(state, place.dir, place.stored),
+        None => false,
+    }
 }
 
 // Whether the directory has a policy whose key no user has claimed.

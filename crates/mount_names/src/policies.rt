@@ -21,7 +21,7 @@ ghost use Rattle.mount_names.specs.Encrypted.{keys_with, modes_with};
 ghost use Rattle.mount_names.specs.SameButTree.{SameButPolicies};
 
 use crate::ciphers::drawn_key;
-use crate::contexts::context_of;
+use crate::contexts::context_at;
 use disk_tree::DiskTree;
 use fsc_keys::{FileKey, KeyId, KeyKind};
 use inode_refs::InodeCache;
@@ -92,7 +92,7 @@ fn set_at(
         let nonce = *nonce;
         return encrypt(alloc, state, uid, number, &Context { policy, nonce });
     }
-    match context_of(state, number) {
+    match context_at(state, number) {
         Some(context) => kept(&context.policy, &policy),
         None => Reply::Refused(Refusal::Exists),
     }

@@ -8,7 +8,7 @@ ghost use Rattle.mount_names.specs.Shown.{ReadsAs, ShowsAs};
 ghost use Rattle.mount_names.specs.Wiped.{wiped};
 
 use crate::ciphers::cipher_of;
-use crate::contexts::context_of;
+use crate::contexts::context_at;
 use crate::packed_names::PackedNames;
 use mount_state::MountState;
 use name_crypt::{MOST_NAME_BYTES, NameCipher, StoredName, names_come_back, nokey_text};
@@ -29,7 +29,7 @@ pub(crate) fn reading_of(state: &MountState, number: u32) -> Reading
 {
     // That each stored name is deciphered to the name.
     names_come_back();
-    let Some(context) = context_of(state, number) else {
+    let Some(context) = context_at(state, number) else {
         return Reading::Plain;
     };
     if !state.keyed(number) {

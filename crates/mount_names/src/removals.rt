@@ -5,7 +5,7 @@ ghost use Rattle.dentry_cache.specs.Names.{HoldsNoneIn};
 ghost use Rattle.mount_model.specs.Carried.{IsPath};
 ghost use Rattle.mount_model.specs.ClaimHistory.{is_refused};
 ghost use Rattle.mount_model.specs.NameAnswers.{answer_to_unlink, answer_to_rmdir};
-ghost use Rattle.mount_model.specs.PlainMount.{PlainMount, has_handle};
+ghost use Rattle.mount_model.specs.PlainMount.{PlainMount};
 ghost use Rattle.mount_state.specs.SameButCaches.{SameButCaches};
 ghost use Rattle.mount_state.specs.StandsFor.{StandsFor};
 ghost use Rattle.mount_names.specs.Found.{IsEntryOn};
@@ -42,7 +42,7 @@ pub fn unlink<L: Ledger>(
         return Reply::Refused(Refusal::IsDir);
     }
     let mut room = [0; MOST_NAME_BYTES];
-    match entry_at(alloc, state, path, &mut room, steps) {
+    match entry_at(alloc, state, path, false, &mut room, steps) {
         Ok(entry) => unlink_entry(state, &entry, last_bytes(path)),
         Err(refusal) => Reply::Refused(refusal),
     }
@@ -68,7 +68,7 @@ pub fn rmdir<L: Ledger>(
         return Reply::Refused(Refusal::Inval);
     }
     let mut room = [0; MOST_NAME_BYTES];
-    match entry_at(alloc, state, path, &mut room, steps) {
+    match entry_at(alloc, state, path, false, &mut room, steps) {
         Ok(entry) => remove_dir(state, &entry, last_bytes(path)),
         Err(refusal) => Reply::Refused(refusal),
     }

@@ -49,35 +49,17 @@ pub(crate) fn stored_as<'a, L: Ledger>(
         → context.now ≡ context_at m.nodes number → is_keyed m number ≡ true → HasByteKey m number }
     ensures ticks { steps.new ≤ steps.old + 1 }
 {
-    match context {
-        Some(context) => sealed_as(state, number, context, name, room, steps),
-        None => Some(name),
+    let Some(context) = context else {
+        return Some(name);
+    };
+    match state.own_cipher(number, context) {
+        Some(cipher) => Some(sealed(cipher, number, context, name, room, steps)),
+        None => sealed_anew(state, number, context, name, room, steps),
     }
 }
 
-// The same where the node has this context: under the cipher that is cached, else under one that is made.
-fn sealed_as<'a, L: Ledger>(
-    state: &MountState,
-    number: u32,
-    context: &Context,
-    name: &[u8],
-    room: &'a mut NameRoom,
-    steps: &mut Steps<L>,
-) -> Option<&'a [u8]>
-    requires plain { IsPlain name.now }
-    requires blank { IsBlank room.old }
-    ensures value { SealsAs state.now number context.now name.now (option_copied result) }
-    ensures ranged { SealsByBytes state.now number context.now }
-    ensures ticks { steps.new ≤ steps.old + 1 }
-{
-    if let Some(cipher) = state.own_cipher(number, context) {
-        return Some(sealed(cipher, number, context, name, room, steps));
-    }
-    sealed_anew(state, number, context, name, room, steps)
-}
-
-// The same under a cipher that is made for this once. Apart from the way with a cached one, which then keeps
-// no room for round keys.
+// The same under this context, by a cipher that is made for this once. Apart from the way with a cached one,
+// which then keeps no room for round keys.
 #[inline(never)]
 fn sealed_anew<'a, L: Ledger>(
     state: &MountState,
@@ -132,28 +114,9 @@ pub(crate) fn enciphered<L: Ledger>(
     Filled::of(cipher.encrypt(pad, name, steps).bytes())
 }
 
-// Whether the directory has a policy, and a name in it has the no-key text of this stored one, which
-// isn't there itself.
-pub(crate) fn clashes(
-    state: &MountState,
-    dir: u32,
-    context: &Option<Context>,
-    stored: &[u8],
-) -> bool
-    ensures { (m : PlainMount) (name : Name) → StandsFor state.now m → HasByteKey m dir
-        → context.now ≡ context_at m.nodes dir → IsPlain name → AreBytes name
-        → stored.now ≡ stored_form m.raws dir (context_at m.nodes dir) name
-        → is_some (entry m.nodes dir name) ≡ false → result ≡ plain.clashes m dir name }
-{
-    match context {
-        Some(_context) => shares_text(state, dir, stored),
-        None => false,
-    }
-}
-
-// The same under a policy. A text that spells the stored name whole is no other name's, and then
-// nothing is looked at.
-fn shares_text(state: &MountState, dir: u32, stored: &[u8]) -> bool
+// Whether a name in the directory, which has a policy, has the no-key text of this stored one, which isn't there
+// itself. A text that spells the stored name whole is no other name's, and then nothing is looked at.
+pub(crate) fn shares_text(state: &MountState, dir: u32, stored: &[u8]) -> bool
     ensures { (m : PlainMount) (c : Context) (name : Name) → StandsFor state.now m
         → context_at m.nodes dir ≡ Some c → HasByteKey m dir → IsPlain name → AreBytes name
         → stored.now ≡ stored_form m.raws dir (context_at m.nodes dir) name

@@ -7,18 +7,19 @@ ghost use Rattle.mount_model.specs.PlainMount.{PlainMount};
 ghost use Rattle.mount_model.specs.RenameAnswer as plain;
 ghost use Rattle.mount_model.specs.WellFormed.{IsName};
 ghost use Rattle.mount_state.specs.StandsFor.{StandsFor};
-ghost use Rattle.mount_names.specs.Moved.{IsNewName, name_refusal, place_refusal, move_refusal};
+ghost use Rattle.mount_names.specs.Made.{IsNewName};
+ghost use Rattle.mount_names.specs.Moved.{place_refusal, move_refusal};
 ghost use Rattle.mount_names.specs.Removed.{IsEntryOf};
 ghost use Rattle.mount_names.specs.Places.{IsBlank};
 
-use crate::contexts::{context_of, context_told};
+use crate::contexts::{context_at, context_told};
 use crate::entries::Entry;
-use crate::places::Place;
-use crate::stored_names::{NameRoom, clashes, stored_as};
+use crate::places::{Place, clashes, free_place};
+use crate::stored_names::NameRoom;
 use mount_limits::MOST_CHILDREN;
 use mount_model::Refusal;
 use mount_state::MountState;
-use name_crypt::{Steps, is_plain, names_come_back};
+use name_crypt::Steps;
 use policy_ctx::{Context, Policy, encode_policy};
 use std::sync::ledger::Ledger;
 
@@ -43,58 +44,23 @@ pub(crate) fn target_in<'a, L: Ledger>(
     ensures dir { IfOk result (λ place. (place.dir ≡ dir) × IsDirAt state.now.disk dir) }
     ensures ticks { steps.new ≤ steps.old + 1 }
 {
-    if !state.disk.is_dir(dir) {
+    let Some(node) = state.disk.node(dir) else {
+        return Err(Refusal::NotDir);
+    };
+    if !node.body.is_dir() {
         return Err(Refusal::NotDir);
     }
-    match new_name(state, dir, part, room, steps) {
+    if !state.keyed_as(dir, node) {
+        return Err(Refusal::NoKey);
+    }
+    let context = context_told(state, dir, node);
+    match free_place(state, dir, node, context, part, room, steps) {
         Ok(place) => match why_not(state, entry, &place, past) {
             Some(refusal) => Err(refusal),
             None => Ok(place),
         },
         Err(refusal) => Err(refusal),
     }
-}
-
-// The name that the directory would get, where it is keyed and has none such.
-fn new_name<'a, L: Ledger>(
-    state: &MountState,
-    dir: u32,
-    part: &'a [u8],
-    room: &'a mut NameRoom,
-    steps: &mut Steps<L>,
-) -> Result<Place<'a>, Refusal>
-    requires { IsBlank room.old }
-    ensures refused { IfErr result (λ refusal. (m : PlainMount) → StandsFor state.now m
-        → is_dir_at m.nodes dir ≡ true → IsName part.now → name_refusal m dir part.now ≡ Some refusal) }
-    ensures placed { IfOk result (λ place. (m : PlainMount) → StandsFor state.now m
-        → is_dir_at m.nodes dir ≡ true → IsName part.now → IsNewName m dir part.now place) }
-    ensures dir { IfOk result (λ place. place.dir ≡ dir) }
-    ensures ticks { steps.new ≤ steps.old + 1 }
-{
-    // That two names are stored alike only where they are the same.
-    names_come_back();
-    // The directory is there, as the caller asked.
-    let Some(node) = state.disk.node(dir) else {
-        return Err(Refusal::NoKey);
-    };
-    if !state.keyed_as(dir, node) {
-        return Err(Refusal::NoKey);
-    }
-    if !is_plain(part) {
-        return Err(Refusal::Inval);
-    }
-    let context = context_told(state, dir, node);
-    let Some(stored) = stored_as(state, dir, &context, part, room, steps) else {
-        return Err(Refusal::NoKey);
-    };
-    if node.body.find(stored).is_some() {
-        return Err(Refusal::Exists);
-    }
-    Ok(Place {
-        dir,
-        context,
-        stored,
-    })
 }
 
 // Why the entry can't be moved to that place.
@@ -109,7 +75,7 @@ fn why_not(state: &MountState, entry: &Entry, place: &Place, past: bool) -> Opti
     if !may_come(state, entry, place) {
         return Some(Refusal::XDev);
     }
-    if clashes(state, place.dir, &place.context, place.stored) {
+    if clashes(state, place) {
         return Some(Refusal::NoKeyClash);
     }
     if is_full_elsewhere(state, entry.dir, place.dir) {
@@ -128,7 +94,7 @@ fn may_come(state: &MountState, entry: &Entry, place: &Place) -> bool
     if place.dir == entry.dir {
         return true;
     }
-    may_hold(&place.context, &context_of(state, entry.number))
+    may_hold(&place.context, &context_at(state, entry.number))
 }
 
 // Whether a directory of the one context may hold a node of the other.

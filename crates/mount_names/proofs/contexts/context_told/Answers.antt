@@ -7,6 +7,6 @@ pub returns : goal.returns
 returns c = λ m st.
     let s = c.args.state.now in
     let here = ap disk.context_on_disk c.requires in
-    context_told s.disk s.next_node m st.tree c.args.number st.well c.context_in.result
-    (λ context sized is. c.context_in.ensures.read context sized (sym here ∙ is))
-    (λ none. c.context_in.ensures.none (sym here ∙ none))
+    context_told s.disk s.next_node m st.tree c.args.number st.well c.context_of.result
+    (λ context sized is. c.context_of.ensures.read context sized (sym here ∙ is))
+    (λ none. c.context_of.ensures.none (sym here ∙ none))

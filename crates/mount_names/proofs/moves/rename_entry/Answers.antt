@@ -1,6 +1,7 @@
 use Rattle.mount_model.specs.RenameAnswer.{answer_to_move_from}
 use Rattle.mount_model.specs.Walk.{last_part}
-use Rattle.mount_names.proofs.MoveLemmas.{moved_is, moved_given, moved_well, target_refused, refused_so, due_refused, due_done, after_moving}
+use Rattle.mount_names.proofs.GivenLemmas.{refused_so, due_refused, due_done, given_by}
+use Rattle.mount_names.proofs.MoveLemmas.{moved_is, moved_well, target_refused, after_moving}
 use Rattle.mount_names.proofs.moves.rename_entry.Goals as goal
 
 pub returns-in-Ok-clause-stands : goal.returns-in-Ok-clause-stands
@@ -8,7 +9,7 @@ returns-in-Ok-clause-stands g c = λ m name st fits of by_part well.
     let e = c.args.entry.now in
     let path = c.args.new_path.now in
     let at = c.in-Ok.ensures.placed m name st fits of in
-    moved_given m e name path c.in-Ok.place at c.move_to.result c.move_to.new.state
+    given_by m _ _ c.move_to.result c.move_to.new.state (moved_is m e name path c.in-Ok.place at)
     (c.move_to.ensures.stands m name (last_part path) (c.in-Ok.ensures.stands m st) of by_part at.named (moved_well m e name path c.in-Ok.place at well))
 
 pub returns-in-Ok-clause-due : goal.returns-in-Ok-clause-due

@@ -1,11 +1,10 @@
-use Rattle.std.proofs.Common.{◌≡◌, ◌-◌, Ok, Some, ap, subst, ◌∙◌}
-use Rattle.std.specs.List.{slice_get}
-use Rattle.mount_model.specs.Walk.{last_part, parent, is_at_or_above}
+use Rattle.std.proofs.Common.{◌≡◌, Ok, Some, subst, ◌∙◌}
+use Rattle.mount_model.specs.Walk.{parent, is_at_or_above}
 use Rattle.mount_state.specs.Passed.{with_past}
 use Rattle.mount_names.specs.Places.{Entry}
 use Rattle.mount_names.specs.Moved.{target_refusal}
 use Rattle.mount_names.proofs.MoveLemmas.{walk_led, walk_passed, walk_stopped, refused_walk, target_there, named_path, placed_at}
-use Rattle.mount_names.proofs.PlaceLemmas.{last_is, dir_here, name_here, err_then, ok_then}
+use Rattle.mount_names.proofs.PlaceLemmas.{dir_here, name_here, err_then, ok_then}
 use Rattle.mount_names.proofs.moves.target_at.Goals as goal
 
 pub returns-in-Err-clause-refused : goal.returns-in-Err-clause-refused
@@ -15,30 +14,28 @@ returns-in-Err-clause-refused g c = λ m name st fits of.
     subst (λ (x : Entry). target_refusal m x path ≡ Some c.in-Err.refusal) c.entry.view_is
     (refused_walk m e path c.in-Err.refusal (walk_stopped (is_at_or_above m e.number path) c.in-Err.refusal (parent m path) (c.in-Err.ensures.value m st)))
 
-pub returns-in-Some-clause-refused : goal.returns-in-Some-clause-refused
-returns-in-Some-clause-refused g c =
+pub returns-in-Ok-clause-refused : goal.returns-in-Ok-clause-refused
+returns-in-Ok-clause-refused g c =
     let path = c.args.path.now in
+    let part = c.last_bytes.result.now in
     let e = c.args.entry.now in
     let named = named_path path c.requires.some in
-    let part_is : c.bytes.result.now ≡ last_part path
-    = c.bytes.ensures ∙ last_is path c.in-Some.part.now (c.in-Some.ensures ∙ ap (λ n. slice_get path (n - 1)) c.len-last.ensures) in
     err_then c.target_in.result c.target_in.ensures.refused (λ refusal in_dir m name st fits of.
     let walk = subst (λ (x : Entry). Ok (c.in-Ok.dir, c.in-Ok.past) ≡ with_past (is_at_or_above m x.number path) (parent m path)) c.entry.view_is (c.in-Ok.ensures.value m st) in
     let led = walk_led c.in-Ok.past (is_at_or_above m e.number path) c.in-Ok.dir (parent m path) walk in
     let passed = walk_passed c.in-Ok.past (is_at_or_above m e.number path) c.in-Ok.dir (parent m path) walk in
-    target_there m e path c.in-Ok.dir c.in-Ok.past c.bytes.result.now led passed part_is
-    ∙ in_dir m name (c.in-Ok.ensures.stands m st) (dir_here m path c.in-Ok.dir c.bytes.result.now named led part_is fits) (name_here m path c.in-Ok.dir c.bytes.result.now named led part_is fits) of)
+    target_there m e path c.in-Ok.dir c.in-Ok.past part led passed c.last_bytes.ensures
+    ∙ in_dir m name (c.in-Ok.ensures.stands m st) (dir_here m path c.in-Ok.dir part named led c.last_bytes.ensures fits) (name_here m path c.in-Ok.dir part named led c.last_bytes.ensures fits) of)
 
-pub returns-in-Some-clause-placed : goal.returns-in-Some-clause-placed
-returns-in-Some-clause-placed g c =
+pub returns-in-Ok-clause-placed : goal.returns-in-Ok-clause-placed
+returns-in-Ok-clause-placed g c =
     let path = c.args.path.now in
+    let part = c.last_bytes.result.now in
     let e = c.args.entry.now in
     let named = named_path path c.requires.some in
-    let part_is : c.bytes.result.now ≡ last_part path
-    = c.bytes.ensures ∙ last_is path c.in-Some.part.now (c.in-Some.ensures ∙ ap (λ n. slice_get path (n - 1)) c.len-last.ensures) in
     ok_then c.target_in.result c.target_in.ensures.placed c.target_in.ensures.dir (λ place placed at m name st fits of.
     let walk = subst (λ (x : Entry). Ok (c.in-Ok.dir, c.in-Ok.past) ≡ with_past (is_at_or_above m x.number path) (parent m path)) c.entry.view_is (c.in-Ok.ensures.value m st) in
     let led = walk_led c.in-Ok.past (is_at_or_above m e.number path) c.in-Ok.dir (parent m path) walk in
     let passed = walk_passed c.in-Ok.past (is_at_or_above m e.number path) c.in-Ok.dir (parent m path) walk in
-    let there = placed m name (c.in-Ok.ensures.stands m st) (dir_here m path c.in-Ok.dir c.bytes.result.now named led part_is fits) (name_here m path c.in-Ok.dir c.bytes.result.now named led part_is fits) of in
-    placed_at m e path place c.in-Ok.dir c.in-Ok.past c.bytes.result.now led passed part_is at.0 there.0 there.1)
+    let there = placed m name (c.in-Ok.ensures.stands m st) (dir_here m path c.in-Ok.dir part named led c.last_bytes.ensures fits) (name_here m path c.in-Ok.dir part named led c.last_bytes.ensures fits) of in
+    placed_at m e path place c.in-Ok.dir c.in-Ok.past part led passed c.last_bytes.ensures at.0 there.0 there.1)

@@ -13,13 +13,13 @@ use Rattle.mount_model.specs.declared.reply.Reply.TheVariants.{Done}
 use Rattle.mount_state.specs.Discipline.{Forgets}
 use Rattle.mount_state.specs.Safe.{IsSafe}
 use Rattle.mount_state.proofs.UserLemmas.{pins_tell}
-use Rattle.mount_names.specs.Encrypted.{with_policy}
 use Rattle.mount_names.proofs.LenLemmas.{entries_len}
 use Rattle.mount_names.proofs.ReadLemmas.{dir_read}
 use Rattle.mount_names.proofs.CachedRules.{policy_names, names_on}
 use Rattle.mount_names.proofs.PolicyRules.{policy_safe, unheld_rule}
 use Rattle.mount_names.proofs.PolicyStands.{unheld_caches, policy_stands}
-use Rattle.mount_names.proofs.SetLemmas.{set_done, done_given, used_present, none_left}
+use Rattle.mount_names.proofs.GivenLemmas.{given_by}
+use Rattle.mount_names.proofs.SetLemmas.{set_done, used_present, none_left}
 use Rattle.mount_names.proofs.policies.encrypt.Goals as goal
 
 pub invariant_of-state : goal.invariant_of-state
@@ -49,7 +49,7 @@ returns-then-handles-eq0-clause-stands c = λ m st well.
     let empty : eqb (length (children m.nodes c.args.dir)) 0 ≡ true = eq-eqb _ _ (omega (arith, len_is, c.if-entry_count-gt0.false)) in
     let may : may_use m c.args.uid c.args.context.now.policy.id ≡ true = sym (c.may_use.ensures.stands m st) ∙ c.if-not-may_use.false in
     let answer = set_done m c.args.uid c.args.dir c.args.context.now empty may in
-    done_given m (with_policy m c.args.dir c.args.context.now) _ Done _ answer
+    given_by m _ _ Done _ answer
     (inl (
       refl,
       policy_stands s m st c.args.dir c.args.context.now is_dir (none_left (children m.nodes c.args.dir) empty) _ disk_is refl refl refl refl
@@ -64,6 +64,6 @@ returns-clause-stands c = λ m st well.
     let empty : eqb (length (children m.nodes c.args.dir)) 0 ≡ true = eq-eqb _ _ (omega (arith, len_is, c.if-entry_count-gt0.false)) in
     let may : may_use m c.args.uid c.args.context.now.policy.id ≡ true = sym (c.may_use.ensures.stands m st) ∙ c.if-not-may_use.false in
     let answer = set_done m c.args.uid c.args.dir c.args.context.now empty may in
-    done_given m (with_policy m c.args.dir c.args.context.now) _ c.encrypt_open.result _ answer
+    given_by m _ _ c.encrypt_open.result _ answer
     (c.encrypt_open.ensures.stands m st (none_left (children m.nodes c.args.dir) empty) (used_present m c.args.uid c.args.dir c.args.context.now c.args.context.now.policy.id may)
     (subst IsWellFormed (ap (λ (a : Answer). a.mount) answer) well))

@@ -1,7 +1,5 @@
-use Rattle.std.proofs.Common.{◌≡◌, ◌∙◌}
-use Rattle.std.proofs.lemmas.Bool.{cond-false}
+use Rattle.std.proofs.Common.{false}
 use Rattle.mount_model.specs.declared.reply.Refusal.TheVariants.{IsDir}
-use Rattle.mount_model.specs.Answered.{refused}
 use Rattle.mount_model.specs.NameAnswers.{answer_to_unlink}
 use Rattle.mount_model.specs.Walk.{is_root}
 use Rattle.mount_names.proofs.FoundLemmas.{end_refused}
@@ -19,7 +17,5 @@ pub returns-in-Err-clause-stands : goal.returns-in-Err-clause-stands
 returns-in-Err-clause-stands g c = λ m st fits.
     let path = c.args.path.now in
     let named = some_parts path c.is_empty.result c.if-is_empty.false c.is_empty.ensures.1 in
-    let is : answer_to_unlink m path ≡ refused m c.in-Err.refusal
-    = cond-false (is_root path) (refused m IsDir) _ named
-    ∙ end_refused m path c.in-Err.refusal (c.in-Err.ensures.value m st) (unlinked m) in
-    refused_given m (answer_to_unlink m path) c.in-Err.refusal is c.entry_at.new.state (c.in-Err.ensures.stands m st)
+    refused_given m (answer_to_unlink m path) c.in-Err.refusal
+    (end_refused m path false c.in-Err.refusal (c.in-Err.ensures.value m st) (is_root path) named IsDir (unlinked m)) c.entry_at.new.state (c.in-Err.ensures.stands m st)

@@ -1,14 +1,12 @@
-use Rattle.std.proofs.Common.{◌≡◌, ℕ, false, List, Option, Some, ap, ◌∙◌}
+use Rattle.std.proofs.Common.{◌≡◌, ℕ, false, List, Option, ap, ◌∙◌}
 use Rattle.policy_ctx.specs.declared.policy.Context.{Context}
 use Rattle.plain_tree.specs.Nodes.{Link}
 use Rattle.disk_tree.specs.declared.node.Body.TheVariants as stored
 use Rattle.mount_model.specs.NameAnswers.{lacks_key, inherited}
 use Rattle.mount_state.specs.Stored.{stored_form}
+use Rattle.mount_state.proofs.ContextLemmas.{same_some}
 use Rattle.mount_names.proofs.LinkLemmas.{inherits_key}
 use Rattle.mount_names.proofs.symlinks.link_at.Goals as goal
-
-same_bytes : (a b : List ℕ) → Some a ≡ Some b → a ≡ b
-same_bytes a b is = cc
 
 pub returns-in-Ok-from_slice-clause-stands : goal.returns-in-Ok-from_slice-clause-stands
 returns-in-Ok-from_slice-clause-stands g c = λ m path st at short target well.
@@ -19,7 +17,7 @@ returns-in-Ok-from_slice-clause-stands g c = λ m path st at short target well.
     = ap (lacks_key m) is ∙ (inherits_key m c.args.nonce.now c.args.place.now.context ∙ (ap (lacks_key m) at.there.context ∙ at.there.keyed)) in
     let read : c.in-Ok.plain ≡ c.args.target.now = c.in-Ok.ensures.value ∙ c.as_slice.ensures in
     let form : c.in-Some.stored ≡ stored_form m.raws m.next (inherited c.args.nonce.now c.args.place.now.context) c.args.target.now
-    = same_bytes _ _ (c.in-Some.ensures.value m st holds)
+    = same_some _ _ (c.in-Some.ensures.value m st holds)
     ∙ (ap (λ (n : ℕ). stored_form m.raws n context c.in-Ok.plain) st.tree.next
     ∙ (ap (λ (o : Option Context). stored_form m.raws m.next o c.in-Ok.plain) is
     ∙ ap (stored_form m.raws m.next (inherited c.args.nonce.now c.args.place.now.context)) read)) in

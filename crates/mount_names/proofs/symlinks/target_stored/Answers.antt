@@ -1,21 +1,18 @@
 use Rattle.std.proofs.Common.{rules, ◌≡◌, ℕ, Some, None, List, Option, sym, ap, ◌∙◌}
 use Rattle.policy_ctx.specs.declared.policy.Context.{Context}
-use Rattle.name_crypt.specs.declared.cipher.NameCipher.{NameCipher}
 use Rattle.mount_model.specs.NameAnswers.{lacks_key}
 use Rattle.mount_state.specs.Stored.{stored_form}
 use Rattle.mount_names.specs.Shown.{names_cipher}
+use Rattle.mount_state.proofs.ContextLemmas.{same_some}
 use Rattle.mount_names.proofs.ShownLemmas.{sealed_by}
 use Rattle.mount_names.proofs.LinkLemmas.{coming_cipher}
 use Rattle.mount_names.proofs.symlinks.target_stored.Goals as goal
-
-same_cipher : (a b : NameCipher) → Some a ≡ Some b → a ≡ b
-same_cipher a b is = cc
 
 pub returns-in-Some-drawn_cipher-clause-value : goal.returns-in-Some-drawn_cipher-clause-value
 returns-in-Some-drawn_cipher-clause-value g c = λ m st holds.
     let s = c.args.state.now in
     let was : c.args.context.now ≡ Some c.in-Some.context = search rules in
-    let is = same_cipher c.in-Some-drawn_cipher.cipher (names_cipher m.raws s.next_node c.in-Some.context)
+    let is = same_some c.in-Some-drawn_cipher.cipher (names_cipher m.raws s.next_node c.in-Some.context)
     (coming_cipher m s.next_node c.in-Some.context s.ring st.keys c.in-Some-drawn_cipher.ensures.claimed (ap (lacks_key m) (sym was) ∙ holds)
     (Some c.in-Some-drawn_cipher.cipher) c.in-Some-drawn_cipher.ensures.value) in
     ap (λ (x : List ℕ). Some x)

@@ -17,6 +17,6 @@ returns c = λ m old st of at.
     let e = c.args.entry.now in
     let dir : c.place.inside.context ≡ context_at m.nodes c.args.place.now.dir
     = ap (λ (p : Place). p.context) c.place.view_is ∙ at in
-    let held : c.context_of.result ≡ context_at m.nodes e.number
-    = c.context_of.ensures m st ∙ ap (λ (x : Entry). context_at m.nodes x.number) c.entry.view_is in
+    let held : c.context_at.result ≡ context_at m.nodes e.number
+    = c.context_at.ensures m st ∙ ap (λ (x : Entry). context_at m.nodes x.number) c.entry.view_is in
     c.may_hold.ensures ∙ (λ i. may_hold (dir i) (held i))

@@ -1,10 +1,6 @@
-use Rattle.std.proofs.Common.{◌≡◌, sym, ap, subst, ◌∙◌}
-use Rattle.mount_model.specs.NameAnswers.{clashes}
+use Rattle.std.proofs.Common.{◌≡◌, sym, ◌∙◌}
 use Rattle.mount_model.specs.RenameAnswer.{is_full_elsewhere}
-use Rattle.mount_names.specs.Moved.{IsNewName}
-use Rattle.mount_names.specs.Places.{Place}
 use Rattle.mount_names.proofs.MoveLemmas.{below_itself, other_policy, clash_there, full_there, nothing_against}
-use Rattle.mount_names.proofs.PlaceLemmas.{name_plain}
 use Rattle.mount_names.proofs.targets.why_not.Goals as goal
 
 pub returns-then-past : goal.returns-then-past
@@ -23,10 +19,7 @@ returns-then-clashes c = λ m old name st named of at.
     let e = c.args.entry.now in
     let p = c.args.place.now in
     let holds = c.may_come.ensures m old st of at.context in
-    let here = subst (λ (y : Place). IsNewName m y.dir name y) (sym c.place.view_is) at in
-    let clash : c.clashes.result ≡ clashes m p.dir name
-    = c.clashes.ensures m name st here.key here.context (name_plain name named) named.0.bytes here.stored here.free
-    ∙ ap (λ (y : Place). clashes m y.dir name) c.place.view_is in
+    let clash = c.clashes.ensures m name st named at in
     sym (clash_there m e p.dir c.args.past name c.if-past.false (sym holds ∙ c.if-not-may_come.false) (sym clash ∙ c.if-clashes.true))
 
 pub returns-then-is_full_elsewhere : goal.returns-then-is_full_elsewhere
@@ -34,10 +27,7 @@ returns-then-is_full_elsewhere c = λ m old name st named of at.
     let e = c.args.entry.now in
     let p = c.args.place.now in
     let holds = c.may_come.ensures m old st of at.context in
-    let here = subst (λ (y : Place). IsNewName m y.dir name y) (sym c.place.view_is) at in
-    let clash : c.clashes.result ≡ clashes m p.dir name
-    = c.clashes.ensures m name st here.key here.context (name_plain name named) named.0.bytes here.stored here.free
-    ∙ ap (λ (y : Place). clashes m y.dir name) c.place.view_is in
+    let clash = c.clashes.ensures m name st named at in
     let full : c.is_full_elsewhere.result ≡ is_full_elsewhere m e.dir p.dir
     = c.is_full_elsewhere.ensures m st ∙ (λ i. is_full_elsewhere m (c.entry.view_is i).dir (c.place.view_is i).dir) in
     sym (full_there m e p.dir c.args.past name c.if-past.false (sym holds ∙ c.if-not-may_come.false) (sym clash ∙ c.if-clashes.false)
@@ -48,10 +38,7 @@ returns c = λ m old name st named of at.
     let e = c.args.entry.now in
     let p = c.args.place.now in
     let holds = c.may_come.ensures m old st of at.context in
-    let here = subst (λ (y : Place). IsNewName m y.dir name y) (sym c.place.view_is) at in
-    let clash : c.clashes.result ≡ clashes m p.dir name
-    = c.clashes.ensures m name st here.key here.context (name_plain name named) named.0.bytes here.stored here.free
-    ∙ ap (λ (y : Place). clashes m y.dir name) c.place.view_is in
+    let clash = c.clashes.ensures m name st named at in
     let full : c.is_full_elsewhere.result ≡ is_full_elsewhere m e.dir p.dir
     = c.is_full_elsewhere.ensures m st ∙ (λ i. is_full_elsewhere m (c.entry.view_is i).dir (c.place.view_is i).dir) in
     sym (nothing_against m e p.dir c.args.past name c.if-past.false (sym holds ∙ c.if-not-may_come.false) (sym clash ∙ c.if-clashes.false)

@@ -1,6 +1,0 @@
--- The bytes have a stored name's length.
-use Rattle.mount_state.proofs.ShownLemmas.{name_tells}
-use Rattle.mount_names.proofs.entries.is_name_shown_as.Goals as goal
-
-pub returns-clause-value : goal.returns-clause-value
-returns-clause-value c = name_tells c.args.shown.now c.args.stored.now c.is_shown_as.result c.if-stored-lt-LEAST_STORED_BYTES.false c.if-stored-gt-MOST_NAME_BYTES.false c.is_shown_as.ensures.0 c.is_shown_as.ensures.1
