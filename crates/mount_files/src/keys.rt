@@ -4,7 +4,6 @@ ghost use Rattle.std.specs.Prelude.{◌≡◌, true, Some, IfOk, IsOk, List, ℕ
 ghost use Rattle.data_crypt.specs.Laws.{IsKeyOfBytes};
 ghost use Rattle.fsc_keys.specs.declared.file_keys.FileKey.TheVariants as key;
 ghost use Rattle.file_disk.specs.Keys.{seal_of};
-ghost use Rattle.mount_model.specs.Sealed.{node_start};
 ghost use Rattle.mount_files.specs.Seals.{IsSealOf, held_key, seal_with};
 ghost use Rattle.mount_files.specs.OpenFile.{HasOpen};
 
@@ -13,7 +12,7 @@ use byte_words::slice_is_bytes;
 use file_disk::ContentsKey;
 use fsc_keys::{FileKey, KeyKind};
 use mount_model::Refusal;
-use mount_state::MountState;
+use mount_state::{MountState, start_of};
 use policy_ctx::Context;
 
 // What the contents of the file are sealed with: the file's own key that is cached, or that of its mode;
@@ -64,15 +63,4 @@ fn held_key<'a>(state: &'a MountState, file: u32, context: &Context) -> Option<&
         return state.modes.key_of(&context.policy.id, KeyKind::Contents);
     }
     state.inodes.key_of(file)
-}
-
-// Where the file's contents count their units from.
-fn start_of(file: u32, context: &Context) -> u64
-    ensures { result ≡ node_start file context.now }
-{
-    if context.policy.by_mode {
-        u64::from(file) << 32
-    } else {
-        0
-    }
 }
