@@ -41,9 +41,9 @@ key_bytes (key.Contents bytes) = bytes
 key_bytes (key.Names bytes) = bytes
 
 -- what the key enciphers
-abbrev pub kind_of : FileKey → KeyKind
-kind_of (key.Contents bytes) = Contents
-kind_of (key.Names bytes) = Names
+abbrev pub key_kind : FileKey → KeyKind
+key_kind (key.Contents bytes) = Contents
+key_kind (key.Names bytes) = Names
 
 -- the key of a kind whose bytes are all zeros
 abbrev pub zero_key : KeyKind → FileKey

@@ -5,7 +5,7 @@ ghost use Rattle.byte_words.specs.Bytes.{AreBytes};
 ghost use Rattle.hmac_kdf.specs.Hmac.{hash_sha512};
 ghost use Rattle.hmac_kdf.specs.Hkdf.{extracted};
 ghost use Rattle.fsc_keys.specs.Draws.{expanded_key};
-ghost use Rattle.fsc_keys.specs.Keys.{file_key_of, key_bytes, key_id_of, kind_of, mode_key_of};
+ghost use Rattle.fsc_keys.specs.Keys.{file_key_of, key_bytes, key_id_of, key_kind, mode_key_of};
 
 use crate::file_keys::FileKey;
 use crate::raw_key::RawKey;
@@ -47,7 +47,7 @@ pub(crate) fn draw_id(prk: &Prk512) -> KeyId
 #[tactic(auto, unfolding(crate::specs::Keys::derived, hmac_kdf::specs::Hkdf::hkdf_with))]
 pub(crate) fn draw_file_key(prk: &Prk512, nonce: &[u8; 16], key: &mut FileKey)
     ensures key { (raw : List ℕ) → prk.now ≡ extracted hash_sha512 [] raw
-        → key.new ≡ file_key_of raw (kind_of key.old) nonce.now }
+        → key.new ≡ file_key_of raw (key_kind key.old) nonce.now }
     ensures ranged { AreBytes (key_bytes key.new) }
 {
     let mut info = [0; 25];
@@ -60,7 +60,7 @@ pub(crate) fn draw_file_key(prk: &Prk512, nonce: &[u8; 16], key: &mut FileKey)
 #[tactic(auto, unfolding(crate::specs::Keys::derived, hmac_kdf::specs::Hkdf::hkdf_with))]
 pub(crate) fn draw_mode_key(prk: &Prk512, key: &mut FileKey)
     ensures key { (raw : List ℕ) → prk.now ≡ extracted hash_sha512 [] raw
-        → key.new ≡ mode_key_of raw (kind_of key.old) }
+        → key.new ≡ mode_key_of raw (key_kind key.old) }
     ensures ranged { AreBytes (key_bytes key.new) }
 {
     match key {
@@ -71,7 +71,7 @@ pub(crate) fn draw_mode_key(prk: &Prk512, key: &mut FileKey)
 
 // Writes as many bytes as the key has, expanded under this info, over it where it stands.
 fn draw(prk: &Prk512, info: &[u8], key: &mut FileKey)
-    ensures key { key.new ≡ expanded_key prk.now (kind_of key.old) info.now }
+    ensures key { key.new ≡ expanded_key prk.now (key_kind key.old) info.now }
     ensures ranged { AreBytes (key_bytes key.new) }
 {
     match key {

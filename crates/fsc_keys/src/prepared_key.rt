@@ -29,7 +29,7 @@ impl Model for PreparedKey {
 }
 
 impl PreparedKey {
-    ghost use Rattle.fsc_keys.specs.Keys.{file_key_of, key_bytes, key_id_of, kind_of, mode_key_of};
+    ghost use Rattle.fsc_keys.specs.Keys.{file_key_of, key_bytes, key_id_of, key_kind, mode_key_of};
 
     /// Prepares the key.
     pub fn new(raw: RawKey) -> PreparedKey
@@ -69,7 +69,7 @@ impl PreparedKey {
     /// Writes the key of the file with this nonce over another of the kind that is wanted, so that it is
     /// nowhere else.
     pub fn write_file_key(&self, nonce: &[u8; 16], key: &mut FileKey)
-        ensures key { key.new ≡ file_key_of self.now (kind_of key.old) nonce.now }
+        ensures key { key.new ≡ file_key_of self.now (key_kind key.old) nonce.now }
         ensures ranged { AreBytes (key_bytes key.new) }
     {
         draw_file_key(&self.prk, nonce, key);
@@ -87,7 +87,7 @@ impl PreparedKey {
 
     /// Writes the key that all nodes of a kind share over another of that kind.
     pub fn write_mode_key(&self, key: &mut FileKey)
-        ensures key { key.new ≡ mode_key_of self.now (kind_of key.old) }
+        ensures key { key.new ≡ mode_key_of self.now (key_kind key.old) }
         ensures ranged { AreBytes (key_bytes key.new) }
     {
         draw_mode_key(&self.prk, key);

@@ -17,7 +17,7 @@ use Rattle.image_lines.specs.declared.node_line.NodeLine.{NodeLine}
 use Rattle.image_lines.specs.declared.place.Place.{Place}
 use Rattle.image_lines.specs.declared.place.Place.TheVariants.{AtHeader, AtRoot, InDir, Behind}
 use Rattle.image_lines.specs.Image.{Image, ImageNode}
-use Rattle.image_lines.specs.ImageText.{header, node_line, entry_line, block_line, kind_of, line_of, body_lines, node_lines}
+use Rattle.image_lines.specs.ImageText.{header, node_line, entry_line, block_line, told_kind, line_of, body_lines, node_lines}
 use Rattle.image_lines.specs.Rules.{IsEntry, IsBody, IsNode, HasGoodLines, blocks_for}
 use Rattle.image_lines.specs.Lines.{node_told, entry_told, block_told}
 use Rattle.image_lines.specs.Reading.{place_behind, behind_node, is_dir, is_root, next_node, step, may_end, or_fault, line_fault_from}
@@ -117,7 +117,7 @@ module _ (number : ℕ) (image : Image) (later : (k : ℕ) (place : Place) → I
       not_none left count e = ne_eqb left 0 (λ z. omega (arith, z, e))
 
   body_again : (under_policy : Bool) (b : Body) → IsBody under_policy b → (k : ℕ)
-      → line_fault_from k (place_behind number under_policy (kind_of b)) (body_lines b ++ lines_of image) ≡ None
+      → line_fault_from k (place_behind number under_policy (told_kind b)) (body_lines b ++ lines_of image) ≡ None
   body_again under_policy (body.Dir es) is k = entries_again under_policy [] es (entries_of_rules under_policy es is) k
   body_again under_policy (body.File blocks size) is k = blocks_again (blocks_for size) blocks is.1 (recursion_from_All (AreBytesOfLength 4096) blocks is.2) k
   body_again under_policy (body.Link target) is k = later k (Behind number 0) (refl, refl)
@@ -137,7 +137,7 @@ nodes_again (node ∷ image) number are k place h =
 
 -- ---- the whole
 
-root_kind : (b : Body) → IsDir b → is_dir (kind_of b) ≡ true
+root_kind : (b : Body) → IsDir b → is_dir (told_kind b) ≡ true
 root_kind (body.Dir es) h = refl
 root_kind (body.File blocks size) h = absurd h
 root_kind (body.Link target) h = absurd h
@@ -192,7 +192,7 @@ unfolding nodes_at
 over_blocks [] ps = refl
 over_blocks (b ∷ blocks) ps = let none = block_is_no_node b in rw none (over_blocks blocks ps)
 
-body_told : (under_policy : Bool) (b : Body) (image : Image) → IsBody under_policy b → body_at (kind_of b) (body_lines b ++ lines_of image) ≡ b
+body_told : (under_policy : Bool) (b : Body) (image : Image) → IsBody under_policy b → body_at (told_kind b) (body_lines b ++ lines_of image) ≡ b
 body_told under_policy (body.Dir es) image is =
     ap body.Dir (entries_told under_policy es (lines_of image) (recursion_from_All (IsEntry under_policy) es is.0) (no_entry_first image))
 body_told under_policy (body.File blocks size) image is =

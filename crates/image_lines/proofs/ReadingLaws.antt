@@ -20,7 +20,7 @@ use Rattle.image_lines.specs.declared.node_line.NodeLine.{NodeLine}
 use Rattle.image_lines.specs.declared.place.Place.{Place}
 use Rattle.image_lines.specs.declared.place.Place.TheVariants.{AtHeader, AtRoot, InDir, Behind}
 use Rattle.image_lines.specs.Image.{Image}
-use Rattle.image_lines.specs.ImageText.{header, node_line, entry_line, block_line, kind_of, line_of, body_lines, node_lines}
+use Rattle.image_lines.specs.ImageText.{header, node_line, entry_line, block_line, told_kind, line_of, body_lines, node_lines}
 use Rattle.image_lines.specs.Rules.{IsEntry, IsBody, IsNode, HasGoodLines, is_entry_name}
 use Rattle.image_lines.specs.Lines.{◌>>=◌, passing, node_told, entry_told, block_told}
 use Rattle.image_lines.specs.Reading.{place_behind, behind_node, is_dir, is_root, next_node, next_entry, next_block, step, may_end, line_fault_from}
@@ -51,7 +51,7 @@ Told (Behind number left) ps =
 
 -- ---- the body of a node
 
-body_kind : (kind : NodeKind) (ps : List (List ℕ)) → kind_of (body_at kind ps) ≡ kind
+body_kind : (kind : NodeKind) (ps : List (List ℕ)) → told_kind (body_at kind ps) ≡ kind
 body_kind Dir ps = refl
 body_kind (File size) ps = refl
 body_kind (Link target) ps = refl

@@ -6,7 +6,7 @@ use Rattle.script_lang.specs.declared.commands.Section.{Section}
 use Rattle.next_calls.specs.Callers.{CallerView}
 use Rattle.log_check.specs.declared.check.Verdict.{Verdict}
 use Rattle.log_check.specs.declared.check.Verdict.TheVariants.{Certified, Refused}
-use Rattle.log_check.specs.Endings.{EndsSo}
+use Rattle.log_check.specs.Endings.{IsVerdictHere}
 use Rattle.log_check.specs.NextLines.{IsLineRead}
 use Rattle.log_check.specs.Reading.{AreCallers, StandBehind}
 use Rattle.log_check.specs.Stops.{IsRead, IsBlocked}
@@ -15,7 +15,7 @@ use Rattle.log_check.proofs.EndLemmas.{ends_certified, ends_refused}
 use Rattle.log_check.proofs.StopLemmas.{none_read}
 
 ends : (seed : List ℕ) (script : List Section) (text : List ℕ) (place : ℕ) (rest : List ℕ) (h : History) (callers : List CallerView) (verdict : Verdict)
-    → IsRead seed script text place rest h → AreCallers seed script h callers → IsBlocked seed script h place rest → EndsSo callers place rest verdict
+    → IsRead seed script text place rest h → AreCallers seed script h callers → IsBlocked seed script h place rest → IsVerdictHere callers place rest verdict
     → Says seed script text verdict
 ends seed script text place rest h callers Certified read are blocked ended = ends_certified seed script text place rest h callers read are ended
 ends seed script text place rest h callers (Refused at) read are blocked ended =
@@ -43,10 +43,10 @@ module _ {M : Type 0} (led : History → M → Type 0) where
 
   pub says : {E : Type 0} (seed : List ℕ) (script : List Section) (text : List ℕ) (place place' : ℕ) (rest rest' : List ℕ) (callers callers' : List CallerView) (old new : M) (r : Result Verdict E)
       → Stands led seed script text place rest callers old → IsLineRead led seed callers place rest old callers' place' rest' new false
-      → IfOk r (EndsSo callers' place' rest') → IfOk r (Says seed script text)
+      → IfOk r (IsVerdictHere callers' place' rest') → IfOk r (Says seed script text)
   says seed script text place place' rest rest' callers callers' old new (Err e) stands line ended = ended
   says seed script text place place' rest rest' callers callers' old new (Ok verdict) stands line ended =
       ends seed script text place rest stands.0 callers verdict stands.1 stands.2.own (line.3 script text stands.0 stands.1 stands.2)
-      (subst (λ (cs : List CallerView). EndsSo cs place rest verdict) line.0
-      (subst (λ (n : ℕ). EndsSo callers' n rest verdict) line.1
-      (subst (λ (l : List ℕ). EndsSo callers' place' l verdict) line.2 ended)))
+      (subst (λ (cs : List CallerView). IsVerdictHere cs place rest verdict) line.0
+      (subst (λ (n : ℕ). IsVerdictHere callers' n rest verdict) line.1
+      (subst (λ (l : List ℕ). IsVerdictHere callers' place' l verdict) line.2 ended)))

@@ -13,6 +13,6 @@ IsEnded callers text =
     × (text ≡ notes_text (flat_map (λ caller. caller.notes) callers))
 
 -- at the end all is told, or it isn't from this place on
-abbrev pub EndsSo : List CallerView → ℕ → List ℕ → Verdict → Type 0
-EndsSo callers place text Certified = IsEnded callers text
-EndsSo callers place text (Refused at) = (at ≡ place) × (¬ IsEnded callers text)
+abbrev pub IsVerdictHere : List CallerView → ℕ → List ℕ → Verdict → Type 0
+IsVerdictHere callers place text Certified = IsEnded callers text
+IsVerdictHere callers place text (Refused at) = (at ≡ place) × (¬ IsEnded callers text)

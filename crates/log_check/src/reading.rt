@@ -1,7 +1,7 @@
 //! A text that is read line by line, with the callers that its lines are told.
 
 ghost use Rattle.std.specs.Prelude.{◌≡◌, ◌+◌, ◌<◌, ◌^◌, All, IfOk, length};
-ghost use Rattle.log_check.specs.Endings.{EndsSo};
+ghost use Rattle.log_check.specs.Endings.{IsVerdictHere};
 ghost use Rattle.log_check.specs.NextLines.{IsLineRead};
 
 use crate::check::Verdict;
@@ -57,7 +57,7 @@ impl<'a, 't> Reading<'a, 't> {
 
     // What is said where no further line was read.
     pub(crate) fn verdict(&self, alloc: Global) -> Result<Verdict, AllocError>
-        ensures { IfOk result (EndsSo self.now.callers.items self.now.place self.now.rest.now) }
+        ensures { IfOk result (IsVerdictHere self.now.callers.items self.now.place self.now.rest.now) }
     {
         if is_ended(alloc, self.callers.as_slice(), self.rest)? {
             return Ok(Verdict::Certified);

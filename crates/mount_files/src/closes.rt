@@ -22,7 +22,7 @@ ghost use Rattle.mount_files.specs.Closed.{is_lasting, is_key_due, disk_left, ke
 ghost use Rattle.mount_files.specs.Closed.{names_left};
 ghost use Rattle.mount_files.specs.Opened.{ClosesOne, SameButClosed};
 
-use crate::needs::kind_of;
+use crate::needs::key_kind_of;
 use dentry_cache::NameCache;
 use disk_tree::{Body, DiskTree, StoredNode};
 use fsc_keys::KeyId;
@@ -103,7 +103,7 @@ fn release_mode(disk: &DiskTree, modes: &mut ModeKeys, node: u32)
         return;
     };
     if is_by_mode(context) {
-        modes.release(&id_in(context), kind_of(&stored.body));
+        modes.release(&id_in(context), key_kind_of(&stored.body));
     }
 }
 

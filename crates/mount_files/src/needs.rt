@@ -30,7 +30,7 @@ pub(crate) fn need_of(state: &MountState, node: u32) -> Need
     let Some(context) = &stored.context else {
         return Need::Own(None);
     };
-    let kind = kind_of(&stored.body);
+    let kind = key_kind_of(&stored.body);
     if is_by_mode(context) {
         return shared_need(state, node, context, kind);
     }
@@ -88,7 +88,7 @@ fn shared_need(state: &MountState, node: u32, context: &[u8; CONTEXT_LEN], kind:
 }
 
 // What the node's key enciphers.
-pub(crate) fn kind_of(body: &Body) -> KeyKind
+pub(crate) fn key_kind_of(body: &Body) -> KeyKind
     ensures { result ≡ disk_kind_of body.now }
 {
     match body {

@@ -62,8 +62,8 @@ IsRefusedIn s d name long refusal = (m : PlainMount) (nonce : List ℕ) (body : 
     → answer_to_make_in m name nonce body d ≡ refused m refusal
 
 -- the same of a creation at the end of the path
-abbrev pub IsRefusedAt : MountState → PathParts → Bool → Refusal → Type 0
-IsRefusedAt s path long refusal = (m : PlainMount) (nonce : List ℕ) (body : Body) → StandsFor s m
+abbrev pub IsPlaceRefused : MountState → PathParts → Bool → Refusal → Type 0
+IsPlaceRefused s path long refusal = (m : PlainMount) (nonce : List ℕ) (body : Body) → StandsFor s m
     → IsPath path → is_long_target body ≡ long → answer_to_make m path nonce body ≡ refused m refusal
 
 -- the place is the one in which the path's last part can be made

@@ -86,7 +86,7 @@ fn node_told(state: &MountState, number: u32) -> Reply
         return Reply::Refused(Refusal::NotFound);
     };
     Reply::Stat {
-        kind: kind_of(&node.body),
+        kind: kind_shown(&node.body),
         node: number,
         size: size_of(state, number, &node.body),
         encrypted: node.context.is_some(),
@@ -94,7 +94,7 @@ fn node_told(state: &MountState, number: u32) -> Reply
     }
 }
 
-fn kind_of(body: &Body) -> NodeKind
+fn kind_shown(body: &Body) -> NodeKind
     ensures { (m : PlainMount) (number : ℕ) (v : Node) → body.now ≡ stored_body m.raws number v.context v.body
         → result ≡ look.node_kind v.body }
 {

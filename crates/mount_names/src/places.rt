@@ -10,7 +10,7 @@ ghost use Rattle.mount_model.specs.PlainMount.{PlainMount};
 ghost use Rattle.mount_model.specs.WellFormed.{IsName};
 ghost use Rattle.mount_state.specs.SameButCaches.{SameButCaches, StaysFor};
 ghost use Rattle.mount_state.specs.StandsFor.{StandsFor};
-ghost use Rattle.mount_names.specs.Made.{IsAskedIn, IsNewName, IsPlaceAt, IsPlaceOf, IsRefusedAt, IsRefusedIn};
+ghost use Rattle.mount_names.specs.Made.{IsAskedIn, IsNewName, IsPlaceAt, IsPlaceOf, IsPlaceRefused, IsRefusedIn};
 ghost use Rattle.mount_names.specs.Places.{IsBlank};
 
 use crate::contexts::context_told;
@@ -52,7 +52,7 @@ pub(crate) fn place_at<'a, L: Ledger>(
     steps: &mut Steps<L>,
 ) -> Result<Place<'a>, Refusal>
     requires { IsBlank room.old }
-    ensures refused { IfErr result (λ refusal. IsRefusedAt state.old path.now long refusal) }
+    ensures refused { IfErr result (λ refusal. IsPlaceRefused state.old path.now long refusal) }
     ensures placed { IfOk result (λ place. (m : PlainMount) → StandsFor state.old m → IsPath path.now
         → IsPlaceAt m path.now place) }
     ensures dir { IfOk result (λ place. IsDirAt state.new.disk place.dir) }

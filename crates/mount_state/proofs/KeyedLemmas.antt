@@ -48,8 +48,8 @@ use Rattle.mount_state.proofs.LedLemmas.{decided, led_by, name_of_entry}
 use Rattle.mount_state.proofs.StandLemmas.{context_is, id_sized}
 use Rattle.mount_state.proofs.UserLemmas.{some_from, users_from}
 
-names_key : (raw : List ℕ) (c : Context) → is_of_kind Names (key_from c raw) ≡ true
-names_key raw c = elim c.policy.by_mode as (λ b. is_of_kind Names (cond b (mode_key_of raw Names) (file_key_of raw Names c.nonce)) ≡ true) [ true ↦ refl | false ↦ refl ]
+is_names : (raw : List ℕ) (c : Context) → is_of_kind Names (key_from c raw) ≡ true
+is_names raw c = elim c.policy.by_mode as (λ b. is_of_kind Names (cond b (mode_key_of raw Names) (file_key_of raw Names c.nonce)) ≡ true) [ true ↦ refl | false ↦ refl ]
 
 -- a key that is drawn is one of names
 pub drawn_names : (ring : Holding) (c : Context) (key : FileKey) → drawn_key ring c ≡ Some key → is_of_kind Names key ≡ true
@@ -60,10 +60,10 @@ drawn_names ring c key is = by (secret_of ring c.policy.id) is
 
     by : (o : Option (List ℕ)) → option_map (key_from c) o ≡ Some key → is_of_kind Names key ≡ true
     by None bad = absurd (cc)
-    by (Some raw) is = ap (is_of_kind Names) (sym (same (key_from c raw) key is)) ∙ names_key raw c
+    by (Some raw) is = ap (is_of_kind Names) (sym (same (key_from c raw) key is)) ∙ is_names raw c
 
 pub is_names_key : (m : PlainMount) (c : Context) → is_of_kind Names (node_key m.raws c Names) ≡ true
-is_names_key m c = names_key (raw_for m.raws c) c
+is_names_key m c = is_names (raw_for m.raws c) c
 
 pub dir_kind : (o : Option Node) → is_dir_in o ≡ true → plain_kind o ≡ Names
 dir_kind None bad = refl

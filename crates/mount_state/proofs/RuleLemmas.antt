@@ -21,7 +21,7 @@ use Rattle.inode_refs.proofs.UserLemmas.{some_user as cached_user}
 use Rattle.dentry_cache.specs.Names.{NameList}
 use Rattle.disk_tree.specs.DiskTree.{Disk}
 use Rattle.mount_model.specs.PlainMount.{HandleList, has_handle}
-use Rattle.mount_state.specs.Contexts.{context_on_disk, kind_on_disk, names_id, has_own, has_shared, same_kind, names_key, uses_own, uses_mode}
+use Rattle.mount_state.specs.Contexts.{context_on_disk, kind_on_disk, names_id, has_own, has_shared, same_kind, names_key_on_disk, uses_own, uses_mode}
 use Rattle.mount_state.specs.CachedNames.{NamesForget}
 use Rattle.mount_state.specs.Discipline.{Forgets}
 use Rattle.mount_state.specs.Held.{HoldsNothing, is_in_use, is_unlocked, is_unlocked_under}
@@ -70,8 +70,8 @@ used_in modes used Contents = used.contents_used
 used_in modes used Names = used.names_used
 
 module _ (disk : Disk) (ring : Holding) (cache : Cache) (modes : Modes) (live : HandleList) (rule : Forgets disk ring.claims cache modes live) (id : KeyId) where
-  busy_with : (node : ℕ) → has_handle live node ≡ true → names_key disk node id ≡ true → is_in_use disk live id ≡ true
-  busy_with node held named = some_from (λ n. names_key disk n id) live node held named
+  busy_with : (node : ℕ) → has_handle live node ≡ true → names_key_on_disk disk node id ≡ true → is_in_use disk live id ≡ true
+  busy_with node held named = some_from (λ n. names_key_on_disk disk n id) live node held named
 
   -- a mode key with users is one that a handle needs
   mode_busy : (kind : KeyKind) → 1 ≤ users_in (of_kind modes kind) id → is_in_use disk live id ≡ true
@@ -93,17 +93,17 @@ module _ (disk : Disk) (ring : Holding) (cache : Cache) (modes : Modes) (live : 
       let one = cached_user cache id some in
       let pins = rule.pins.pinned one.0 in
       let key = one.1.1.0 in
-      let named : names_key disk one.0 key.id ≡ true = own_names key.id (context_on_disk (get disk one.0)) (rule.file_keys.named one.0 key one.1.1.1.0) in
+      let named : names_key_on_disk disk one.0 key.id ≡ true = own_names key.id (context_on_disk (get disk one.0)) (rule.file_keys.named one.0 key one.1.1.1.0) in
       let pinned : 0 < pins_of cache one.0 = elim (cases_lt 0 (pins_of cache one.0)) [
         | inl more ↦ more
         | inr none ↦ absurd (true≢false (sym (eq-eqb (pins_of cache one.0) 0 (omega arith)) ∙ one.1.0))
       ] in
-      busy_with one.0 (some_user (λ n. eqb n one.0) live (omega arith)) (ap (λ (k : KeyId). names_key disk one.0 k) (sym one.1.1.1.1) ∙ named)
+      busy_with one.0 (some_user (λ n. eqb n one.0) live (omega arith)) (ap (λ (k : KeyId). names_key_on_disk disk one.0 k) (sym one.1.1.1.1) ∙ named)
 
   -- where a handle needs the key, its node has pins and a key of it, or uses a mode key
   pub not_busy : inode_users cache id ≤ 0 → users_of modes id ≤ 0 → is_in_use disk live id ≡ false
   not_busy no_inodes no_modes = elim (cases_Bool (is_in_use disk live id)) [
-    | inl busy ↦ let one = one_on (λ n. names_key disk n id) live busy in absurd (needed one.0 one.1.0 one.1.1)
+    | inl busy ↦ let one = one_on (λ n. names_key_on_disk disk n id) live busy in absurd (needed one.0 one.1.0 one.1.1)
     | inr idle ↦ idle
   ]
     where
@@ -132,7 +132,7 @@ module _ (disk : Disk) (ring : Holding) (cache : Cache) (modes : Modes) (live : 
           let count : inode_users cache key.id ≡ inode_users cache id = ap (inode_users cache) same in
           omega arith
 
-      needed : (node : ℕ) → has_handle live node ≡ true → names_key disk node id ≡ true → ⊥
+      needed : (node : ℕ) → has_handle live node ≡ true → names_key_on_disk disk node id ≡ true → ⊥
       needed node held named = elim (cases_Bool (has_shared id (context_on_disk (get disk node)))) [
         | inl shared ↦ by_mode (kind_on_disk (get disk node)) node held (λ i. shared i && itself (kind_on_disk (get disk node)) i)
         | inr not_shared ↦
@@ -151,7 +151,7 @@ module _ (disk : Disk) (ring : Holding) (cache : Cache) (modes : Modes) (live : 
           absurd (true≢false (sym (mode_busy kind (omega arith)) ∙ idle))
 
   -- a directory whose context names a key without a claim, and that no handle needs, isn't keyed
-  not_keyed : is_present ring.claims id ≡ false → is_in_use disk live id ≡ false → (node : ℕ) → names_key disk node id ≡ true → is_unlocked disk ring.claims live node ≡ false
+  not_keyed : is_present ring.claims id ≡ false → is_in_use disk live id ≡ false → (node : ℕ) → names_key_on_disk disk node id ≡ true → is_unlocked disk ring.claims live node ≡ false
   not_keyed absent idle node named = by_context (context_on_disk (get disk node)) refl
     where
       no_handle : has_handle live node ≡ false
@@ -182,7 +182,7 @@ module _ (disk : Disk) (ring : Holding) (cache : Cache) (modes : Modes) (live : 
       | inr other ↦ other
     ];
     mode_keys = modeless;
-    plain_names = λ pair held. elim (cases_Bool (names_key disk pair.0.dir id)) [
+    plain_names = λ pair held. elim (cases_Bool (names_key_on_disk disk pair.0.dir id)) [
       | inl named ↦ absurd (true≢false (sym (remembers.keyed pair held) ∙ not_keyed absent idle pair.0.dir named))
       | inr other ↦ other
     ];
@@ -190,7 +190,7 @@ module _ (disk : Disk) (ring : Holding) (cache : Cache) (modes : Modes) (live : 
 
   pub held_not_busy : (names : NameList) → HoldsNothing disk ring cache modes names id → is_in_use disk live id ≡ false
   held_not_busy names nothing = elim (cases_Bool (is_in_use disk live id)) [
-    | inl busy ↦ let one = one_on (λ n. names_key disk n id) live busy in absurd (needed one.0 one.1.0 one.1.1)
+    | inl busy ↦ let one = one_on (λ n. names_key_on_disk disk n id) live busy in absurd (needed one.0 one.1.0 one.1.1)
     | inr idle ↦ idle
   ]
     where
@@ -207,7 +207,7 @@ module _ (disk : Disk) (ring : Holding) (cache : Cache) (modes : Modes) (live : 
           let same : key.id ≡ id = one_id key.id id (context_on_disk (get disk node)) (rule.file_keys.named node key is) own in
           true≢false (sym (ap (λ (k : KeyId). same_id k id) same ∙ same_id-refl id) ∙ nothing.file_keys node key is)
 
-      needed : (node : ℕ) → has_handle live node ≡ true → names_key disk node id ≡ true → ⊥
+      needed : (node : ℕ) → has_handle live node ≡ true → names_key_on_disk disk node id ≡ true → ⊥
       needed node held named = elim (cases_Bool (has_shared id (context_on_disk (get disk node)))) [
         | inl shared ↦ by_mode (kind_on_disk (get disk node)) node held (λ i. shared i && itself (kind_on_disk (get disk node)) i)
         | inr not_shared ↦

@@ -13,7 +13,7 @@ use Rattle.disk_tree.specs.DiskTree.{Disk}
 use Rattle.mount_model.specs.PlainMount.{PlainMount, Raws, HandleList, has_handle}
 use Rattle.mount_model.specs.States as plain
 use Rattle.mount_model.specs.WellFormed.{IsWellFormed, HasRaw}
-use Rattle.mount_state.specs.Contexts.{context_on_disk, names_id, names_key}
+use Rattle.mount_state.specs.Contexts.{context_on_disk, names_id, names_key_on_disk}
 use Rattle.mount_state.specs.Held.{is_in_use, is_unlocked, is_unlocked_under}
 use Rattle.mount_state.specs.Stored.{stored_node}
 use Rattle.mount_state.specs.StandsFor.{TreeStands}
@@ -52,13 +52,13 @@ module _ (disk : Disk) (next : ℕ) (m : PlainMount) (well : IsWellFormed m) (tr
   named id None size = refl
   named id (Some c) size = ap (λ (k : KeyId). same_id k id) (id_in-context_bytes c (size c refl))
 
-  pub names_stand : (id : KeyId) (n : ℕ) → names_key disk n id ≡ plain.names_key m.nodes n id
+  pub names_stand : (id : KeyId) (n : ℕ) → names_key_on_disk disk n id ≡ plain.names_key m.nodes n id
   names_stand id n = ap (names_id id) (context_is n) ∙ named id (context_at m.nodes n) (sized n (get m.nodes n) refl)
 
   pub busy_stands : (live : HandleList) → live ≡ m.handles → (id : KeyId) → is_in_use disk live id ≡ plain.is_busy m id
   busy_stands live same id =
       ap (λ (hs : HandleList). is_in_use disk hs id) same
-      ∙ some_alike (λ n. names_key disk n id) (λ n. plain.names_key m.nodes n id) m.handles (names_stand id)
+      ∙ some_alike (λ n. names_key_on_disk disk n id) (λ n. plain.names_key m.nodes n id) m.handles (names_stand id)
 
   keyed_by : (claims : ClaimSet) (live : HandleList) (n : ℕ) (o : Option Context) → ((c : Context) → o ≡ Some c → length c.policy.id.0 ≡ 16)
       → claims ≡ m.claims → live ≡ m.handles → is_unlocked_under claims live n (option_map context_bytes o) ≡ plain.is_keyed_under m n o

@@ -58,8 +58,8 @@ same_kind Names Names = true
 -- ---- nodes by number
 
 -- the node's context names the key
-abbrev pub names_key : Disk → ℕ → KeyId → Bool
-names_key disk node id = names_id id (context_on_disk (get disk node))
+abbrev pub names_key_on_disk : Disk → ℕ → KeyId → Bool
+names_key_on_disk disk node id = names_id id (context_on_disk (get disk node))
 
 -- it does, and the node has a file key of its own
 abbrev pub uses_own : Disk → ℕ → KeyId → Bool

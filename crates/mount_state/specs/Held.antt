@@ -16,7 +16,7 @@ use Rattle.disk_tree.specs.DiskTree.{Disk}
 use Rattle.mount_model.specs.PlainMount.{HandleList, has_handle}
 use Rattle.mount_model.specs.declared.reply.KeyState.{KeyState}
 use Rattle.mount_model.specs.States.{key_state_by}
-use Rattle.mount_state.specs.Contexts.{names_key, context_on_disk}
+use Rattle.mount_state.specs.Contexts.{names_key_on_disk, context_on_disk}
 
 -- neither the key's secret is held, nor a file key or a mode key that was drawn from it, nor a plain name of
 -- a directory whose context names it
@@ -25,11 +25,11 @@ pub record HoldsNothing (disk : Disk) (ring : Holding) (cache : Cache) (modes : 
   pub secret : secret_of ring id ≡ None
   pub file_keys : (node : ℕ) (key : NodeKey) → key_at cache node ≡ Some key → same_id key.id id ≡ false
   pub mode_keys : (kind : KeyKind) → mode_at modes id kind ≡ None
-  pub plain_names : (pair : Pair) → Contains names.pairs pair → names_key disk pair.0.dir id ≡ false
+  pub plain_names : (pair : Pair) → Contains names.pairs pair → names_key_on_disk disk pair.0.dir id ≡ false
 
 -- some handle is on a node whose context names the key
 abbrev pub is_in_use : Disk → HandleList → KeyId → Bool
-is_in_use disk live id = list_any (λ h. names_key disk h.node id) live
+is_in_use disk live id = list_any (λ h. names_key_on_disk disk h.node id) live
 
 -- Present where some user has a claim, else Incomplete where a handle needs the key
 abbrev pub key_state : Disk → ClaimSet → HandleList → KeyId → KeyState

@@ -4,7 +4,7 @@ ghost use Rattle.std.specs.Prelude.{◌≡◌, ◌+◌, ◌≤◌, true, false, 
 ghost use Rattle.byte_words.specs.Bytes.{AreBytes};
 ghost use Rattle.disk_tree.specs.Entries.{number_under};
 ghost use Rattle.disk_tree.specs.Nodes.{entries_of};
-ghost use Rattle.fsc_keys.specs.Keys.{key_bytes, kind_of};
+ghost use Rattle.fsc_keys.specs.Keys.{key_bytes, key_kind};
 ghost use Rattle.fsc_keys.specs.declared.file_keys.KeyKind.TheVariants.{Names};
 ghost use Rattle.key_ring.specs.Holding.{HoldsClaimedSecrets};
 ghost use Rattle.name_crypt.specs.Plain.{IsPlain};
@@ -139,7 +139,7 @@ impl MountState {
 
     /// Draws the key of the names from the secret, over another one of names; not where no user has a claim.
     pub fn draw_key(&self, context: &Context, key: &mut FileKey) -> bool
-        requires { kind_of key.old ≡ Names }
+        requires { key_kind key.old ≡ Names }
         ensures drawn { result ≡ true → drawn_key self.now.ring context.now ≡ Some key.new }
         ensures none { result ≡ false → drawn_key self.now.ring context.now ≡ None }
     {

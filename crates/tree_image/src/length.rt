@@ -4,7 +4,7 @@ ghost use Rattle.std.specs.Prelude.{◌≡◌, ◌+◌, length, map, IfSome};
 ghost use Rattle.hex.specs.Hex.{encode_lower};
 ghost use Rattle.text_words.specs.Numbers.{decimal_of};
 ghost use Rattle.image_lines.specs.ImageText.{block_line, body_lines, context_text, ended, entry_line, image_text};
-ghost use Rattle.image_lines.specs.ImageText.{kind_of, kind_text, node_lines};
+ghost use Rattle.image_lines.specs.ImageText.{told_kind, kind_text, node_lines};
 ghost use Rattle.tree_image.specs.Images.{image_node, image_of};
 ghost use Rattle.tree_image.specs.Order.{in_order, ordered};
 
@@ -42,7 +42,7 @@ fn numeral_len(number: u32) -> usize
 // Of what a node's line has behind its number.
 #[tactic(auto, using(crate::proofs::LengthLemmas::digits_are))]
 fn kind_len(context: &Option<[u8; 40]>, body: &Body) -> Option<usize>
-    ensures { IfSome result (λ len. len ≡ length (kind_text context.now (kind_of (ordered body.now)))) }
+    ensures { IfSome result (λ len. len ≡ length (kind_text context.now (told_kind (ordered body.now)))) }
 {
     let context = context_len(context)?;
     match body {

@@ -3,7 +3,7 @@
 ghost use Rattle.std.specs.Prelude.{◌≡◌, ◌++◌, [], ◌∷◌, IfOk, OnOk, map};
 ghost use Rattle.std.specs.List.{flat_map};
 ghost use Rattle.image_lines.specs.ImageText.{block_line, body_lines, context_text, ended, entry_line, image_text};
-ghost use Rattle.image_lines.specs.ImageText.{kind_of, kind_text, node_lines};
+ghost use Rattle.image_lines.specs.ImageText.{told_kind, kind_text, node_lines};
 ghost use Rattle.tree_image.specs.Images.{image_node, image_of};
 ghost use Rattle.tree_image.specs.Order.{ordered};
 
@@ -64,7 +64,7 @@ fn push_node(
 // Writes what a node's line has behind its number.
 fn push_kind(text: &mut Vec<u8>, context: &Option<[u8; 40]>, body: &Body) -> Result<(), AllocError>
     ensures { OnOk result (text.new.items
-        ≡ text.old.items ++ kind_text context.now (kind_of (ordered body.now))) }
+        ≡ text.old.items ++ kind_text context.now (told_kind (ordered body.now))) }
 {
     match body {
         Body::Dir(_) => {

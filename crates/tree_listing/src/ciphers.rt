@@ -3,7 +3,7 @@
 ghost use Rattle.std.specs.Prelude.{◌≡◌, ◌↔◌, ◌<◌, ◌≤◌, ◌^◌, [], true, Some, IsErr, IfOk, is_some, length, replicate};
 ghost use Rattle.mount_limits.specs.declared.TheConstants.{BLOCK_SIZE};
 ghost use Rattle.fsc_keys.specs.declared.file_keys.KeyKind.TheVariants.{Contents, Names};
-ghost use Rattle.fsc_keys.specs.Keys.{key_bytes, kind_of};
+ghost use Rattle.fsc_keys.specs.Keys.{key_bytes, key_kind};
 ghost use Rattle.data_crypt.specs.Blocks.{read_block};
 ghost use Rattle.data_crypt.specs.Units.{unit_count};
 ghost use Rattle.tree_listing.specs.Sights.{name_under, seal_in};
@@ -43,7 +43,7 @@ pub(crate) fn decipher(
 
 // Makes the round keys of a names key in their room.
 fn set_names_key(cipher: &mut Aes256, key: &FileKey)
-    requires { kind_of key.now ≡ Names }
+    requires { key_kind key.now ≡ Names }
     ensures { cipher.new ≡ key_bytes key.now }
 {
     match key {
@@ -96,7 +96,7 @@ fn set_cipher(
 
 // Makes the round keys of a contents key in their room.
 fn set_contents_key(cipher: &mut XtsKey, key: &FileKey)
-    requires { kind_of key.now ≡ Contents }
+    requires { key_kind key.now ≡ Contents }
     ensures { cipher.new ≡ key_bytes key.now }
 {
     match key {

@@ -4,7 +4,7 @@ ghost use Rattle.std.specs.Prelude.{◌≡◌, ◌≤◌, ◌-◌, ◌^◌, ◌%
 ghost use Rattle.byte_words.specs.Bytes.{AreBytes};
 ghost use Rattle.policy_ctx.specs.Context.{id_in};
 ghost use Rattle.policy_ctx.specs.KeyIds.{same_id};
-ghost use Rattle.fsc_keys.specs.Keys.{key_bytes, key_id_of, kind_of};
+ghost use Rattle.fsc_keys.specs.Keys.{key_bytes, key_id_of, key_kind};
 ghost use Rattle.tree_listing.specs.Sights as spec;
 ghost use Rattle.tree_listing.specs.Sights.{key_in};
 
@@ -48,7 +48,7 @@ impl<'k> Reader<'k> {
 
     // Writes the key of a node of this context over another of its kind.
     pub(crate) fn write_key(&self, context: &[u8; CONTEXT_LEN], key: &mut FileKey)
-        ensures key { key.new ≡ key_in self.now context.now (kind_of key.old) }
+        ensures key { key.new ≡ key_in self.now context.now (key_kind key.old) }
         ensures ranged { AreBytes (key_bytes key.new) }
     {
         if is_by_mode(context) {
