@@ -4,7 +4,6 @@ ghost use Rattle.std.specs.Prelude.{◌≡◌, ◌≤◌, length, OnOk, OnErr, O
 ghost use Rattle.argon_kdf.specs.CostLimits.{checked_costs};
 ghost use Rattle.argon_kdf.specs.Argon2id.{argon2id_tag};
 
-use crate::Costs;
 use crate::digest::{first_digest, write_tag};
 use crate::first_pass::first_pass;
 use crate::lanes::later_passes;
@@ -12,6 +11,7 @@ use crate::layout::Layout;
 use crate::limits::{LEAST_SALT_BYTES, MOST_TEXT_BYTES};
 use crate::slices::{last_column, reserved_slices};
 use crate::wiping::{wipe_block, wipe_slices};
+use crate::{Costs, Texts};
 use byte_words::wipe;
 use std::alloc::{AllocError, Global};
 use std::thread::Threads;
@@ -25,24 +25,22 @@ pub fn argon2id_lanes<R: Threads + Sync>(
     threads: &R,
     alloc: Global,
     costs: &Costs,
-    password: &[u8],
-    salt: &[u8],
-    secret: &[u8],
-    extra: &[u8],
+    texts: Texts,
     tag: &mut [u8; 32],
 ) -> Result<(), AllocError>
     requires costs { checked_costs costs.now ≡ Ok tt }
-    requires password { length password.now ≤ MOST_TEXT_BYTES }
-    requires salt_least { LEAST_SALT_BYTES ≤ length salt.now }
-    requires salt { length salt.now ≤ MOST_TEXT_BYTES }
-    requires secret { length secret.now ≤ MOST_TEXT_BYTES }
-    requires extra { length extra.now ≤ MOST_TEXT_BYTES }
-    ensures tag { OnOk result (tag.new ≡ argon2id_tag costs.now password.now salt.now secret.now extra.now) }
+    requires password { length texts.password.now ≤ MOST_TEXT_BYTES }
+    requires salt_least { LEAST_SALT_BYTES ≤ length texts.salt.now }
+    requires salt { length texts.salt.now ≤ MOST_TEXT_BYTES }
+    requires secret { length texts.secret.now ≤ MOST_TEXT_BYTES }
+    requires extra { length texts.extra.now ≤ MOST_TEXT_BYTES }
+    ensures tag { OnOk result (tag.new ≡ argon2id_tag costs.now texts.entry.password.now texts.entry.salt.now
+        texts.entry.secret.now texts.entry.extra.now) }
     ensures kept { OnErr result (tag.new ≡ tag.old) }
 {
     let layout = Layout::new(costs);
     let mut rooms = reserved_slices(alloc, layout)?;
-    let mut h0 = first_digest(costs, password, salt, secret, extra);
+    let mut h0 = first_digest(costs, texts);
     let made = first_pass(threads, alloc, layout, &h0, &mut rooms);
     wipe(&mut h0);
     let mut memory = made?;

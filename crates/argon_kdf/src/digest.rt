@@ -10,10 +10,10 @@ ghost use Rattle.argon_kdf.specs.LongDigest.{chained_digest, long_digest};
 ghost use Rattle.argon_kdf.specs.Filling.{first_block};
 ghost use Rattle.argon_kdf.specs.Argon2id.{first_digest};
 
-use crate::Costs;
 use crate::block::Block;
 use crate::block_bytes::{from_bytes, to_bytes};
 use crate::limits::{MOST_LANES, MOST_TEXT_BYTES};
+use crate::{Costs, Texts};
 use blake2_core::Blake2b;
 
 const VERSION: u32 = 0x13;
@@ -51,18 +51,13 @@ fn finish(hasher: Blake2b) -> [u8; 64]
 }
 
 // H_0, of all that goes in.
-pub(crate) fn first_digest(
-    costs: &Costs,
-    password: &[u8],
-    salt: &[u8],
-    secret: &[u8],
-    extra: &[u8],
-) -> [u8; 64]
-    requires password { length password.now ≤ MOST_TEXT_BYTES }
-    requires salt { length salt.now ≤ MOST_TEXT_BYTES }
-    requires secret { length secret.now ≤ MOST_TEXT_BYTES }
-    requires extra { length extra.now ≤ MOST_TEXT_BYTES }
-    ensures { result ≡ first_digest costs.now password.now salt.now secret.now extra.now }
+pub(crate) fn first_digest(costs: &Costs, texts: Texts) -> [u8; 64]
+    requires password { length texts.password.now ≤ MOST_TEXT_BYTES }
+    requires salt { length texts.salt.now ≤ MOST_TEXT_BYTES }
+    requires secret { length texts.secret.now ≤ MOST_TEXT_BYTES }
+    requires extra { length texts.extra.now ≤ MOST_TEXT_BYTES }
+    ensures { result ≡ first_digest costs.now texts.entry.password.now texts.entry.salt.now
+        texts.entry.secret.now texts.entry.extra.now }
 {
     let mut hasher = Blake2b::new(64);
     update_number(&mut hasher, costs.lanes);
@@ -71,10 +66,10 @@ pub(crate) fn first_digest(
     update_number(&mut hasher, costs.passes);
     update_number(&mut hasher, VERSION);
     update_number(&mut hasher, TYPE);
-    update_counted(&mut hasher, password);
-    update_counted(&mut hasher, salt);
-    update_counted(&mut hasher, secret);
-    update_counted(&mut hasher, extra);
+    update_counted(&mut hasher, texts.password);
+    update_counted(&mut hasher, texts.salt);
+    update_counted(&mut hasher, texts.secret);
+    update_counted(&mut hasher, texts.extra);
     finish(hasher)
 }
 

@@ -20,6 +20,7 @@ pub use limits::{
 };
 use std::alloc::{AllocError, Global};
 pub use stretch::{LaneStretch, PlainStretch, Stretch};
+pub use texts::Texts;
 use wiping::{wipe_block, wipe_blocks};
 
 mod block;
@@ -37,6 +38,7 @@ mod reference;
 mod segment;
 mod slices;
 mod stretch;
+mod texts;
 mod wiping;
 
 // Memory full of zeros.
@@ -52,29 +54,26 @@ fn zero_blocks(alloc: Global, count: usize) -> Result<Vec<Block>, AllocError>
 
 /// Writes the tag of 32 bytes that Argon2id makes of a password, a salt, a secret and further bytes.
 ///
-/// The salt has 8 to 1,024 bytes, the other texts at most 1,024. All memory, `kib` KiB, is taken first:
-/// the one error is want of it, and then the tag is as it was.
+/// All memory, `kib` KiB, is taken first: the one error is want of it, and then the tag is as it was.
 pub fn argon2id(
     alloc: Global,
     costs: &Costs,
-    password: &[u8],
-    salt: &[u8],
-    secret: &[u8],
-    extra: &[u8],
+    texts: Texts,
     tag: &mut [u8; 32],
 ) -> Result<(), AllocError>
     requires costs { checked_costs costs.now ≡ Ok tt }
-    requires password { length password.now ≤ MOST_TEXT_BYTES }
-    requires salt_least { LEAST_SALT_BYTES ≤ length salt.now }
-    requires salt { length salt.now ≤ MOST_TEXT_BYTES }
-    requires secret { length secret.now ≤ MOST_TEXT_BYTES }
-    requires extra { length extra.now ≤ MOST_TEXT_BYTES }
-    ensures tag { OnOk result (tag.new ≡ argon2id_tag costs.now password.now salt.now secret.now extra.now) }
+    requires password { length texts.password.now ≤ MOST_TEXT_BYTES }
+    requires salt_least { LEAST_SALT_BYTES ≤ length texts.salt.now }
+    requires salt { length texts.salt.now ≤ MOST_TEXT_BYTES }
+    requires secret { length texts.secret.now ≤ MOST_TEXT_BYTES }
+    requires extra { length texts.extra.now ≤ MOST_TEXT_BYTES }
+    ensures tag { OnOk result (tag.new ≡ argon2id_tag costs.now texts.entry.password.now texts.entry.salt.now
+        texts.entry.secret.now texts.entry.extra.now) }
     ensures kept { OnErr result (tag.new ≡ tag.old) }
 {
     let layout = Layout::new(costs);
     let mut memory = zero_blocks(alloc, layout.block_count())?;
-    let mut h0 = first_digest(costs, password, salt, secret, extra);
+    let mut h0 = first_digest(costs, texts);
     fill(layout, &h0, &mut memory);
     wipe(&mut h0);
     let mut last = last_column(layout, &memory);

@@ -1,32 +1,33 @@
 //! Stretching as a value that a caller is given: on one thread, or by lanes at the same time.
 
 ghost use Rattle.std.specs.Prelude.{◌≡◌, ◌≤◌, [], length, OnOk, OnErr, Ok};
-ghost use Rattle.std.specs.Thread.{IsSync};
 ghost use Rattle.argon_kdf.specs.CostLimits.{checked_costs};
 ghost use Rattle.argon_kdf.specs.Argon2id.{argon2id_tag};
 
 use crate::limits::{LEAST_SALT_BYTES, MOST_TEXT_BYTES};
-use crate::{Costs, argon2id, argon2id_lanes};
+use crate::{Costs, Texts, argon2id, argon2id_lanes};
 use std::alloc::{AllocError, Global};
 use std::thread::Threads;
 
-/// A way to stretch a password.
+/// A way to stretch a password, with the threads that it takes, if it takes any.
 pub trait Stretch {
+    // Whether it may be called.
+    ghost ready: { Self → Type 0 };
+
     /// Writes the tag of 32 bytes that Argon2id makes of a password and a salt (RFC 9106, section 3.2),
     /// with no secret and no further bytes.
     ///
-    /// The salt has 8 to 1,024 bytes, the password at most 1,024. `threads` is where threads may be taken
-    /// from. The one error is want of memory, and then the tag is as it was.
-    fn stretch<R: Threads + Sync>(
+    /// The salt has 8 to 1,024 bytes, the password at most 1,024. The one error is want of memory, and then the
+    /// tag is as it was.
+    fn stretch(
         &self,
-        threads: &R,
         alloc: Global,
         costs: &Costs,
         password: &[u8],
         salt: &[u8],
         tag: &mut [u8; 32],
     ) -> Result<(), AllocError>
-        requires threads { IsSync R.row }
+        requires ready { ready self.now }
         requires costs { checked_costs costs.now ≡ Ok tt }
         requires password { length password.now ≤ MOST_TEXT_BYTES }
         requires salt_least { LEAST_SALT_BYTES ≤ length salt.now }
@@ -35,38 +36,47 @@ pub trait Stretch {
         ensures kept { OnErr result (tag.new ≡ tag.old) };
 }
 
-/// Stretches on the caller's thread, as [`argon2id`] does: it takes no thread.
+/// Stretch on the caller's thread, as [`argon2id`] does.
 #[derive(Clone, Copy)]
 pub struct PlainStretch;
 
 impl Stretch for PlainStretch {
-    fn stretch<R: Threads + Sync>(
+    ghost use Rattle.std.specs.Prelude.{⊤};
+
+    ghost ready = { λ _. ⊤ };
+
+    fn stretch(
         &self,
-        _threads: &R,
         alloc: Global,
         costs: &Costs,
         password: &[u8],
         salt: &[u8],
         tag: &mut [u8; 32],
     ) -> Result<(), AllocError> {
-        argon2id(alloc, costs, password, salt, &[], &[], tag)
+        argon2id(alloc, costs, Texts::unkeyed(password, salt), tag)
     }
 }
 
-/// Stretches in at most one thread a lane, as [`argon2id_lanes`] does.
-#[derive(Clone, Copy)]
-pub struct LaneStretch;
+/// Stretch in at most one of these threads a lane, as [`argon2id_lanes`] does.
+#[derive(Drop)]
+pub struct LaneStretch<'a, R> {
+    pub threads: &'a R,
+}
 
-impl Stretch for LaneStretch {
-    fn stretch<R: Threads + Sync>(
+impl<'a, R: Threads + Sync> Stretch for LaneStretch<'a, R> {
+    ghost use Rattle.std.specs.Thread.{IsSync};
+
+    ghost ready = { λ _. IsSync R.row };
+
+    fn stretch(
         &self,
-        threads: &R,
         alloc: Global,
         costs: &Costs,
         password: &[u8],
         salt: &[u8],
         tag: &mut [u8; 32],
     ) -> Result<(), AllocError> {
-        argon2id_lanes(threads, alloc, costs, password, salt, &[], &[], tag)
+        let texts = Texts::unkeyed(password, salt);
+        argon2id_lanes(self.threads, alloc, costs, texts, tag)
     }
 }

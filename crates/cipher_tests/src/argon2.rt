@@ -1,8 +1,9 @@
 //! Argon2id against its RFC and another implementation, and its lanes at once.
 
-use argon_kdf::{CostFault, Costs, LaneStretch, PlainStretch, Stretch, argon2id, argon2id_lanes};
+use argon_kdf::{
+    CostFault, Costs, LaneStretch, PlainStretch, Stretch, Texts, argon2id, argon2id_lanes,
+};
 use std::alloc::{AllocError, Global};
-use std::thread::Threads;
 
 // RFC 9106, section 5.3.
 #[test]
@@ -17,28 +18,17 @@ fn argon2id_example(rt: HostRuntime) -> Result<(), AllocError> {
         kib: 32,
         lanes: 4,
     };
+    let texts = Texts {
+        password: &[1; 32],
+        salt: &[2; 16],
+        secret: &[3; 8],
+        extra: &[4; 12],
+    };
     let mut tag = [0; 32];
-    argon2id(
-        rt.alloc(),
-        &costs,
-        &[1; 32],
-        &[2; 16],
-        &[3; 8],
-        &[4; 12],
-        &mut tag,
-    )?;
+    argon2id(rt.alloc(), &costs, texts, &mut tag)?;
     assert_eq!(rt; tag, want);
     let mut by_lanes = [0; 32];
-    argon2id_lanes(
-        &rt,
-        rt.alloc(),
-        &costs,
-        &[1; 32],
-        &[2; 16],
-        &[3; 8],
-        &[4; 12],
-        &mut by_lanes,
-    )?;
+    argon2id_lanes(&rt, rt.alloc(), &costs, texts, &mut by_lanes)?;
     assert_eq!(rt; by_lanes, want);
     Ok(())
 }
@@ -55,25 +45,9 @@ fn lanes_at_once_end_with_the_tag(rt: HostRuntime) -> Result<(), AllocError> {
             };
             let mut one = [0; 32];
             let mut other = [1; 32];
-            argon2id(
-                rt.alloc(),
-                &costs,
-                b"password",
-                b"somesalt",
-                b"",
-                b"",
-                &mut one,
-            )?;
-            argon2id_lanes(
-                &rt,
-                rt.alloc(),
-                &costs,
-                b"password",
-                b"somesalt",
-                b"",
-                b"",
-                &mut other,
-            )?;
+            let texts = Texts::unkeyed(b"password", b"somesalt");
+            argon2id(rt.alloc(), &costs, texts, &mut one)?;
+            argon2id_lanes(&rt, rt.alloc(), &costs, texts, &mut other)?;
             assert_eq!(rt; one, other, "{lanes} lanes, {passes} passes");
         }
     }
@@ -96,27 +70,17 @@ const LONG_SEGMENTS_TAG: [u8; 32] = [
 #[test]
 fn segments_of_more_than_128_columns(rt: HostRuntime) -> Result<(), AllocError> {
     let mut tag = [0; 32];
-    argon2id(
-        rt.alloc(),
-        &LONG_SEGMENTS,
-        b"password",
-        b"somesaltsomesalt",
-        b"",
-        b"",
-        &mut tag,
-    )?;
+    let texts = Texts::unkeyed(b"password", b"somesaltsomesalt");
+    argon2id(rt.alloc(), &LONG_SEGMENTS, texts, &mut tag)?;
     assert_eq!(rt; tag, LONG_SEGMENTS_TAG);
     Ok(())
 }
 
-fn stretched_by<S: Stretch, R: Threads + Sync>(
-    stretch: &S,
-    threads: &R,
-    alloc: Global,
-) -> Result<[u8; 32], AllocError> {
+fn stretched_by<S: Stretch>(stretch: &S, alloc: Global) -> Result<[u8; 32], AllocError>
+    requires { S.ready stretch.now }
+{
     let mut tag = [0; 32];
     stretch.stretch(
-        threads,
         alloc,
         &LONG_SEGMENTS,
         b"password",
@@ -128,12 +92,9 @@ fn stretched_by<S: Stretch, R: Threads + Sync>(
 
 #[test]
 fn stretches_with_and_without_threads(rt: HostRuntime) -> Result<(), AllocError> {
+    assert_eq!(rt; stretched_by(&PlainStretch, rt.alloc())?, LONG_SEGMENTS_TAG);
     assert_eq!(rt;
-        stretched_by(&PlainStretch, &rt, rt.alloc())?,
-        LONG_SEGMENTS_TAG
-    );
-    assert_eq!(rt;
-        stretched_by(&LaneStretch, &rt, rt.alloc())?,
+        stretched_by(&LaneStretch { threads: &rt }, rt.alloc())?,
         LONG_SEGMENTS_TAG
     );
     Ok(())

@@ -13,8 +13,8 @@ use crate::draws::Purpose;
 use crate::new_records::{new_kind, new_wrapping_key};
 use crate::opened::OpenedProtector;
 use crate::stop::Stop;
-use crate::stretches::Stretches;
 use crate::work::{Caller, Opener, Work};
+use argon_kdf::Stretch;
 use byte_words::wipe;
 use mount_model::MountPort;
 use protector_meta::{Protector, rewrap};
@@ -22,7 +22,7 @@ use reply_text::Outcome;
 use script_lang::NewSecret;
 use std::alloc::AllocError;
 
-impl<'a, S: Stretches> Work<'a, S> {
+impl<'a, S: Stretch> Work<'a, S> {
     // Gives a protector another secret; its key stays. The key is overwritten.
     pub(crate) fn protector_change<P: MountPort>(
         &self,

@@ -12,10 +12,10 @@ ghost use Rattle.fsc_commands.specs.declared.TheConstants.{MOST_CALLS};
 
 use crate::calls::plain_op;
 use crate::stop::Stop;
-use crate::stretches::Stretches;
 use crate::turn::Turn;
 use crate::work::{Caller, Work};
 use crate::{EntryList, MOST_CALLS};
+use argon_kdf::Stretch;
 use mount_model::{MountPort, Op};
 use reply_text::Outcome;
 use script_lang::Verb;
@@ -26,7 +26,7 @@ use std::alloc::{AllocError, Global};
 /// the command's steps begin. It is never inlined, so that what it leaves on the stack lies below who called
 /// it.
 #[inline(never)]
-pub fn run_command<P: MountPort, S: Stretches>(
+pub fn run_command<P: MountPort, S: Stretch>(
     alloc: Global,
     port: &mut P,
     stretches: &S,
@@ -61,7 +61,7 @@ pub fn run_command<P: MountPort, S: Stretches>(
     }
 }
 
-impl<'a, S: Stretches> Work<'a, S> {
+impl<'a, S: Stretch> Work<'a, S> {
     // Runs a command: the one call that it is, or a session's work.
     fn run<P: MountPort>(
         &self,

@@ -25,7 +25,6 @@ mod session;
 mod stars;
 mod stop;
 mod stores;
-mod stretches;
 mod told;
 mod turn;
 mod unlocking;
@@ -42,7 +41,6 @@ use mount_model::Reply;
 pub use new_records::made_records_open;
 use reply_text::Shown;
 pub use stars::path_meant;
-pub use stretches::{InThreads, OnOneThread, Stretches};
 pub use turn::Turn;
 pub use wiping::wipe_call;
 

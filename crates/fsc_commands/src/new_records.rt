@@ -8,7 +8,7 @@ ghost use Rattle.fsc_commands.specs.MadeRecords.{MadeProtectorsOpen, MadeWrapsOp
 ghost use Rattle.fsc_commands.specs.MadeRecords.{ChangedProtectorsOpen, OpenedPoliciesAreNamed};
 ghost use Rattle.fsc_commands.specs.NewRecords as spec;
 
-use crate::stretches::Stretches;
+use argon_kdf::Stretch;
 use byte_words::wipe;
 use key_wrap::{unwrapping_undoes_wrapping, wrap};
 use policy_ctx::{Pad, Unit};
@@ -27,7 +27,7 @@ pub(crate) struct ProtectorParts {
 }
 
 // The protector of this label with this key, which a new secret opens.
-pub(crate) fn made_protector<S: Stretches>(
+pub(crate) fn made_protector<S: Stretch>(
     alloc: Global,
     stretches: &S,
     label: &Label,
@@ -94,7 +94,7 @@ pub(crate) fn new_kind(salt: &[u8; 16], new: &NewSecret) -> ProtectorKind
 
 // The wrapping key of a new secret: the secret itself, or what the passphrase is stretched to with this
 // salt.
-pub(crate) fn new_wrapping_key<S: Stretches>(
+pub(crate) fn new_wrapping_key<S: Stretch>(
     alloc: Global,
     stretches: &S,
     salt: &[u8; 16],

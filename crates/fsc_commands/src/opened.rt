@@ -10,7 +10,7 @@ ghost use Rattle.fsc_commands.specs.Stopped.{Gives, IfNoMemory};
 
 use crate::loaded::{LoadedPolicy, LoadedProtector, policy_loaded, protector_loaded};
 use crate::stop::Stop;
-use crate::stretches::Stretches;
+use argon_kdf::Stretch;
 use byte_words::wipe;
 use fsc_keys::{KeyId, RawKey, key_id};
 use key_wrap::unwrap;
@@ -36,7 +36,7 @@ pub(crate) struct OpenedPolicy {
 }
 
 // The protector of this label opened with a secret, by the reply to loading its record.
-pub(crate) fn protector_opened<S: Stretches>(
+pub(crate) fn protector_opened<S: Stretch>(
     alloc: Global,
     stretches: &S,
     label: &Label,
@@ -54,7 +54,7 @@ pub(crate) fn protector_opened<S: Stretches>(
 }
 
 // A protector opened with a secret. The wrapping key is overwritten.
-fn protector_by<S: Stretches>(
+fn protector_by<S: Stretch>(
     alloc: Global,
     stretches: &S,
     secret: &Secret,
@@ -102,7 +102,7 @@ pub(crate) fn policy_opened(
 // The wrapping key that a secret gives, where the protector's is of that kind: the secret itself, or what
 // the passphrase is stretched to. Another kind is told before anything is stretched, and so is never want of
 // memory.
-pub(crate) fn wrapping_key<S: Stretches>(
+pub(crate) fn wrapping_key<S: Stretch>(
     alloc: Global,
     stretches: &S,
     secret: &Secret,
@@ -129,7 +129,7 @@ pub(crate) fn wrapping_key<S: Stretches>(
 }
 
 // What a passphrase is stretched to.
-fn stretched<S: Stretches>(
+fn stretched<S: Stretch>(
     alloc: Global,
     stretches: &S,
     passphrase: &[u8],

@@ -10,14 +10,14 @@ ghost use Rattle.fsc_commands.specs.Work.{MayAsk, WorkedPart};
 use crate::meant::record_name;
 use crate::opened::{OpenedPolicy, OpenedProtector, policy_opened, protector_opened};
 use crate::stop::Stop;
-use crate::stretches::Stretches;
 use crate::work::{Caller, Opener, Work};
+use argon_kdf::Stretch;
 use byte_words::wipe;
 use mount_model::{MountPort, Op};
 use script_lang::Record;
 use short_bytes::Label;
 
-impl<'a, S: Stretches> Work<'a, S> {
+impl<'a, S: Stretch> Work<'a, S> {
     // Loads a protector, and opens it with its secret. Its key is overwritten where there is no memory for
     // the entry.
     pub(crate) fn open_protector<P: MountPort>(

@@ -11,9 +11,9 @@ ghost use Rattle.fsc_commands.specs.declared.TheConstants.{MOST_CALLS};
 use crate::drawn::iv_drawn;
 use crate::loaded::LoadedPolicy;
 use crate::stop::Stop;
-use crate::stretches::Stretches;
 use crate::work::{Caller, Opener, Work};
 use crate::wrapping::{made_wrap, policy_with, room_for};
+use argon_kdf::Stretch;
 use byte_words::wipe;
 use fsc_keys::RawKey;
 use mount_model::MountPort;
@@ -22,7 +22,7 @@ use reply_text::Outcome;
 use short_bytes::Label;
 use std::alloc::AllocError;
 
-impl<'a, S: Stretches> Work<'a, S> {
+impl<'a, S: Stretch> Work<'a, S> {
     // Lets a further protector open a policy, whose key another one gives. All keys are overwritten.
     pub(crate) fn policy_add<P: MountPort>(
         &self,

@@ -11,9 +11,9 @@ ghost use Rattle.fsc_commands.specs.declared.TheConstants.{MOST_CALLS};
 use crate::drawn::{iv_drawn, policy_key_drawn};
 use crate::new_records::usual_options;
 use crate::stop::Stop;
-use crate::stretches::Stretches;
 use crate::work::{Caller, Opener, Work};
 use crate::wrapping::made_wrap;
+use argon_kdf::Stretch;
 use byte_words::wipe;
 use fsc_keys::{KeyId, RawKey, key_id};
 use mount_model::MountPort;
@@ -23,7 +23,7 @@ use script_lang::Options as SaidOptions;
 use short_bytes::Label;
 use std::alloc::AllocError;
 
-impl<'a, S: Stretches> Work<'a, S> {
+impl<'a, S: Stretch> Work<'a, S> {
     // Makes a policy that a protector opens. The keys of both are overwritten.
     pub(crate) fn policy_new<P: MountPort>(
         &self,

@@ -12,8 +12,8 @@ use crate::drawn::{iv_drawn, key_drawn, salt_drawn};
 use crate::draws::Purpose;
 use crate::new_records::{ProtectorParts, made_protector};
 use crate::stop::Stop;
-use crate::stretches::Stretches;
 use crate::work::{Caller, Work};
+use argon_kdf::Stretch;
 use byte_words::wipe;
 use mount_model::MountPort;
 use protector_meta::Protector;
@@ -22,7 +22,7 @@ use script_lang::NewSecret;
 use short_bytes::Label;
 use std::alloc::AllocError;
 
-impl<'a, S: Stretches> Work<'a, S> {
+impl<'a, S: Stretch> Work<'a, S> {
     // Makes a protector that a new secret opens.
     pub(crate) fn protector<P: MountPort>(
         &self,

@@ -14,15 +14,15 @@ ghost use Rattle.fsc_commands.specs.declared.TheConstants.{MOST_CALLS};
 use crate::opened::OpenedPolicy;
 use crate::outcomes::Wanted;
 use crate::stop::Stop;
-use crate::stretches::Stretches;
 use crate::work::{Caller, Opener, Work};
+use argon_kdf::Stretch;
 use byte_words::wipe;
 use item_list::Bytes;
 use mount_model::{MountPort, Op};
 use reply_text::Outcome;
 use short_bytes::Label;
 
-impl<'a, S: Stretches> Work<'a, S> {
+impl<'a, S: Stretch> Work<'a, S> {
     // Adds the key of a policy that a protector opens. Both keys are overwritten.
     pub(crate) fn unlock<P: MountPort>(
         &self,

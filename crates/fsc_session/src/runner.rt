@@ -13,7 +13,8 @@ ghost use Rattle.fsc_commands.specs.declared.TheConstants.{MOST_CALLS};
 
 use crate::NoteList;
 use crate::stack::scrub_stack;
-use fsc_commands::{EntryList, MOST_CALLS, Stretches, Turn, run_command};
+use argon_kdf::Stretch;
+use fsc_commands::{EntryList, MOST_CALLS, Turn, run_command};
 use mount_model::MountPort;
 use reply_text::{Note, Outcome};
 use script_lang::{Command, Section, Verb};
@@ -73,7 +74,7 @@ impl<'a> Runner<'a> {
     /// the calls made by then are those with which the command's steps begin, and the runner is spent. A step
     /// of a spent runner answers that error, and makes no call. Behind each command `scrub_stack` overwrites what
     /// it left on the stack.
-    pub fn step<P: MountPort, S: Stretches>(
+    pub fn step<P: MountPort, S: Stretch>(
         &mut self,
         alloc: Global,
         port: &mut P,
@@ -156,7 +157,7 @@ impl<'a> Runner<'a> {
 
 // Runs a command. What it left on the stack is overwritten, however it ended: also one that names no key draws
 // nonces from the seed, and keys of the nodes on its path.
-fn run_scrubbed<P: MountPort, S: Stretches>(
+fn run_scrubbed<P: MountPort, S: Stretch>(
     alloc: Global,
     port: &mut P,
     stretches: &S,
@@ -184,7 +185,7 @@ fn run_scrubbed<P: MountPort, S: Stretches>(
 
 // The same, in a frame of its own, so that all that it leaves lies below the frame whose scrub overwrites it.
 #[inline(never)]
-fn run_below<P: MountPort, S: Stretches>(
+fn run_below<P: MountPort, S: Stretch>(
     alloc: Global,
     port: &mut P,
     stretches: &S,

@@ -8,7 +8,7 @@ ghost use Rattle.fsc_commands.specs.declared.TheConstants.{MOST_CALLS};
 
 use crate::runner::{Ran, Runner};
 use crate::stack::scrub_stack;
-use fsc_commands::Stretches;
+use argon_kdf::Stretch;
 use fsc_outside::Gate;
 use mount_model::MountPort;
 use script_lang::Section;
@@ -19,7 +19,7 @@ use std::alloc::{AllocError, Global};
 /// memory in a command it is not. The port has four calls left for each command. In the end `scrub_stack`
 /// overwrites what they left on the stack. The one error is want of memory: then the calls are those of the
 /// commands that were run, and behind them those with which the next command's steps begin.
-pub fn run_caller<P: MountPort, G: Gate, S: Stretches>(
+pub fn run_caller<P: MountPort, G: Gate, S: Stretch>(
     alloc: Global,
     port: &mut P,
     gate: &G,

@@ -6,7 +6,7 @@ ghost use Rattle.blake2_core.specs.Digest.{blake2b_digest};
 ghost use Rattle.argon_kdf.specs.CostLimits.{checked_costs};
 ghost use Rattle.argon_kdf.specs.Argon2id.{argon2id_tag};
 
-use argon_kdf::{Costs, argon2id, argon2id_lanes};
+use argon_kdf::{Costs, Texts, argon2id, argon2id_lanes};
 use blake2_core::Blake2b;
 use sha2::{Digest, Sha256};
 use std::alloc::{AllocError, Global};
@@ -67,7 +67,7 @@ fn blake2b_of(start: &[u8; 64], message: &[u8]) -> [u8; 64]
     digest
 }
 
-/// Stretches the tag of the run before, again and again.
+/// Stretch the tag of the run before, again and again.
 #[tactic(auto, using(crate::proofs::Repeating::iterate_more))]
 pub(crate) fn argon2id_tags(
     alloc: Global,
@@ -81,7 +81,7 @@ pub(crate) fn argon2id_tags(
     let mut tag = [0; 32];
     for _ in 0..count {
         let password = tag;
-        argon2id(alloc, costs, &password, &SALT, &[], &[], &mut tag)?;
+        argon2id(alloc, costs, Texts::unkeyed(&password, &SALT), &mut tag)?;
     }
     Ok(Sha256::digest(&tag))
 }
@@ -101,7 +101,8 @@ pub(crate) fn argon2id_tags_by_lanes<R: Threads + Sync>(
     let mut tag = [0; 32];
     for _ in 0..count {
         let password = tag;
-        argon2id_lanes(threads, alloc, costs, &password, &SALT, &[], &[], &mut tag)?;
+        let texts = Texts::unkeyed(&password, &SALT);
+        argon2id_lanes(threads, alloc, costs, texts, &mut tag)?;
     }
     Ok(Sha256::digest(&tag))
 }

@@ -14,8 +14,8 @@ use crate::parting::parted;
 use crate::replay::{input_status, script_status, wipe_input};
 use crate::status::Status;
 use crate::{MOST_INPUT_BYTES, MOST_INPUT_LINES};
+use argon_kdf::PlainStretch;
 use byte_words::wipe;
-use fsc_commands::OnOneThread;
 use fsc_outside::{Source, read_all};
 use fsc_session::scrub_stack;
 use log_check::{Verdict, check_log};
@@ -104,5 +104,5 @@ fn verdict(
 {
     let mount = Mount::new(alloc)?;
     let mut one = OneMount { mount };
-    check_log(alloc, &OnOneThread, script, seed, log, &mut one)
+    check_log(alloc, &PlainStretch, script, seed, log, &mut one)
 }

@@ -16,8 +16,8 @@ use crate::status::Status;
 use crate::summary::wants_memory;
 use crate::told::Told;
 use crate::writing::write_text;
+use argon_kdf::PlainStretch;
 use byte_words::wipe;
-use fsc_commands::OnOneThread;
 use fsc_outside::{Gate, SeedSource, Sink, Source};
 use item_list::Bytes;
 use mount_shared::Mount;
@@ -70,7 +70,7 @@ fn run_on_mount<G: Gate>(
     ensures { IfOk result (λ r. RanOnMount seed.now script.now r.0.entries.items r.0.notes.items r.1.state) }
 {
     let mount = Mount::new(alloc)?;
-    rotate(alloc, script, seed, gate, &OnOneThread, mount)
+    rotate(alloc, script, seed, gate, &PlainStretch, mount)
 }
 
 // The image of the mount that a run left. A run in which a call wanted memory has none: what it would show depends

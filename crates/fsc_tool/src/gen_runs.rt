@@ -9,7 +9,7 @@ use crate::rotation::run_in_rotation;
 use crate::status::Status;
 use crate::summary::{summary_text, wants_memory};
 use crate::writing::write_text;
-use fsc_commands::OnOneThread;
+use argon_kdf::PlainStretch;
 use fsc_outside::{Gate, Sink};
 use item_list::Bytes;
 use load_gen::{generate, generate_script};
@@ -55,7 +55,7 @@ fn summary_of<G: Gate, M: MountMachine>(
     ensures { IfOk result (λ text. SummaryOfRun M.lawful number text) }
 {
     let script = generate_script(alloc, number)?;
-    let told = run_in_rotation(alloc, &script, &zero_seed(), gate, &OnOneThread, machine)?;
+    let told = run_in_rotation(alloc, &script, &zero_seed(), gate, &PlainStretch, machine)?;
     let history = history_of(alloc, told.entries)?;
     if wants_memory(history.as_slice()) {
         return Err(AllocError);

@@ -14,8 +14,8 @@ use crate::form::Seeding;
 use crate::replay::prepare;
 use crate::status::Status;
 use crate::writing::write_text;
+use argon_kdf::PlainStretch;
 use byte_words::wipe;
-use fsc_commands::OnOneThread;
 use fsc_outside::{Gate, SeedSource, Sink, Source};
 use linked_turns::{LinkedTold, linked_log, run_linked_in_rotation};
 use mount_shared::MountMachine;
@@ -58,7 +58,7 @@ pub(crate) fn run_linked<S: Source, K: Sink, E: SeedSource, G: Gate, M: MountMac
         &run.script,
         &run.seed,
         gate,
-        &OnOneThread,
+        &PlainStretch,
         machines.machine,
         machines.far,
     );

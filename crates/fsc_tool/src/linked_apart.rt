@@ -13,7 +13,6 @@ use crate::replay::prepare;
 use crate::status::Status;
 use argon_kdf::LaneStretch;
 use byte_words::wipe;
-use fsc_commands::InThreads;
 use fsc_outside::{Gate, SeedSource, Sink, Source};
 use linked_threads::{Mounts, run_linked_in_threads};
 use mount_shared::MountMachine;
@@ -53,10 +52,7 @@ pub(crate) fn run_linked_apart<
         Ok(run) => run,
         Err(status) => return status,
     };
-    let stretches = InThreads {
-        threads: rt,
-        way: &LaneStretch,
-    };
+    let stretches = LaneStretch { threads: rt };
     let ran = run_linked_in_threads(rt, alloc, &run.script, &run.seed, gate, &stretches, mounts);
     run.wipe(alloc);
     let told = match ran {

@@ -12,8 +12,9 @@ ghost use Rattle.fsc_tool.specs.Runs.{IsRunBefore, IsSerialRun, TellsRun};
 
 use crate::ranged_port::RangedPort;
 use crate::told::Told;
+use argon_kdf::Stretch;
 use call_history::{MOST_PLACES, sort_by_place};
-use fsc_commands::{MOST_CALLS, Stretches};
+use fsc_commands::MOST_CALLS;
 use fsc_outside::Gate;
 use fsc_session::{Runner, scrub_stack};
 use mount_shared::{MountMachine, SerialMount};
@@ -22,7 +23,7 @@ use std::alloc::{AllocError, Global};
 
 // What a run of the script in rotation tells, its entries in order of place: command 0 of each caller that
 // has one, then command 1, and so on, each between the gate's two calls.
-pub(crate) fn run_in_rotation<G: Gate, S: Stretches, M: MountMachine>(
+pub(crate) fn run_in_rotation<G: Gate, S: Stretch, M: MountMachine>(
     alloc: Global,
     script: &Script,
     seed: &[u8; 32],
@@ -41,7 +42,7 @@ pub(crate) fn run_in_rotation<G: Gate, S: Stretches, M: MountMachine>(
 }
 
 // The same, with the machine as the run leaves it.
-pub(crate) fn rotate<G: Gate, S: Stretches, M: MountMachine>(
+pub(crate) fn rotate<G: Gate, S: Stretch, M: MountMachine>(
     alloc: Global,
     script: &Script,
     seed: &[u8; 32],
@@ -94,7 +95,7 @@ fn fresh_runners(alloc: Global, sections: &[Section]) -> Result<Vec<Runner<'_>>,
 }
 
 // The callers take so many rounds of turns.
-fn run_all<'a, G: Gate, S: Stretches, M: MountMachine>(
+fn run_all<'a, G: Gate, S: Stretch, M: MountMachine>(
     alloc: Global,
     mount: SerialMount<M>,
     mut runners: Vec<Runner<'a>>,
@@ -126,7 +127,7 @@ fn run_all<'a, G: Gate, S: Stretches, M: MountMachine>(
 }
 
 // The same, on a slice.
-fn run_rounds<G: Gate, S: Stretches, M: MountMachine>(
+fn run_rounds<G: Gate, S: Stretch, M: MountMachine>(
     alloc: Global,
     mount: SerialMount<M>,
     runners: &mut [Runner],
@@ -156,7 +157,7 @@ fn run_rounds<G: Gate, S: Stretches, M: MountMachine>(
 }
 
 // The caller's next command, if it has one, on a port of its own and between the gate's two calls.
-fn take_turn<G: Gate, S: Stretches, M: MountMachine>(
+fn take_turn<G: Gate, S: Stretch, M: MountMachine>(
     alloc: Global,
     mount: SerialMount<M>,
     runner: &mut Runner,

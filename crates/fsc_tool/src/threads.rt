@@ -11,8 +11,9 @@ ghost use Rattle.fsc_tool.specs.Threaded.{AreHalves, CanRun, HaveRun, calls_need
 
 use crate::ranged_port::RangedPort;
 use crate::told::Told;
+use argon_kdf::Stretch;
 use call_history::{MOST_PLACES, sort_by_place};
-use fsc_commands::{MOST_CALLS, Stretches};
+use fsc_commands::MOST_CALLS;
 use fsc_outside::Gate;
 use fsc_session::run_caller;
 use mount_shared::{MountMachine, SharedPort};
@@ -26,7 +27,7 @@ use turn_lock::{Pass, Shared};
 pub(crate) fn run_in_threads<
     R: Threads + Wait + Sync,
     G: Gate + Sync,
-    S: Stretches + Sync,
+    S: Stretch + Sync,
     M: MountMachine + Send,
 >(
     rt: &R,
@@ -83,7 +84,7 @@ fn calls_needed(sections: &[Section]) -> Option<u64>
 }
 
 // Runs the section of each of the pass's callers in a thread of its own. It answers when all have ended.
-fn run_all<R: Threads + Wait + Sync, G: Gate + Sync, S: Stretches + Sync, M: MountMachine + Send>(
+fn run_all<R: Threads + Wait + Sync, G: Gate + Sync, S: Stretch + Sync, M: MountMachine + Send>(
     rt: &R,
     alloc: Global,
     shared: &Shared<M>,
@@ -125,7 +126,7 @@ fn run_all<R: Threads + Wait + Sync, G: Gate + Sync, S: Stretches + Sync, M: Mou
 }
 
 // Runs the section of the pass's one caller.
-fn run_one<R: Wait, G: Gate, S: Stretches, M: MountMachine>(
+fn run_one<R: Wait, G: Gate, S: Stretch, M: MountMachine>(
     rt: &R,
     alloc: Global,
     shared: &Shared<M>,

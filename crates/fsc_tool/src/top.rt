@@ -21,8 +21,7 @@ use crate::replay::{finish, prepare};
 use crate::rotation::run_in_rotation;
 use crate::status::Status;
 use crate::threads::run_in_threads;
-use argon_kdf::LaneStretch;
-use fsc_commands::{InThreads, OnOneThread};
+use argon_kdf::{LaneStretch, PlainStretch};
 use fsc_outside::{Gate, OpenGate, SeedSource, Sink, Source};
 use linked_threads::Mounts;
 use mount_shared::MountMachine;
@@ -195,7 +194,7 @@ fn replay_in_rotation<S: Source, K: Sink, E: SeedSource, G: Gate, M: MountMachin
         Ok(run) => run,
         Err(status) => return status,
     };
-    let told = match run_in_rotation(alloc, &run.script, &run.seed, gate, &OnOneThread, machine) {
+    let told = match run_in_rotation(alloc, &run.script, &run.seed, gate, &PlainStretch, machine) {
         Ok(told) => told,
         Err(_) => {
             run.wipe(alloc);
@@ -235,10 +234,7 @@ fn replay_in_threads<
         Ok(run) => run,
         Err(status) => return status,
     };
-    let stretches = InThreads {
-        threads: rt,
-        way: &LaneStretch,
-    };
+    let stretches = LaneStretch { threads: rt };
     let told = match run_in_threads(rt, alloc, &run.script, &run.seed, gate, &stretches, machine) {
         Ok(told) => told,
         Err(_) => {

@@ -140,7 +140,7 @@ impl InodeCache {
     }
 
     // The same where the node has pins.
-    fn keep_counted(&mut self, alloc: Global, node: u32, key: NodeKey) -> Result<(), AllocError>
+    fn keep_counted(&mut self, alloc: Global, node: u32, mut key: NodeKey) -> Result<(), AllocError>
         requires { is_unpinned self.old node ≡ false }
         ensures kept { OnOk result (self.new ≡ record self.old { keys = map.insert self.old.keys node key }) }
         ensures as_before { OnErr result (self.new ≡ self.old) }
@@ -152,7 +152,7 @@ impl InodeCache {
         }
         let id = Some(key.id);
         if self.users.more(id).is_err() {
-            discard(&mut Some(key));
+            key.key.wipe();
             return Err(AllocError);
         }
         if keep_in(&mut self.keys, alloc, node, key).is_err() {

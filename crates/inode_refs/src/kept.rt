@@ -1,12 +1,13 @@
 //! Keys in boxes and pins, as they are kept.
 
 ghost use Rattle.std.specs.Prelude.{◌≡◌, ◌+◌, ◌<◌, ◌^◌, ◌||◌, ◌==◌, not, true, false, length, filter};
-ghost use Rattle.std.specs.Prelude.{is_some, is_none, IfSome, IsTrue, IsSome, IsOk, OnOk, OnErr};
+ghost use Rattle.std.specs.Prelude.{is_some, is_none, option_map, IsTrue, IsSome, IsOk, OnOk, OnErr};
 ghost use Rattle.std.specs.BTreeMap as tree;
 ghost use Rattle.std.specs.FinMap as map;
 ghost use Rattle.std.specs.Ordering.{nat_cmp};
 ghost use Rattle.policy_ctx.specs.KeyIds.{same_id};
 ghost use Rattle.fsc_keys.specs.Keys.{zeros_for};
+ghost use Rattle.inode_refs.specs.declared.node_key.NodeKey.{NodeKey};
 ghost use Rattle.inode_refs.specs.Cached.{pins_at, with_pins, given};
 ghost use Rattle.inode_refs.specs.Kept.{keys_of, pins_in, is_user};
 
@@ -69,7 +70,7 @@ pub(crate) fn forget(keys: &mut Keys, node: u32)
 
 // Overwrites a key that isn't cached, where it stands.
 pub(crate) fn discard(key: &mut Option<NodeKey>)
-    ensures { IfSome key.new (λ node_key. node_key.key ≡ zeros_for node_key.key) }
+    ensures { key.new ≡ option_map (λ (kept : NodeKey). record kept { key = zeros_for kept.key }) key.old }
 {
     if let Some(key) = key {
         key.key.wipe();

@@ -6,7 +6,8 @@ ghost use Rattle.linked_threads.specs.Threaded.{CanRunOnBoth, HaveRun, both};
 
 use crate::cut::calls_needed;
 use crate::mounts::{Passes, SharedMounts};
-use fsc_commands::{MOST_CALLS, Stretches};
+use argon_kdf::Stretch;
+use fsc_commands::MOST_CALLS;
 use fsc_outside::Gate;
 use fsc_session::run_caller;
 use linked_turns::LinkedTold;
@@ -17,7 +18,7 @@ use std::alloc::{AllocError, Global};
 use std::sync::Wait;
 
 // Runs the section of the passes' one caller.
-pub(crate) fn run_one<R: Wait, G: Gate, S: Stretches, M: MountMachine>(
+pub(crate) fn run_one<R: Wait, G: Gate, S: Stretch, M: MountMachine>(
     rt: &R,
     alloc: Global,
     shared: &SharedMounts<M>,
@@ -42,7 +43,7 @@ pub(crate) fn run_one<R: Wait, G: Gate, S: Stretches, M: MountMachine>(
 }
 
 // That of a caller with an even number.
-fn run_on_mount_0<R: Wait, G: Gate, S: Stretches, M: MountMachine>(
+fn run_on_mount_0<R: Wait, G: Gate, S: Stretch, M: MountMachine>(
     rt: &R,
     alloc: Global,
     shared: &SharedMounts<M>,
@@ -75,7 +76,7 @@ fn run_on_mount_0<R: Wait, G: Gate, S: Stretches, M: MountMachine>(
 }
 
 // That of a caller with an odd number.
-fn run_on_both<R: Wait, G: Gate, S: Stretches, M: MountMachine>(
+fn run_on_both<R: Wait, G: Gate, S: Stretch, M: MountMachine>(
     rt: &R,
     alloc: Global,
     shared: &SharedMounts<M>,

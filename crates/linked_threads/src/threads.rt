@@ -10,8 +10,9 @@ use crate::cut::{calls_needed, end, halve};
 use crate::mounts::{Mounts, Passes, SharedMounts};
 use crate::one::run_one;
 use crate::told::{append, nothing};
+use argon_kdf::Stretch;
 use call_history::sort_by_place;
-use fsc_commands::{MOST_CALLS, Stretches};
+use fsc_commands::MOST_CALLS;
 use fsc_outside::Gate;
 use linked_turns::LinkedTold;
 use mount_shared::MountMachine;
@@ -29,7 +30,7 @@ use turn_lock::Shared;
 pub fn run_linked_in_threads<
     R: Threads + Wait + Sync,
     G: Gate + Sync,
-    S: Stretches + Sync,
+    S: Stretch + Sync,
     M: MountMachine + Send,
 >(
     rt: &R,
@@ -85,7 +86,7 @@ fn run_nobody<M: MountMachine>(alloc: Global, mounts: Mounts<M>) -> LinkedTold
 }
 
 // Runs the section of each of the passes' callers in a thread of its own. It answers when all have ended.
-fn run_all<R: Threads + Wait + Sync, G: Gate + Sync, S: Stretches + Sync, M: MountMachine + Send>(
+fn run_all<R: Threads + Wait + Sync, G: Gate + Sync, S: Stretch + Sync, M: MountMachine + Send>(
     rt: &R,
     alloc: Global,
     shared: &SharedMounts<M>,

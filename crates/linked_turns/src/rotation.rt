@@ -11,8 +11,8 @@ use crate::mounts::Mounts;
 use crate::runners::{LinkedRunner, fresh_runners};
 use crate::told::{LinkedTold, told_by};
 use crate::turn::take_turn;
+use argon_kdf::Stretch;
 use call_history::sort_by_place;
-use fsc_commands::Stretches;
 use fsc_outside::Gate;
 use fsc_session::scrub_stack;
 use mount_shared::{MountMachine, SerialMount};
@@ -24,7 +24,7 @@ use std::alloc::{AllocError, Global};
 /// is mount 0, on which callers with an even number work; the second is mount 1, on which the others do, whose
 /// calls for protectors that are links there go to mount 0. Both stand before any call. The one error is want
 /// of memory.
-pub fn run_linked_in_rotation<G: Gate, S: Stretches, M: MountMachine>(
+pub fn run_linked_in_rotation<G: Gate, S: Stretch, M: MountMachine>(
     alloc: Global,
     script: &Script,
     seed: &[u8; 32],
@@ -72,7 +72,7 @@ fn longest(sections: &[Section]) -> usize
 }
 
 // The callers take so many rounds of turns.
-fn run_all<'a, G: Gate, S: Stretches, M: MountMachine>(
+fn run_all<'a, G: Gate, S: Stretch, M: MountMachine>(
     alloc: Global,
     mounts: Mounts<M>,
     mut runners: Vec<LinkedRunner<'a>>,
@@ -106,7 +106,7 @@ fn run_all<'a, G: Gate, S: Stretches, M: MountMachine>(
 }
 
 // The same, on a slice.
-fn run_rounds<G: Gate, S: Stretches, M: MountMachine>(
+fn run_rounds<G: Gate, S: Stretch, M: MountMachine>(
     alloc: Global,
     mounts: Mounts<M>,
     runners: &mut [LinkedRunner],

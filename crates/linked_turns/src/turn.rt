@@ -7,15 +7,16 @@ ghost use Rattle.linked_turns.specs.Parts.{is_even};
 
 use crate::mounts::Mounts;
 use crate::runners::LinkedRunner;
+use argon_kdf::Stretch;
 use call_history::MOST_PLACES;
-use fsc_commands::{MOST_CALLS, Stretches};
+use fsc_commands::MOST_CALLS;
 use fsc_outside::Gate;
 use mount_links::LinkPort;
 use mount_shared::MountMachine;
 use std::alloc::{AllocError, Global};
 
 // The caller's next command, if it has one, on ports of its own and between the gate's two calls.
-pub(crate) fn take_turn<G: Gate, S: Stretches, M: MountMachine>(
+pub(crate) fn take_turn<G: Gate, S: Stretch, M: MountMachine>(
     alloc: Global,
     mounts: Mounts<M>,
     caller: &mut LinkedRunner,
@@ -42,7 +43,7 @@ pub(crate) fn take_turn<G: Gate, S: Stretches, M: MountMachine>(
 }
 
 // The caller's next command, on the mount of its number.
-fn step<S: Stretches, M: MountMachine>(
+fn step<S: Stretch, M: MountMachine>(
     alloc: Global,
     mounts: Mounts<M>,
     caller: &mut LinkedRunner,
@@ -63,7 +64,7 @@ fn step<S: Stretches, M: MountMachine>(
 }
 
 // The command of a caller with an even number.
-fn step_on_mount_0<S: Stretches, M: MountMachine>(
+fn step_on_mount_0<S: Stretch, M: MountMachine>(
     alloc: Global,
     mounts: Mounts<M>,
     caller: &mut LinkedRunner,
@@ -89,7 +90,7 @@ fn step_on_mount_0<S: Stretches, M: MountMachine>(
 }
 
 // The command of a caller with an odd number.
-fn step_on_both<S: Stretches, M: MountMachine>(
+fn step_on_both<S: Stretch, M: MountMachine>(
     alloc: Global,
     mounts: Mounts<M>,
     caller: &mut LinkedRunner,

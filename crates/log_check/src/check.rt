@@ -7,7 +7,7 @@ ghost use Rattle.log_check.specs.Verdicts.{Says};
 use crate::one_thread::OneThread;
 use crate::reading::Reading;
 use crate::start::{begin_callers, forget, forget_callers, remembering_ways};
-use fsc_commands::Stretches;
+use argon_kdf::Stretch;
 use fsc_session::scrub_stack;
 use next_calls::Remembering;
 use script_lang::Script;
@@ -29,7 +29,7 @@ pub enum Verdict {
 /// memory, the mount is not asked. `Certified` comes where the text is a log, and else `Refused`, with the
 /// number of lines that can be of one. The one error is want of memory: the check's own, or the mount's where
 /// the text says that the call was answered. Then nothing is said of the text.
-pub fn check_log<S: Stretches, T: OneThread>(
+pub fn check_log<S: Stretch, T: OneThread>(
     alloc: Global,
     stretches: &S,
     script: &Script,
@@ -50,7 +50,7 @@ pub fn check_log<S: Stretches, T: OneThread>(
 }
 
 // The same, with a way to stretch for each caller.
-fn read_log<'w, S: Stretches, T: OneThread>(
+fn read_log<'w, S: Stretch, T: OneThread>(
     alloc: Global,
     ways: &[Remembering<'w, S>],
     script: &Script,

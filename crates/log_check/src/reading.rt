@@ -9,7 +9,7 @@ use crate::ending::is_ended;
 use crate::one_thread::OneThread;
 use crate::replied::replied;
 use crate::whose::whose_line;
-use fsc_commands::Stretches;
+use argon_kdf::Stretch;
 use next_calls::{Caller, Remembering};
 use std::alloc::{AllocError, Global};
 
@@ -24,7 +24,7 @@ pub(crate) struct Reading<'a, 't> {
 impl<'a, 't> Reading<'a, 't> {
     // Reads the next line: true where a caller may have such a line next, and the mount may reply so. Each
     // caller has a way to stretch of its own.
-    pub(crate) fn read_line<'w, S: Stretches, T: OneThread>(
+    pub(crate) fn read_line<'w, S: Stretch, T: OneThread>(
         &mut self,
         alloc: Global,
         ways: &[Remembering<'w, S>],

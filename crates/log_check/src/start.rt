@@ -5,14 +5,14 @@ ghost use Rattle.fsc_session.specs.Asking.{AsksRightly};
 ghost use Rattle.log_check.specs.Reading.{AreCallers};
 ghost use Rattle.script_lang.specs.declared.limits.TheConstants.{MOST_CALLERS};
 
-use fsc_commands::Stretches;
+use argon_kdf::Stretch;
 use next_calls::{Caller, Remembering};
 use script_lang::Script;
 use std::alloc::{AllocError, Global};
 
 // So many ways, each of which remembers its own last tags. With one for all, callers whose lines take turns
 // would push each other's out.
-pub(crate) fn remembering_ways<'w, S: Stretches>(
+pub(crate) fn remembering_ways<'w, S: Stretch>(
     alloc: Global,
     way: &'w S,
     count: usize,
@@ -29,7 +29,7 @@ pub(crate) fn remembering_ways<'w, S: Stretches>(
 }
 
 // Overwrites all that they remember.
-pub(crate) fn forget<'w, S: Stretches>(ways: Vec<Remembering<'w, S>>) {
+pub(crate) fn forget<'w, S: Stretch>(ways: Vec<Remembering<'w, S>>) {
     for way in ways {
         way.forget();
     }
@@ -43,7 +43,7 @@ pub(crate) fn forget_callers(alloc: Global, callers: Vec<Caller<'_>>) {
 }
 
 // The callers, each with its own way.
-pub(crate) fn begin_callers<'a, 'w, S: Stretches>(
+pub(crate) fn begin_callers<'a, 'w, S: Stretch>(
     alloc: Global,
     ways: &[Remembering<'w, S>],
     script: &'a Script,

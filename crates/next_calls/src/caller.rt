@@ -10,7 +10,8 @@ ghost use Rattle.next_calls.specs.Callers.{Awaits, GoesOn, IsNearer, StandsIn, W
 
 use crate::listing::keep_last_listing;
 use crate::next::{Next, discard, next_call};
-use fsc_commands::{EntryList, Stretches, Turn};
+use argon_kdf::Stretch;
+use fsc_commands::{EntryList, Turn};
 use fsc_session::NoteList;
 use mount_model::{Call, Reply};
 use reply_text::{Note, Outcome};
@@ -54,7 +55,7 @@ impl<'a> Model for Caller<'a> {
 impl<'a> Caller<'a> {
     /// The caller of this number, before its first entry. It stretches passphrases in the way that is handed in,
     /// where its first calls want them. The one error is want of memory.
-    pub fn new<S: Stretches>(
+    pub fn new<S: Stretch>(
         alloc: Global,
         stretches: &S,
         seed: &[u8; 32],
@@ -90,7 +91,7 @@ impl<'a> Caller<'a> {
 
     /// The call that it waited for was replied so: the caller goes on to its next one. The one error is want of
     /// memory.
-    pub fn take<S: Stretches>(
+    pub fn take<S: Stretch>(
         &mut self,
         alloc: Global,
         stretches: &S,
@@ -128,7 +129,7 @@ impl<'a> Caller<'a> {
     }
 
     // Goes on until it waits for a reply, or no command is left.
-    fn go_on<S: Stretches>(
+    fn go_on<S: Stretch>(
         &mut self,
         alloc: Global,
         stretches: &S,
@@ -146,7 +147,7 @@ impl<'a> Caller<'a> {
 
     // Runs the command that is under way on its replies: true where it waits for a further one, or no command
     // is left; false where the command has ended, and the next one is under way.
-    fn step<S: Stretches>(
+    fn step<S: Stretch>(
         &mut self,
         alloc: Global,
         stretches: &S,

@@ -8,7 +8,8 @@ ghost use Rattle.next_calls.specs.NextCalls.{IsNext, NextFits, replies_left, sho
 ghost use Rattle.next_calls.specs.declared.next.Next.TheVariants as variants;
 
 use crate::back::take_back;
-use fsc_commands::{EntryList, MOST_CALLS, Stretches, Turn, run_command, wipe_call};
+use argon_kdf::Stretch;
+use fsc_commands::{EntryList, MOST_CALLS, Turn, run_command, wipe_call};
 use mount_model::{Call, Reply};
 use reply_text::Outcome;
 use script_lang::Verb;
@@ -28,7 +29,7 @@ pub enum Next {
 /// a call, the entries and the replies are as before. Where it has ended, what is shown of its calls stands
 /// behind the other entries, the replies are among them, and the vector is empty. The one error is want of
 /// memory; then nothing is said of either.
-pub fn next_call<S: Stretches>(
+pub fn next_call<S: Stretch>(
     alloc: Global,
     stretches: &S,
     seed: &[u8; 32],

@@ -1,11 +1,10 @@
 //! A way to stretch passphrases that remembers the last tags.
 
-ghost use Rattle.std.specs.Prelude.{◌≡◌, [], length, IsTrue};
+ghost use Rattle.std.specs.Prelude.{◌≡◌, [], length, IsTrue, IsFalse};
 ghost use Rattle.argon_kdf.specs.Argon2id.{argon2id_tag};
 
-use argon_kdf::Costs;
+use argon_kdf::{Costs, Stretch};
 use byte_words::wipe;
-use fsc_commands::Stretches;
 use std::alloc::{AllocError, Global};
 use std::cell::RefCell;
 use std::marker::Model;
@@ -25,19 +24,19 @@ struct Stretched {
 /// password and a salt of which one is kept is not stretched again. Two are enough for a command that is run
 /// again and again, since none opens more than two protectors.
 #[derive(Drop)]
-pub struct Remembering<'a, S: Stretches> {
+pub struct Remembering<'a, S: Stretch> {
     way: &'a S,
     last: RefCell<Option<Stretched>>,
     before: RefCell<Option<Stretched>>,
 }
 
-impl<'a, S: Stretches> Model for Remembering<'a, S> {
+impl<'a, S: Stretch> Model for Remembering<'a, S> {
     ghost Value = { S };
 
     ghost view = { λ r. r.way.now };
 }
 
-impl<'a, S: Stretches> Remembering<'a, S> {
+impl<'a, S: Stretch> Remembering<'a, S> {
     /// It remembers none yet, and stretches in this way.
     pub fn new(way: &'a S) -> Remembering<'a, S>
         ensures { result ≡ way.now }
@@ -67,7 +66,7 @@ impl<'a, S: Stretches> Remembering<'a, S> {
     }
 }
 
-impl<'a, S: Stretches> Stretches for Remembering<'a, S> {
+impl<'a, S: Stretch> Stretch for Remembering<'a, S> {
     ghost ready = { λ way. S.ready way };
 
     fn stretch(
@@ -98,7 +97,8 @@ fn recalls(
     salt: &[u8],
     tag: &mut [u8; 32],
 ) -> bool
-    ensures { IsTrue result → tag.new ≡ argon2id_tag costs.now password.now salt.now [] [] }
+    ensures recalled { IsTrue result → tag.new ≡ argon2id_tag costs.now password.now salt.now [] [] }
+    ensures kept { IsFalse result → tag.new ≡ tag.old }
 {
     let Ok(kept) = kept.try_borrow() else {
         return false;
@@ -117,7 +117,8 @@ fn recalled(
     salt: &[u8],
     tag: &mut [u8; 32],
 ) -> bool
-    ensures { IsTrue result → tag.new ≡ argon2id_tag costs.now password.now salt.now [] [] }
+    ensures recalled { IsTrue result → tag.new ≡ argon2id_tag costs.now password.now salt.now [] [] }
+    ensures kept { IsFalse result → tag.new ≡ tag.old }
 {
     if stretched.costs == *costs
         && stretched.password.as_slice() == password

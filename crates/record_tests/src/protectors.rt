@@ -1,6 +1,6 @@
 //! Records of protectors.
 
-use argon_kdf::argon2id;
+use argon_kdf::{Texts, argon2id};
 use key_wrap::unwrap;
 use protector_meta::{
     Descriptor, MetaFault, Protector, ProtectorKind, decode_protector, encode_protector,
@@ -61,15 +61,8 @@ pub(crate) fn protector_key(alloc: Global, protector: &Protector) -> Result<[u8;
     if let ProtectorKind::Pass(stretching) = &protector.kind {
         let costs = stretching.costs();
         let salt = stretching.salt();
-        argon2id(
-            alloc,
-            &costs,
-            b"correct horse",
-            salt,
-            b"",
-            b"",
-            &mut wrapping,
-        )?;
+        let texts = Texts::unkeyed(b"correct horse", salt);
+        argon2id(alloc, &costs, texts, &mut wrapping)?;
     }
     let mut key = [0; 32];
     unwrap(

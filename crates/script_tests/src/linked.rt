@@ -4,7 +4,7 @@
 ghost use Rattle.std.specs.Prelude.{◌<◌, ◌^◌, length};
 
 use crate::replaced::Replaced;
-use fsc_commands::OnOneThread;
+use argon_kdf::PlainStretch;
 use fsc_outside::{CallList, FixedSeed, MemSink, MemSource, OpenGate};
 use fsc_tool::{Status, tool_serial};
 use item_list::Bytes;
@@ -55,7 +55,7 @@ fn replayed(alloc: Global, text: &[u8]) -> Result<Option<Bytes>, AllocError>
         &script,
         &[0; 32],
         &OpenGate,
-        &OnOneThread,
+        &PlainStretch,
         even,
         odd,
     )?;

@@ -2,7 +2,8 @@
 ghost use Rattle.script_lang.specs.Asked.{IsAskable};
 
 use crate::scripted::ScriptedPort;
-use fsc_commands::{EntryList, OnOneThread, Turn, run_command};
+use argon_kdf::PlainStretch;
+use fsc_commands::{EntryList, Turn, run_command};
 use item_list::Bytes;
 use mount_model::{Refusal, Reply};
 use reply_text::Outcome;
@@ -37,7 +38,7 @@ fn ended(alloc: Global, verb: &Verb, replies: Vec<Reply>) -> Result<Option<Outco
     run_command(
         alloc,
         &mut port,
-        &OnOneThread,
+        &PlainStretch,
         &[0; 32],
         TURN,
         verb,

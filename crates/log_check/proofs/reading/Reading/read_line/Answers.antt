@@ -33,7 +33,7 @@ pub take-requires : goal.take-requires
 take-requires g c =
     let within = whose_within _ _ _ c.in-Some.number c.in-Some.call (rw (c.as_slice.ensures.value, c.in-Some.is) at c.in_ok-found.ensures) in
     let ways = c.requires.ways in
-    record { ready = subst g.S.Stretches.ready (sym c.index-ways-number.is) (c.requires.ready c.in-Some.number c.index-ways-number.result (omega arith)) }
+    record { ready = subst g.S.Stretch.ready (sym c.index-ways-number.is) (c.requires.ready c.in-Some.number c.index-ways-number.result (omega arith)) }
 
 pub returns-clause-room : goal.returns-clause-room
 returns-clause-room g c =
