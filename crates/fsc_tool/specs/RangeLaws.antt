@@ -21,7 +21,8 @@ module _ {P : Type 0} where
   RangedCame-none came none port = record { came_by = none port; ranged = All-nil EntryIsInRange }
 
   pub RangedCame-on : (came : P → PlacedCalls → P → Type 0)
-      (more : (first second third : P) (e f : PlacedCalls) → came first e second → came second f third → came first (e ++ f) third)
+      (more : (first second third : P) (e f : PlacedCalls) → came first e second → came second f third
+        → came first (e ++ f) third)
       (first second third : P) (e f : PlacedCalls)
       → RangedCame came first e second → RangedCame came second f third → RangedCame came first (e ++ f) third
   RangedCame-on came more first second third e f p q = record {

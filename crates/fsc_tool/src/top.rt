@@ -45,9 +45,9 @@ use std::thread::Threads;
 ///   on either, mount 1.
 ///
 /// `dump` and `check` make their calls on a mount of their own, and no form but the replays and
-/// `gen NUMBER --summary` uses the machine, and none but `replay-linked` the far one. Each command of a run that writes its log, its summary or its
-/// image runs between the gate's two calls. Nothing is written before all callers have ended and the whole
-/// text stands. The seed source is asked once, by a replay alone, for a script in the grammar where the words
+/// `gen NUMBER --summary` uses the machine, and none but `replay-linked` the far one. Each command of a run that
+/// writes its log, its summary or its image runs between the gate's two calls. Nothing is written before all
+/// callers have ended and the whole text stands. The seed source is asked once, by a replay alone, for a script in the grammar where the words
 /// give no seed. Words that are a form are overwritten and taken away once they are read, since one of them
 /// may be a seed or a key.
 pub fn tool<

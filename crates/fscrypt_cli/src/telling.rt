@@ -9,7 +9,8 @@ const CLEARED: &str = "\r\x1b[K";
 
 /// Lets go of the text that came in when the first command begins: no line is at fault from then on. Tells on
 /// standard error which line of the script runs, where that is a terminal; of a script that did not come in, and
-/// where there was no memory to find the lines, the caller and its command's number. Nothing is left of it behind a command.
+/// where there was no memory to find the lines, the caller and its command's number. Nothing is left of it behind a
+/// command.
 #[derive(Drop)]
 pub(crate) struct TellingGate<'a> {
     rt: &'a HostRuntime,

@@ -32,13 +32,15 @@ is_key_due claims (Some context) = is_present claims (id_in context)
 -- the node's key stays where the node has a handle, or stays without one and its key is due
 abbrev pub keys_left : Disk → ClaimSet → KeyMap → Bool → ℕ → KeyMap
 keys_left disk claims keys held node =
-    if held || (is_lasting disk node && is_key_due claims (context_on_disk (get disk node))) then keys else remove keys node
+    if held || (is_lasting disk node && is_key_due claims (context_on_disk (get disk node))) then keys
+    else remove keys node
 
 -- a directory's names stay where its key would
 abbrev pub names_left : Disk → ClaimSet → NameList → Bool → ℕ → NameList
 names_left disk claims names held node =
-    if held || (is_lasting disk node && is_key_due claims (context_on_disk (get disk node))) || not (is_dir_on_disk disk node)
-    then names else dir_forgotten names node
+    if held || (is_lasting disk node && is_key_due claims (context_on_disk (get disk node)))
+      || not (is_dir_on_disk disk node) then names
+    else dir_forgotten names node
 
 -- the mode key that the node uses has one user less
 abbrev pub modes_left_by : Modes → KeyKind → Option (List ℕ) → Modes

@@ -6,7 +6,8 @@ use Rattle.mount_links.specs.Linked.{own_part, own_parts, far_part, far_parts}
 use Rattle.mount_links.specs.LinkCalls.{LinkView, LinkCame, AreSteps, load_call}
 
 -- steps of calls after steps of calls
-pub AreSteps-append : (s t : List LinkStep) (e f : PlacedCalls) → AreSteps s e → AreSteps t f → AreSteps (s ++ t) (e ++ f)
+pub AreSteps-append : (s t : List LinkStep) (e f : PlacedCalls)
+    → AreSteps s e → AreSteps t f → AreSteps (s ++ t) (e ++ f)
 AreSteps-append [] t [] f p q = q
 AreSteps-append [] t (x ∷ e) f p q = absurd p
 AreSteps-append (a ∷ s) t [] f p q = absurd p
@@ -41,8 +42,10 @@ module _ {P Q : Type 0} (own_came : P → PlacedCalls → P → Type 0) (far_cam
     on_far = none_far port.far;
   }
 
-  pub LinkCame-on : ((first second third : P) (e f : PlacedCalls) → own_came first e second → own_came second f third → own_came first (e ++ f) third)
-      → ((first second third : Q) (e f : PlacedCalls) → far_came first e second → far_came second f third → far_came first (e ++ f) third)
+  pub LinkCame-on : ((first second third : P) (e f : PlacedCalls) → own_came first e second → own_came second f third
+        → own_came first (e ++ f) third)
+      → ((first second third : Q) (e f : PlacedCalls) → far_came first e second → far_came second f third
+        → far_came first (e ++ f) third)
       → (first second third : LinkView P Q) (e f : PlacedCalls)
       → LinkCame own_came far_came first e second → LinkCame own_came far_came second f third
       → LinkCame own_came far_came first (e ++ f) third
@@ -58,7 +61,8 @@ module _ {P Q : Type 0} (own_came : P → PlacedCalls → P → Type 0) (far_cam
         (more_far first.far second.far third.far _ _ p.on_far q.on_far);
   }
 
-  pub LinkCame-caller : (who : P → ℕ) → ((first second : P) (e : PlacedCalls) → own_came first e second → who second ≡ who first)
+  pub LinkCame-caller : (who : P → ℕ)
+      → ((first second : P) (e : PlacedCalls) → own_came first e second → who second ≡ who first)
       → (first second : LinkView P Q) (e : PlacedCalls) → LinkCame own_came far_came first e second
       → who second.own ≡ who first.own
   LinkCame-caller who one first second e p = one first.own second.own _ p.on_own

@@ -18,16 +18,19 @@ use Rattle.mount_state.specs.declared.state.MountState.{MountState}
 use Rattle.mount_shared.specs.Made.{TakesStep}
 use Rattle.mount_shared.specs.StandsAfter.{StandsAfter}
 
-tells_more : (claims : ClaimSet) (h : History) (e : MountEntry) → TellsClaimsFrom claims h → TellsClaim (claims_from claims h) e → TellsClaimsFrom claims (h ++ e ∷ [])
+tells_more : (claims : ClaimSet) (h : History) (e : MountEntry) → TellsClaimsFrom claims h
+    → TellsClaim (claims_from claims h) e → TellsClaimsFrom claims (h ++ e ∷ [])
 tells_more claims [] e tells tell = (tell, tt)
 tells_more claims (x ∷ h) e tells tell = (tells.0, tells_more (claims_left claims x) h e tells.1 tell)
 
 -- a history goes on by a step that changes the claims as it says and tells them as they are
 pub more : (h : History) (e : MountEntry) (old new : MountState) → StandsAfter h old
-    → ((m : PlainMount) → StandsFor old m → (is_refused e.reply ≡ false → KeyAgrees m.raws e.call.op) → TakesStep m e new)
+    → ((m : PlainMount) → StandsFor old m → (is_refused e.reply ≡ false → KeyAgrees m.raws e.call.op)
+      → TakesStep m e new)
     → new.ring.claims ≡ claims_left old.ring.claims e → TellsClaim old.ring.claims e → StandsAfter (h ++ e ∷ []) new
 more h e old new before steps claims told =
-    let stood : KeysAgree (h ++ e ∷ []) → StandsFor old (mount_after h) = λ agree. before.stands (KeysAgree-begun h (e ∷ []) agree) in
+    let stood : KeysAgree (h ++ e ∷ []) → StandsFor old (mount_after h) = λ agree.
+    before.stands (KeysAgree-begun h (e ∷ []) agree) in
     let step : KeysAgree (h ++ e ∷ []) → TakesStep (mount_after h) e new = λ agree.
     steps (mount_after h) (stood agree)
     (agrees_with_added h e agree (before.lawful.legal (KeysAgree-begun h (e ∷ []) agree)) (stood agree).well.keys) in

@@ -17,7 +17,8 @@ AbsentIsGone s op reply = ⊤
 
 -- where no claim is left, busy is told exactly where some handle is on a node whose context names the key
 abbrev pub BusyIsOpen : MountState → Op → Reply → Type 0
-BusyIsOpen s (RemoveKey id) reply = (busy : Bool) → reply ≡ Removed false busy → busy ≡ is_in_use s.disk s.handles.live id
+BusyIsOpen s (RemoveKey id) reply = (busy : Bool)
+    → reply ≡ Removed false busy → busy ≡ is_in_use s.disk s.handles.live id
 BusyIsOpen s (RemoveKeyAll id) reply = (busy : Bool)
     → reply ≡ Removed false busy → busy ≡ is_in_use s.disk s.handles.live id
 BusyIsOpen s op reply = ⊤

@@ -67,4 +67,5 @@ uses_own disk node id = has_own id (context_on_disk (get disk node))
 
 -- it does, and the node uses the mode key of this kind
 abbrev pub uses_mode : Disk → KeyId → KeyKind → ℕ → Bool
-uses_mode disk id kind node = has_shared id (context_on_disk (get disk node)) && same_kind kind (kind_on_disk (get disk node))
+uses_mode disk id kind node =
+    has_shared id (context_on_disk (get disk node)) && same_kind kind (kind_on_disk (get disk node))

@@ -60,7 +60,8 @@ pub(crate) fn number_of<L: Ledger>(
     steps: &mut Steps<L>,
 ) -> (Option<u32>, bool)
     ensures found { Leads state.now dir part.now result.0 }
-    ensures keyed { result.1 ≡ true → is_unlocked state.now.disk state.now.ring.claims state.now.handles.live dir ≡ true }
+    ensures keyed { result.1 ≡ true
+        → is_unlocked state.now.disk state.now.ring.claims state.now.handles.live dir ≡ true }
     ensures by_key { IsSome (context_on_disk (map.get state.now.disk dir)) → IsSome result.0
         → is_unlocked state.now.disk state.now.ring.claims state.now.handles.live dir ≡ true → result.1 ≡ true }
     ensures plain { context_on_disk (map.get state.now.disk dir) ≡ None → steps.new ≡ steps.old }

@@ -68,7 +68,8 @@ pub record HasEntries (image : Image) (n : ℕ) (entries : Entries) : Type 0 whe
 
 -- where the entries of the node of this number lead is found
 abbrev pub IsFollowed : Image → List ℕ → ℕ → Type 0
-IsFollowed image order n = (dir : ImageNode) → Contains image dir → dir.number ≡ n → AreFound order (entries_of dir.body)
+IsFollowed image order n = (dir : ImageNode) → Contains image dir → dir.number ≡ n
+    → AreFound order (entries_of dir.body)
 
 -- the first nodes that were found are followed: where their entries lead is found too
 abbrev pub AreFollowed : Image → List ℕ → ℕ → Type 0
