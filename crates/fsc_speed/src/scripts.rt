@@ -2,6 +2,7 @@
 //! that is.
 use call_history::Entry;
 use item_list::{Bytes, Items};
+use measuring::scattered;
 use mount_model::{Call, Op, Path, Reply};
 use reply_text::entry_line;
 use script_lang::read_script;
@@ -85,11 +86,4 @@ fn listing(alloc: Global) -> Result<Entry<Call, Reply>, AllocError> {
             more: false,
         },
     })
-}
-
-// 16 bytes that differ from those of each other number.
-pub(crate) fn scattered(number: u32) -> [u8; 16] {
-    let mut bytes = [0x61; 16];
-    bytes[..4].copy_from_slice(&number.wrapping_mul(2246822519).to_be_bytes());
-    bytes
 }

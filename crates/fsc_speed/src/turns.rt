@@ -2,41 +2,13 @@
 ghost use Rattle.std.specs.Prelude.{◌≡◌, ◌<◌};
 ghost use Rattle.std.specs.Thread.{IsSync};
 
+use measuring::Callers;
 use sha2::{Digest, Sha256};
 use std::alloc::{AllocError, Global};
 use std::sync::Wait;
 use std::thread::{Threads, join};
 use sum_machine::Sum;
 use turn_lock::{Pass, Shared};
-
-/// How many threads call, each under a number of its own.
-#[derive(Clone, Copy)]
-pub(crate) enum Callers {
-    One,
-    Two,
-    Four,
-}
-
-impl Callers {
-    pub(crate) fn read(digits: &str) -> Option<Callers> {
-        match digits {
-            "1" => Some(Callers::One),
-            "2" => Some(Callers::Two),
-            "4" => Some(Callers::Four),
-            _ => None,
-        }
-    }
-
-    fn count(self) -> u32
-        ensures some { 0 < result }
-    {
-        match self {
-            Callers::One => 1,
-            Callers::Two => 2,
-            Callers::Four => 4,
-        }
-    }
-}
 
 /// Adds 7 `count` times, rounded down to as many calls for each caller, and hashes the sum.
 pub(crate) fn add_sevens<R: Threads + Wait + Sync>(

@@ -4,6 +4,7 @@ ghost use Rattle.mount_model.specs.Fits.{Fits};
 
 use fsc_keys::{RawKey, key_id};
 use item_list::Bytes;
+use measuring::scattered;
 use mount_model::{Call, KeyId, Op, Part, Path};
 use std::alloc::{AllocError, Global};
 use text_words::push_lower_hex;
@@ -35,13 +36,6 @@ pub(crate) fn numbered_path(alloc: Global, number: u32) -> Result<Path, AllocErr
     let mut path = top_path(alloc)?;
     path.push(Part::new(Bytes::from_vec(name)))?;
     Ok(path)
-}
-
-// 16 bytes that differ from those of each other number.
-fn scattered(number: u32) -> [u8; 16] {
-    let mut bytes = [0x61; 16];
-    bytes[..4].copy_from_slice(&number.wrapping_mul(2246822519).to_be_bytes());
-    bytes
 }
 
 pub(crate) fn mkdir(path: Path) -> Call {

@@ -27,32 +27,3 @@ impl NameCount {
         self.names
     }
 }
-
-/// How many threads call, each under a number of its own.
-#[derive(Clone, Copy)]
-pub(crate) enum Callers {
-    One,
-    Two,
-    Four,
-}
-
-impl Callers {
-    pub(crate) fn read(digits: &str) -> Option<Callers> {
-        match digits {
-            "1" => Some(Callers::One),
-            "2" => Some(Callers::Two),
-            "4" => Some(Callers::Four),
-            _ => None,
-        }
-    }
-
-    pub(crate) fn count(self) -> u32
-        ensures some { 0 < result }
-    {
-        match self {
-            Callers::One => 1,
-            Callers::Two => 2,
-            Callers::Four => 4,
-        }
-    }
-}

@@ -1,8 +1,9 @@
 //! The kernels by name.
 use crate::asking::{make_calls, open_and_close, tell_anew};
-use crate::counts::{Callers, FEW, NameCount};
+use crate::counts::{FEW, NameCount};
 use crate::turns::{Subject, ask_in_turns};
 use crate::work::{self, MOST};
+use measuring::Callers;
 use std::alloc::{AllocError, Global};
 use std::sync::Wait;
 use std::thread::Threads;

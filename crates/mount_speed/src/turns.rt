@@ -5,8 +5,8 @@ ghost use Rattle.mount_model.specs.Fits.{Fits};
 
 use crate::asking::is_refused;
 use crate::calls::{call, id_of_key, open, read};
-use crate::counts::Callers;
 use crate::work::{read_block, tell_status};
+use measuring::Callers;
 use mount_model::{Call, Op, Refusal, Reply};
 use mount_shared::Mount;
 use std::alloc::{AllocError, Global};

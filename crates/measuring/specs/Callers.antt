@@ -1,0 +1,9 @@
+-- How many threads call.
+use Rattle.std.specs.Prelude.{ℕ}
+use Rattle.measuring.specs.declared.Callers.{Callers}
+use Rattle.measuring.specs.declared.Callers.TheVariants.{One, Two, Four}
+
+abbrev pub number_of : Callers → ℕ
+number_of One = 1
+number_of Two = 2
+number_of Four = 4
