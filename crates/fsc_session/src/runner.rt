@@ -4,10 +4,7 @@ ghost use Rattle.std.specs.Prelude.{◌≡◌, ◌≤◌, [], ◌++◌, IfOk, On
 ghost use Rattle.fsc_session.specs.Asking.{AsksRightly};
 ghost use Rattle.fsc_session.specs.Running.{RunnerView, runner_view, next_command, Stepped};
 ghost use Rattle.fsc_session.specs.Stopping.{next_steps};
-ghost use Rattle.script_lang.specs.Asked.{IsAskable};
-ghost use Rattle.fsc_commands.specs.Commands.{command_steps};
-ghost use Rattle.fsc_commands.specs.Made.{Made, Begun};
-ghost use Rattle.fsc_commands.specs.Steps.{names_in};
+ghost use Rattle.fsc_commands.specs.Made.{Begun};
 ghost use Rattle.fsc_session.specs.Session.{noted};
 ghost use Rattle.fsc_commands.specs.declared.TheConstants.{MOST_CALLS};
 
@@ -17,7 +14,7 @@ use argon_kdf::Stretch;
 use fsc_commands::{EntryList, MOST_CALLS, Turn, run_command};
 use mount_model::MountPort;
 use reply_text::{Note, Outcome};
-use script_lang::{Command, Section, Verb};
+use script_lang::{Command, Section};
 use std::alloc::{AllocError, Global};
 use std::marker::Model;
 
@@ -110,15 +107,11 @@ impl<'a> Runner<'a> {
         let command = &commands[self.next];
         // Until the command has ended and its note stands.
         self.spent = true;
-        let outcome = run_scrubbed(
-            alloc,
-            port,
-            stretches,
-            seed,
-            turn,
-            &command.verb,
-            &mut self.entries,
-        )?;
+        let verb = &command.verb;
+        let ran = run_command(alloc, port, stretches, seed, turn, verb, &mut self.entries);
+        // Also a command that names no key draws nonces from the seed, and keys of the nodes on its path.
+        scrub_stack();
+        let outcome = ran?;
         note(&mut self.notes, self.caller, command, outcome)?;
         self.next += 1;
         self.spent = false;
@@ -153,60 +146,6 @@ impl<'a> Runner<'a> {
             notes: self.notes,
         }
     }
-}
-
-// Runs a command. What it left on the stack is overwritten, however it ended: also one that names no key draws
-// nonces from the seed, and keys of the nodes on its path.
-fn run_scrubbed<P: MountPort, S: Stretch>(
-    alloc: Global,
-    port: &mut P,
-    stretches: &S,
-    seed: &[u8; 32],
-    turn: Turn,
-    verb: &Verb,
-    entries: &mut EntryList,
-) -> Result<Option<Outcome>, AllocError>
-    requires ready { S.ready stretches.now }
-    requires caller { turn.caller ≡ P.who port.old }
-    requires left { MOST_CALLS ≤ P.calls_left port.old }
-    requires asked { IsAskable verb.now }
-    ensures made { IfOk result (λ outcome. Made (P.came port.old) port.new (P.calls_left port.new)
-        (P.calls_left port.old) MOST_CALLS
-        (command_steps seed.now turn.caller turn.uid turn.number (names_in entries.old) verb.now)
-        outcome entries.old entries.new) }
-    ensures caller { P.who port.new ≡ P.who port.old }
-    ensures failed { OnErr result (Begun (P.came port.old) port.new MOST_CALLS
-        (command_steps seed.now turn.caller turn.uid turn.number (names_in entries.old) verb.now)) }
-{
-    let ended = run_below(alloc, port, stretches, seed, turn, verb, entries);
-    scrub_stack();
-    ended
-}
-
-// The same, in a frame of its own, so that all that it leaves lies below the frame whose scrub overwrites it.
-#[inline(never)]
-fn run_below<P: MountPort, S: Stretch>(
-    alloc: Global,
-    port: &mut P,
-    stretches: &S,
-    seed: &[u8; 32],
-    turn: Turn,
-    verb: &Verb,
-    entries: &mut EntryList,
-) -> Result<Option<Outcome>, AllocError>
-    requires ready { S.ready stretches.now }
-    requires caller { turn.caller ≡ P.who port.old }
-    requires left { MOST_CALLS ≤ P.calls_left port.old }
-    requires asked { IsAskable verb.now }
-    ensures made { IfOk result (λ outcome. Made (P.came port.old) port.new (P.calls_left port.new)
-        (P.calls_left port.old) MOST_CALLS
-        (command_steps seed.now turn.caller turn.uid turn.number (names_in entries.old) verb.now)
-        outcome entries.old entries.new) }
-    ensures caller { P.who port.new ≡ P.who port.old }
-    ensures failed { OnErr result (Begun (P.came port.old) port.new MOST_CALLS
-        (command_steps seed.now turn.caller turn.uid turn.number (names_in entries.old) verb.now)) }
-{
-    run_command(alloc, port, stretches, seed, turn, verb, entries)
 }
 
 // Puts the note of a command behind the others, if it has one.

@@ -34,19 +34,19 @@ returns-then-self-commands-clause-stepped g c =
 
 pub returns-clause-stepped : goal.returns-clause-stepped
 returns-clause-stepped g c =
-    subst (λ old. Stepped (g.P.MountPort.came c.args.port.now) c.run_scrubbed.new.port (g.P.MountPort.calls_left c.run_scrubbed.new.port)
+    subst (λ old. Stepped (g.P.MountPort.came c.args.port.now) c.run_command-ran.new.port (g.P.MountPort.calls_left c.run_command-ran.new.port)
     (g.P.MountPort.calls_left c.args.port.now) c.args.seed.now true old
-    (runner_view c.self.inside.caller c.self.inside.section.now (c.self.inside.next + 1) c.run_scrubbed.new.entries c.note.new.notes))
+    (runner_view c.self.inside.caller c.self.inside.section.now (c.self.inside.next + 1) c.run_command-ran.new.entries c.note.new.notes))
     (ap (λ s. spent_if s (runner_view c.self.inside.caller c.self.inside.section.now c.self.inside.next c.self.inside.entries c.self.inside.notes)) (sym c.if-self.false)
     ∙ c.self.view_is)
-    (stepped (g.P.MountPort.came c.args.port.now) c.run_scrubbed.new.port (g.P.MountPort.calls_left c.run_scrubbed.new.port)
+    (stepped (g.P.MountPort.came c.args.port.now) c.run_command-ran.new.port (g.P.MountPort.calls_left c.run_command-ran.new.port)
     (g.P.MountPort.calls_left c.args.port.now) c.args.seed.now c.index-commands-self.result c.in_ok-outcome.outcome
-    c.self.inside.caller c.self.inside.section.now c.self.inside.next c.self.inside.entries c.run_scrubbed.new.entries c.self.inside.notes c.note.new.notes
+    c.self.inside.caller c.self.inside.section.now c.self.inside.next c.self.inside.entries c.run_command-ran.new.entries c.self.inside.notes c.note.new.notes
     (there _ _ _ _ c.as_slice-commands.ensures c.self.invariant c.if-self-commands.false c.index-commands-self.is)
     c.in_ok-note.ensures c.in_ok-outcome.ensures.made)
 
-pub run_scrubbed-requires-clause-asked : goal.run_scrubbed-requires-clause-asked
-run_scrubbed-requires-clause-asked g c =
+pub run_command-ran-requires-clause-asked : goal.run_command-ran-requires-clause-asked
+run_command-ran-requires-clause-asked g c =
     asked_there c.self.inside.section.now c.self.inside.next c.index-commands-self.result
     (subst (λ old. AsksRightly old.section) (sym c.self.view_is) c.requires.asked)
     (there _ _ _ _ c.as_slice-commands.ensures c.self.invariant c.if-self-commands.false c.index-commands-self.is)
@@ -55,7 +55,7 @@ pub returns-in_err-outcome-clause-failed : goal.returns-in_err-outcome-clause-fa
 returns-in_err-outcome-clause-failed g c =
     let p = err_from_is_err_and c.from_residual.result c.from_residual.ensures.1 in
     let is = ap (λ s. spent_if s (runner_view c.self.inside.caller c.self.inside.section.now c.self.inside.next c.self.inside.entries c.self.inside.notes)) (sym c.if-self.false) ∙ c.self.view_is in
-    rw p.1 (subst (λ old. Begun (g.P.MountPort.came c.args.port.now) c.run_scrubbed.new.port 4 (next_steps c.args.seed.now old)) is
+    rw p.1 (subst (λ old. Begun (g.P.MountPort.came c.args.port.now) c.run_command-ran.new.port 4 (next_steps c.args.seed.now old)) is
     (next_begun c.args.seed.now c.index-commands-self.result
     c.self.inside.caller c.self.inside.section.now c.self.inside.next c.self.inside.entries c.self.inside.notes
     (there _ _ _ _ c.as_slice-commands.ensures c.self.invariant c.if-self-commands.false c.index-commands-self.is)
@@ -65,7 +65,7 @@ pub returns-in_err-note-clause-failed : goal.returns-in_err-note-clause-failed
 returns-in_err-note-clause-failed g c =
     let p = err_from_is_err_and c.from_residual-in_err-note.result c.from_residual-in_err-note.ensures.1 in
     let is = ap (λ s. spent_if s (runner_view c.self.inside.caller c.self.inside.section.now c.self.inside.next c.self.inside.entries c.self.inside.notes)) (sym c.if-self.false) ∙ c.self.view_is in
-    rw p.1 (subst (λ old. Begun (g.P.MountPort.came c.args.port.now) c.run_scrubbed.new.port 4 (next_steps c.args.seed.now old)) is
+    rw p.1 (subst (λ old. Begun (g.P.MountPort.came c.args.port.now) c.run_command-ran.new.port 4 (next_steps c.args.seed.now old)) is
     (next_begun c.args.seed.now c.index-commands-self.result
     c.self.inside.caller c.self.inside.section.now c.self.inside.next c.self.inside.entries c.self.inside.notes
     (there _ _ _ _ c.as_slice-commands.ensures c.self.invariant c.if-self-commands.false c.index-commands-self.is)
