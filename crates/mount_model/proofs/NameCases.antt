@@ -1,11 +1,13 @@
 -- The answers to the calls that make, move and take away names, case by case.
-use Rattle.std.proofs.Common.{◌≡◌, ℕ, true, false, not, List, length, eqb, Some, is_some, inl, inr, ◌⊎◌, Ok, refl}
-use Rattle.std.proofs.lemmas.Bool.{or_parts}
+use Rattle.std.proofs.Common.{◌≡◌, ℕ, Bool, true, false, cond, not, List, length, eqb, Option, Some, None, is_some}
+use Rattle.std.proofs.Common.{inl, inr, ◌⊎◌, Ok, refl}
+use Rattle.std.proofs.lemmas.Bool.{cond_both, or_parts}
 use Rattle.plain_tree.specs.Nodes.{Name, Body, children, context_at, is_dir_at, entry}
+use Rattle.mount_model.specs.declared.reply.Refusal.{Refusal}
 use Rattle.mount_model.specs.declared.reply.Refusal.TheVariants.{NoKey, Inval, Exists, NotDir, IsDir, NotEmpty, XDev, NameTooLong, NoSpace, NoKeyClash}
 use Rattle.mount_model.specs.PlainMount.{PlainMount}
 use Rattle.mount_model.specs.States.{is_keyed}
-use Rattle.mount_model.specs.Answered.{Answer, done}
+use Rattle.mount_model.specs.Answered.{Answer, refused, done, done_unless}
 use Rattle.mount_model.specs.Walk.{PathParts, found, is_root, parent, last_part, is_at_or_above}
 use Rattle.mount_model.specs.NameAnswers.{lacks_key, clashes, is_full, is_long_target, new_node, with_node, without_name, answer_to_make_in, answer_to_make, answer_to_unlink, answer_to_rmdir}
 use Rattle.mount_model.specs.RenameAnswer.{may_hold, is_full_elsewhere, with_moved, answer_to_move_from, answer_to_rename}
@@ -75,6 +77,12 @@ pub record CanMove (m : PlainMount) (d : ℕ) (part : Name) (e : Name × ℕ) (p
   pub apart : clashes m to (last_part path) ≡ false
   pub room : is_full_elsewhere m d to ≡ false
 
+-- a name moves, or one of the causes against it is told
+at_refusal : (R : Answer → Type 0) (m after : PlainMount) (b : Bool) (r : Refusal) (more : Option Refusal)
+    → R (refused m r) → (b ≡ false → R (done_unless m more after)) → R (done_unless m (cond b (Some r) more) after)
+at_refusal R m after b r more stopped rest =
+    cond_both b (Some r) more (λ o. R (done_unless m o after)) (λ _. stopped) rest
+
 pub at_rename : (R : Answer → Type 0) (m : PlainMount) (old_path new_path : PathParts) → Covers R m
     → ((d : ℕ) (e : Name × ℕ) (to : ℕ) → CanMove m d (last_part old_path) e new_path to → R (done (with_moved m d e.0 to (last_part new_path) e.1))) → R (answer_to_rename m old_path new_path)
 at_rename R m old_path new_path covers ok =
@@ -83,12 +91,13 @@ at_rename R m old_path new_path covers ok =
     when R (λ _. covers.of_refusals NoKey refl) (λ (_ : not (is_keyed m d) ≡ false).
     at_found R m (answer_to_move_from m new_path d) (found m d (last_part old_path)) covers (λ e is.
     at_walk R m _ (parent m new_path) covers (parent_due m new_path) (λ to led.
-    when R (λ _. covers.of_refusals NoKey refl) (λ keyed.
-    when R (λ _. covers.of_refusals Exists refl) (λ free.
-    when R (λ _. covers.of_refusals Inval refl) (λ outside.
-    when R (λ _. covers.of_refusals XDev refl) (λ alike.
-    when R (λ _. covers.of_refusals NoKeyClash refl) (λ apart.
-    when R (λ _. covers.of_refusals NoSpace refl) (λ room.
+    let after = with_moved m d e.0 to (last_part new_path) e.1 in
+    at_refusal R m after _ NoKey _ (covers.of_refusals NoKey refl) (λ keyed.
+    at_refusal R m after _ Exists _ (covers.of_refusals Exists refl) (λ free.
+    at_refusal R m after _ Inval _ (covers.of_refusals Inval refl) (λ outside.
+    at_refusal R m after _ XDev _ (covers.of_refusals XDev refl) (λ alike.
+    at_refusal R m after _ NoKeyClash _ (covers.of_refusals NoKeyClash refl) (λ apart.
+    at_refusal R m after _ NoSpace None (covers.of_refusals NoSpace refl) (λ room.
     ok d e to (record {
       named = (or_parts (is_root old_path) (is_root new_path) roots).1;
       entry_found = is;

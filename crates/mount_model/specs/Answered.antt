@@ -23,6 +23,11 @@ told m reply = record { reply = reply; mount = m }
 abbrev pub done : PlainMount → Answer
 done m = record { reply = Done; mount = m }
 
+-- refused where there is a refusal; else done: this is the mount now
+abbrev pub done_unless : PlainMount → Option Refusal → PlainMount → Answer
+done_unless m None after = done after
+done_unless m (Some refusal) after = refused m refusal
+
 -- what is answered at the node that was reached; where none was, its refusal
 abbrev pub at_node : PlainMount → Result ℕ Refusal → (ℕ → Answer) → Answer
 at_node m (Err refusal) f = refused m refusal

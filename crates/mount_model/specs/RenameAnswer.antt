@@ -7,6 +7,7 @@ use Rattle.policy_ctx.specs.declared.policy.Context.{Context}
 use Rattle.plain_tree.specs.Nodes.{Name, children, context_at, entry}
 use Rattle.plain_tree.specs.Changes.{moved}
 use Rattle.mount_limits.specs.declared.TheConstants.{MOST_CHILDREN}
+use Rattle.mount_model.specs.declared.reply.Refusal.{Refusal}
 use Rattle.mount_model.specs.declared.reply.Refusal.TheVariants.{NoKey, Inval, Exists, XDev}
 use Rattle.mount_model.specs.declared.reply.Refusal.TheVariants.{NoSpace, NoKeyClash}
 use Rattle.mount_model.specs.PlainMount.{PlainMount}
@@ -14,7 +15,7 @@ use Rattle.mount_model.specs.States.{is_keyed}
 use Rattle.mount_model.specs.Walk.{PathParts, found, is_root, last_part, parent, is_at_or_above}
 use Rattle.mount_model.specs.PolicyAnswers.{is_same_policy}
 use Rattle.mount_model.specs.NameAnswers.{clashes}
-use Rattle.mount_model.specs.Answered.{Answer, refused, done, at_node, at_entry}
+use Rattle.mount_model.specs.Answered.{Answer, refused, done_unless, at_node, at_entry}
 
 abbrev pub has_policy : Policy → Option Context → Bool
 has_policy policy None = false
@@ -33,18 +34,25 @@ is_full_elsewhere m d to = not (to == d) && nat_le MOST_CHILDREN (length (childr
 abbrev pub with_moved : PlainMount → ℕ → Name → ℕ → Name → ℕ → PlainMount
 with_moved m d name to new_name x = record m { nodes = moved m.nodes d name to new_name x }
 
+-- why x, of the directory d, can't get this name in the directory to; above tells whether x is that directory
+-- or stands above it
+abbrev pub move_refusal : PlainMount → ℕ → ℕ → ℕ → Bool → Name → Option Refusal
+move_refusal m d x to above new_name =
+    if not (is_keyed m to) then Some NoKey else
+    if is_some (entry m.nodes to new_name) then Some Exists else
+    if above then Some Inval else
+    if not (may_hold (context_at m.nodes to) (context_at m.nodes x)) then Some XDev else
+    if clashes m to new_name then Some NoKeyClash else
+    if is_full_elsewhere m d to then Some NoSpace else
+    None
+
 -- what is answered once the old path has led to x, by this name of d: the name is to lead to x at the end of
 -- the new path
 abbrev pub answer_to_move_from : PlainMount → PathParts → ℕ → Name → ℕ → Answer
 answer_to_move_from m path d name x =
     at_node m (parent m path) λ to.
-    if not (is_keyed m to) then refused m NoKey else
-    if is_some (entry m.nodes to (last_part path)) then refused m Exists else
-    if is_at_or_above m x path then refused m Inval else
-    if not (may_hold (context_at m.nodes to) (context_at m.nodes x)) then refused m XDev else
-    if clashes m to (last_part path) then refused m NoKeyClash else
-    if is_full_elsewhere m d to then refused m NoSpace else
-    done (with_moved m d name to (last_part path) x)
+    done_unless m (move_refusal m d x to (is_at_or_above m x path) (last_part path))
+    (with_moved m d name to (last_part path) x)
 
 abbrev pub answer_to_rename : PlainMount → PathParts → PathParts → Answer
 answer_to_rename m old_path new_path =

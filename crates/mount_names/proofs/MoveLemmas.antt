@@ -22,10 +22,11 @@ use Rattle.mount_model.specs.declared.reply.Refusal.TheVariants.{NoKey, Inval, E
 use Rattle.std.proofs.lemmas.Bool.{ne_eqb}
 use Rattle.mount_state.specs.Passed.{with_past}
 use Rattle.mount_model.specs.PlainMount.{PlainMount}
-use Rattle.mount_model.specs.Answered.{Answer, refused, done, at_node}
+use Rattle.mount_model.specs.Answered.{Answer, refused, done, done_unless, at_node}
 use Rattle.mount_model.specs.States.{is_keyed}
 use Rattle.mount_model.specs.NameAnswers.{clashes}
-use Rattle.mount_model.specs.RenameAnswer.{may_hold, has_policy, is_full_elsewhere, with_moved, answer_to_move_from, answer_to_rename}
+use Rattle.mount_model.specs.RenameAnswer.{may_hold, has_policy, is_full_elsewhere, with_moved, move_refusal}
+use Rattle.mount_model.specs.RenameAnswer.{answer_to_move_from, answer_to_rename}
 use Rattle.mount_model.specs.Walk.{PathParts, Walked, is_root, last_part, parent, is_at_or_above}
 use Rattle.mount_model.specs.WellFormed.{IsWellFormed}
 use Rattle.mount_model.specs.Carried.{IsPath}
@@ -39,7 +40,7 @@ use Rattle.mount_state.specs.declared.state.MountState.{MountState}
 use Rattle.mount_names.specs.Places.{Entry, Place}
 use Rattle.mount_names.specs.Found.{IsEntryOn, entry_end}
 use Rattle.mount_names.specs.Made.{IsNewName}
-use Rattle.mount_names.specs.Moved.{name_refusal, place_refusal, first_of, move_refusal, target_walked, target_refusal, IsTargetAt}
+use Rattle.mount_names.specs.Moved.{IsTargetAt}
 use Rattle.mount_names.specs.Removed.{IsEntryOf}
 use Rattle.mount_names.specs.SameButTree.{SameButTree}
 use Rattle.mount_names.proofs.AgreeLemmas.{put_agrees, taken_agrees}
@@ -85,60 +86,6 @@ module _ (m : PlainMount) (path new_path : PathParts) (named : (is_root path || 
   pub rename_is : (e : Entry) (from : IsAt m path true e) → answer_to_rename m path new_path ≡ answer_to_move_from m new_path e.dir from.name e.number
   rename_is e from = end_is m path true e from (is_root path || is_root new_path) named Inval (answer_to_move_from m new_path)
 
--- ---- where it goes
-
-abbrev refused_or : PlainMount → Answer → Option Refusal → Answer
-refused_or m answer None = answer
-refused_or m answer (Some refusal) = refused m refusal
-
-module _ (m : PlainMount) (e : Entry) (name : Name) (path : PathParts) where
-  abbrev moved_to : ℕ → Answer
-  moved_to to = done (with_moved m e.dir name to (last_part path) e.number)
-
-  -- a test that refuses
-  one_test : (answer : Answer) (b : Bool) (r : Refusal) (rest : Answer) (more : Option Refusal) → rest ≡ refused_or m answer more → cond b (refused m r) rest ≡ refused_or m answer (cond b (Some r) more)
-  one_test answer true r rest more is = refl
-  one_test answer false r rest more is = is
-
-  joined : (answer : Answer) (b c : Bool) (r q : Refusal) (rest : Answer) (more : Option Refusal) → rest ≡ refused_or m answer more
-      → cond b (refused m r) (cond c (refused m q) rest) ≡ refused_or m answer (first_of (cond b (Some r) (cond c (Some q) None)) more)
-  joined answer true c r q rest more is = refl
-  joined answer false true r q rest more is = refl
-  joined answer false false r q rest more is = is
-
-  -- what is answered in the directory to which the path leads
-  abbrev move_in : ℕ → Answer
-  move_in to =
-      cond (not (is_keyed m to)) (refused m NoKey) (
-      cond (is_some (entry m.nodes to (last_part path))) (refused m Exists) (
-      cond (is_at_or_above m e.number path) (refused m Inval) (
-      cond (not (may_hold (context_at m.nodes to) (context_at m.nodes e.number))) (refused m XDev) (
-      cond (clashes m to (last_part path)) (refused m NoKeyClash) (
-      cond (is_full_elsewhere m e.dir to) (refused m NoSpace) (moved_to to))))))
-
-  move_is : (to : ℕ) → move_in to ≡ refused_or m (moved_to to) (move_refusal m e to (is_at_or_above m e.number path) (last_part path))
-  move_is to =
-      joined (moved_to to) (not (is_keyed m to)) (is_some (entry m.nodes to (last_part path))) NoKey Exists _ (place_refusal m e to (is_at_or_above m e.number path) (last_part path))
-      (one_test (moved_to to) (is_at_or_above m e.number path) Inval _ _
-      (one_test (moved_to to) (not (may_hold (context_at m.nodes to) (context_at m.nodes e.number))) XDev _ _
-      (one_test (moved_to to) (clashes m to (last_part path)) NoKeyClash _ _
-      (one_test (moved_to to) (is_full_elsewhere m e.dir to) NoSpace _ None refl))))
-
-  pub target_refused : (r : Refusal) → target_refusal m e path ≡ Some r → answer_to_move_from m path e.dir name e.number ≡ refused m r
-  target_refused r is = by (parent m path) is
-    where
-      same : (a b : Refusal) → Some a ≡ Some b → a ≡ b
-      same a b e = cc
-
-      by : (w : Walked) → target_walked m e path w ≡ Some r → at_node m w move_in ≡ refused m r
-      by (Err q) is = ap (refused m) (same q r is)
-      by (Ok to) is = move_is to ∙ ap (refused_or m (moved_to to)) is
-
-  pub target_free : (to : ℕ) → parent m path ≡ Ok to → target_refusal m e path ≡ None → answer_to_move_from m path e.dir name e.number ≡ moved_to to
-  target_free to led free =
-      ap (λ w. at_node m w move_in) led
-      ∙ move_is to ∙ ap (refused_or m (moved_to to)) (ap (target_walked m e path) (sym led) ∙ free)
-
 -- ---- the state in which it was moved
 
 module _ (old : MountState) (m : PlainMount) (st : StandsFor old m) (e : Entry) (name : Name) (of : IsEntryOf m name e) (place : Place) (new_name : Name) (at : IsNewName m place.dir new_name place) where
@@ -183,50 +130,60 @@ move_seen old new e place from to from_is to_is there moved_so =
     (subst (λ (b : List ℕ). IfSome (number_under e.stored (stored_entries old e.dir)) (λ n. new ≡ disk.moved old e.dir e.stored place.dir b n)) to_is
     (subst (λ (b : List ℕ). IfSome (number_under b (stored_entries old e.dir)) (λ n. new ≡ disk.moved old e.dir b place.dir to n)) from_is moved_so))
 
--- ---- why no name can come to the directory
+-- ---- why it can't come to the directory
 
-module _ (m : PlainMount) (to : ℕ) (name : Name) where
-  pub name_locked : is_keyed m to ≡ false → name_refusal m to name ≡ Some NoKey
-  name_locked locked = ap (λ b. cond (not b) (Some NoKey) (cond (is_some (entry m.nodes to name)) (Some Exists) None)) locked
-
-  module _ (keyed : is_keyed m to ≡ true) where
-    pub taken_there : is_some (entry m.nodes to name) ≡ true → name_refusal m to name ≡ Some Exists
-    taken_there taken = λ i. cond (not (keyed i)) (Some NoKey) (cond (taken i) (Some Exists) None)
-
-    pub name_free : is_some (entry m.nodes to name) ≡ false → name_refusal m to name ≡ None
-    name_free free = λ i. cond (not (keyed i)) (Some NoKey) (cond (free i) (Some Exists) None)
-
--- why it can't come there
 module _ (m : PlainMount) (e : Entry) (to : ℕ) (past : Bool) (name : Name) where
   abbrev holds : Bool
   holds = may_hold (context_at m.nodes to) (context_at m.nodes e.number)
 
+  abbrev why : Option Refusal
+  why = move_refusal m e.dir e.number to past name
+
+  abbrev after_apart : Option Refusal
+  after_apart = cond (is_full_elsewhere m e.dir to) (Some NoSpace) None
+
   abbrev after_holds : Option Refusal
-  after_holds = cond (clashes m to name) (Some NoKeyClash) (cond (is_full_elsewhere m e.dir to) (Some NoSpace) None)
+  after_holds = cond (clashes m to name) (Some NoKeyClash) after_apart
 
-  pub below_itself : past ≡ true → place_refusal m e to past name ≡ Some Inval
-  below_itself is = ap (λ b. cond b (Some Inval) (cond (not holds) (Some XDev) after_holds)) is
+  abbrev after_free : Option Refusal
+  after_free = cond past (Some Inval) (cond (not holds) (Some XDev) after_holds)
 
-  module _ (outside : past ≡ false) where
-    pub other_policy : holds ≡ false → place_refusal m e to past name ≡ Some XDev
-    other_policy other = λ i. cond (outside i) (Some Inval) (cond (not (other i)) (Some XDev) after_holds)
+  pub locked_there : is_keyed m to ≡ false → why ≡ Some NoKey
+  locked_there locked =
+      ap (λ b. cond (not b) (Some NoKey) (cond (is_some (entry m.nodes to name)) (Some Exists) after_free)) locked
 
-    module _ (alike : holds ≡ true) where
-      pub clash_there : clashes m to name ≡ true → place_refusal m e to past name ≡ Some NoKeyClash
-      clash_there clash = λ i. cond (outside i) (Some Inval) (cond (not (alike i)) (Some XDev) (cond (clash i) (Some NoKeyClash) (cond (is_full_elsewhere m e.dir to) (Some NoSpace) None)))
+  module _ (keyed : is_keyed m to ≡ true) where
+    pub taken_there : is_some (entry m.nodes to name) ≡ true → why ≡ Some Exists
+    taken_there taken = λ i. cond (not (keyed i)) (Some NoKey) (cond (taken i) (Some Exists) after_free)
 
-      module _ (apart : clashes m to name ≡ false) where
-        pub full_there : is_full_elsewhere m e.dir to ≡ true → place_refusal m e to past name ≡ Some NoSpace
-        full_there full = λ i. cond (outside i) (Some Inval) (cond (not (alike i)) (Some XDev) (cond (apart i) (Some NoKeyClash) (cond (full i) (Some NoSpace) None)))
+    module _ (free : is_some (entry m.nodes to name) ≡ false) where
+      rest_told : why ≡ after_free
+      rest_told = λ i. cond (not (keyed i)) (Some NoKey) (cond (free i) (Some Exists) after_free)
 
-        pub nothing_against : is_full_elsewhere m e.dir to ≡ false → place_refusal m e to past name ≡ None
-        nothing_against room = λ i. cond (outside i) (Some Inval) (cond (not (alike i)) (Some XDev) (cond (apart i) (Some NoKeyClash) (cond (room i) (Some NoSpace) None)))
+      pub below_itself : past ≡ true → why ≡ Some Inval
+      below_itself is = rest_told ∙ ap (λ b. cond b (Some Inval) (cond (not holds) (Some XDev) after_holds)) is
 
-  pub move_told : {r : Option Refusal} → is_keyed m to ≡ true → is_some (entry m.nodes to name) ≡ false → r ≡ place_refusal m e to past name → move_refusal m e to past name ≡ r
-  move_told keyed free is = ap (λ (o : Option Refusal). first_of o (place_refusal m e to past name)) (name_free m to name keyed free) ∙ sym is
+      module _ (outside : past ≡ false) where
+        pub other_policy : holds ≡ false → why ≡ Some XDev
+        other_policy other =
+            rest_told ∙ (λ i. cond (outside i) (Some Inval) (cond (not (other i)) (Some XDev) after_holds))
 
-  pub move_stopped : (r : Refusal) → name_refusal m to name ≡ Some r → move_refusal m e to past name ≡ Some r
-  move_stopped r is = ap (λ (o : Option Refusal). first_of o (place_refusal m e to past name)) is
+        module _ (alike : holds ≡ true) where
+          places_told : why ≡ after_holds
+          places_told =
+              rest_told ∙ (λ i. cond (outside i) (Some Inval) (cond (not (alike i)) (Some XDev) after_holds))
+
+          pub clash_there : clashes m to name ≡ true → why ≡ Some NoKeyClash
+          clash_there clash = places_told ∙ ap (λ b. cond b (Some NoKeyClash) after_apart) clash
+
+          module _ (apart : clashes m to name ≡ false) where
+            pub full_there : is_full_elsewhere m e.dir to ≡ true → why ≡ Some NoSpace
+            full_there full =
+                places_told ∙ (λ i. cond (apart i) (Some NoKeyClash) (cond (full i) (Some NoSpace) None))
+
+            pub nothing_against : is_full_elsewhere m e.dir to ≡ false → why ≡ None
+            nothing_against room =
+                places_told ∙ (λ i. cond (apart i) (Some NoKeyClash) (cond (room i) (Some NoSpace) None))
 
 -- ---- the walk to the new directory
 
@@ -263,31 +220,53 @@ walk_stopped whole r (Err q) is = ap no_at (same is)
     same is = cc
 walk_stopped whole r (Ok n) is = let bad : no_past r ≡ ok_past n whole = is in absurd (cc)
 
-module _ (m : PlainMount) (e : Entry) (path : PathParts) where
-  pub refused_walk : (r : Refusal) → no_at r ≡ parent m path → target_refusal m e path ≡ Some r
-  refused_walk r is = ap (target_walked m e path) (sym is)
+-- what is answered at the entry, which has this name
+module _ (m : PlainMount) (e : Entry) (name : Name) (path : PathParts) where
+  abbrev moved_unless : ℕ → Option Refusal → Answer
+  moved_unless to o = done_unless m o (with_moved m e.dir name to (last_part path) e.number)
 
-  -- at the directory that was reached
-  pub target_there : (to : ℕ) (past : Bool) (part : Name) → ok_at to ≡ parent m path → past ≡ is_at_or_above m e.number path → part ≡ last_part path
-      → target_refusal m e path ≡ move_refusal m e to past part
-  target_there to past part led passed is = ap (target_walked m e path) (sym led) ∙ (λ i. move_refusal m e to (sym passed i) (sym is i))
+  abbrev why_in : ℕ → Option Refusal
+  why_in to = move_refusal m e.dir e.number to (is_at_or_above m e.number path) (last_part path)
+
+  -- in the directory to which the path leads
+  abbrev move_in : ℕ → Answer
+  move_in to = moved_unless to (why_in to)
+
+  abbrev answer : Answer
+  answer = answer_to_move_from m path e.dir name e.number
+
+  pub refused_walk : (r : Refusal) → no_at r ≡ parent m path → answer ≡ refused m r
+  refused_walk r is = ap (λ w. at_node m w move_in) (sym is)
+
+  pub told_there : (to : ℕ) → ok_at to ≡ parent m path → (o : Option Refusal) → why_in to ≡ o → answer ≡ moved_unless to o
+  told_there to led o is = ap (λ w. at_node m w move_in) (sym led) ∙ ap (moved_unless to) is
+
+-- at the directory that was reached
+pub why_there : (m : PlainMount) (e : Entry) (path : PathParts) (to : ℕ) (past : Bool) (part : Name)
+    → past ≡ is_at_or_above m e.number path → part ≡ last_part path
+    → move_refusal m e.dir e.number to (is_at_or_above m e.number path) (last_part path)
+    ≡ move_refusal m e.dir e.number to past part
+why_there m e path to past part passed is = λ i. move_refusal m e.dir e.number to (sym passed i) (sym is i)
 
 pub named_path : (path : PathParts) → 1 ≤ length path → is_root path ≡ false
 named_path path some = ne_eqb (length path) 0 (λ none. absurd (omega arith))
 
 -- what is told at the place's own directory is told at this one
 pub why_here : (m : PlainMount) (e : Entry) (to : ℕ) (past : Bool) (name : Name) (place : Place) → IsNewName m to name place → (r : Option Refusal)
-    → (IsNewName m place.dir name place → r ≡ place_refusal m e place.dir past name) → r ≡ place_refusal m e to past name
+    → (IsNewName m place.dir name place → r ≡ move_refusal m e.dir e.number place.dir past name)
+    → move_refusal m e.dir e.number to past name ≡ r
 why_here m e to past name place at r told =
-    told (subst (λ (d : ℕ). IsNewName m d name place) (sym at.dir) at)
-    ∙ ap (λ (d : ℕ). place_refusal m e d past name) at.dir
+    ap (λ (d : ℕ). move_refusal m e.dir e.number d past name) (sym at.dir)
+    ∙ sym (told (subst (λ (d : ℕ). IsNewName m d name place) (sym at.dir) at))
 
 pub placed_at : (m : PlainMount) (e : Entry) (path : PathParts) (place : Place) (to : ℕ) (past : Bool) (part : Name) → ok_at to ≡ parent m path → past ≡ is_at_or_above m e.number path
-    → part ≡ last_part path → place.dir ≡ to → IsNewName m to part place → move_refusal m e to past part ≡ None → IsTargetAt m e path place
+    → part ≡ last_part path → place.dir ≡ to → IsNewName m to part place
+    → move_refusal m e.dir e.number to past part ≡ None → IsTargetAt m e path place
 placed_at m e path place to past part led passed part_is dir_is named free = record {
   led = sym led ∙ ap ok_at (sym dir_is);
   named = subst (λ (d : ℕ). IsNewName m d (last_part path) place) (sym dir_is) (subst (λ (p : Name). IsNewName m to p place) part_is named);
-  free = target_there m e path to past part led passed part_is ∙ free;
+  free = ap (λ (d : ℕ). move_refusal m e.dir e.number d (is_at_or_above m e.number path) (last_part path)) dir_is
+      ∙ why_there m e path to past part passed part_is ∙ free;
 }
 
 -- ---- at the entry
@@ -297,7 +276,7 @@ module _ (m : PlainMount) (e : Entry) (name : Name) (path : PathParts) (place : 
   after_moving = with_moved m e.dir name place.dir (last_part path) e.number
 
   pub moved_is : answer_to_move_from m path e.dir name e.number ≡ done after_moving
-  moved_is = target_free m e name path place.dir at.led at.free
+  moved_is = told_there m e name path place.dir (sym at.led) None at.free
 
   pub moved_well : IsWellFormed (answer_to_move_from m path e.dir name e.number).mount → IsWellFormed after_moving
   moved_well well = subst IsWellFormed (ap (λ (a : Answer). a.mount) moved_is) well

@@ -6,12 +6,13 @@ ghost use Rattle.plain_tree.specs.Nodes.{Name};
 ghost use Rattle.mount_model.specs.Carried.{IsPath};
 ghost use Rattle.mount_model.specs.ClaimHistory.{is_refused};
 ghost use Rattle.mount_model.specs.PlainMount.{PlainMount};
-ghost use Rattle.mount_model.specs.RenameAnswer.{answer_to_rename};
+ghost use Rattle.mount_model.specs.Answered.{refused};
+ghost use Rattle.mount_model.specs.RenameAnswer.{answer_to_move_from, answer_to_rename};
 ghost use Rattle.mount_state.specs.SameButCaches.{SameButCaches, StaysFor};
 ghost use Rattle.mount_state.specs.StandsFor.{StandsFor};
 ghost use Rattle.mount_names.specs.Found.{IsEntryOn};
 ghost use Rattle.mount_state.specs.Given.{IsGivenOrNoMemory, IsRefusedAsDue};
-ghost use Rattle.mount_names.specs.Moved.{IsTargetAt, Moves, RefusesAsDue, Renames, target_refusal};
+ghost use Rattle.mount_names.specs.Moved.{IsTargetAt, Moves, RefusesAsDue, Renames};
 ghost use Rattle.mount_names.specs.Removed.{IsEntryOf};
 ghost use Rattle.mount_names.specs.SameButTree.{SameButTree};
 ghost use Rattle.mount_names.specs.Places.{IsBlank};
@@ -97,7 +98,7 @@ fn target_at<'a, L: Ledger>(
     requires blank { IsBlank room.old }
     ensures refused { IfErr result (λ refusal. (m : PlainMount) (old : Name) → StandsFor state.old m
         → IsPath path.now → IsEntryOf m old entry.now
-        → target_refusal m entry.now path.now ≡ Some refusal) }
+        → answer_to_move_from m path.now entry.now.dir old entry.now.number ≡ refused m refusal) }
     ensures placed { IfOk result (λ place. (m : PlainMount) (old : Name) → StandsFor state.old m
         → IsPath path.now → IsEntryOf m old entry.now → IsTargetAt m entry.now path.now place) }
     ensures dir { IfOk result (λ place. IsDirAt state.new.disk place.dir) }

@@ -8,7 +8,6 @@ ghost use Rattle.mount_model.specs.RenameAnswer as plain;
 ghost use Rattle.mount_model.specs.WellFormed.{IsName};
 ghost use Rattle.mount_state.specs.StandsFor.{StandsFor};
 ghost use Rattle.mount_names.specs.Made.{IsNewName};
-ghost use Rattle.mount_names.specs.Moved.{place_refusal, move_refusal};
 ghost use Rattle.mount_names.specs.Removed.{IsEntryOf};
 ghost use Rattle.mount_names.specs.Places.{IsBlank};
 
@@ -37,10 +36,11 @@ pub(crate) fn target_in<'a, L: Ledger>(
     requires { IsBlank room.old }
     ensures refused { IfErr result (λ refusal. (m : PlainMount) (old : Name) → StandsFor state.now m
         → is_dir_at m.nodes dir ≡ true → IsName part.now → IsEntryOf m old entry.now
-        → move_refusal m entry.now dir past part.now ≡ Some refusal) }
+        → plain.move_refusal m entry.now.dir entry.now.number dir past part.now ≡ Some refusal) }
     ensures placed { IfOk result (λ place. (m : PlainMount) (old : Name) → StandsFor state.now m
         → is_dir_at m.nodes dir ≡ true → IsName part.now → IsEntryOf m old entry.now
-        → IsNewName m dir part.now place × (move_refusal m entry.now dir past part.now ≡ None)) }
+        → IsNewName m dir part.now place
+        × (plain.move_refusal m entry.now.dir entry.now.number dir past part.now ≡ None)) }
     ensures dir { IfOk result (λ place. (place.dir ≡ dir) × IsDirAt state.now.disk dir) }
     ensures ticks { steps.new ≤ steps.old + 1 }
 {
@@ -67,7 +67,7 @@ pub(crate) fn target_in<'a, L: Ledger>(
 fn why_not(state: &MountState, entry: &Entry, place: &Place, past: bool) -> Option<Refusal>
     ensures { (m : PlainMount) (old name : Name) → StandsFor state.now m → IsName name
         → IsEntryOf m old entry.now → IsNewName m place.now.dir name place.now
-        → result ≡ place_refusal m entry.now place.now.dir past name }
+        → result ≡ plain.move_refusal m entry.now.dir entry.now.number place.now.dir past name }
 {
     if past {
         return Some(Refusal::Inval);

@@ -1,7 +1,7 @@
 use Rattle.mount_model.specs.RenameAnswer.{answer_to_move_from}
 use Rattle.mount_model.specs.Walk.{last_part}
 use Rattle.mount_names.proofs.GivenLemmas.{refused_so, due_refused, due_done, given_by}
-use Rattle.mount_names.proofs.MoveLemmas.{moved_is, moved_well, target_refused, after_moving}
+use Rattle.mount_names.proofs.MoveLemmas.{moved_is, moved_well, after_moving}
 use Rattle.mount_names.proofs.moves.rename_entry.Goals as goal
 
 pub returns-in-Ok-clause-stands : goal.returns-in-Ok-clause-stands
@@ -24,11 +24,11 @@ returns-in-Err-clause-stands g c = λ m name st fits of by_part well.
     let e = c.args.entry.now in
     let path = c.args.new_path.now in
     refused_so m (answer_to_move_from m path e.dir name e.number) c.in-Err.refusal
-    (target_refused m e name path c.in-Err.refusal (c.in-Err.ensures.refused m name st fits of)) c.target_at.new.state (c.in-Err.ensures.stands m st)
+    (c.in-Err.ensures.refused m name st fits of) c.target_at.new.state (c.in-Err.ensures.stands m st)
 
 pub returns-in-Err-clause-due : goal.returns-in-Err-clause-due
 returns-in-Err-clause-due g c = λ m name st fits of.
     let e = c.args.entry.now in
     let path = c.args.new_path.now in
     due_refused m (answer_to_move_from m path e.dir name e.number) c.in-Err.refusal
-    (target_refused m e name path c.in-Err.refusal (c.in-Err.ensures.refused m name st fits of))
+    (c.in-Err.ensures.refused m name st fits of)
