@@ -29,7 +29,7 @@ use Rattle.reply_text.proofs.ReplyLemmas.{IsField-state, IsField-kind}
 use Rattle.entry_reader.specs.Fields.{number_in, flag_in, users_in}
 use Rattle.entry_reader.specs.Names.{name_text, name_of, state_in, kind_in}
 use Rattle.entry_reader.specs.ReplyForms.{refused, reply_named, reply_behind, reply_form}
-use Rattle.entry_reader.specs.Reading.{ReplyIsTyped}
+use Rattle.entry_reader.specs.Typed.{ReplyIsTyped}
 use Rattle.entry_reader.specs.declared.names.ReplyName.{ReplyName}
 use Rattle.entry_reader.specs.declared.names.ReplyName.TheVariants as name
 use Rattle.entry_reader.proofs.WordLemmas.{IsWordByte, IsWord, field_is_word, spaced, number_word, small_word, digits_word, one}

@@ -3,4 +3,5 @@ pub mod Names
 pub mod CallForms
 pub mod ReplyForms
 pub mod Guess
+pub mod Typed
 pub mod Reading

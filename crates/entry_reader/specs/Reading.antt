@@ -1,33 +1,12 @@
 -- What reading a line answers: just the lines of entries of calls that fit are read.
-use Rattle.std.specs.Prelude.{◌≡◌, ◌≢◌, ◌<◌, ◌^◌, ⊤, ℕ, List, length, Option, Some, None, IsSomeAnd}
-use Rattle.hex.specs.Hex.{IsBytes}
-use Rattle.mount_model.specs.declared.call.Op.{Op}
-use Rattle.mount_model.specs.declared.call.Op.TheVariants.{RemoveKey, RemoveKeyAll, KeyStatus}
-use Rattle.mount_model.specs.declared.call.Op.TheVariants.{SetPolicy, MetaLoad, MetaStore}
-use Rattle.mount_model.specs.declared.reply.Reply.{Reply}
-use Rattle.mount_model.specs.declared.reply.Reply.TheVariants.{Added, PolicyIs}
+use Rattle.std.specs.Prelude.{◌≡◌, ◌≢◌, ◌<◌, ◌^◌, ℕ, List, Option, Some, None, IsSomeAnd}
 use Rattle.mount_model.specs.Fits.{Fits}
 use Rattle.mount_model.specs.History.{MountEntry}
 use Rattle.reply_text.specs.Log.{entry_text}
 use Rattle.reply_text.specs.LogLaws.{told}
 use Rattle.reply_text.specs.Ranges.{EntryIsInRange}
+use Rattle.entry_reader.specs.Typed.{CallIsTyped, ReplyIsTyped}
 use Rattle.entry_reader.specs.declared.reader.LogEntry.{LogEntry}
-
--- what the types of a call or a reply say besides its range: an identifier has 16 bytes, a policy 24, and the
--- name of a record is of bytes
-abbrev pub CallIsTyped : Op → Type 0
-CallIsTyped (RemoveKey id) = length id.0 ≡ 16
-CallIsTyped (RemoveKeyAll id) = length id.0 ≡ 16
-CallIsTyped (KeyStatus id) = length id.0 ≡ 16
-CallIsTyped (SetPolicy path policy nonce) = length policy ≡ 24
-CallIsTyped (MetaLoad name) = IsBytes name
-CallIsTyped (MetaStore name expected bytes) = IsBytes name
-CallIsTyped other = ⊤
-
-abbrev pub ReplyIsTyped : Reply → Type 0
-ReplyIsTyped (Added id) = length id.0 ≡ 16
-ReplyIsTyped (PolicyIs policy) = length policy ≡ 24
-ReplyIsTyped other = ⊤
 
 -- an entry that a program can hold, of a call that a mount may be asked; the reply may be any, also one that
 -- no such call has

@@ -2,7 +2,7 @@
 //! names of records are of bytes. The functions here do nothing; each says so by its contract.
 
 ghost use Rattle.std.specs.Prelude.{◌≡◌, length};
-ghost use Rattle.entry_reader.specs.Reading.{CallIsTyped, ReplyIsTyped};
+ghost use Rattle.entry_reader.specs.Typed.{CallIsTyped, ReplyIsTyped};
 
 use byte_words::slice_is_bytes;
 use mount_model::{KeyId, Op, Reply};

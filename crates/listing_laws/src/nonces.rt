@@ -14,7 +14,24 @@ pub fn call_carries_nonce(call: &Call)
         | Op::Mkdir { nonce, .. }
         | Op::Create { nonce, .. }
         | Op::Symlink { nonce, .. } => is_nonce(nonce),
-        _ => {}
+        Op::AddKey { .. }
+        | Op::RemoveKey { .. }
+        | Op::RemoveKeyAll { .. }
+        | Op::KeyStatus { .. }
+        | Op::GetPolicy { .. }
+        | Op::ReadLink { .. }
+        | Op::Unlink { .. }
+        | Op::Rmdir { .. }
+        | Op::Rename { .. }
+        | Op::List { .. }
+        | Op::Stat { .. }
+        | Op::OpenNode { .. }
+        | Op::Read { .. }
+        | Op::Write { .. }
+        | Op::Close { .. }
+        | Op::DropCaches
+        | Op::MetaLoad { .. }
+        | Op::MetaStore { .. } => {}
     }
 }
 

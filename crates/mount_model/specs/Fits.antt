@@ -15,6 +15,9 @@ use Rattle.mount_model.specs.Carried.{HasLength, IsPath, IsTarget, AreFewBytes}
 -- most 9,000
 abbrev pub OpFits : Op → Type 0
 OpFits (AddKey raw) = HasLength raw MOST_RAW_BYTES
+OpFits (RemoveKey id) = ⊤
+OpFits (RemoveKeyAll id) = ⊤
+OpFits (KeyStatus id) = ⊤
 OpFits (SetPolicy path policy nonce) = IsPath path
 OpFits (GetPolicy path) = IsPath path
 OpFits (Mkdir path nonce) = IsPath path
@@ -27,11 +30,13 @@ OpFits (Rename old_path new_path) = IsPath old_path × IsPath new_path
 OpFits (op.List path start) = IsPath path
 OpFits (op.Stat path) = IsPath path
 OpFits (OpenNode path) = IsPath path
+OpFits (op.Read handle offset len) = ⊤
 OpFits (Write handle offset bytes) = AreFewBytes bytes MOST_WRITE_BYTES
+OpFits (Close handle) = ⊤
+OpFits DropCaches = ⊤
 OpFits (MetaLoad name) = HasLength name MOST_RECORD_NAME_BYTES
 OpFits (MetaStore name expected bytes) =
     HasLength name MOST_RECORD_NAME_BYTES × (length bytes ≤ MOST_CARRIED_BYTES)
-OpFits other = ⊤
 
 abbrev pub Fits : Call → Type 0
 Fits call = OpFits call.op

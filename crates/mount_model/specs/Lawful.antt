@@ -1,21 +1,14 @@
 -- What is asked of a history whatever raw keys were added, and what where they agree.
-use Rattle.std.specs.Prelude.{◌≡◌, ⊤, ℕ, Bool, true, false, ◌⊎◌, Some, List, [], ◌∷◌, ◌++◌, length}
-use Rattle.std.specs.Prelude.{All, Contains, nat_lt, if◌then◌else◌}
+use Rattle.std.specs.Prelude.{◌≡◌, ⊤, ℕ, Some, List, [], ◌∷◌, ◌++◌, All, Contains, if◌then◌else◌}
 use Rattle.fsc_keys.specs.Keys.{key_id_of}
 use Rattle.user_claims.specs.Claims.{ClaimSet, no_claims}
-use Rattle.meta_files.specs.declared.files.TheConstants.{MOST_RECORD_BYTES}
 use Rattle.mount_model.specs.declared.call.Op.{Op}
-use Rattle.mount_model.specs.declared.call.Op.TheVariants.{AddKey, RemoveKey, RemoveKeyAll, KeyStatus}
-use Rattle.mount_model.specs.declared.call.Op.TheVariants.{Close, DropCaches, MetaLoad, MetaStore}
-use Rattle.mount_model.specs.declared.reply.Reply.{Reply}
-use Rattle.mount_model.specs.declared.reply.Reply.TheVariants.{Done, Held, Stored, Refused}
-use Rattle.mount_model.specs.declared.reply.Refusal.TheVariants.{NotFound, TooBig, NoSpace, Changed}
-use Rattle.mount_model.specs.declared.reply.Refusal.TheVariants.{BadHandle, NoMemory}
+use Rattle.mount_model.specs.declared.call.Op.TheVariants.{AddKey}
 use Rattle.mount_model.specs.PlainMount.{Raws, raw_in}
 use Rattle.mount_model.specs.Fits.{Fits}
 use Rattle.mount_model.specs.History.{MountEntry, History, IsLegal}
 use Rattle.mount_model.specs.ClaimHistory.{is_refused, claims_left}
-use Rattle.mount_model.specs.KeyReplies.{IsToldOrNoMemory, addition_by, removal_by, clearing_by, status_by}
+pub use Rattle.mount_model.specs.ClaimReplies.{is_load_told, is_store_told, TellsStore, TellsBy}
 
 -- ---- raw keys agree
 
@@ -43,39 +36,6 @@ KeyAgrees raws (AddKey raw) = AgreesWith raws raw
 KeyAgrees raws other = ⊤
 
 -- ---- what is told whatever raw keys were added
-
--- what may be replied to loading a record, and to storing one that isn't too big
-abbrev pub is_load_told : Reply → Bool
-is_load_told (Held version bytes) = true
-is_load_told (Refused NotFound) = true
-is_load_told (Refused NoMemory) = true
-is_load_told other = false
-
-abbrev pub is_store_told : Reply → Bool
-is_store_told (Stored version) = true
-is_store_told (Refused (Changed version)) = true
-is_store_told (Refused NoSpace) = true
-is_store_told (Refused NoMemory) = true
-is_store_told other = false
-
--- TooBig is the answer to bytes that are too many, and to no others
-abbrev pub TellsStore : Bool → Reply → Type 0
-TellsStore true reply = IsToldOrNoMemory (Refused TooBig) reply
-TellsStore false reply = is_store_told reply ≡ true
-
--- A reply to a user's operation, by the claims before it. Of a key all is told by these but whether some
--- open handle needs it. Removing keys, a status, closing and dropping caches never want memory.
-abbrev pub TellsBy : ClaimSet → ℕ → Op → Reply → Type 0
-TellsBy claims uid (AddKey raw) reply = IsToldOrNoMemory (addition_by claims uid raw) reply
-TellsBy claims uid (RemoveKey id) reply = (busy : Bool) × (reply ≡ removal_by claims busy uid id)
-TellsBy claims uid (RemoveKeyAll id) reply = (busy : Bool) × (reply ≡ clearing_by claims busy uid id)
-TellsBy claims uid (KeyStatus id) reply = (busy : Bool) × (reply ≡ status_by claims busy uid id)
-TellsBy claims uid (Close handle) reply = (reply ≡ Done) ⊎ (reply ≡ Refused BadHandle)
-TellsBy claims uid DropCaches reply = reply ≡ Done
-TellsBy claims uid (MetaLoad name) reply = is_load_told reply ≡ true
-TellsBy claims uid (MetaStore name expected bytes) reply =
-    TellsStore (nat_lt MOST_RECORD_BYTES (length bytes)) reply
-TellsBy claims uid op reply = ⊤
 
 abbrev pub TellsClaim : ClaimSet → MountEntry → Type 0
 TellsClaim claims e = TellsBy claims e.call.uid e.call.op e.reply

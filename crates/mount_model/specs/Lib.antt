@@ -15,6 +15,7 @@ pub mod Answer
 pub mod Step
 pub mod History
 pub mod ClaimHistory
+pub mod ClaimReplies
 pub mod Lawful
 pub mod WellFormed
 pub mod Carried

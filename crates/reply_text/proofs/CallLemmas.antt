@@ -17,7 +17,8 @@ use Rattle.reply_text.specs.Words.{bit, flag_text, state_text, kind_text, refusa
 use Rattle.reply_text.specs.Names.{path_text, record_text, names_text}
 use Rattle.reply_text.specs.Calls.{span_text, store_text, call_text}
 use Rattle.reply_text.specs.Replies.{reply_text}
-use Rattle.reply_text.specs.Ranges.{CallIsInRange, RefusalIsInRange, ReplyIsInRange}
+use Rattle.reply_text.specs.CallRange.{CallIsInRange}
+use Rattle.reply_text.specs.Ranges.{RefusalIsInRange, ReplyIsInRange}
 use Rattle.reply_text.proofs.FieldLemmas.{IsFieldByte, IsCallByte, IsLineByte, bit-small, IsField-decimal, IsField-digits, IsField-word, IsField-record, IsField-bytes, IsField-path}
 use Rattle.reply_text.proofs.ReplyLemmas.{IsField-state, IsField-kind}
 

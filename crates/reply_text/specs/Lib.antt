@@ -4,6 +4,7 @@ pub mod Calls
 pub mod Replies
 pub mod Log
 pub mod Notes
+pub mod CallRange
 pub mod Ranges
 pub mod LogLaws
 pub mod Shown

@@ -3,7 +3,8 @@
 
 ghost use Rattle.std.specs.Prelude.{◌<◌, ◌^◌, length, All};
 ghost use Rattle.hex.specs.Hex.{IsBytes};
-ghost use Rattle.reply_text.specs.Ranges.{CallIsInRange, EntryIsInRange, RefusalIsInRange, ReplyIsInRange};
+ghost use Rattle.reply_text.specs.CallRange.{CallIsInRange};
+ghost use Rattle.reply_text.specs.Ranges.{EntryIsInRange, RefusalIsInRange, ReplyIsInRange};
 
 use byte_words::slice_is_bytes;
 use call_history::Entry;
