@@ -2,6 +2,8 @@ pub mod WordLaws
 pub mod FourWords
 pub mod DigestBytes
 pub mod LineLaws
+pub mod Readers
+pub mod SharedLines
 pub mod WrapLineLaws
 pub mod WrapsReadingLaws
 pub mod OptionsLaws
@@ -9,5 +11,5 @@ pub mod PolicyReadingLaws
 pub mod WrapLemmas
 pub mod KindLaws
 pub mod ProtectorSteps
-pub mod ProtectorFound
+pub mod ProtectorValues
 pub mod ProtectorLaws

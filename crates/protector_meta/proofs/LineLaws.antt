@@ -1,14 +1,14 @@
 -- Reading a record line by line: what was read stood there, what stands there is read, and a fault is that of the first line that does not fit.
-use Rattle.std.proofs.Common.{◌≡◌, ℕ, suc, ◌<◌, ◌≤◌, ◌+◌, ◌-◌, Bool, true, false, not, ltb, append_assoc, List, [], ◌∷◌, ◌++◌, length, map, take, drop, get_or, Option, Some, None, Result, Ok, Err, refl, sym, ap, ◌∙◌, arith, add-one, inl, inr}
-use Rattle.std.specs.Prelude.{if◌then◌else◌, is_some}
+use Rattle.std.proofs.Common.{◌≡◌, ℕ, suc, ◌<◌, ◌≤◌, ◌+◌, ◌-◌, Bool, true, false, not, ltb, append_assoc, List, [], ◌∷◌, ◌++◌, length, map, take, drop, get_or, Option, Some, None, Result, Ok, Err, refl, sym, ap, ◌∙◌, arith, add-one}
+use Rattle.std.specs.Prelude.{if◌then◌else◌}
 use Rattle.std.specs.List.{before_first, after_first, flat_map, position_or_len}
-use Rattle.std.proofs.lemmas.Bool.{and_parts, eqb-true, cases_lt, lt-ltb, le-ltb, ltb-true}
+use Rattle.std.proofs.lemmas.Bool.{and_parts, eqb-true, lt-ltb, ltb-true}
 use Rattle.std.proofs.lemmas.List.{take_at}
 use Rattle.std.proofs.lemmas.List.Sums.{split_at_first, passes_at_first, fails_before_first}
 use Rattle.std.proofs.lemmas.List.Splits.{slice_split_first, slice_split_none, length-slice_split}
 use Rattle.text_words.specs.Lines.{is_line_feed, pieces_of}
 use Rattle.text_words.specs.Lines.{ended}
-use Rattle.protector_meta.specs.RecordLines.{LineTest, ended_lines, first_unfit}
+use Rattle.protector_meta.specs.RecordLines.{ended_lines}
 use Rattle.protector_meta.specs.Reading.{◌>>=◌, line_at, required, value_at}
 use Rattle.protector_meta.specs.declared.fault.MetaFault.{MetaFault}
 use Rattle.protector_meta.specs.declared.fault.MetaFault.TheVariants.{Bad}
@@ -101,26 +101,6 @@ ended_more text inside =
 pub ended_none : (text : List ℕ) → length text ≤ position_or_len is_line_feed text → ended_lines text ≡ []
 ended_none text outside =
     ap (λ (ps : List (List ℕ)). take (length ps - 1) ps) (slice_split_none is_line_feed text (λ k d lt. fails_before_first is_line_feed text k d (omega arith)))
-
--- where each fault of what follows the line is that of the first line that does not fit, so is each fault from this line on
-pub value_fault : {A B : Type 0} (fits : LineTest) (number : ℕ) (earlier : List (List ℕ)) (value : List ℕ → Option A) (text : List ℕ) (next : A → List ℕ → Result B MetaFault) (e : MetaFault)
-    → ((line : List ℕ) → fits number earlier line ≡ is_some (value line))
-    → ((line rest : List ℕ) (x : A) → value line ≡ Some x → next x rest ≡ Err e → e ≡ Bad (first_unfit fits (number + 1) (earlier ++ line ∷ []) (ended_lines rest)))
-    → (value_at value number text >>= λ x. next x.0 x.1) ≡ Err e → e ≡ Bad (first_unfit fits number earlier (ended_lines text))
-value_fault {A = A} fits number earlier value text next e test after h =
-    elim (cases_lt (position_or_len is_line_feed text) (length text)) [
-      | inl inside ↦
-          let ended : ltb (position_or_len is_line_feed text) (length text) ≡ true = lt-ltb _ _ inside in
-          rw (ended_more text inside) (valued (before_first is_line_feed text) (after_first is_line_feed text) (value (before_first is_line_feed text)) refl (rw ended at h))
-      | inr outside ↦
-          let open_end : ltb (position_or_len is_line_feed text) (length text) ≡ false = le-ltb _ _ outside in
-          rw (ended_none text outside) (cc (rw open_end at h))
-    ]
-  where
-    valued : (line rest : List ℕ) (o : Option A) → value line ≡ o → (required o number rest >>= λ x. next x.0 x.1) ≡ Err e
-        → e ≡ Bad (first_unfit fits number earlier (line ∷ ended_lines rest))
-    valued line rest None is h = rw (test line ∙ ap is_some is) (cc h)
-    valued line rest (Some x) is h = rw (test line ∙ ap is_some is) (after line rest x is h)
 
 -- ---- writing
 

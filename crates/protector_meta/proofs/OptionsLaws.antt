@@ -15,7 +15,7 @@ use Rattle.policy_ctx.specs.declared.policy.Pad.TheVariants.{P4, P8, P16, P32}
 use Rattle.policy_ctx.specs.declared.policy.Unit.{Unit as DataUnit}
 use Rattle.policy_ctx.specs.declared.policy.Unit.TheVariants.{Block, U512, U1024, U2048, U4096}
 use Rattle.protector_meta.specs.PolicyText.{options_line}
-use Rattle.protector_meta.specs.PolicyLines.{options_of_words, options_value, wrap_value}
+use Rattle.protector_meta.specs.PolicyLines.{options_of_words, options_value}
 use Rattle.protector_meta.specs.declared.policy_file.Options.{Options}
 use Rattle.text_words.proofs.PieceLemmas.{free_of_both, is_free_of, split_at, split_none}
 use Rattle.text_words.proofs.WordLemmas.{number_is_free}
@@ -115,11 +115,6 @@ module _ (o : Options) where
 
   pub options_line_is_free : is_free_of 10 (options_line o) ≡ true
   options_line_is_free = let f = free 10 (lit< tt) in free_of_both 10 size (32 ∷ log) f.0 f.1
-
-  -- it tells of no wrap
-  pub options_line_wraps_nothing : wrap_value (options_line o) ≡ None
-  unfolding wrap_value
-  options_line_wraps_nothing = refl
 
 -- what two words tell of
 module _ (size log : List ℕ) (o : Options) where

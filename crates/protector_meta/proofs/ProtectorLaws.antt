@@ -1,47 +1,80 @@
--- A protector's record is read from its text, from no other text, and a fault is that of the first line that does not fit.
-use Rattle.std.proofs.Common.{◌≡◌, ℕ, ◌==◌, Bool, true, false, List, [], ◌∷◌, ◌++◌, length, Option, Some, Result, Ok, Err, refl, sym, ap, ◌∙◌, arith}
-use Rattle.std.specs.Prelude.{IfOk, IfErr, ◌≢◌, if◌then◌else◌, codes}
-use Rattle.std.proofs.lemmas.Bool.{and_from, eq-eqb}
+-- A protector's record is read from its text, from no other text, and a fault is that of the first line at fault.
+use Rattle.std.proofs.Common.{◌≡◌, ℕ, List, [], ◌∷◌, ◌++◌, Result, Ok, Err, refl, sym, ap, ◌∙◌, subst}
+use Rattle.std.specs.Prelude.{IfOk, IfErr, ◌≢◌, codes}
 use Rattle.hex.specs.Hex.{encode_lower}
+use Rattle.byte_words.specs.Bytes.{AreBytesOfLength}
+use Rattle.short_bytes.specs.Label.{IsLabel}
+use Rattle.text_words.specs.Lines.{ended}
 use Rattle.protector_meta.specs.Descriptor.{IsDescriptor}
-use Rattle.protector_meta.specs.RecordLines.{ended_lines, first_bad_line, first_unfit}
+use Rattle.protector_meta.specs.RecordLines.{IsFirstBad, TellsFirstBad, ended_lines}
 use Rattle.protector_meta.specs.LineValues.{digits_line_value, name_line_value}
 use Rattle.protector_meta.specs.Reading.{◌>>=◌, value_at}
-use Rattle.protector_meta.specs.ProtectorText.{IsProtector, kind_text, protector_text}
-use Rattle.protector_meta.specs.ProtectorLines.{descriptor_line_value, descriptor_value, head_value, kind_line_value, kind_value, protector_line_fits}
-use Rattle.protector_meta.specs.ProtectorReading.{nothing_left, protector_read}
+use Rattle.protector_meta.specs.ProtectorText.{IsKind, IsProtector, IsProtectorRecord, kind_text, protector_lines, protector_text}
+use Rattle.protector_meta.specs.ProtectorLines.{descriptor_line_value, head_value, kind_line_value}
+use Rattle.protector_meta.specs.ProtectorReading.{protector_read}
 use Rattle.protector_meta.specs.declared.fault.MetaFault.{MetaFault}
 use Rattle.protector_meta.specs.declared.fault.MetaFault.TheVariants.{Bad}
 use Rattle.protector_meta.specs.declared.protector.Protector.{Protector}
-use Rattle.text_words.proofs.PieceLemmas.{is_free_of}
-use Rattle.text_words.proofs.WordLemmas.{digits_are_free, lower_digits_are_free}
-use Rattle.protector_meta.proofs.WordLaws.{digits_line_again, label_is_free, name_line_again, word_value_again}
-use Rattle.protector_meta.proofs.LineLaws.{ended-push, value_again, value_fault}
-use Rattle.protector_meta.proofs.KindLaws.{kind_again, kind_is_free}
-use Rattle.protector_meta.proofs.ProtectorSteps.{behind_descriptor, behind_head, behind_iv, behind_key, behind_kind, behind_name, from_descriptor, from_end, from_iv, from_key, from_kind, from_name, from_tag}
-use Rattle.protector_meta.proofs.ProtectorFound.{protector_found}
+use Rattle.protector_meta.proofs.LineLaws.{ended-push}
+use Rattle.protector_meta.proofs.Readers.{Reads, line_then, only_one, stops_alike, stops_told}
+use Rattle.protector_meta.proofs.SharedLines.{digits_spelled, name_spelled}
+use Rattle.protector_meta.proofs.ProtectorSteps.{IsEnd, IsFromDescriptor, IsFromIv, IsFromKey, IsFromKind, IsFromName, IsFromTag, IsWhole}
+use Rattle.protector_meta.proofs.ProtectorSteps.{from_descriptor, from_end, from_iv, from_key, from_kind, from_name, from_tag}
+use Rattle.protector_meta.proofs.ProtectorValues.{descriptor_spelled, end_reads, head_spelled, kind_spelled}
 
--- ---- the record's text is read
+-- ---- the reader
 
-descriptor_again : (digits : List ℕ) → IsDescriptor digits → descriptor_value digits ≡ Some digits
-descriptor_again digits h = rw (and_from _ _ (eq-eqb (length digits) 16 h.0) h.1) refl
+steps : (text : List ℕ) → protector_read text ≡ (value_at head_value 1 text >>= λ head. from_name head.0 head.1)
+unfolding protector_read
+steps text = refl
 
--- one line is read, and then the rest
-goes_on : {A : Type 0} (value : List ℕ → Option A) (number : ℕ) (line rest : List ℕ) (x : A) (next : A → List ℕ → Result Protector MetaFault) (p : Protector)
-    → is_free_of 10 line ≡ true → value line ≡ Some x → next x rest ≡ Ok p → (value_at value number (line ++ 10 ∷ rest) >>= λ x. next x.0 x.1) ≡ Ok p
-goes_on value number line rest x next p plain valued h = rw (value_again value number line rest x plain valued) h
+reads : Reads IsWhole 1 (λ text. value_at head_value 1 text >>= λ head. from_name head.0 head.1)
+reads =
+    line_then head_value (λ head. Unit {0}) (λ head. codes "fsc-protector 1") IsFromName 1 from_name head_spelled (λ head.
+    line_then name_line_value IsLabel (λ name. codes "name " ++ name) IsFromKind 2 from_kind name_spelled (λ name.
+    line_then kind_line_value IsKind (λ kind. codes "kind " ++ kind_text kind) (IsFromDescriptor name) 3 (from_descriptor name) kind_spelled (λ kind.
+    line_then descriptor_line_value IsDescriptor (λ digits. codes "descriptor " ++ digits) (IsFromIv name kind) 4 (from_iv name kind) descriptor_spelled (λ digits.
+    line_then (digits_line_value (codes "iv ") 16) (AreBytesOfLength 16) (λ iv. codes "iv " ++ encode_lower iv) (IsFromKey name kind digits) 5 (from_key name kind digits) (digits_spelled (codes "iv ") 16 refl) (λ iv.
+    line_then (digits_line_value (codes "key ") 32) (AreBytesOfLength 32) (λ key. codes "key " ++ encode_lower key) (IsFromTag name kind digits iv) 6 (from_tag name kind digits iv) (digits_spelled (codes "key ") 32 refl) (λ key.
+    line_then (digits_line_value (codes "tag ") 32) (AreBytesOfLength 32) (λ tag. codes "tag " ++ encode_lower tag)
+    (λ tag. IsEnd (record { name = name; kind = kind; descriptor = digits; iv = iv; key = key; tag = tag })) 7 (from_end name kind digits iv key) (digits_spelled (codes "tag ") 32 refl) (λ tag.
+    end_reads (record { name = name; kind = kind; descriptor = digits; iv = iv; key = key; tag = tag }))))))))
+
+-- the lines that are read are those of the record
+told : (p : Protector) (lines : List (List ℕ)) → IsWhole p lines → IsProtector p × (lines ≡ protector_lines p)
+told p lines (_, (r0, (e0, (_, (name, (r1, (e1, (is_name, (kind, (r2, (e2, (is_kind, (digits, (r3, (e3, (is_digits, (iv, (r4, (e4, (is_iv, (key, (r5, (e5, (is_key, (tag, (r6, (e6, (is_tag, (none, same))))))))))))))))))))))))))))) =
+    subst (λ (q : Protector). IsProtector q × (lines ≡ protector_lines q)) same (
+      record { name = is_name; kind = is_kind; descriptor = is_digits; iv = is_iv; key = is_key; tag = is_tag },
+      e0 ∙ ap (λ ls. codes "fsc-protector 1" ∷ ls)
+          (e1 ∙ ap (λ ls. (codes "name " ++ name) ∷ ls)
+          (e2 ∙ ap (λ ls. (codes "kind " ++ kind_text kind) ∷ ls)
+          (e3 ∙ ap (λ ls. (codes "descriptor " ++ digits) ∷ ls)
+          (e4 ∙ ap (λ ls. (codes "iv " ++ encode_lower iv) ∷ ls)
+          (e5 ∙ ap (λ ls. (codes "key " ++ encode_lower key) ∷ ls)
+          (e6 ∙ ap (λ ls. (codes "tag " ++ encode_lower tag) ∷ ls) none)))))),
+    )
+
+whole : (p : Protector) → IsProtector p → IsWhole p (protector_lines p)
+whole p is =
+    (tt, (_, (refl, (tt, (p.name, (_, (refl, (is.name, (p.kind, (_, (refl, (is.kind, (p.descriptor, (_, (refl, (is.descriptor, (p.iv, (_, (refl, (is.iv, (p.key, (_, (refl, (is.key, (p.tag, (_, (refl, (is.tag, (refl, refl)))))))))))))))))))))))))))))
+
+pub protector_found : (text : List ℕ) (p : Protector) → protector_read text ≡ Ok p → IsProtector p × (text ≡ protector_text p)
+unfolding protector_text
+protector_found text p h =
+    let found = reads.found text p (sym (steps text) ∙ h) in
+    let is = told p found.0 found.1.1 in
+    (is.0, found.1.0 ∙ ap ended is.1)
 
 pub protector_again : (p : Protector) → IsProtector p → protector_read (protector_text p) ≡ Ok p
-unfolding protector_read protector_text
-protector_again p h =
-    goes_on head_value 1 (codes "fsc-protector 1") (behind_head p) tt from_name p refl refl
-    (goes_on name_line_value 2 (codes "name " ++ p.name) (behind_name p) p.name from_kind p (label_is_free 10 p.name (omega arith) h.name) (name_line_again p.name h.name)
-    (goes_on kind_line_value 3 (codes "kind " ++ kind_text p.kind) (behind_kind p) p.kind (from_descriptor p.name) p (kind_is_free p.kind h.kind) (word_value_again (codes "kind ") kind_value (kind_text p.kind) p.kind (kind_again p.kind h.kind))
-    (goes_on descriptor_line_value 4 (codes "descriptor " ++ p.descriptor) (behind_descriptor p) p.descriptor (from_iv p.name p.kind) p (lower_digits_are_free 10 p.descriptor (omega arith) h.descriptor.1) (word_value_again (codes "descriptor ") descriptor_value p.descriptor p.descriptor (descriptor_again p.descriptor h.descriptor))
-    (goes_on (digits_line_value (codes "iv ") 16) 5 (codes "iv " ++ encode_lower p.iv) (behind_iv p) p.iv (from_key p.name p.kind p.descriptor) p (digits_are_free 10 p.iv (omega arith) h.iv.1) (digits_line_again (codes "iv ") 16 p.iv h.iv)
-    (goes_on (digits_line_value (codes "key ") 32) 6 (codes "key " ++ encode_lower p.key) (behind_key p) p.key (from_tag p.name p.kind p.descriptor p.iv) p (digits_are_free 10 p.key (omega arith) h.key.1) (digits_line_again (codes "key ") 32 p.key h.key)
-    (goes_on (digits_line_value (codes "tag ") 32) 7 (codes "tag " ++ encode_lower p.tag) [] p.tag (from_end p.name p.kind p.descriptor p.iv p.key) p (digits_are_free 10 p.tag (omega arith) h.tag.1) (digits_line_again (codes "tag ") 32 p.tag h.tag)
-    refl))))))
+unfolding protector_text
+protector_again p is = steps (protector_text p) ∙ reads.again p (protector_lines p) (whole p is)
+
+pub protector_bad : (text : List ℕ) (e : MetaFault) → protector_read text ≡ Err e → TellsFirstBad IsProtectorRecord text e
+protector_bad text e h =
+    stops_told IsProtectorRecord text e (stops_alike (λ lines. (p : Protector) × IsWhole p lines) IsProtectorRecord 1 (ended_lines text) e
+    (λ ls any. (any.0, told any.0 ls any.1))
+    (λ ls any. (any.0, subst (IsWhole any.0) (sym any.1.1) (whole any.0 any.1.0)))
+    (reads.stops text e (sym (steps text) ∙ h)))
 
 -- ---- what a reader answered
 
@@ -49,39 +82,18 @@ pub IfOk-found : (text : List ℕ) (r : Result Protector MetaFault) → r ≡ pr
 IfOk-found text (Ok p) e = protector_found text p (sym e)
 IfOk-found text (Err fault) e = tt
 
+pub IfErr-bad : (text : List ℕ) (r : Result Protector MetaFault) → r ≡ protector_read text → IfErr r (TellsFirstBad IsProtectorRecord text)
+IfErr-bad text (Ok p) e = tt
+IfErr-bad text (Err fault) e = protector_bad text fault (sym e)
+
+pub IfErr-only : (text : List ℕ) (r : Result Protector MetaFault) → r ≡ protector_read text
+    → IfErr r (λ fault. (line : ℕ) → IsFirstBad IsProtectorRecord text line → fault ≡ Bad line)
+IfErr-only text (Ok p) e = tt
+IfErr-only text (Err fault) e = λ line is. only_one IsProtectorRecord text fault line (protector_bad text fault (sym e)) is
+
 pub IfErr-none : (text : List ℕ) (r : Result Protector MetaFault) → r ≡ protector_read text → IfErr r (λ _. (p : Protector) → IsProtector p → text ≢ protector_text p)
 IfErr-none text (Ok p) e = tt
 IfErr-none text (Err fault) e = λ p h is. absurd (cc (e, ap protector_read is, protector_again p h))
-
--- ---- the line at fault
-
-nothing_left_fault : (earlier : List (List ℕ)) (text : List ℕ) (p : Protector) (e : MetaFault) → nothing_left 8 text p ≡ Err e
-    → e ≡ Bad (first_unfit protector_line_fits 8 earlier (ended_lines text))
-nothing_left_fault earlier text p e h = of (length text == 0) h ∙ ap Bad (sym (none (ended_lines text)))
-  where
-    of : (b : Bool) → (let r : Result Protector MetaFault = if b then Ok p else Err (Bad 8) in r ≡ Err e) → e ≡ Bad 8
-    of true h = absurd (cc h)
-    of false h = cc h
-
-    none : (lines : List (List ℕ)) → first_unfit protector_line_fits 8 earlier lines ≡ 8
-    none [] = refl
-    none (line ∷ lines) = refl
-
-pub protector_fault : (text : List ℕ) (e : MetaFault) → protector_read text ≡ Err e → e ≡ Bad (first_bad_line protector_line_fits text)
-unfolding protector_read
-protector_fault text e =
-    value_fault protector_line_fits 1 [] head_value text from_name e (λ line. refl) (λ l1 r1 head _.
-    value_fault protector_line_fits 2 (l1 ∷ []) name_line_value r1 from_kind e (λ line. refl) (λ l2 r2 name _.
-    value_fault protector_line_fits 3 (l1 ∷ l2 ∷ []) kind_line_value r2 (from_descriptor name) e (λ line. refl) (λ l3 r3 kind _.
-    value_fault protector_line_fits 4 (l1 ∷ l2 ∷ l3 ∷ []) descriptor_line_value r3 (from_iv name kind) e (λ line. refl) (λ l4 r4 descriptor _.
-    value_fault protector_line_fits 5 (l1 ∷ l2 ∷ l3 ∷ l4 ∷ []) (digits_line_value (codes "iv ") 16) r4 (from_key name kind descriptor) e (λ line. refl) (λ l5 r5 iv _.
-    value_fault protector_line_fits 6 (l1 ∷ l2 ∷ l3 ∷ l4 ∷ l5 ∷ []) (digits_line_value (codes "key ") 32) r5 (from_tag name kind descriptor iv) e (λ line. refl) (λ l6 r6 key _.
-    value_fault protector_line_fits 7 (l1 ∷ l2 ∷ l3 ∷ l4 ∷ l5 ∷ l6 ∷ []) (digits_line_value (codes "tag ") 32) r6 (from_end name kind descriptor iv key) e (λ line. refl) (λ l7 r7 tag _.
-    nothing_left_fault (l1 ∷ l2 ∷ l3 ∷ l4 ∷ l5 ∷ l6 ∷ l7 ∷ []) r7 (record { name = name; kind = kind; descriptor = descriptor; iv = iv; key = key; tag = tag }) e)))))))
-
-pub IfErr-bad : (text : List ℕ) (r : Result Protector MetaFault) → r ≡ protector_read text → IfErr r (λ fault. fault ≡ Bad (first_bad_line protector_line_fits text))
-IfErr-bad text (Ok p) e = tt
-IfErr-bad text (Err fault) e = protector_fault text fault (sym e)
 
 -- ---- writing
 

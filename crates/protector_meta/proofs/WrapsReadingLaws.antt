@@ -1,13 +1,12 @@
 -- Reading the wraps, one line after another.
-use Rattle.std.proofs.Common.{◌≡◌, ℕ, suc, ◌+◌, ◌-◌, ◌<◌, ◌≤◌, ◌==◌, Bool, true, false, ◌&&◌, List, [], ◌∷◌, ◌++◌, length, take, map, Option, Some, None, Result, Ok, Err, refl, sym, ap, ◌∙◌, subst, arith, append_assoc, append-nil, length-append, ◌⊎◌, inl, inr}
-use Rattle.std.specs.Prelude.{codes, nat_lt, nat_le, is_none, is_some, if◌then◌else◌}
-use Rattle.std.specs.Str.{bytes_eq}
-use Rattle.std.specs.List.{filter_map, AllByRecursion}
+use Rattle.std.proofs.Common.{◌≡◌, ℕ, suc, ◌+◌, ◌-◌, ◌<◌, ◌≤◌, ◌==◌, Bool, true, false, ◌&&◌, List, [], ◌∷◌, ◌++◌, length, take, map, replicate, Option, Some, None, Result, Ok, Err, refl, sym, ap, ◌∙◌, subst, lit≤, arith, append_assoc, append-nil, length-append, ◌⊎◌, inl, inr}
+use Rattle.std.specs.Prelude.{codes, nat_lt, nat_le, is_none, if◌then◌else◌}
+use Rattle.std.specs.List.{AllByRecursion}
 use Rattle.std.specs.Option.{ok_or}
-use Rattle.std.proofs.lemmas.Bool.{and_parts, cases_Bool, cond-true, cond-false, eqb-true, lt-ltb, or_parts, or_from, lt-leb, ltb-true, leb-false, ne_eqb}
+use Rattle.std.proofs.lemmas.Bool.{and_parts, cases_Bool, cond-true, cond-false, eqb-true, lt-ltb, or_parts, or_from, lt-leb, ltb-true, leb-false}
 use Rattle.std.proofs.lemmas.Cmp.{nat_list_eq_equiv}
 use Rattle.std.proofs.lemmas.List.{nil_from_length}
-use Rattle.std.proofs.lemmas.List.Elements.{filter_map-append}
+use Rattle.std.proofs.lemmas.Option.{same_Some}
 use Rattle.std.proofs.lemmas.List.Folds.{list_any-append}
 use Rattle.text_words.specs.Lines.{pieces_of}
 use Rattle.protector_meta.specs.declared.fault.MetaFault.{MetaFault}
@@ -15,11 +14,13 @@ use Rattle.protector_meta.specs.declared.fault.MetaFault.TheVariants.{Bad, NoMem
 use Rattle.protector_meta.specs.declared.wraps.Wrap.{Wrap}
 use Rattle.protector_meta.specs.Wraps.{AreDistinct, AreWraps, adding_fault, is_for, is_listed}
 use Rattle.protector_meta.specs.Reading.{◌>>=◌}
-use Rattle.protector_meta.specs.RecordLines.{first_unfit}
+use Rattle.protector_meta.specs.RecordLines.{Begins, RecordTest}
 use Rattle.protector_meta.specs.PolicyText.{IsWrap, wrap_line}
-use Rattle.protector_meta.specs.PolicyLines.{policy_line_fits, next_wrap, wrap_value}
+use Rattle.protector_meta.specs.PolicyLines.{next_wrap, wrap_value}
 use Rattle.protector_meta.specs.PolicyReading.{GivesInMemory, wraps_from}
 use Rattle.text_words.proofs.PieceLemmas.{first_piece}
+use Rattle.protector_meta.proofs.Readers.{Stops, stops_behind, stops_here}
+use Rattle.protector_meta.proofs.SharedLines.{zeros}
 use Rattle.protector_meta.proofs.WrapLemmas.{AreDistinct-push}
 use Rattle.protector_meta.proofs.WrapLineLaws.{wrap_value_again, wrap_value_found}
 
@@ -177,44 +178,80 @@ wraps_again number earlier (w ∷ more) distinct few some each =
 
 -- ---- the line at fault
 
--- from the first line on that has the place of a wrap
-module _ (a b c : List ℕ) (first : ℕ) (late : 4 ≤ first) (placed : (n : ℕ) → first ≤ n → ((n == 4) && bytes_eq a (codes "fsc-policy 2")) ≡ false) where
-  at_wrap_place : (number : ℕ) (earlier : List (List ℕ)) (wraps : List Wrap) (line : List ℕ) → first ≤ number → filter_map wrap_value earlier ≡ wraps
-      → policy_line_fits number (a ∷ b ∷ c ∷ earlier) line ≡ is_some (next_wrap wraps line)
-  at_wrap_place number earlier wraps line behind_head are =
-      let one : (number == 1) ≡ false = ne_eqb number 1 (λ e. omega arith) in
-      let two : (number == 2) ≡ false = ne_eqb number 2 (λ e. omega arith) in
-      let three : (number == 3) ≡ false = ne_eqb number 3 (λ e. omega arith) in
-      rw (one, two, three, placed number behind_head, are) refl
+-- lines of wraps that can stand behind these
+abbrev pub AreMore : List Wrap → RecordTest
+AreMore wraps lines = (more : List Wrap) × ((lines ≡ map wrap_line more) × (AreWraps (wraps ++ more) × AllByRecursion IsWrap more))
 
-  same_bad : (i : ℕ) (fault : MetaFault) → (let r : Result (List Wrap) MetaFault = Err (Bad i) in r ≡ Err fault) → fault ≡ Bad i
-  same_bad i fault h = cc
+-- a first wrap
+pub zero_wrap : Wrap
+zero_wrap = record { protector = codes "a"; iv = replicate 16 0; key = replicate 64 0; tag = replicate 32 0 }
 
-  pub wraps_bad : (number : ℕ) (earlier : List (List ℕ)) (wraps : List Wrap) (pieces : List (List ℕ)) (fault : MetaFault) → first ≤ number → filter_map wrap_value earlier ≡ wraps
-      → wraps_from number wraps pieces ≡ Err fault → fault ≡ Bad (first_unfit policy_line_fits number (a ∷ b ∷ c ∷ earlier) (take (length pieces - 1) pieces))
-  unfolding wraps_from
-  wraps_bad number earlier wraps [] fault behind_head are h = same_bad number fault h
-  wraps_bad number earlier wraps (last ∷ []) fault behind_head are h =
-      elim (cases_Bool ((length last == 0) && nat_lt 0 (length wraps))) [
-        | inl ended ↦ absurd (cc (sym (cond-true ((length last == 0) && nat_lt 0 (length wraps)) (Ok wraps) (Err (Bad number)) ended) ∙ h))
-        | inr unended ↦ same_bad number fault (sym (cond-false ((length last == 0) && nat_lt 0 (length wraps)) (Ok wraps) (Err (Bad number)) unended) ∙ h)
-      ]
-  wraps_bad number earlier wraps (line ∷ next ∷ more) fault behind_head are h =
-      let shorter : length (line ∷ next ∷ more) - 1 ≡ suc (length (next ∷ more) - 1) = omega arith in
-      rw shorter (go (next_wrap wraps line) refl (λ wrap are' h'. wraps_bad (number + 1) (earlier ++ line ∷ []) (wraps ++ wrap ∷ []) (next ∷ more) fault (omega arith) are' h'))
-    where
-      go : (o : Option Wrap) → next_wrap wraps line ≡ o
-          → ((wrap : Wrap) → filter_map wrap_value (earlier ++ line ∷ []) ≡ wraps ++ wrap ∷ [] → wraps_from (number + 1) (wraps ++ wrap ∷ []) (next ∷ more) ≡ Err fault
-          → fault ≡ Bad (first_unfit policy_line_fits (number + 1) (a ∷ b ∷ c ∷ (earlier ++ line ∷ [])) (take (length (next ∷ more) - 1) (next ∷ more))))
-          → fault ≡ Bad (first_unfit policy_line_fits number (a ∷ b ∷ c ∷ earlier) (line ∷ take (length (next ∷ more) - 1) (next ∷ more)))
-      go None e later =
-          let refused : policy_line_fits number (a ∷ b ∷ c ∷ earlier) line ≡ false = at_wrap_place number earlier wraps line behind_head are ∙ ap is_some e in
-          rw refused (same_bad number fault (rw e at h))
-      go (Some wrap) e later =
-          let accepted : policy_line_fits number (a ∷ b ∷ c ∷ earlier) line ≡ true = at_wrap_place number earlier wraps line behind_head are ∙ ap is_some e in
-          let more_are : filter_map wrap_value (earlier ++ line ∷ []) ≡ wraps ++ wrap ∷ [] =
-          filter_map-append wrap_value earlier (line ∷ []) ∙ rw (are, of_line wraps line wrap e) refl in
-          rw accepted (later wrap more_are (rw e at h))
+pub zero_wrap_is : IsWrap zero_wrap
+unfolding zero_wrap
+zero_wrap_is = record { protector = refl; iv = zeros 16; key = zeros 64; tag = zeros 32 }
+
+pub zero_wrap_alone : AreWraps (zero_wrap ∷ [])
+zero_wrap_alone = record { some = lit≤ tt; few = lit≤ tt; distinct = (refl, tt) }
+
+begun : (wraps : List Wrap) → AreDistinct wraps → length wraps ≤ 16 → Begins (AreMore wraps) []
+begun [] distinct few = (wrap_line zero_wrap ∷ [], (zero_wrap ∷ [], (refl, (zero_wrap_alone, (zero_wrap_is, tt)))))
+begun (w ∷ wraps) distinct few =
+    let kept : AreWraps (w ∷ wraps) = record { some = omega arith; few = few; distinct = distinct } in
+    ([], ([], (refl, (subst AreWraps (sym (append-nil (w ∷ wraps))) kept, tt))))
+
+-- a line with which lines of wraps go on tells of the next wrap
+next_so : (wraps : List Wrap) (line : List ℕ) (lines : List (List ℕ)) → AreMore wraps (line ∷ lines)
+    → (wrap : Wrap) × ((next_wrap wraps line ≡ Some wrap) × AreMore (wraps ++ wrap ∷ []) lines)
+next_so wraps line lines ([], (are, more)) = absurd (cc are)
+next_so wraps line lines (w ∷ later, (are, (kept, each))) =
+    let first : line ≡ wrap_line w = cc are in
+    let rest : lines ≡ map wrap_line later = cc are in
+    let room : length wraps < 16 = omega (arith, length-append wraps (w ∷ later), kept.few) in (
+      w,
+      (
+        taken wraps line w (ap wrap_value first ∙ wrap_value_again w each.0) (not_before wraps w later kept.distinct) room,
+        (later, (rest, (subst AreWraps (sym (append_assoc wraps (w ∷ []) later)) kept, each.1))),
+      ),
+    )
+
+pub wraps_stop : (number : ℕ) (wraps : List Wrap) (pieces : List (List ℕ)) (e : MetaFault) → AreDistinct wraps → length wraps ≤ 16
+    → wraps_from number wraps pieces ≡ Err e → Stops (AreMore wraps) number (take (length pieces - 1) pieces) e
+unfolding wraps_from
+wraps_stop number wraps [] e distinct few h = stops_here (AreMore wraps) number [] e (cc h) (begun wraps distinct few) (λ line more is. absurd (cc is))
+wraps_stop number wraps (last ∷ []) e distinct few h =
+    elim (cases_Bool ((length last == 0) && nat_lt 0 (length wraps))) [
+      | inl ended ↦ absurd (cc (sym (cond-true ((length last == 0) && nat_lt 0 (length wraps)) (Ok wraps) (Err (Bad number)) ended) ∙ h))
+      | inr unended ↦
+          let is : (let r : Result (List Wrap) MetaFault = Err (Bad number) in r ≡ Err e) =
+          sym (cond-false ((length last == 0) && nat_lt 0 (length wraps)) (Ok wraps) (Err (Bad number)) unended) ∙ h in
+          stops_here (AreMore wraps) number [] e (cc is) (begun wraps distinct few) (λ line more same. absurd (cc same))
+    ]
+wraps_stop number wraps (line ∷ next ∷ more) e distinct few h =
+    let shorter : length (line ∷ next ∷ more) - 1 ≡ suc (length (next ∷ more) - 1) = omega arith in
+    rw shorter (go (next_wrap wraps line) refl (λ wrap. wraps_stop (number + 1) (wraps ++ wrap ∷ []) (next ∷ more) e))
+  where
+    rest : List (List ℕ)
+    rest = take (length (next ∷ more) - 1) (next ∷ more)
+
+    go : (o : Option Wrap) → next_wrap wraps line ≡ o
+        → ((wrap : Wrap) → AreDistinct (wraps ++ wrap ∷ []) → length (wraps ++ wrap ∷ []) ≤ 16 → wraps_from (number + 1) (wraps ++ wrap ∷ []) (next ∷ more) ≡ Err e
+        → Stops (AreMore (wraps ++ wrap ∷ [])) (number + 1) (take (length (next ∷ more) - 1) (next ∷ more)) e)
+        → Stops (AreMore wraps) number (line ∷ take (length (next ∷ more) - 1) (next ∷ more)) e
+    go None is later =
+        stops_here (AreMore wraps) number (line ∷ rest) e (cc (rw is at h)) (begun wraps distinct few)
+        (λ l others same go_on.
+        let first : line ≡ l = cc same in
+        absurd (cc (is, ap (next_wrap wraps) first, (next_so wraps l go_on.0 go_on.1).1.0)))
+    go (Some wrap) is later =
+        let room = room_for wraps line wrap is in
+        let told = wrap_value_found line wrap (of_line wraps line wrap is) in
+        stops_behind (AreMore wraps) (AreMore (wraps ++ wrap ∷ [])) line rest number e
+        (λ ls go_on. (wrap ∷ go_on.0, (ap (λ l. l ∷ ls) told.0 ∙ ap (λ r. wrap_line wrap ∷ r) go_on.1.0, (subst AreWraps (append_assoc wraps (wrap ∷ []) go_on.0) go_on.1.1.0, (told.1, go_on.1.1.1)))))
+        (λ ls go_on.
+        let on = next_so wraps line ls go_on in
+        let same : on.0 ≡ wrap = same_Some on.0 wrap (sym on.1.0 ∙ is) in
+        subst (λ w. AreMore (wraps ++ w ∷ []) ls) same on.1.1)
+        (later wrap (AreDistinct-push wraps wrap distinct room.0) (omega (arith, length-append wraps (wrap ∷ []), room.1)) (rw is at h))
 
 -- ---- as the code sees it
 

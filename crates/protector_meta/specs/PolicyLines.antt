@@ -1,7 +1,6 @@
--- Which lines stand in a policy's record, place by place, and the values on them.
-use Rattle.std.specs.Prelude.{ℕ, ◌==◌, ◌&&◌, ◌^◌, Bool, true, false, is_none, is_some, List}
-use Rattle.std.specs.Prelude.{[], ◌∷◌, drop, codes, Option, Some, None, if◌then◌else◌}
-use Rattle.std.specs.List.{filter_map}
+-- The values on the lines of a policy's record.
+use Rattle.std.specs.Prelude.{ℕ, ◌^◌, Bool, true, false, is_none, List}
+use Rattle.std.specs.Prelude.{[], ◌∷◌, codes, Option, Some, None, if◌then◌else◌}
 use Rattle.std.specs.Str.{bytes_eq}
 use Rattle.text_words.specs.Digits.{lower_hex_bytes_of_length}
 use Rattle.text_words.specs.Numbers.{number_below}
@@ -10,8 +9,7 @@ use Rattle.policy_ctx.specs.Settings.{pad_of_size, unit_of_log2}
 use Rattle.short_bytes.specs.Label.{label_of}
 use Rattle.protector_meta.specs.declared.policy_file.Options.{Options}
 use Rattle.protector_meta.specs.declared.wraps.Wrap.{Wrap}
-use Rattle.protector_meta.specs.RecordLines.{LineTest}
-use Rattle.protector_meta.specs.LineValues.{digits_line_value, name_line_value, word_value}
+use Rattle.protector_meta.specs.LineValues.{digits_line_value, word_value}
 use Rattle.protector_meta.specs.Wraps.{adding_fault}
 
 -- whether a line of options has its place, which the first line tells by its version
@@ -64,18 +62,3 @@ abbrev pub next_wrap : List Wrap → List ℕ → Option Wrap
 next_wrap wraps line = do
   wrap ← wrap_value line
   if is_none (adding_fault wrap.protector wraps) then Some wrap else None
-
--- whether the first of these lines is that of a record with options
-abbrev pub has_options : List (List ℕ) → Bool
-has_options [] = false
-has_options (first ∷ lines) = bytes_eq first (codes "fsc-policy 2")
-
--- three lines of their own, one of options in version 2, and then each line tells of a wrap that can be added
--- behind those of the earlier lines
-abbrev pub policy_line_fits : LineTest
-policy_line_fits place earlier line =
-    if place == 1 then is_some (head_value line) else
-    if place == 2 then is_some (name_line_value line) else
-    if place == 3 then is_some (id_value line) else
-    if (place == 4) && has_options earlier then is_some (options_value line) else
-    is_some (next_wrap (filter_map wrap_value (drop 3 earlier)) line)

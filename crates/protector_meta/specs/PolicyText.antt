@@ -1,5 +1,5 @@
 -- The text of a policy's record: its lines, words parted by one space.
-use Rattle.std.specs.Prelude.{ℕ, List, [], ◌∷◌, ◌++◌, map, codes, Option, Some, None}
+use Rattle.std.specs.Prelude.{ℕ, ◌≡◌, List, [], ◌∷◌, ◌++◌, map, codes, Option, Some, None}
 use Rattle.std.specs.List.{All}
 use Rattle.hex.specs.Hex.{encode_lower}
 use Rattle.text_words.specs.Numbers.{decimal_of}
@@ -38,9 +38,13 @@ head_lines p =
     version_line p.options ∷ (codes "name " ++ p.name) ∷ (codes "id " ++ encode_lower p.id.0)
     ∷ option_lines p.options
 
--- each of the lines is ended by a line feed, those of the wraps too
+-- all lines
+abbrev pub policy_lines : PolicyFile → List (List ℕ)
+policy_lines p = head_lines p ++ map wrap_line p.wraps
+
+-- each of the lines is ended by a line feed
 abbrev pub policy_text : PolicyFile → List ℕ
-policy_text p = ended (head_lines p ++ map wrap_line p.wraps)
+policy_text p = ended (policy_lines p)
 
 -- what the types of the fields keep of every wrap: all of what a line can spell
 pub record IsWrap (wrap : Wrap) : Type 0 where
@@ -55,3 +59,7 @@ pub record IsPolicyFile (p : PolicyFile) : Type 0 where
   pub id : AreBytesOfLength 16 p.id.0
   pub wraps : AreWraps p.wraps
   pub each : All IsWrap p.wraps
+
+-- these are the lines of a policy's record
+abbrev pub IsPolicyRecord : List (List ℕ) → Type 0
+IsPolicyRecord lines = (p : PolicyFile) × (IsPolicyFile p × (lines ≡ policy_lines p))

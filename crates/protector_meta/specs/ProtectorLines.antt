@@ -1,6 +1,6 @@
--- Which lines stand in a protector's record, place by place, and the values on them.
-use Rattle.std.specs.Prelude.{ℕ, ◌==◌, ◌^◌, false, ◌&&◌, List, length, Option, Some}
-use Rattle.std.specs.Prelude.{None, is_some, is_ok, slice_get, codes, if◌then◌else◌}
+-- The values on the lines of a protector's record.
+use Rattle.std.specs.Prelude.{ℕ, ◌==◌, ◌^◌, ◌&&◌, List, length, Option, Some}
+use Rattle.std.specs.Prelude.{None, is_ok, slice_get, codes, if◌then◌else◌}
 use Rattle.std.specs.List.{list_all}
 use Rattle.std.specs.Option.{option_and_then, option_map}
 use Rattle.std.specs.Str.{bytes_eq}
@@ -9,8 +9,7 @@ use Rattle.text_words.specs.Numbers.{number_below}
 use Rattle.text_words.specs.Words.{words_of}
 use Rattle.argon_kdf.specs.CostLimits.{checked_costs}
 use Rattle.argon_kdf.specs.declared.costs.Costs.{Costs}
-use Rattle.protector_meta.specs.RecordLines.{LineTest}
-use Rattle.protector_meta.specs.LineValues.{digits_line_value, name_line_value, word_value}
+use Rattle.protector_meta.specs.LineValues.{word_value}
 use Rattle.protector_meta.specs.declared.protector.ProtectorKind.{ProtectorKind}
 use Rattle.protector_meta.specs.declared.protector.ProtectorKind.TheVariants.{Raw, Pass}
 
@@ -57,15 +56,3 @@ kind_line_value line = word_value (codes "kind ") kind_value line
 -- the descriptor on its line
 abbrev pub descriptor_line_value : List ℕ → Option (List ℕ)
 descriptor_line_value line = word_value (codes "descriptor ") descriptor_value line
-
--- seven places, each for a line that has a value; the earlier lines do not matter
-abbrev pub protector_line_fits : LineTest
-protector_line_fits place earlier line =
-    if place == 1 then is_some (head_value line) else
-    if place == 2 then is_some (name_line_value line) else
-    if place == 3 then is_some (kind_line_value line) else
-    if place == 4 then is_some (descriptor_line_value line) else
-    if place == 5 then is_some (digits_line_value (codes "iv ") 16 line) else
-    if place == 6 then is_some (digits_line_value (codes "key ") 32 line) else
-    if place == 7 then is_some (digits_line_value (codes "tag ") 32 line) else
-    false

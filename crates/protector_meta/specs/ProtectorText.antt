@@ -1,5 +1,5 @@
 -- The text of a protector's record: seven lines, words parted by one space.
-use Rattle.std.specs.Prelude.{ℕ, List, [], ◌∷◌, ◌++◌, codes}
+use Rattle.std.specs.Prelude.{ℕ, ◌≡◌, List, [], ◌∷◌, ◌++◌, codes}
 use Rattle.hex.specs.Hex.{encode_lower}
 use Rattle.text_words.specs.Numbers.{decimal_of}
 use Rattle.short_bytes.specs.Label.{IsLabel}
@@ -52,3 +52,7 @@ pub record IsProtector (p : Protector) : Type 0 where
   pub iv : AreBytesOfLength 16 p.iv
   pub key : AreBytesOfLength 32 p.key
   pub tag : AreBytesOfLength 32 p.tag
+
+-- these are the lines of a protector's record
+abbrev pub IsProtectorRecord : List (List ℕ) → Type 0
+IsProtectorRecord lines = (p : Protector) × (IsProtector p × (lines ≡ protector_lines p))

@@ -1,23 +1,33 @@
 -- Which line is at fault in a text that is no record.
-use Rattle.std.specs.Prelude.{ℕ, ◌+◌, ◌-◌, Bool, List, [], ◌∷◌, ◌++◌, length, take, if◌then◌else◌}
+use Rattle.std.specs.Prelude.{ℕ, ◌≡◌, ◌+◌, ◌-◌, List, [], ◌∷◌, ◌++◌, length, take}
 use Rattle.text_words.specs.Lines.{pieces_of}
+use Rattle.protector_meta.specs.declared.fault.MetaFault.{MetaFault}
+use Rattle.protector_meta.specs.declared.fault.MetaFault.TheVariants.{Bad, NoMemory}
 
 -- the lines of a text that a line feed ends; what stands behind the last line feed is none of them
 abbrev pub ended_lines : List ℕ → List (List ℕ)
 ended_lines text = take (length (pieces_of text) - 1) (pieces_of text)
 
--- whether a line may stand at a place, counted from 1, behind the earlier lines
-abbrev pub LineTest : Type 0
-LineTest = ℕ → List (List ℕ) → List ℕ → Bool
+-- which lines are those of a record, from the first to the last
+abbrev pub RecordTest : Type 1
+RecordTest = List (List ℕ) → Type 0
 
--- of lines from this place on, the place of the first that may not stand there, or of the first that is
--- missing
-abbrev pub first_unfit : LineTest → ℕ → List (List ℕ) → List (List ℕ) → ℕ
-first_unfit fits place earlier [] = place
-first_unfit fits place earlier (line ∷ lines) =
-    if fits place earlier line then first_unfit fits (place + 1) (earlier ++ line ∷ []) lines else place
+-- a record begins with these lines
+abbrev pub Begins : RecordTest → List (List ℕ) → Type 0
+Begins IsRecord lines = (more : List (List ℕ)) × IsRecord (lines ++ more)
 
--- of a text that is no record, the number of the line at fault, counted from 1; of a record it is the number
--- behind its last line. A piece that no line feed ended counts as missing
-abbrev pub first_bad_line : LineTest → List ℕ → ℕ
-first_bad_line fits text = first_unfit fits 1 [] (ended_lines text)
+-- a text has its first line at fault at this place, counted from 1: a record begins with the lines before it,
+-- and none with them and the line itself, if it isn't missing. A piece that no line feed ended counts as missing
+pub record IsFirstBad (IsRecord : RecordTest) (text : List ℕ) (place : ℕ) : Type 0 where
+  pub before : List (List ℕ)
+  pub others : List (List ℕ)
+  pub parts : ended_lines text ≡ before ++ others
+  pub counted : place ≡ length before + 1
+  pub fit : Begins IsRecord before
+  pub unfit : (line : List ℕ) (more : List (List ℕ)) → others ≡ line ∷ more
+      → Begins IsRecord (before ++ line ∷ []) → ⊥
+
+-- the fault tells that place
+abbrev pub TellsFirstBad : RecordTest → List ℕ → MetaFault → Type 0
+TellsFirstBad IsRecord text (Bad line) = IsFirstBad IsRecord text line
+TellsFirstBad IsRecord text NoMemory = ⊥

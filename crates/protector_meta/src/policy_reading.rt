@@ -8,11 +8,10 @@ ghost use Rattle.text_words.specs.Words.{words_of};
 ghost use Rattle.protector_meta.specs.declared.fault.MetaFault.TheVariants.{Bad, NoMemory};
 ghost use Rattle.protector_meta.specs.declared.wraps.Wrap.{Wrap};
 ghost use Rattle.protector_meta.specs.declared.policy_file.PolicyFile.{PolicyFile};
-ghost use Rattle.protector_meta.specs.RecordLines.{first_bad_line};
-ghost use Rattle.protector_meta.specs.PolicyText.{IsPolicyFile, policy_text};
+ghost use Rattle.protector_meta.specs.RecordLines.{IsFirstBad, TellsFirstBad};
+ghost use Rattle.protector_meta.specs.PolicyText.{IsPolicyFile, IsPolicyRecord, policy_text};
 ghost use Rattle.protector_meta.specs.PolicyLines as spec;
-ghost use Rattle.protector_meta.specs.PolicyLines.{id_value, next_wrap, policy_line_fits};
-ghost use Rattle.protector_meta.specs.PolicyLines.{wrap_of_words, wrap_value};
+ghost use Rattle.protector_meta.specs.PolicyLines.{id_value, next_wrap, wrap_of_words, wrap_value};
 ghost use Rattle.protector_meta.specs.PolicyReading.{GivesInMemory, policy_read, wraps_from};
 
 use crate::fault::MetaFault;
@@ -39,8 +38,9 @@ pub fn decode_policy_file(alloc: Global, text: &[u8]) -> Result<PolicyFile, Meta
     ensures found { IfOk result (λ p. IsPolicyFile p × (text.now ≡ policy_text p)) }
     ensures every { (p : PolicyFile) → IsPolicyFile p → text.now ≡ policy_text p
         → (result ≡ Ok p) ⊎ (result ≡ Err NoMemory) }
-    ensures bad { IfErr result (λ fault. (fault ≡ NoMemory)
-        ⊎ (fault ≡ Bad (first_bad_line policy_line_fits text.now))) }
+    ensures bad { IfErr result (λ fault. (fault ≡ NoMemory) ⊎ TellsFirstBad IsPolicyRecord text.now fault) }
+    ensures only { IfErr result (λ fault. (line : ℕ) → IsFirstBad IsPolicyRecord text.now line
+        → (fault ≡ NoMemory) ⊎ (fault ≡ Bad line)) }
     ensures none { (line : ℕ) (p : PolicyFile) → result ≡ Err (Bad line) → IsPolicyFile p
         → text.now ≡ policy_text p → ⊥ }
 {

@@ -1,13 +1,12 @@
 //! The text of a protector's record, written and read.
 
-ghost use Rattle.std.specs.Prelude.{◌≡◌, ◌≢◌, ◌++◌, ◌∷◌, [], IfOk, IfErr, OnOk, Ok, codes};
+ghost use Rattle.std.specs.Prelude.{◌≡◌, ◌≢◌, ◌++◌, ◌∷◌, [], IfOk, IfErr, OnOk, Ok, codes, ℕ};
 ghost use Rattle.text_words.specs.Numbers.{decimal_of};
 ghost use Rattle.protector_meta.specs.ProtectorLines as spec;
-ghost use Rattle.protector_meta.specs.ProtectorLines.{protector_line_fits};
 ghost use Rattle.protector_meta.specs.ProtectorReading.{protector_read};
-ghost use Rattle.protector_meta.specs.ProtectorText.{IsKind, IsProtector, kind_text};
-ghost use Rattle.protector_meta.specs.ProtectorText.{protector_text, stretching_text};
-ghost use Rattle.protector_meta.specs.RecordLines.{first_bad_line};
+ghost use Rattle.protector_meta.specs.ProtectorText.{IsKind, IsProtector, IsProtectorRecord};
+ghost use Rattle.protector_meta.specs.ProtectorText.{kind_text, protector_text, stretching_text};
+ghost use Rattle.protector_meta.specs.RecordLines.{IsFirstBad, TellsFirstBad};
 ghost use Rattle.protector_meta.specs.Stretching.{IsStretching};
 
 use crate::descriptor::Descriptor;
@@ -48,8 +47,9 @@ pub fn decode_protector(text: &[u8]) -> Result<Protector, MetaFault>
     ensures read { result ≡ protector_read text.now }
     ensures found { IfOk result (λ p. IsProtector p × (text.now ≡ protector_text p)) }
     ensures every { (p : Protector) → IsProtector p → text.now ≡ protector_text p → result ≡ Ok p }
-    ensures bad { IfErr result (λ fault.
-        fault ≡ MetaFault.Bad (first_bad_line protector_line_fits text.now)) }
+    ensures bad { IfErr result (TellsFirstBad IsProtectorRecord text.now) }
+    ensures only { IfErr result (λ fault. (line : ℕ) → IsFirstBad IsProtectorRecord text.now line
+        → fault ≡ MetaFault.Bad line) }
     ensures none { IfErr result (λ _. (p : Protector) → IsProtector p → text.now ≢ protector_text p) }
 {
     read_protector(text)
