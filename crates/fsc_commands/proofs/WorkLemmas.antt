@@ -8,14 +8,14 @@ use Rattle.mount_model.specs.declared.call.Call.{Call}
 use Rattle.mount_model.specs.declared.reply.Reply.{Reply}
 use Rattle.reply_text.specs.Shown.{ShownEntry, shown_entry}
 use Rattle.reply_text.specs.declared.outcome.Outcome.{Outcome}
-use Rattle.fsc_commands.specs.declared.stop.Stop.{Stop}
-use Rattle.fsc_commands.specs.declared.stop.Stop.TheVariants.{Ended, NoMemory}
+use Rattle.session_records.specs.declared.stop.Stop.{Stop}
+use Rattle.session_records.specs.declared.stop.Stop.TheVariants.{Ended, NoMemory}
 use Rattle.fsc_commands.specs.declared.work.Caller.{Caller}
 use Rattle.fsc_commands.specs.Steps.{Reaches}
 use Rattle.fsc_commands.specs.Steps.Steps.{Done, Ask}
 use Rattle.fsc_commands.specs.CommandSteps.{CommandSteps, ended, when_ok}
 use Rattle.fsc_commands.specs.Made.{Made, MadePart, Begun, asked}
-use Rattle.fsc_commands.specs.Stopped.{Gives}
+use Rattle.session_records.specs.Stopped.{Gives}
 use Rattle.fsc_commands.specs.Work.{IsSameCaller, Worked, WorkedPart}
 use Rattle.fsc_commands.proofs.StepsLemmas.{entries_of-append, grown_twice, Reaches-on}
 

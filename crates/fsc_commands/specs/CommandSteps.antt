@@ -4,8 +4,8 @@ use Rattle.mount_model.specs.declared.call.Call.{Call}
 use Rattle.mount_model.specs.declared.call.Op.{Op}
 use Rattle.mount_model.specs.declared.reply.Reply.{Reply}
 use Rattle.reply_text.specs.declared.outcome.Outcome.{Outcome}
-use Rattle.fsc_commands.specs.declared.outcomes.Wanted.{Wanted}
-use Rattle.fsc_commands.specs.Outcomes.{outcome_of}
+use Rattle.session_records.specs.declared.outcomes.Wanted.{Wanted}
+use Rattle.session_records.specs.Outcomes.{outcome_of}
 use Rattle.fsc_commands.specs.Steps.{Steps}
 use Rattle.fsc_commands.specs.Steps.Steps.{Done, Ask}
 

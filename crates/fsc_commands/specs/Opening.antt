@@ -5,11 +5,11 @@ use Rattle.script_words.specs.Records.{record_name}
 use Rattle.script_words.specs.declared.secrets.Secret.{Secret}
 use Rattle.script_words.specs.declared.record_words.Record.{Record}
 use Rattle.script_words.specs.declared.record_words.Record.TheVariants.{Protector, Policy}
-use Rattle.fsc_commands.specs.declared.loaded.LoadedPolicy.{LoadedPolicy}
-use Rattle.fsc_commands.specs.declared.opened.OpenedPolicy.{OpenedPolicy}
-use Rattle.fsc_commands.specs.declared.opened.OpenedProtector.{OpenedProtector}
-use Rattle.fsc_commands.specs.declared.outcomes.Wanted.TheVariants as wanted
-use Rattle.fsc_commands.specs.Records.{policy_loaded, protector_opened, policy_opened}
+use Rattle.session_records.specs.declared.loaded.LoadedPolicy.{LoadedPolicy}
+use Rattle.session_records.specs.declared.opened.OpenedPolicy.{OpenedPolicy}
+use Rattle.session_records.specs.declared.opened.OpenedProtector.{OpenedProtector}
+use Rattle.session_records.specs.declared.outcomes.Wanted.TheVariants as wanted
+use Rattle.session_records.specs.Records.{policy_loaded, protector_opened, policy_opened}
 use Rattle.fsc_commands.specs.CommandSteps.{CommandSteps, asking, when_ok, last_call}
 
 -- the policy of this label is loaded

@@ -1,5 +1,5 @@
 -- What a command asks for that is a single call.
-use Rattle.std.specs.Prelude.{ℕ, false, List, take, replicate, Option, Some, None, IfSome, IsTrue}
+use Rattle.std.specs.Prelude.{ℕ, false, List, replicate, Option, Some, None, IfSome, IsTrue}
 use Rattle.policy_ctx.specs.declared.policy.KeyId.{KeyId}
 use Rattle.policy_ctx.specs.declared.policy.Policy.{Policy}
 use Rattle.policy_ctx.specs.declared.policy.Unit.{Unit as DataUnit}
@@ -15,19 +15,13 @@ use Rattle.script_lang.specs.declared.verb.Verb.TheVariants as verb
 use Rattle.script_words.specs.declared.key_words.KeyRef.{KeyRef}
 use Rattle.script_words.specs.declared.key_words.KeyRef.TheVariants.{Id, Raw}
 use Rattle.script_lang.specs.declared.verb.Settings.{Settings}
-use Rattle.fsc_commands.specs.declared.draws.Purpose.TheVariants.{NonceOrKey}
-use Rattle.fsc_commands.specs.declared.draws.TheConstants.{NONCE_BYTES}
-use Rattle.fsc_commands.specs.Draws.{drawn_bytes, caller_byte}
+use Rattle.session_records.specs.Draws.{nonce_drawn}
 use Rattle.fsc_commands.specs.Stars.{path_meant}
 
 -- the identifier that a key's reference means: raw bytes mean theirs
 abbrev pub id_meant : KeyRef → KeyId
 id_meant (Id id) = id
 id_meant (Raw raw) = key_id_of raw
-
--- the nonce that a caller's command of this number draws for what it makes
-unfoldable pub nonce_drawn : List ℕ → ℕ → ℕ → List ℕ
-nonce_drawn seed caller number = take NONCE_BYTES (drawn_bytes seed (caller_byte caller) number NonceOrKey)
 
 -- the unit that is said; where none is, a block
 abbrev pub unit_said : Option DataUnit → DataUnit

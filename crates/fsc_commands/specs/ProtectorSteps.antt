@@ -1,28 +1,18 @@
 -- A session's work with protectors.
 use Rattle.std.specs.Prelude.{ℕ, List}
-use Rattle.protector_meta.specs.declared.protector.Protector.{Protector as ProtectorFile}
 use Rattle.protector_meta.specs.LinkText.{link_text}
 use Rattle.protector_meta.specs.ProtectorText.{protector_text}
 use Rattle.script_words.specs.declared.secrets.Secret.{Secret}
 use Rattle.script_words.specs.declared.secrets.NewSecret.{NewSecret}
 use Rattle.script_words.specs.declared.record_words.Record.TheVariants.{Protector}
-use Rattle.fsc_commands.specs.declared.draws.Purpose.TheVariants.{NonceOrKey, Iv, Salt}
+use Rattle.session_records.specs.DrawnRecords.{drawn_protector, protector_rewrapped}
 use Rattle.fsc_commands.specs.CommandSteps.{CommandSteps}
-use Rattle.fsc_commands.specs.NewRecords.{first_drawn, made_protector, changed_protector}
 use Rattle.fsc_commands.specs.Opening.{opening_protector, storing}
 
--- a protector is made: its key, the iv and the salt are drawn, and no record of its name is expected
+-- a protector is made of what is drawn; no record of its name is expected
 abbrev pub protector_steps : List ℕ → ℕ → ℕ → ℕ → List ℕ → NewSecret → CommandSteps
 protector_steps seed caller uid number label new =
-    storing caller uid (Protector label) 0 (protector_text (made_protector label
-    (first_drawn 32 seed caller number NonceOrKey) new
-    (first_drawn 16 seed caller number Iv) (first_drawn 16 seed caller number Salt)))
-
--- a protector with this key, wrapped under a new secret's wrapping key; the iv and the salt are drawn
-abbrev pub protector_rewrapped : List ℕ → ℕ → ℕ → ProtectorFile → List ℕ → NewSecret → ProtectorFile
-protector_rewrapped seed caller number protector key new =
-    changed_protector protector key new
-    (first_drawn 16 seed caller number Iv) (first_drawn 16 seed caller number Salt)
+    storing caller uid (Protector label) 0 (protector_text (drawn_protector seed caller number label new))
 
 -- a protector that its secret opens gets another; its key stays
 abbrev pub protector_change_steps : List ℕ → ℕ → ℕ → ℕ → List ℕ → Secret → NewSecret → CommandSteps

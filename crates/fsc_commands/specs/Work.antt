@@ -4,9 +4,9 @@ use Rattle.mount_model.specs.Port.{PlacedCalls}
 use Rattle.mount_model.specs.declared.call.Call.{Call}
 use Rattle.reply_text.specs.Shown.{ShownEntry, shown_entry}
 use Rattle.reply_text.specs.declared.outcome.Outcome.{Outcome}
-use Rattle.fsc_commands.specs.declared.stop.Stop.{Stop}
-use Rattle.fsc_commands.specs.declared.stop.Stop.TheVariants.{Ended, NoMemory}
-use Rattle.fsc_commands.specs.declared.turn.Turn.{Turn}
+use Rattle.session_records.specs.declared.stop.Stop.{Stop}
+use Rattle.session_records.specs.declared.stop.Stop.TheVariants.{Ended, NoMemory}
+use Rattle.session_records.specs.declared.turn.Turn.{Turn}
 use Rattle.fsc_commands.specs.declared.work.Caller.{Caller}
 use Rattle.fsc_commands.specs.CommandSteps.{CommandSteps}
 use Rattle.fsc_commands.specs.Made.{Made, MadePart, Begun, BegunPart, asked}

@@ -3,17 +3,16 @@
 ghost use Rattle.std.specs.Prelude.{◌≡◌, IfOk, OnErr};
 ghost use Rattle.script_lang.specs.Asked.{IsAskable};
 ghost use Rattle.fsc_commands.specs.PlainCalls as spec;
-ghost use Rattle.fsc_commands.specs.PlainCalls.{nonce_drawn, AnyFits, MayWantMemory};
+ghost use Rattle.fsc_commands.specs.PlainCalls.{AnyFits, MayWantMemory};
 ghost use Rattle.fsc_commands.specs.Steps.{names_in};
 
 use crate::EntryList;
-use crate::draws::nonce_drawn;
-use crate::meant::{filled, id_meant, number_said, policy_said, record_name};
+use crate::meant::{filled, id_meant, number_said, policy_said};
 use crate::stars::path_meant;
-use crate::turn::Turn;
 use mount_model::Op;
 use policy_ctx::encode_policy;
 use script_lang::Verb;
+use session_records::{Turn, nonce_drawn, record_name};
 use std::alloc::{AllocError, Global};
 
 // What a command asks for that is a single call; `None` where it is a session's work. The mount may be

@@ -11,14 +11,13 @@ ghost use Rattle.fsc_commands.specs.Work.{MayAsk, Worked};
 ghost use Rattle.fsc_commands.specs.declared.TheConstants.{MOST_CALLS};
 
 use crate::calls::plain_op;
-use crate::stop::Stop;
-use crate::turn::Turn;
 use crate::work::{Caller, Work};
 use crate::{EntryList, MOST_CALLS};
 use argon_kdf::Stretch;
 use mount_model::{MountPort, Op};
 use reply_text::Outcome;
 use script_lang::Verb;
+use session_records::{Stop, Turn};
 use std::alloc::{AllocError, Global};
 
 /// Runs a command, and puts what it asked and was replied behind the caller's other entries. A session's

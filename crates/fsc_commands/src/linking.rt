@@ -4,12 +4,12 @@ ghost use Rattle.fsc_commands.specs.ProtectorSteps.{protector_link_steps};
 ghost use Rattle.fsc_commands.specs.Work.{MayAsk, Worked};
 ghost use Rattle.fsc_commands.specs.declared.TheConstants.{MOST_CALLS};
 
-use crate::stop::Stop;
 use crate::work::{Caller, Work};
 use mount_model::MountPort;
 use protector_meta::encode_link;
 use reply_text::Outcome;
 use script_lang::Record;
+use session_records::Stop;
 use short_bytes::Label;
 
 impl<'a, S> Work<'a, S> {

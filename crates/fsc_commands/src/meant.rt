@@ -1,16 +1,12 @@
 //! What the words of a command mean.
 
-ghost use Rattle.std.specs.Prelude.{◌≡◌, ◌≤◌, ◌++◌, length, IfOk, replicate};
-ghost use Rattle.mount_model.specs.Carried.{HasLength};
-ghost use Rattle.mount_model.specs.declared.limits.TheConstants.{MOST_RECORD_NAME_BYTES};
-ghost use Rattle.script_words.specs.Records as records;
+ghost use Rattle.std.specs.Prelude.{◌≡◌, IfOk, replicate};
 ghost use Rattle.fsc_commands.specs.PlainCalls as spec;
 
 use fsc_keys::{KeyId, key_id};
 use item_list::Bytes;
 use policy_ctx::{Policy, Unit};
-use script_lang::{KeyRef, Record, Settings};
-use short_bytes::Label;
+use script_lang::{KeyRef, Settings};
 use std::alloc::{AllocError, Global};
 
 /// The identifier that a key's reference means: raw bytes mean theirs.
@@ -51,28 +47,6 @@ pub(crate) fn number_said(number: Option<u32>) -> u32
         Some(number) => number,
         None => 0,
     }
-}
-
-// The name of a record.
-pub(crate) fn record_name(alloc: Global, record: &Record) -> Result<Bytes, AllocError>
-    ensures value { IfOk result (λ name. name ≡ records.record_name «record».now) }
-    ensures fits { IfOk result (λ name. HasLength name MOST_RECORD_NAME_BYTES) }
-{
-    match record {
-        Record::Protector(label) => named(alloc, b"protector/", label),
-        Record::Policy(label) => named(alloc, b"policy/", label),
-    }
-}
-
-// A record's name: what kind of record it is, and its label.
-fn named(alloc: Global, kind: &[u8], label: &Label) -> Result<Bytes, AllocError>
-    requires { length kind.now ≤ 10 }
-    ensures value { IfOk result (λ name. name ≡ kind.now ++ label.now) }
-    ensures fits { IfOk result (λ name. HasLength name MOST_RECORD_NAME_BYTES) }
-{
-    let mut name = Vec::from_slice(alloc, kind)?;
-    name.extend_from_slice(label.bytes())?;
-    Ok(Bytes::from_vec(name))
 }
 
 // So many times this byte.

@@ -7,14 +7,14 @@ ghost use Rattle.script_words.specs.Secrets.{IsSecret};
 ghost use Rattle.fsc_commands.specs.Opening.{opening_protector, opening_policy};
 ghost use Rattle.fsc_commands.specs.Work.{MayAsk, WorkedPart};
 
-use crate::meant::record_name;
-use crate::opened::{OpenedPolicy, OpenedProtector, policy_opened, protector_opened};
-use crate::stop::Stop;
 use crate::work::{Caller, Opener, Work};
 use argon_kdf::Stretch;
 use byte_words::wipe;
 use mount_model::{MountPort, Op};
 use script_lang::Record;
+use session_records::{
+    OpenedPolicy, OpenedProtector, Stop, policy_opened, protector_opened, record_name,
+};
 use short_bytes::Label;
 
 impl<'a, S: Stretch> Work<'a, S> {

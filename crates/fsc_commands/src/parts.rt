@@ -10,17 +10,13 @@ ghost use Rattle.fsc_commands.specs.Made.{asked};
 ghost use Rattle.fsc_commands.specs.Work.{Answered, IsSameCaller, MayAsk, Worked, WorkedPart};
 ghost use Rattle.reply_text.specs.Shown.{shown_entry};
 
-use crate::loaded::{LoadedPolicy, policy_loaded};
-use crate::meant::record_name;
-use crate::outcomes::{Wanted, outcome_of};
-use crate::stop::Stop;
-use crate::turn::Turn;
 use crate::wiping::wipe_call;
 use crate::work::{Caller, Work};
 use call_history::Entry;
 use mount_model::{Call, MountPort, Op, Reply};
 use reply_text::{Outcome, Shown, shown_of};
 use script_lang::Record;
+use session_records::{LoadedPolicy, Stop, Turn, Wanted, outcome_of, policy_loaded, record_name};
 use short_bytes::Label;
 use std::alloc::{AllocError, Global};
 

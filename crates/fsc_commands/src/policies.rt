@@ -6,12 +6,11 @@ ghost use Rattle.fsc_commands.specs.PolicySteps.{key_steps};
 ghost use Rattle.fsc_commands.specs.Work.{MayAsk, Worked};
 ghost use Rattle.fsc_commands.specs.declared.TheConstants.{MOST_CALLS};
 
-use crate::outcomes::Wanted;
-use crate::stop::Stop;
 use crate::work::{Caller, Work};
 use mount_model::{MountPort, Op};
 use policy_ctx::KeyId;
 use reply_text::Outcome;
+use session_records::{Stop, Wanted};
 use short_bytes::Label;
 
 // What is asked of the key of a policy.

@@ -1,26 +1,22 @@
 //! A session's work by which a further protector opens a policy.
 
-ghost use Rattle.std.specs.Prelude.{◌≡◌, length, Ok, IfOk};
+ghost use Rattle.std.specs.Prelude.{◌≡◌, length, Ok};
 ghost use Rattle.fsc_keys.specs.declared.raw_key.TheConstants.{MOST_RAW_KEY_BYTES};
 ghost use Rattle.script_words.specs.Secrets.{IsSecret};
+ghost use Rattle.session_records.specs.PolicyRecords.{room_for};
 ghost use Rattle.fsc_commands.specs.PolicySteps as spec;
 ghost use Rattle.fsc_commands.specs.PolicySteps.{policy_add_steps};
 ghost use Rattle.fsc_commands.specs.Work.{MayAsk, Worked};
 ghost use Rattle.fsc_commands.specs.declared.TheConstants.{MOST_CALLS};
 
-use crate::drawn::iv_drawn;
-use crate::loaded::LoadedPolicy;
-use crate::stop::Stop;
 use crate::work::{Caller, Opener, Work};
-use crate::wrapping::{made_wrap, policy_with, room_for};
 use argon_kdf::Stretch;
 use byte_words::wipe;
 use fsc_keys::RawKey;
 use mount_model::MountPort;
-use protector_meta::PolicyFile;
 use reply_text::Outcome;
+use session_records::{LoadedPolicy, Stop, policy_widened, room_for};
 use short_bytes::Label;
-use std::alloc::AllocError;
 
 impl<'a, S: Stretch> Work<'a, S> {
     // Lets a further protector open a policy, whose key another one gives. All keys are overwritten.
@@ -88,7 +84,7 @@ impl<'a, S: Stretch> Work<'a, S> {
         requires stretches { S.ready self.now.stretches.now }
         requires ready { MayAsk P.who P.calls_left 2 self.now.turn caller.old }
         requires secret { IsSecret added.secret.now }
-        requires room { spec.room_for added.protector.now loaded.policy.wraps ≡ Ok tt }
+        requires room { room_for added.protector.now loaded.policy.wraps ≡ Ok tt }
         requires whole { length policy_key.now ≡ MOST_RAW_KEY_BYTES }
         ensures { Worked P.came P.who P.calls_left caller.old caller.new 2
             (spec.add_to self.now.seed.now self.now.turn.caller self.now.turn.uid self.now.turn.number
@@ -96,29 +92,16 @@ impl<'a, S: Stretch> Work<'a, S> {
     {
         let version = loaded.version;
         let mut opened = self.open_protector(caller, added)?;
-        let widened = self.widened(loaded.policy, policy_key, added.protector, &opened.key);
+        let widened = policy_widened(
+            self.seed,
+            self.turn,
+            loaded.policy,
+            policy_key,
+            added.protector,
+            &opened.key,
+        );
         wipe(&mut opened.key);
         let widened = widened?;
         self.store_policy(caller, policy, version, &widened)
-    }
-}
-
-impl<'a, S> Work<'a, S> {
-    // A policy whose key this is, with a wrap for a further protector with a key of its own.
-    fn widened(
-        &self,
-        policy: PolicyFile,
-        policy_key: &RawKey,
-        added: &Label,
-        key: &[u8; 32],
-    ) -> Result<PolicyFile, AllocError>
-        requires room { spec.room_for added.now policy.wraps ≡ Ok tt }
-        requires whole { length policy_key.now ≡ MOST_RAW_KEY_BYTES }
-        ensures { IfOk result (λ widened. widened
-            ≡ spec.policy_widened self.now.seed.now self.now.turn.caller self.now.turn.number
-            policy_key.now added.now key.now policy) }
-    {
-        let iv = iv_drawn(self.seed, self.turn);
-        policy_with(made_wrap(added, key, iv, policy_key.bytes()), policy)
     }
 }

@@ -1,18 +1,13 @@
 //! A session's work that changes a policy's record.
 
-ghost use Rattle.std.specs.Prelude.{◌≡◌};
-ghost use Rattle.fsc_commands.specs.PolicySteps as spec;
 ghost use Rattle.fsc_commands.specs.PolicySteps.{policy_drop_steps, migrate_steps};
 ghost use Rattle.fsc_commands.specs.Work.{MayAsk, Worked};
 ghost use Rattle.fsc_commands.specs.declared.TheConstants.{MOST_CALLS};
 
-use crate::new_records::usual_options;
-use crate::outcomes::outcome_of_wraps;
-use crate::stop::Stop;
 use crate::work::{Caller, Work};
 use mount_model::MountPort;
-use protector_meta::{PolicyFile, drop_protector};
 use reply_text::Outcome;
+use session_records::{Stop, policy_without, with_options};
 use short_bytes::Label;
 
 impl<'a, S> Work<'a, S> {
@@ -46,25 +41,4 @@ impl<'a, S> Work<'a, S> {
         let changed = with_options(loaded.policy)?;
         self.store_policy(caller, policy, loaded.version, &changed)
     }
-}
-
-// A policy that the protector of this label opens no longer.
-fn policy_without(mut policy: PolicyFile, protector: &Label) -> Result<PolicyFile, Outcome>
-    ensures { result ≡ spec.policy_without protector.now policy }
-{
-    match drop_protector(&mut policy, protector) {
-        Ok(()) => Ok(policy),
-        Err(fault) => Err(outcome_of_wraps(fault)),
-    }
-}
-
-// A policy of version 1 with the usual options; one that has options stays as it is.
-fn with_options(mut policy: PolicyFile) -> Result<PolicyFile, Outcome>
-    ensures { result ≡ spec.with_options policy policy.options }
-{
-    if policy.options.is_some() {
-        return Err(Outcome::Current);
-    }
-    policy.options = Some(usual_options());
-    Ok(policy)
 }

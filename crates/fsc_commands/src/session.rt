@@ -7,12 +7,12 @@ ghost use Rattle.fsc_commands.specs.Work.{MayAsk, Worked};
 ghost use Rattle.fsc_commands.specs.declared.TheConstants.{MOST_CALLS};
 
 use crate::policies::AskedOfKey;
-use crate::stop::Stop;
 use crate::work::{Caller, Opener, Work};
 use argon_kdf::Stretch;
 use mount_model::MountPort;
 use reply_text::Outcome;
 use script_lang::Verb;
+use session_records::Stop;
 
 impl<'a, S: Stretch> Work<'a, S> {
     // Runs a session's work. A command that is a single call has none, and asks nothing here.

@@ -1,42 +1,20 @@
 //! The last part of a session's work that stores a record.
 
-ghost use Rattle.std.specs.Prelude.{◌≡◌, ◌≤◌, length, IfOk};
+ghost use Rattle.std.specs.Prelude.{◌≤◌, length};
 ghost use Rattle.mount_limits.specs.declared.TheConstants.{MOST_CARRIED_BYTES};
 ghost use Rattle.protector_meta.specs.PolicyText.{policy_text};
 ghost use Rattle.protector_meta.specs.ProtectorText.{protector_text};
 ghost use Rattle.fsc_commands.specs.Opening.{storing};
 ghost use Rattle.fsc_commands.specs.Work.{MayAsk, Worked};
 
-use crate::meant::record_name;
-use crate::outcomes::Wanted;
-use crate::stop::Stop;
 use crate::work::{Caller, Work};
 use item_list::Bytes;
 use mount_model::{MountPort, Op};
-use protector_meta::{PolicyFile, Protector, encode_policy_file, encode_protector};
+use protector_meta::{PolicyFile, Protector};
 use reply_text::Outcome;
 use script_lang::Record;
+use session_records::{Stop, Wanted, record_name, stored_policy, stored_protector};
 use short_bytes::Label;
-use std::alloc::{AllocError, Global};
-
-// The text of a policy's record. A call can carry it.
-fn stored_policy(alloc: Global, policy: &PolicyFile) -> Result<Bytes, AllocError>
-    ensures text { IfOk result (λ text. text ≡ policy_text policy.now) }
-    ensures few { IfOk result (λ text. length text ≤ MOST_CARRIED_BYTES) }
-{
-    let text = encode_policy_file(alloc, policy)?;
-    Ok(text)
-}
-
-// The text of a protector's record. A call can carry it.
-#[tactic(auto, using(crate::proofs::TextLemmas::protector_text_is_short))]
-fn stored_protector(alloc: Global, protector: &Protector) -> Result<Bytes, AllocError>
-    ensures text { IfOk result (λ text. text ≡ protector_text protector.now) }
-    ensures few { IfOk result (λ text. length text ≤ MOST_CARRIED_BYTES) }
-{
-    let text = encode_protector(alloc, protector)?;
-    Ok(text)
-}
 
 impl<'a, S> Work<'a, S> {
     // Stores a record in place of the version that is expected; 0 stands for none.

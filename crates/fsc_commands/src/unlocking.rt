@@ -5,21 +5,19 @@ ghost use Rattle.std.specs.Prelude.{◌≡◌};
 ghost use Rattle.fsc_keys.specs.Keys.{key_id_of};
 ghost use Rattle.mount_model.specs.declared.call.Op.TheVariants.{AddKey};
 ghost use Rattle.script_words.specs.Secrets.{IsSecret};
-ghost use Rattle.fsc_commands.specs.declared.outcomes.Wanted.TheVariants as wanted;
+ghost use Rattle.session_records.specs.declared.outcomes.Wanted.TheVariants as wanted;
 ghost use Rattle.fsc_commands.specs.CommandSteps.{last_call};
 ghost use Rattle.fsc_commands.specs.PolicySteps.{unlock_steps, unlock_through};
 ghost use Rattle.fsc_commands.specs.Work.{MayAsk, Worked};
 ghost use Rattle.fsc_commands.specs.declared.TheConstants.{MOST_CALLS};
 
-use crate::opened::OpenedPolicy;
-use crate::outcomes::Wanted;
-use crate::stop::Stop;
 use crate::work::{Caller, Opener, Work};
 use argon_kdf::Stretch;
 use byte_words::wipe;
 use item_list::Bytes;
 use mount_model::{MountPort, Op};
 use reply_text::Outcome;
+use session_records::{OpenedPolicy, Stop, Wanted};
 use short_bytes::Label;
 
 impl<'a, S: Stretch> Work<'a, S> {

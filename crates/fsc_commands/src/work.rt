@@ -1,8 +1,8 @@
 //! What commands are run with: their methods lie with the work that they do.
 
 use crate::EntryList;
-use crate::turn::Turn;
 use script_lang::Secret;
+use session_records::Turn;
 use short_bytes::Label;
 use std::alloc::Global;
 

@@ -1,11 +1,12 @@
 //! What commands draw, and the names that stars mean.
 
 use call_history::Entry;
-use fsc_commands::{EntryList, Purpose, draw, path_meant};
+use fsc_commands::{EntryList, path_meant};
 use item_list::Bytes;
 use mount_model::{NameList, Refusal, Reply};
 use reply_text::Shown;
 use script_lang::read_path;
+use session_records::{Purpose, draw};
 use std::alloc::{AllocError, Global};
 use std::test::Fail;
 

@@ -1,0 +1,144 @@
+//! The records that a command makes with what it draws. The keys that are drawn are overwritten.
+
+ghost use Rattle.std.specs.Prelude.{◌≡◌, length, Some, Ok, IfOk};
+ghost use Rattle.fsc_keys.specs.Keys.{key_id_of};
+ghost use Rattle.fsc_keys.specs.declared.raw_key.TheConstants.{MOST_RAW_KEY_BYTES};
+ghost use Rattle.key_wrap.specs.Wrapping.{opened_secret};
+ghost use Rattle.script_words.specs.Secrets.{IsNewSecret};
+ghost use Rattle.session_records.specs.DrawnRecords as spec;
+ghost use Rattle.session_records.specs.NewRecords.{first_drawn, new_wrapping_key};
+ghost use Rattle.session_records.specs.PolicyRecords.{room_for};
+
+use crate::drawn::{iv_drawn, key_drawn, policy_key_drawn, salt_drawn};
+use crate::draws::Purpose;
+use crate::new_records::{ProtectorParts, made_protector, new_kind, new_wrapping_key};
+use crate::opened::OpenedProtector;
+use crate::options::options_said;
+use crate::turn::Turn;
+use crate::wrapping::{made_wrap, policy_with};
+use argon_kdf::Stretch;
+use byte_words::wipe;
+use fsc_keys::{KeyId, RawKey, key_id};
+use protector_meta::{PolicyFile, Protector, WrapList, rewrap};
+use script_lang::{NewSecret, Options as SaidOptions};
+use short_bytes::Label;
+use std::alloc::{AllocError, Global};
+
+/// The protector of this label whose key, iv and salt are those that are drawn, and which a new secret opens. The
+/// key is overwritten.
+pub fn drawn_protector<S: Stretch>(
+    alloc: Global,
+    stretches: &S,
+    seed: &[u8; 32],
+    turn: Turn,
+    label: &Label,
+    new: &NewSecret,
+) -> Result<Protector, AllocError>
+    requires stretches { S.ready stretches.now }
+    requires secret { IsNewSecret new.now }
+    ensures { IfOk result (λ protector. protector
+        ≡ spec.drawn_protector seed.now turn.caller turn.number label.now new.now) }
+{
+    let mut parts = ProtectorParts {
+        key: key_drawn(seed, turn),
+        iv: iv_drawn(seed, turn),
+        salt: salt_drawn(seed, turn),
+    };
+    let protector = made_protector(alloc, stretches, label, new, &parts);
+    wipe(&mut parts.key);
+    protector
+}
+
+/// The opened protector with the same key, wrapped under the wrapping key of a new secret, which opens it; the iv
+/// and the salt are drawn. The wrapping key is overwritten.
+pub fn protector_rewrapped<S: Stretch>(
+    alloc: Global,
+    stretches: &S,
+    seed: &[u8; 32],
+    turn: Turn,
+    opened: &OpenedProtector,
+    new: &NewSecret,
+) -> Result<Protector, AllocError>
+    requires stretches { S.ready stretches.now }
+    requires new_secret { IsNewSecret new.now }
+    ensures value { IfOk result (λ rewrapped. rewrapped ≡ spec.protector_rewrapped seed.now turn.caller
+        turn.number opened.now.loaded.protector opened.now.key new.now) }
+    ensures opens { IfOk result (λ rewrapped. opened_secret
+        (new_wrapping_key (first_drawn 16 seed.now turn.caller turn.number Purpose.Salt) new.now)
+        rewrapped.iv rewrapped.key rewrapped.tag ≡ Some opened.now.key) }
+{
+    let mut protector = opened.loaded.protector.clone()?;
+    let salt = salt_drawn(seed, turn);
+    let kind = new_kind(&salt, new);
+    let mut wrapping = new_wrapping_key(alloc, stretches, &salt, new)?;
+    rewrap(
+        &mut protector,
+        kind,
+        &opened.key,
+        &wrapping,
+        &iv_drawn(seed, turn),
+    );
+    wipe(&mut wrapping);
+    Ok(protector)
+}
+
+/// The policy of this label that is made for a protector with this key: its own key and the iv are drawn. The
+/// policy's key is overwritten.
+pub fn drawn_policy(
+    alloc: Global,
+    seed: &[u8; 32],
+    turn: Turn,
+    policy: &Label,
+    protector: &Label,
+    options: Option<SaidOptions>,
+    key: &[u8; 32],
+) -> Result<PolicyFile, AllocError>
+    ensures { IfOk result (λ drawn. drawn ≡ spec.drawn_policy seed.now turn.caller turn.number policy.now
+        protector.now options key.now) }
+{
+    let mut policy_key = policy_key_drawn(seed, turn);
+    let id = id_of(&policy_key);
+    let iv = iv_drawn(seed, turn);
+    let wrap = made_wrap(protector, key, iv, &policy_key);
+    wipe(&mut policy_key);
+    let wraps = WrapList::of(alloc, wrap)?;
+    Ok(PolicyFile {
+        name: *policy,
+        id,
+        options: Some(options_said(options)),
+        wraps,
+    })
+}
+
+// The identifier of a policy's key.
+fn id_of(policy_key: &[u8; 64]) -> KeyId
+    ensures { result ≡ key_id_of policy_key.now }
+{
+    match RawKey::read(policy_key) {
+        Ok(mut raw) => {
+            let id = key_id(&raw);
+            raw.wipe();
+            id
+        }
+        Err(_) => unreachable!(),
+    }
+}
+
+/// A policy whose key of 64 bytes this is, with a wrap more, for a further protector with a key of its own; the iv
+/// is drawn.
+pub fn policy_widened(
+    seed: &[u8; 32],
+    turn: Turn,
+    policy: PolicyFile,
+    policy_key: &RawKey,
+    added: &Label,
+    key: &[u8; 32],
+) -> Result<PolicyFile, AllocError>
+    requires room { room_for added.now policy.wraps ≡ Ok tt }
+    requires whole { length policy_key.now ≡ MOST_RAW_KEY_BYTES }
+    ensures { IfOk result (λ widened. widened ≡ spec.policy_widened seed.now turn.caller turn.number
+        policy_key.now added.now key.now policy) }
+{
+    let wrap = made_wrap(added, key, iv_drawn(seed, turn), policy_key.bytes());
+    policy_with(wrap, policy)
+}

@@ -1,0 +1,97 @@
+//! The options of policies' records, and what directories get under them.
+
+ghost use Rattle.std.specs.Prelude.{◌≡◌};
+ghost use Rattle.session_records.specs.NewRecords as new;
+ghost use Rattle.session_records.specs.PolicyRecords as spec;
+
+use policy_ctx::{Pad, Policy, Unit};
+use protector_meta::{Options, PolicyFile};
+use reply_text::Outcome;
+use script_lang::{Options as SaidOptions, Settings};
+
+// What directories get where a record says nothing else.
+pub(crate) fn usual_options() -> Options
+    ensures { result ≡ new.usual_options }
+{
+    Options {
+        pad: Pad::P32,
+        unit: Unit::Block,
+    }
+}
+
+// The options that are said, and else the usual ones.
+pub(crate) fn options_said(options: Option<SaidOptions>) -> Options
+    ensures { result ≡ new.options_said options }
+{
+    match options {
+        Some(said) => Options {
+            pad: said.pad,
+            unit: said.unit,
+        },
+        None => usual_options(),
+    }
+}
+
+/// A policy of version 1 with the usual options; `Current` where it has options.
+pub fn with_options(mut policy: PolicyFile) -> Result<PolicyFile, Outcome>
+    ensures { result ≡ spec.with_options policy policy.options }
+{
+    if policy.options.is_some() {
+        return Err(Outcome::Current);
+    }
+    policy.options = Some(usual_options());
+    Ok(policy)
+}
+
+/// What a directory gets that is encrypted under a policy: the padding and unit that are said, and else the
+/// record's. Each node has keys of its own.
+pub fn node_policy(policy: &PolicyFile, settings: Option<Settings>) -> Policy
+    ensures { result ≡ spec.node_policy policy.now settings }
+{
+    let options = record_options(policy.options);
+    Policy {
+        pad: pad_for(options, settings),
+        unit: unit_for(options, settings),
+        by_mode: false,
+        id: policy.id,
+    }
+}
+
+// The options of a record. One of version 1 has the usual ones.
+fn record_options(options: Option<Options>) -> Options
+    ensures { result ≡ spec.record_options options }
+{
+    match options {
+        Some(options) => options,
+        None => usual_options(),
+    }
+}
+
+// The padding that is said, and else the record's.
+fn pad_for(options: Options, settings: Option<Settings>) -> Pad
+    ensures { result ≡ spec.pad_for options settings }
+{
+    match settings {
+        Some(settings) => settings.pad,
+        None => options.pad,
+    }
+}
+
+// The unit that is said, and else the record's.
+fn unit_for(options: Options, settings: Option<Settings>) -> Unit
+    ensures { result ≡ spec.unit_for options settings }
+{
+    match settings {
+        Some(settings) => unit_or(options, settings.unit),
+        None => options.unit,
+    }
+}
+
+fn unit_or(options: Options, unit: Option<Unit>) -> Unit
+    ensures { result ≡ spec.unit_or options unit }
+{
+    match unit {
+        Some(unit) => unit,
+        None => options.unit,
+    }
+}

@@ -1,0 +1,71 @@
+//! How a session command ends, by the reply to its last call.
+
+ghost use Rattle.std.specs.Prelude.{◌≡◌};
+ghost use Rattle.session_records.specs.Outcomes as spec;
+
+use mount_model::{Refusal, Reply};
+use protector_meta::WrapFault;
+use reply_text::Outcome;
+
+/// Which reply a call is meant to have.
+#[derive(Clone, Copy)]
+pub enum Wanted {
+    /// A key was added.
+    Added,
+    /// A claim to a key was removed.
+    Removed,
+    /// The status of a key.
+    Status,
+    /// It was done, and there is nothing to tell.
+    Done,
+    /// A record was stored.
+    Stored,
+}
+
+/// How a command ends whose last call has this reply: `Done` with the one that is wanted, and else as the reply
+/// tells.
+pub fn outcome_of(wanted: Wanted, reply: &Reply) -> Outcome
+    ensures { result ≡ spec.outcome_of wanted reply.now }
+{
+    match (wanted, reply) {
+        (Wanted::Added, Reply::Added(_))
+        | (Wanted::Removed, Reply::Removed { .. })
+        | (Wanted::Status, Reply::Status { .. })
+        | (Wanted::Done, Reply::Done)
+        | (Wanted::Stored, Reply::Stored(_)) => Outcome::Done,
+        _ => outcome_of_other(reply),
+    }
+}
+
+// How a command ends one of whose calls has another reply than it is meant to have.
+pub(crate) fn outcome_of_other(reply: &Reply) -> Outcome
+    ensures { result ≡ spec.outcome_of_other reply.now }
+{
+    match reply {
+        Reply::Refused(refusal) => outcome_of_refusal(*refusal),
+        _ => Outcome::OddReply,
+    }
+}
+
+fn outcome_of_refusal(refusal: Refusal) -> Outcome
+    ensures { result ≡ spec.outcome_of_refusal refusal }
+{
+    match refusal {
+        Refusal::NoMemory => Outcome::NoMemory,
+        Refusal::Changed { .. } => Outcome::Conflict,
+        _ => Outcome::Refused,
+    }
+}
+
+// How a command ends where a list of wraps refuses a change.
+pub(crate) fn outcome_of_wraps(fault: WrapFault) -> Outcome
+    ensures { result ≡ spec.outcome_of_wraps fault }
+{
+    match fault {
+        WrapFault::Listed => Outcome::Listed,
+        WrapFault::Full => Outcome::Full,
+        WrapFault::NotListed => Outcome::NotListed,
+        WrapFault::LastOne => Outcome::LastOne,
+        WrapFault::NoMemory => Outcome::NoMemory,
+    }
+}
