@@ -10,6 +10,5 @@ pub mod OptionsLaws
 pub mod PolicyReadingLaws
 pub mod WrapLemmas
 pub mod KindLaws
-pub mod ProtectorSteps
 pub mod ProtectorValues
 pub mod ProtectorLaws

@@ -17,36 +17,23 @@ use Rattle.policy_ctx.specs.declared.policy.Unit.TheVariants.{Block}
 use Rattle.protector_meta.specs.declared.policy_file.Options.{Options}
 use Rattle.protector_meta.specs.declared.policy_file.PolicyFile.{PolicyFile}
 use Rattle.protector_meta.specs.Wraps.{AreWraps}
-use Rattle.protector_meta.specs.Reading.{◌>>=◌, value_at}
+use Rattle.protector_meta.specs.Reading.{◌>>=◌}
 use Rattle.text_words.specs.Lines.{ended}
 use Rattle.protector_meta.specs.RecordLines.{IsFirstBad, RecordTest, TellsFirstBad, ended_lines}
 use Rattle.byte_words.specs.Bytes.{AreBytesOfLength}
-use Rattle.protector_meta.specs.LineValues.{name_line_value}
 use Rattle.protector_meta.specs.PolicyText.{IsPolicyFile, IsPolicyRecord, IsWrap, option_lines, options_line, policy_lines, policy_text, version_line, wrap_line}
-use Rattle.protector_meta.specs.PolicyLines.{head_value, id_value, options_value}
+use Rattle.protector_meta.specs.PolicyLines.{head_value, options_value}
 use Rattle.protector_meta.specs.PolicyReading.{GivesInMemory, behind_id, policy_read, with_wraps, wraps_from}
 use Rattle.text_words.proofs.PieceLemmas.{AreLines, ended-append, ended-from_pieces, is_free_of, pieces_of-ended}
 use Rattle.protector_meta.proofs.LineLaws.{ended-map, ended-push}
-use Rattle.protector_meta.proofs.Readers.{Reads, Spells, Stops, Then, line_then, only_one, stops_alike, stops_told}
+use Rattle.protector_meta.proofs.Readers.{Reads, Spells, Stops, Then, line_then, only_one, record_again, record_bad, record_found, stops_alike}
 use Rattle.protector_meta.proofs.SharedLines.{digits_spelled, name_spelled}
 use Rattle.protector_meta.proofs.OptionsLaws.{options_again, options_found, options_line_is_free}
 use Rattle.protector_meta.proofs.WrapLineLaws.{wrap_line_is_free}
-use Rattle.protector_meta.proofs.WrapsReadingLaws.{AreMore, wraps_again, wraps_found, wraps_kept, wraps_stop, zero_wrap, zero_wrap_alone, zero_wrap_is}
-
--- ---- the steps of reading
+use Rattle.protector_meta.proofs.WrapsReadingLaws.{AreMore, wraps_again, wraps_found, wraps_stop, zero_wrap, zero_wrap_alone, zero_wrap_is}
 
 abbrev made : List ℕ → List ℕ → Option Options → List Wrap → PolicyFile
 made name id options wraps = record { name = name; id = record { 0 = id }; options = options; wraps = wraps }
-
-abbrev after_name : Bool → List ℕ → List ℕ → Result PolicyFile MetaFault
-after_name has name rest = value_at id_value 3 rest >>= λ id. behind_id has name id.0 id.1
-
-abbrev after_head : Bool → List ℕ → Result PolicyFile MetaFault
-after_head has rest = value_at name_line_value 2 rest >>= λ name. after_name has name.0 name.1
-
-steps : (text : List ℕ) → policy_read text ≡ (value_at head_value 1 text >>= λ head. after_head head.0 head.1)
-unfolding policy_read
-steps text = refl
 
 -- ---- the lines before the wraps
 
@@ -105,19 +92,17 @@ module _ (name id : List ℕ) (options : Option Options) (first : ℕ) where
   tail_found : (text : List ℕ) (p : PolicyFile) → with_wraps name id options first text ≡ Ok p → (lines : List (List ℕ)) × ((text ≡ ended lines) × IsTail name id options p lines)
   tail_found text p h = go (wraps_from first [] (pieces_of text)) refl
     where
-      of : (wraps more : List Wrap) → wraps ≡ more → made name id options wraps ≡ p → AreWraps wraps → pieces_of text ≡ map wrap_line more ++ [] ∷ []
-          → AllByRecursion IsWrap more → (lines : List (List ℕ)) × ((text ≡ ended lines) × IsTail name id options p lines)
-      of wraps more all same kept cut each = (
-        map wrap_line more,
-        (ended-from_pieces text (map wrap_line more) cut, (more, (ap (made name id options) (sym all) ∙ same, (refl, (subst AreWraps all kept, each))))),
-      )
-
       go : (r : Result (List Wrap) MetaFault) → wraps_from first [] (pieces_of text) ≡ r → (lines : List (List ℕ)) × ((text ≡ ended lines) × IsTail name id options p lines)
       go (Err e) is = absurd (cc (rw is at h))
       go (Ok wraps) is =
           let same : (let r : Result PolicyFile MetaFault = Ok (made name id options wraps) in r ≡ Ok p) = rw is at h in
-          let found = wraps_found first [] (pieces_of text) wraps is in
-          of wraps found.0 found.1.0 (cc same) (wraps_kept first [] (pieces_of text) wraps tt (lit≤ tt) is) found.1.1.0 found.1.1.1
+          let found = wraps_found first [] (pieces_of text) wraps tt (lit≤ tt) is in (
+            map wrap_line found.0,
+            (
+              ended-from_pieces text (map wrap_line found.0) found.1.1.0,
+              (found.0, (ap (made name id options) (sym found.1.0) ∙ cc same, (refl, found.1.1.1))),
+            ),
+          )
 
   tail_again : (p : PolicyFile) (lines : List (List ℕ)) → IsTail name id options p lines → with_wraps name id options first (ended lines) ≡ Ok p
   tail_again p lines (wraps, (same, (are, (kept, each)))) =
@@ -149,32 +134,29 @@ module _ (name id : List ℕ) (options : Option Options) (first : ℕ) where
     stops = tail_stops;
   }
 
--- ---- the whole
+-- ---- the lines of a record, one after another
 
 abbrev IsBehind : Bool → List ℕ → List ℕ → PolicyFile → RecordTest
 IsBehind false name id = IsTail name id None
 IsBehind true name id = Then (λ o. Unit {0}) options_line (λ o. IsTail name id (Some o))
 
-abbrev IsNamed : Bool → List ℕ → PolicyFile → RecordTest
-IsNamed has name = Then (AreBytesOfLength 16) (λ id. codes "id " ++ encode_lower id) (IsBehind has name)
-
-abbrev IsHeaded : Bool → PolicyFile → RecordTest
-IsHeaded has = Then IsLabel (λ name. codes "name " ++ name) (IsNamed has)
-
 abbrev IsWhole : PolicyFile → RecordTest
-IsWhole = Then (λ has. Unit {0}) head_of IsHeaded
+IsWhole =
+    Then (λ has. Unit {0}) head_of (λ has.
+    Then IsLabel (λ name. codes "name " ++ name) (λ name.
+    Then (AreBytesOfLength 16) (λ id. codes "id " ++ encode_lower id) (λ id.
+    IsBehind has name id)))
 
 behind_reads : (has : Bool) (name id : List ℕ) → Reads (IsBehind has name id) 4 (behind_id has name id)
 behind_reads false name id = tail_reads name id None 4
-behind_reads true name id =
-    line_then options_value (λ o. Unit {0}) options_line (λ o. IsTail name id (Some o)) 4 (λ o. with_wraps name id (Some o) 5) options_spelled
-    (λ o. tail_reads name id (Some o) 5)
+behind_reads true name id = line_then 4 options_spelled (λ o. tail_reads name id (Some o) 5)
 
-reads : Reads IsWhole 1 (λ text. value_at head_value 1 text >>= λ head. after_head head.0 head.1)
+reads : Reads IsWhole 1 policy_read
+unfolding policy_read
 reads =
-    line_then head_value (λ has. Unit {0}) head_of IsHeaded 1 after_head head_spelled (λ has.
-    line_then name_line_value IsLabel (λ name. codes "name " ++ name) (IsNamed has) 2 (after_name has) name_spelled (λ name.
-    line_then id_value (AreBytesOfLength 16) (λ id. codes "id " ++ encode_lower id) (IsBehind has name) 3 (behind_id has name) (digits_spelled (codes "id ") 16 refl) (λ id.
+    line_then 1 head_spelled (λ has.
+    line_then 2 name_spelled (λ name.
+    line_then 3 (digits_spelled (codes "id ") 16 refl) (λ id.
     behind_reads has name id)))
 
 -- the lines that are read are those of the record
@@ -202,20 +184,13 @@ whole p is = of p.name p.id.0 p.options p.wraps is.name is.id is.wraps (recursio
         (true, (_, (refl, (tt, (name, (_, (refl, (is_name, (id, (_, (refl, (is_id, (o, (_, (refl, (tt, (wraps, (refl, (refl, (kept, each))))))))))))))))))))
 
 pub policy_found : (text : List ℕ) (p : PolicyFile) → policy_read text ≡ Ok p → IsPolicyFile p × (text ≡ policy_text p)
-policy_found text p h =
-    let found = reads.found text p (sym (steps text) ∙ h) in
-    let is = told p found.0 found.1.1 in
-    (is.0, found.1.0 ∙ ap ended is.1)
+policy_found = record_found reads told whole
 
 pub policy_again : (p : PolicyFile) → IsPolicyFile p → policy_read (policy_text p) ≡ Ok p
-policy_again p is = steps (policy_text p) ∙ reads.again p (policy_lines p) (whole p is)
+policy_again = record_again reads told whole
 
 pub policy_bad : (text : List ℕ) (e : MetaFault) → policy_read text ≡ Err e → TellsFirstBad IsPolicyRecord text e
-policy_bad text e h =
-    stops_told IsPolicyRecord text e (stops_alike (λ lines. (p : PolicyFile) × IsWhole p lines) IsPolicyRecord 1 (ended_lines text) e
-    (λ ls any. (any.0, told any.0 ls any.1))
-    (λ ls any. (any.0, subst (IsWhole any.0) (sym any.1.1) (whole any.0 any.1.0)))
-    (reads.stops text e (sym (steps text) ∙ h)))
+policy_bad = record_bad reads told whole
 
 -- ---- as a caller sees it
 

@@ -4,40 +4,42 @@ use Rattle.std.specs.Prelude.{IfOk, IfErr, ◌≢◌, codes}
 use Rattle.hex.specs.Hex.{encode_lower}
 use Rattle.byte_words.specs.Bytes.{AreBytesOfLength}
 use Rattle.short_bytes.specs.Label.{IsLabel}
-use Rattle.text_words.specs.Lines.{ended}
 use Rattle.protector_meta.specs.Descriptor.{IsDescriptor}
-use Rattle.protector_meta.specs.RecordLines.{IsFirstBad, TellsFirstBad, ended_lines}
-use Rattle.protector_meta.specs.LineValues.{digits_line_value, name_line_value}
-use Rattle.protector_meta.specs.Reading.{◌>>=◌, value_at}
+use Rattle.protector_meta.specs.RecordLines.{IsFirstBad, RecordTest, TellsFirstBad}
 use Rattle.protector_meta.specs.ProtectorText.{IsKind, IsProtector, IsProtectorRecord, kind_text, protector_lines, protector_text}
-use Rattle.protector_meta.specs.ProtectorLines.{descriptor_line_value, head_value, kind_line_value}
 use Rattle.protector_meta.specs.ProtectorReading.{protector_read}
 use Rattle.protector_meta.specs.declared.fault.MetaFault.{MetaFault}
 use Rattle.protector_meta.specs.declared.fault.MetaFault.TheVariants.{Bad}
 use Rattle.protector_meta.specs.declared.protector.Protector.{Protector}
 use Rattle.protector_meta.proofs.LineLaws.{ended-push}
-use Rattle.protector_meta.proofs.Readers.{Reads, line_then, only_one, stops_alike, stops_told}
+use Rattle.protector_meta.proofs.Readers.{Reads, Then, line_then, only_one, record_again, record_bad, record_found}
 use Rattle.protector_meta.proofs.SharedLines.{digits_spelled, name_spelled}
-use Rattle.protector_meta.proofs.ProtectorSteps.{IsEnd, IsFromDescriptor, IsFromIv, IsFromKey, IsFromKind, IsFromName, IsFromTag, IsWhole}
-use Rattle.protector_meta.proofs.ProtectorSteps.{from_descriptor, from_end, from_iv, from_key, from_kind, from_name, from_tag}
-use Rattle.protector_meta.proofs.ProtectorValues.{descriptor_spelled, end_reads, head_spelled, kind_spelled}
+use Rattle.protector_meta.proofs.ProtectorValues.{IsEnd, descriptor_spelled, end_reads, head_spelled, kind_spelled}
 
 -- ---- the reader
 
-steps : (text : List ℕ) → protector_read text ≡ (value_at head_value 1 text >>= λ head. from_name head.0 head.1)
-unfolding protector_read
-steps text = refl
+-- the lines of a record, one after another
+abbrev IsWhole : Protector → RecordTest
+IsWhole =
+    Then (λ (head : Unit {0}). Unit {0}) (λ head. codes "fsc-protector 1") (λ head.
+    Then IsLabel (λ name. codes "name " ++ name) (λ name.
+    Then IsKind (λ kind. codes "kind " ++ kind_text kind) (λ kind.
+    Then IsDescriptor (λ digits. codes "descriptor " ++ digits) (λ digits.
+    Then (AreBytesOfLength 16) (λ iv. codes "iv " ++ encode_lower iv) (λ iv.
+    Then (AreBytesOfLength 32) (λ key. codes "key " ++ encode_lower key) (λ key.
+    Then (AreBytesOfLength 32) (λ tag. codes "tag " ++ encode_lower tag) (λ tag.
+    IsEnd (record { name = name; kind = kind; descriptor = digits; iv = iv; key = key; tag = tag }))))))))
 
-reads : Reads IsWhole 1 (λ text. value_at head_value 1 text >>= λ head. from_name head.0 head.1)
+reads : Reads IsWhole 1 protector_read
+unfolding protector_read
 reads =
-    line_then head_value (λ head. Unit {0}) (λ head. codes "fsc-protector 1") IsFromName 1 from_name head_spelled (λ head.
-    line_then name_line_value IsLabel (λ name. codes "name " ++ name) IsFromKind 2 from_kind name_spelled (λ name.
-    line_then kind_line_value IsKind (λ kind. codes "kind " ++ kind_text kind) (IsFromDescriptor name) 3 (from_descriptor name) kind_spelled (λ kind.
-    line_then descriptor_line_value IsDescriptor (λ digits. codes "descriptor " ++ digits) (IsFromIv name kind) 4 (from_iv name kind) descriptor_spelled (λ digits.
-    line_then (digits_line_value (codes "iv ") 16) (AreBytesOfLength 16) (λ iv. codes "iv " ++ encode_lower iv) (IsFromKey name kind digits) 5 (from_key name kind digits) (digits_spelled (codes "iv ") 16 refl) (λ iv.
-    line_then (digits_line_value (codes "key ") 32) (AreBytesOfLength 32) (λ key. codes "key " ++ encode_lower key) (IsFromTag name kind digits iv) 6 (from_tag name kind digits iv) (digits_spelled (codes "key ") 32 refl) (λ key.
-    line_then (digits_line_value (codes "tag ") 32) (AreBytesOfLength 32) (λ tag. codes "tag " ++ encode_lower tag)
-    (λ tag. IsEnd (record { name = name; kind = kind; descriptor = digits; iv = iv; key = key; tag = tag })) 7 (from_end name kind digits iv key) (digits_spelled (codes "tag ") 32 refl) (λ tag.
+    line_then 1 head_spelled (λ head.
+    line_then 2 name_spelled (λ name.
+    line_then 3 kind_spelled (λ kind.
+    line_then 4 descriptor_spelled (λ digits.
+    line_then 5 (digits_spelled (codes "iv ") 16 refl) (λ iv.
+    line_then 6 (digits_spelled (codes "key ") 32 refl) (λ key.
+    line_then 7 (digits_spelled (codes "tag ") 32 refl) (λ tag.
     end_reads (record { name = name; kind = kind; descriptor = digits; iv = iv; key = key; tag = tag }))))))))
 
 -- the lines that are read are those of the record
@@ -60,21 +62,14 @@ whole p is =
 
 pub protector_found : (text : List ℕ) (p : Protector) → protector_read text ≡ Ok p → IsProtector p × (text ≡ protector_text p)
 unfolding protector_text
-protector_found text p h =
-    let found = reads.found text p (sym (steps text) ∙ h) in
-    let is = told p found.0 found.1.1 in
-    (is.0, found.1.0 ∙ ap ended is.1)
+protector_found = record_found reads told whole
 
 pub protector_again : (p : Protector) → IsProtector p → protector_read (protector_text p) ≡ Ok p
 unfolding protector_text
-protector_again p is = steps (protector_text p) ∙ reads.again p (protector_lines p) (whole p is)
+protector_again = record_again reads told whole
 
 pub protector_bad : (text : List ℕ) (e : MetaFault) → protector_read text ≡ Err e → TellsFirstBad IsProtectorRecord text e
-protector_bad text e h =
-    stops_told IsProtectorRecord text e (stops_alike (λ lines. (p : Protector) × IsWhole p lines) IsProtectorRecord 1 (ended_lines text) e
-    (λ ls any. (any.0, told any.0 ls any.1))
-    (λ ls any. (any.0, subst (IsWhole any.0) (sym any.1.1) (whole any.0 any.1.0)))
-    (reads.stops text e (sym (steps text) ∙ h)))
+protector_bad = record_bad reads told whole
 
 -- ---- what a reader answered
 

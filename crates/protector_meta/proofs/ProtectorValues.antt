@@ -11,7 +11,7 @@ use Rattle.text_words.specs.Digits.{is_lower_hex_digit}
 use Rattle.text_words.specs.Lines.{ended}
 use Rattle.text_words.proofs.WordLemmas.{chose, lower_digits_are_free}
 use Rattle.protector_meta.specs.Descriptor.{IsDescriptor}
-use Rattle.protector_meta.specs.RecordLines.{ended_lines}
+use Rattle.protector_meta.specs.RecordLines.{RecordTest, ended_lines}
 use Rattle.protector_meta.specs.ProtectorText.{IsKind, kind_text}
 use Rattle.protector_meta.specs.ProtectorLines.{head_value, kind_line_value, kind_value, descriptor_value, descriptor_line_value}
 use Rattle.protector_meta.specs.ProtectorReading.{nothing_left}
@@ -23,7 +23,6 @@ use Rattle.protector_meta.specs.declared.protector.ProtectorKind.TheVariants.{Ra
 use Rattle.protector_meta.proofs.WordLaws.{word_value_again, word_value_found}
 use Rattle.protector_meta.proofs.KindLaws.{kind_again, kind_found, kind_is_free}
 use Rattle.protector_meta.proofs.Readers.{Reads, Spells, Stops, stops_here}
-use Rattle.protector_meta.proofs.ProtectorSteps.{IsEnd}
 
 -- ---- the lines
 
@@ -72,6 +71,9 @@ descriptor_spelled = record {
 }
 
 -- ---- the end
+
+abbrev pub IsEnd : Protector → Protector → RecordTest
+IsEnd told p lines = (lines ≡ []) × (told ≡ p)
 
 at_end : (number : ℕ) (text : List ℕ) (p q : Protector) → nothing_left number text p ≡ Ok q → (text ≡ []) × (p ≡ q)
 at_end number text p q h = of (length text == 0) refl h

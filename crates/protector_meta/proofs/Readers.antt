@@ -105,7 +105,7 @@ pub record Spells {A : Type 0} (value : List ℕ → Option A) (Is : A → Type 
 abbrev pub Then : {A P : Type 0} → (A → Type 0) → (A → List ℕ) → (A → P → RecordTest) → P → RecordTest
 Then {A = A} Is line_of IsRest p lines = (x : A) × ((rest : List (List ℕ)) × ((lines ≡ line_of x ∷ rest) × (Is x × IsRest x p rest)))
 
-module _ {A P : Type 0} (value : List ℕ → Option A) (Is : A → Type 0) (line_of : A → List ℕ) (IsRest : A → P → RecordTest) (place : ℕ) (next : A → List ℕ → Result P MetaFault)
+module _ {A P : Type 0} {value : List ℕ → Option A} {Is : A → Type 0} {line_of : A → List ℕ} {IsRest : A → P → RecordTest} {next : A → List ℕ → Result P MetaFault} (place : ℕ)
     (spells : Spells value Is line_of) (reads : (x : A) → Reads (IsRest x) (place + 1) (next x)) where
   abbrev read : List ℕ → Result P MetaFault
   read text = value_at value place text >>= λ x. next x.0 x.1
@@ -180,3 +180,25 @@ module _ {A P : Type 0} (value : List ℕ → Option A) (Is : A → Type 0) (lin
 
   pub line_then : Reads (Then Is line_of IsRest) place read
   line_then = record { some = some; found = found; again = again; stops = stops }
+
+-- ---- whole records
+
+-- a reader of whole records, where the lines of each step are those of the records of values in form
+module _ {P : Type 0} {IsWhole : P → RecordTest} {read : List ℕ → Result P MetaFault} {IsValue : P → Type 0} {lines_of : P → List (List ℕ)} (reads : Reads IsWhole 1 read)
+    (told : (p : P) (lines : List (List ℕ)) → IsWhole p lines → IsValue p × (lines ≡ lines_of p)) (whole : (p : P) → IsValue p → IsWhole p (lines_of p)) where
+  pub record_found : (text : List ℕ) (p : P) → read text ≡ Ok p → IsValue p × (text ≡ ended (lines_of p))
+  record_found text p h =
+      let found = reads.found text p h in
+      let is = told p found.0 found.1.1 in
+      (is.0, found.1.0 ∙ ap ended is.1)
+
+  pub record_again : (p : P) → IsValue p → read (ended (lines_of p)) ≡ Ok p
+  record_again p is = reads.again p (lines_of p) (whole p is)
+
+  pub record_bad : (text : List ℕ) (e : MetaFault) → read text ≡ Err e → TellsFirstBad (λ lines. (p : P) × (IsValue p × (lines ≡ lines_of p))) text e
+  record_bad text e h =
+      let IsRecord : RecordTest = λ lines. (p : P) × (IsValue p × (lines ≡ lines_of p)) in
+      stops_told IsRecord text e (stops_alike (λ lines. (p : P) × IsWhole p lines) IsRecord 1 (ended_lines text) e
+      (λ ls any. (any.0, told any.0 ls any.1))
+      (λ ls any. (any.0, subst (IsWhole any.0) (sym any.1.1) (whole any.0 any.1.0)))
+      (reads.stops text e h))

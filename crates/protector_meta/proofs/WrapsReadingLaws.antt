@@ -92,62 +92,59 @@ room_for wraps line wrap h = go (is_listed wrap.protector wraps) (nat_le 16 (len
     go true full e f = absurd (cc (rw e at told))
     go false true e f = absurd (cc (rw (e, f) at told))
 
+-- the last piece, behind which no line ends
+last_piece : (number : ℕ) (wraps : List Wrap) (last : List ℕ) (r : Result (List Wrap) MetaFault) → wraps_from number wraps (last ∷ []) ≡ r
+    → ((r ≡ Ok wraps) × ((last ≡ []) × (0 < length wraps))) ⊎ (r ≡ Err (Bad number))
+unfolding wraps_from
+last_piece number wraps last r h =
+    elim (cases_Bool ((length last == 0) && nat_lt 0 (length wraps))) [
+      | inl ended ↦
+          let parts = and_parts (length last == 0) (nat_lt 0 (length wraps)) ended in
+          inl (
+            sym h ∙ cond-true ((length last == 0) && nat_lt 0 (length wraps)) (Ok wraps) (Err (Bad number)) ended,
+            (nil_from_length last (eqb-true (length last) 0 parts.0), ltb-true 0 (length wraps) parts.1),
+          )
+      | inr unended ↦ inr (sym h ∙ cond-false ((length last == 0) && nat_lt 0 (length wraps)) (Ok wraps) (Err (Bad number)) unended)
+    ]
+
 -- ---- what was read stands in the text
 
-pub wraps_found : (number : ℕ) (wraps : List Wrap) (pieces : List (List ℕ)) (all : List Wrap) → wraps_from number wraps pieces ≡ Ok all
-    → (more : List Wrap) × ((all ≡ wraps ++ more) × ((pieces ≡ map wrap_line more ++ [] ∷ []) × AllByRecursion IsWrap more))
+-- what was read are the wraps of the lines behind the earlier ones, and they are 1 to 16 for different protectors
+pub wraps_found : (number : ℕ) (wraps : List Wrap) (pieces : List (List ℕ)) (all : List Wrap) → AreDistinct wraps → length wraps ≤ 16 → wraps_from number wraps pieces ≡ Ok all
+    → (more : List Wrap) × ((all ≡ wraps ++ more) × ((pieces ≡ map wrap_line more ++ [] ∷ []) × (AreWraps (wraps ++ more) × AllByRecursion IsWrap more)))
 unfolding wraps_from
-wraps_found number wraps [] all h = absurd (cc h)
-wraps_found number wraps (last ∷ []) all h =
-    elim (cases_Bool ((length last == 0) && nat_lt 0 (length wraps))) [
-      | inl ended ↦
-          let same : Ok wraps ≡ Ok all = sym (cond-true ((length last == 0) && nat_lt 0 (length wraps)) (Ok wraps) (Err (Bad number)) ended) ∙ h in
-          let none = nil_from_length last (eqb-true (length last) 0 (and_parts (length last == 0) (nat_lt 0 (length wraps)) ended).0) in
-          ([], (cc (same, append-nil wraps), (ap (λ l. l ∷ []) none, tt)))
-      | inr unended ↦ absurd (cc (sym (cond-false ((length last == 0) && nat_lt 0 (length wraps)) (Ok wraps) (Err (Bad number)) unended) ∙ h))
+wraps_found number wraps [] all distinct few h = absurd (cc h)
+wraps_found number wraps (last ∷ []) all distinct few h =
+    elim (last_piece number wraps last (Ok all) h) [
+      | inl whole ↦
+          let all_are : all ≡ wraps = cc whole.0 in
+          let kept : AreWraps wraps = record { some = omega (arith, whole.1.1); few = few; distinct = distinct } in
+          let same : wraps ≡ wraps ++ [] = sym (append-nil wraps) in
+          ([], (all_are ∙ same, (ap (λ l. l ∷ []) whole.1.0, (subst AreWraps same kept, tt))))
+      | inr fault ↦ absurd (cc fault)
     ]
-wraps_found number wraps (line ∷ next ∷ more) all h =
-    go (next_wrap wraps line) refl (λ wrap e. wraps_found (number + 1) (wraps ++ wrap ∷ []) (next ∷ more) all e)
+wraps_found number wraps (line ∷ next ∷ more) all distinct few h =
+    go (next_wrap wraps line) refl (λ wrap. wraps_found (number + 1) (wraps ++ wrap ∷ []) (next ∷ more) all)
   where
     go : (o : Option Wrap) → next_wrap wraps line ≡ o
-        → ((wrap : Wrap) → wraps_from (number + 1) (wraps ++ wrap ∷ []) (next ∷ more) ≡ Ok all
-        → (rest : List Wrap) × ((all ≡ (wraps ++ wrap ∷ []) ++ rest) × ((next ∷ more ≡ map wrap_line rest ++ [] ∷ []) × AllByRecursion IsWrap rest)))
-        → (rest : List Wrap) × ((all ≡ wraps ++ rest) × ((line ∷ next ∷ more ≡ map wrap_line rest ++ [] ∷ []) × AllByRecursion IsWrap rest))
-    go None e later = absurd (cc (rw e at h))
-    go (Some wrap) e later =
-        let found = later wrap (rw e at h) in
-        let told = wrap_value_found line wrap (of_line wraps line wrap e) in (
-          wrap ∷ found.0,
-          (
-            found.1.0 ∙ append_assoc wraps (wrap ∷ []) found.0,
-            (ap (λ l. line ∷ l) found.1.1.0 ∙ ap (λ l. l ∷ (map wrap_line found.0 ++ [] ∷ [])) told.0, (told.1, found.1.1.1)),
-          ),
-        )
-
--- what was read are 1 to 16 wraps for different protectors
-pub wraps_kept : (number : ℕ) (wraps : List Wrap) (pieces : List (List ℕ)) (all : List Wrap) → AreDistinct wraps → length wraps ≤ 16
-    → wraps_from number wraps pieces ≡ Ok all → AreWraps all
-unfolding wraps_from
-wraps_kept number wraps [] all distinct few h = absurd (cc h)
-wraps_kept number wraps (last ∷ []) all distinct few h =
-    elim (cases_Bool ((length last == 0) && nat_lt 0 (length wraps))) [
-      | inl ended ↦
-          let same : Ok wraps ≡ Ok all = sym (cond-true ((length last == 0) && nat_lt 0 (length wraps)) (Ok wraps) (Err (Bad number)) ended) ∙ h in
-          let is : wraps ≡ all = cc same in
-          let some = ltb-true 0 (length wraps) (and_parts (length last == 0) (nat_lt 0 (length wraps)) ended).1 in
-          subst AreWraps is (record { some = omega arith; few = few; distinct = distinct })
-      | inr unended ↦ absurd (cc (sym (cond-false ((length last == 0) && nat_lt 0 (length wraps)) (Ok wraps) (Err (Bad number)) unended) ∙ h))
-    ]
-wraps_kept number wraps (line ∷ next ∷ more) all distinct few h =
-    go (next_wrap wraps line) refl (λ wrap. wraps_kept (number + 1) (wraps ++ wrap ∷ []) (next ∷ more) all)
-  where
-    go : (o : Option Wrap) → next_wrap wraps line ≡ o
-        → ((wrap : Wrap) → AreDistinct (wraps ++ wrap ∷ []) → length (wraps ++ wrap ∷ []) ≤ 16 → wraps_from (number + 1) (wraps ++ wrap ∷ []) (next ∷ more) ≡ Ok all → AreWraps all)
-        → AreWraps all
+        → ((wrap : Wrap) → AreDistinct (wraps ++ wrap ∷ []) → length (wraps ++ wrap ∷ []) ≤ 16 → wraps_from (number + 1) (wraps ++ wrap ∷ []) (next ∷ more) ≡ Ok all
+        → (rest : List Wrap) × ((all ≡ (wraps ++ wrap ∷ []) ++ rest) × ((next ∷ more ≡ map wrap_line rest ++ [] ∷ []) × (AreWraps ((wraps ++ wrap ∷ []) ++ rest) × AllByRecursion IsWrap rest))))
+        → (rest : List Wrap) × ((all ≡ wraps ++ rest) × ((line ∷ next ∷ more ≡ map wrap_line rest ++ [] ∷ []) × (AreWraps (wraps ++ rest) × AllByRecursion IsWrap rest)))
     go None e later = absurd (cc (rw e at h))
     go (Some wrap) e later =
         let room = room_for wraps line wrap e in
-        later wrap (AreDistinct-push wraps wrap distinct room.0) (omega (arith, length-append wraps (wrap ∷ []), room.1)) (rw e at h)
+        let found = later wrap (AreDistinct-push wraps wrap distinct room.0) (omega (arith, length-append wraps (wrap ∷ []), room.1)) (rw e at h) in
+        let told = wrap_value_found line wrap (of_line wraps line wrap e) in
+        let same : (wraps ++ wrap ∷ []) ++ found.0 ≡ wraps ++ wrap ∷ found.0 = append_assoc wraps (wrap ∷ []) found.0 in (
+          wrap ∷ found.0,
+          (
+            found.1.0 ∙ same,
+            (
+              ap (λ l. line ∷ l) found.1.1.0 ∙ ap (λ l. l ∷ (map wrap_line found.0 ++ [] ∷ [])) told.0,
+              (subst AreWraps same found.1.1.1.0, (told.1, found.1.1.1.1)),
+            ),
+          ),
+        )
 
 -- ---- what stands in the text is read
 
@@ -219,12 +216,9 @@ pub wraps_stop : (number : ℕ) (wraps : List Wrap) (pieces : List (List ℕ)) (
 unfolding wraps_from
 wraps_stop number wraps [] e distinct few h = stops_here (AreMore wraps) number [] e (cc h) (begun wraps distinct few) (λ line more is. absurd (cc is))
 wraps_stop number wraps (last ∷ []) e distinct few h =
-    elim (cases_Bool ((length last == 0) && nat_lt 0 (length wraps))) [
-      | inl ended ↦ absurd (cc (sym (cond-true ((length last == 0) && nat_lt 0 (length wraps)) (Ok wraps) (Err (Bad number)) ended) ∙ h))
-      | inr unended ↦
-          let is : (let r : Result (List Wrap) MetaFault = Err (Bad number) in r ≡ Err e) =
-          sym (cond-false ((length last == 0) && nat_lt 0 (length wraps)) (Ok wraps) (Err (Bad number)) unended) ∙ h in
-          stops_here (AreMore wraps) number [] e (cc is) (begun wraps distinct few) (λ line more same. absurd (cc same))
+    elim (last_piece number wraps last (Err e) h) [
+      | inl whole ↦ absurd (cc whole.0)
+      | inr fault ↦ stops_here (AreMore wraps) number [] e (cc fault) (begun wraps distinct few) (λ line more same. absurd (cc same))
     ]
 wraps_stop number wraps (line ∷ next ∷ more) e distinct few h =
     let shorter : length (line ∷ next ∷ more) - 1 ≡ suc (length (next ∷ more) - 1) = omega arith in
