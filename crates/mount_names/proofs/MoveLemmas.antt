@@ -238,7 +238,8 @@ module _ (m : PlainMount) (e : Entry) (name : Name) (path : PathParts) where
   pub refused_walk : (r : Refusal) → no_at r ≡ parent m path → answer ≡ refused m r
   refused_walk r is = ap (λ w. at_node m w move_in) (sym is)
 
-  pub told_there : (to : ℕ) → ok_at to ≡ parent m path → (o : Option Refusal) → why_in to ≡ o → answer ≡ moved_unless to o
+  pub told_there : (to : ℕ) → ok_at to ≡ parent m path → (o : Option Refusal) → why_in to ≡ o
+      → answer ≡ moved_unless to o
   told_there to led o is = ap (λ w. at_node m w move_in) (sym led) ∙ ap (moved_unless to) is
 
 -- at the directory that was reached

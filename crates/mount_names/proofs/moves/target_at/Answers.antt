@@ -29,7 +29,8 @@ returns-in-Ok-clause-refused g c =
     let passed = walk_passed c.in-Ok.past (is_at_or_above m e.number path) c.in-Ok.dir (parent m path) walk in
     told_there m e name path c.in-Ok.dir led (Some refusal)
     (why_there m e path c.in-Ok.dir c.in-Ok.past part passed c.last_bytes.ensures
-    ∙ in_dir m name (c.in-Ok.ensures.stands m st) (dir_here m path c.in-Ok.dir part named led c.last_bytes.ensures fits)
+    ∙ in_dir m name (c.in-Ok.ensures.stands m st)
+    (dir_here m path c.in-Ok.dir part named led c.last_bytes.ensures fits)
     (name_here m path c.in-Ok.dir part named led c.last_bytes.ensures fits) of))
 
 pub returns-in-Ok-clause-placed : goal.returns-in-Ok-clause-placed
