@@ -1,9 +1,9 @@
--- Texts of four words: the words are cut apart, and joined again. Lists of four items.
+-- Texts of four words: the words are cut apart, and joined again, and no line feed stands in the text where none stands in a word. Lists of four items.
 use Rattle.std.proofs.Common.{◌≡◌, ℕ, true, List, [], ◌∷◌, ◌++◌, length, Some, sym, ap, ◌∙◌, arith}
 use Rattle.std.specs.List.{join_with_byte, slice_get}
 use Rattle.std.proofs.lemmas.List.Splits.{join_with_byte-slice_split}
 use Rattle.text_words.specs.Words.{words_of}
-use Rattle.text_words.proofs.PieceLemmas.{is_free_of, split_at, split_none}
+use Rattle.text_words.proofs.PieceLemmas.{free_of_both, is_free_of, split_at, split_none}
 
 pub four_words_again : (a b c d : List ℕ) → is_free_of 32 a ≡ true → is_free_of 32 b ≡ true → is_free_of 32 c ≡ true → is_free_of 32 d ≡ true
     → words_of (a ++ 32 ∷ (b ++ 32 ∷ (c ++ 32 ∷ d))) ≡ a ∷ b ∷ c ∷ d ∷ []
@@ -12,6 +12,11 @@ four_words_again a b c d fa fb fc fd =
     ∙ ap (λ l. a ∷ l) (split_at 32 b (c ++ 32 ∷ d) fb
     ∙ ap (λ l. b ∷ l) (split_at 32 c d fc
     ∙ ap (λ l. c ∷ l) (split_none 32 d fd)))
+
+pub four_words_are_free : (a b c d : List ℕ) → is_free_of 10 a ≡ true → is_free_of 10 b ≡ true → is_free_of 10 c ≡ true → is_free_of 10 d ≡ true
+    → is_free_of 10 (a ++ 32 ∷ (b ++ 32 ∷ (c ++ 32 ∷ d))) ≡ true
+four_words_are_free a b c d fa fb fc fd =
+    free_of_both 10 a (32 ∷ (b ++ 32 ∷ (c ++ 32 ∷ d))) fa (free_of_both 10 b (32 ∷ (c ++ 32 ∷ d)) fb (free_of_both 10 c (32 ∷ d) fc fd))
 
 pub four_words_found : (text a b c d : List ℕ) → words_of text ≡ a ∷ b ∷ c ∷ d ∷ [] → text ≡ a ++ 32 ∷ (b ++ 32 ∷ (c ++ 32 ∷ d))
 four_words_found text a b c d are = sym (join_with_byte-slice_split 32 text) ∙ ap (join_with_byte 32) are

@@ -21,10 +21,10 @@ use Rattle.protector_meta.specs.LineValues.{word_value}
 use Rattle.protector_meta.specs.Stretching.{IsStretching}
 use Rattle.protector_meta.specs.declared.protector.ProtectorKind.{ProtectorKind}
 use Rattle.protector_meta.specs.declared.protector.ProtectorKind.TheVariants.{Raw, Pass}
-use Rattle.text_words.proofs.PieceLemmas.{free_of_both, is_free_of}
+use Rattle.text_words.proofs.PieceLemmas.{is_free_of}
 use Rattle.text_words.proofs.WordLemmas.{chose, digits_again, digits_are_free, digits_found, number_is_free}
 use Rattle.protector_meta.proofs.WordLaws.{went_on, word_value_again, word_value_found}
-use Rattle.protector_meta.proofs.FourWords.{four, four_words_again, four_words_found}
+use Rattle.protector_meta.proofs.FourWords.{four, four_words_again, four_words_are_free, four_words_found}
 
 -- ---- costs
 
@@ -136,7 +136,6 @@ pub kind_is_free : (kind : ProtectorKind) → IsKind kind → is_free_of 10 (kin
 kind_is_free Raw h = refl
 kind_is_free (Pass s) h =
     let small = costs_small s.0 h.0 in
-    free_of_both 10 (decimal_of s.0.passes) (32 ∷ (decimal_of s.0.kib ++ 32 ∷ (decimal_of s.0.lanes ++ 32 ∷ encode_lower s.1))) (number_is_free 10 s.0.passes (omega arith) (omega (arith, small.0)))
-    (free_of_both 10 (decimal_of s.0.kib) (32 ∷ (decimal_of s.0.lanes ++ 32 ∷ encode_lower s.1)) (number_is_free 10 s.0.kib (omega arith) (omega (arith, small.2)))
-    (free_of_both 10 (decimal_of s.0.lanes) (32 ∷ encode_lower s.1) (number_is_free 10 s.0.lanes (omega arith) (omega (arith, small.1)))
-    (digits_are_free 10 s.1 (omega arith) h.1.1)))
+    four_words_are_free (decimal_of s.0.passes) (decimal_of s.0.kib) (decimal_of s.0.lanes) (encode_lower s.1)
+    (number_is_free 10 s.0.passes (omega arith) (omega (arith, small.0))) (number_is_free 10 s.0.kib (omega arith) (omega (arith, small.2)))
+    (number_is_free 10 s.0.lanes (omega arith) (omega (arith, small.1))) (digits_are_free 10 s.1 (omega arith) h.1.1)

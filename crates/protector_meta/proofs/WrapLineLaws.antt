@@ -10,10 +10,10 @@ use Rattle.short_bytes.proofs.LabelLemmas.{label_of-label, label_of-found}
 use Rattle.protector_meta.specs.PolicyText.{IsWrap, wrap_line}
 use Rattle.protector_meta.specs.PolicyLines.{wrap_of_words, wrap_value}
 use Rattle.protector_meta.specs.declared.wraps.Wrap.{Wrap}
-use Rattle.text_words.proofs.PieceLemmas.{free_of_both, is_free_of}
+use Rattle.text_words.proofs.PieceLemmas.{is_free_of}
 use Rattle.text_words.proofs.WordLemmas.{digits_again, digits_are_free, digits_found}
 use Rattle.protector_meta.proofs.WordLaws.{label_is_free, word_value_again, word_value_found}
-use Rattle.protector_meta.proofs.FourWords.{four_words_again, four_words_found}
+use Rattle.protector_meta.proofs.FourWords.{four_words_again, four_words_are_free, four_words_found}
 
 module _ (w : Wrap) (is : IsWrap w) where
   wrap_words_again : wrap_of_words (w.protector ∷ encode_lower w.iv ∷ encode_lower w.key ∷ encode_lower w.tag ∷ []) ≡ Some w
@@ -35,10 +35,8 @@ module _ (w : Wrap) (is : IsWrap w) where
 
   pub wrap_line_is_free : is_free_of 10 (wrap_line w) ≡ true
   wrap_line_is_free =
-      free_of_both 10 w.protector (32 ∷ (encode_lower w.iv ++ 32 ∷ (encode_lower w.key ++ 32 ∷ encode_lower w.tag))) (label_is_free 10 w.protector (omega arith) is.protector)
-      (free_of_both 10 (encode_lower w.iv) (32 ∷ (encode_lower w.key ++ 32 ∷ encode_lower w.tag)) (digits_are_free 10 w.iv (omega arith) is.iv.1)
-      (free_of_both 10 (encode_lower w.key) (32 ∷ encode_lower w.tag) (digits_are_free 10 w.key (omega arith) is.key.1)
-      (digits_are_free 10 w.tag (omega arith) is.tag.1)))
+      four_words_are_free w.protector (encode_lower w.iv) (encode_lower w.key) (encode_lower w.tag) (label_is_free 10 w.protector (omega arith) is.protector)
+      (digits_are_free 10 w.iv (omega arith) is.iv.1) (digits_are_free 10 w.key (omega arith) is.key.1) (digits_are_free 10 w.tag (omega arith) is.tag.1)
 
 -- what four words tell of
 module _ (label iv key tag : List ℕ) (w : Wrap) where
