@@ -13,14 +13,13 @@ use Rattle.text_words.proofs.WordLemmas.{chose, lower_digits_are_free}
 use Rattle.protector_meta.specs.Descriptor.{IsDescriptor}
 use Rattle.protector_meta.specs.RecordLines.{RecordTest, ended_lines}
 use Rattle.protector_meta.specs.ProtectorText.{IsKind, kind_text}
-use Rattle.protector_meta.specs.ProtectorLines.{head_value, kind_line_value, kind_value, descriptor_value, descriptor_line_value}
+use Rattle.protector_meta.specs.ProtectorLines.{head_value, kind_line_value, descriptor_value, descriptor_line_value}
 use Rattle.protector_meta.specs.ProtectorReading.{nothing_left}
 use Rattle.protector_meta.specs.declared.fault.MetaFault.{MetaFault}
 use Rattle.protector_meta.specs.declared.fault.MetaFault.TheVariants.{Bad}
 use Rattle.protector_meta.specs.declared.protector.Protector.{Protector}
-use Rattle.protector_meta.specs.declared.protector.ProtectorKind.{ProtectorKind}
 use Rattle.protector_meta.specs.declared.protector.ProtectorKind.TheVariants.{Raw}
-use Rattle.protector_meta.proofs.WordLaws.{word_value_again, word_value_found}
+use Rattle.protector_meta.proofs.SharedLines.{word_spelled}
 use Rattle.protector_meta.proofs.KindLaws.{kind_again, kind_found, kind_is_free}
 use Rattle.protector_meta.proofs.Readers.{Reads, Spells, Stops, stops_here}
 
@@ -29,24 +28,12 @@ use Rattle.protector_meta.proofs.Readers.{Reads, Spells, Stops, stops_here}
 head_found : (line : List ℕ) (x : Unit {0}) → head_value line ≡ Some x → (line ≡ codes "fsc-protector 1") × Unit {0}
 head_found line x h = (same_text _ _ (sym (chose (bytes_eq line (codes "fsc-protector 1")) (Some tt) x h).0), tt)
 
-kind_line_found : (line : List ℕ) (kind : ProtectorKind) → kind_line_value line ≡ Some kind → (line ≡ codes "kind " ++ kind_text kind) × IsKind kind
-kind_line_found line kind h =
-    let on = word_value_found (codes "kind ") kind_value line kind h in
-    let found = kind_found on.0 kind on.2 in
-    (on.1 ∙ ap (λ (l : List ℕ). codes "kind " ++ l) found.0, found.1)
-
 descriptor_found : (text digits : List ℕ) → descriptor_value text ≡ Some digits → (text ≡ digits) × IsDescriptor digits
 descriptor_found text digits h =
     let taken = chose (length text == 16 && list_all is_lower_hex_digit text) (Some text) digits h in
     let same : text ≡ digits = same_Some text digits taken.1 in
     let parts = and_parts (length text == 16) (list_all is_lower_hex_digit text) taken.0 in
     (same, subst IsDescriptor same (eqb-true _ _ parts.0, parts.1))
-
-descriptor_line_found : (line digits : List ℕ) → descriptor_line_value line ≡ Some digits → (line ≡ codes "descriptor " ++ digits) × IsDescriptor digits
-descriptor_line_found line digits h =
-    let on = word_value_found (codes "descriptor ") descriptor_value line digits h in
-    let found = descriptor_found on.0 digits on.2 in
-    (on.1 ∙ ap (λ (l : List ℕ). codes "descriptor " ++ l) found.0, found.1)
 
 descriptor_again : (digits : List ℕ) → IsDescriptor digits → descriptor_value digits ≡ Some digits
 descriptor_again digits h = rw (and_from _ _ (eq-eqb (length digits) 16 h.0) h.1) refl
@@ -55,20 +42,15 @@ pub head_spelled : Spells head_value (λ head. Unit {0}) (λ head. codes "fsc-pr
 head_spelled = record { some = (tt, tt); found = head_found; again = λ head _. refl; free = λ head _. refl }
 
 pub kind_spelled : Spells kind_line_value IsKind (λ kind. codes "kind " ++ kind_text kind)
-kind_spelled = record {
-  some = (Raw, tt);
-  found = kind_line_found;
-  again = λ kind is. word_value_again (codes "kind ") kind_value (kind_text kind) kind (kind_again kind is);
-  free = kind_is_free;
-}
+kind_spelled = word_spelled (codes "kind ") refl (record { some = (Raw, tt); found = kind_found; again = kind_again; free = kind_is_free })
 
 pub descriptor_spelled : Spells descriptor_line_value IsDescriptor (λ digits. codes "descriptor " ++ digits)
-descriptor_spelled = record {
+descriptor_spelled = word_spelled (codes "descriptor ") refl (record {
   some = (codes "0000000000000000", (refl, refl));
-  found = descriptor_line_found;
-  again = λ digits is. word_value_again (codes "descriptor ") descriptor_value digits digits (descriptor_again digits is);
+  found = descriptor_found;
+  again = descriptor_again;
   free = λ digits is. lower_digits_are_free 10 digits (lit< tt) is.1;
-}
+})
 
 -- ---- the end
 
