@@ -19,7 +19,8 @@ use Rattle.protector_meta.specs.PolicyLines.{options_of_words, options_value}
 use Rattle.protector_meta.specs.declared.policy_file.Options.{Options}
 use Rattle.text_words.proofs.PieceLemmas.{free_of_both, is_free_of, split_at, split_none}
 use Rattle.text_words.proofs.WordLemmas.{number_is_free}
-use Rattle.protector_meta.proofs.WordLaws.{word_value_again, word_value_found}
+use Rattle.protector_meta.proofs.Readers.{Spells}
+use Rattle.protector_meta.proofs.SharedLines.{word_spelled}
 
 -- ---- the numbers of paddings and units
 
@@ -107,14 +108,11 @@ module _ (o : Options) where
       number_below-decimal_of (2 ^ 32) (unit_log2 o.unit) (omega (arith, unit_small o.unit)) (omega (arith, unit_small o.unit)) in
       rw (size_is, log_is, pad_again o.pad, unit_again o.unit) refl
 
-  pub options_again : options_value (options_line o) ≡ Some o
-  unfolding options_value
-  options_again =
-      word_value_again (codes "options ") (λ text. options_of_words (words_of text)) (size ++ 32 ∷ log) o
-      (ap options_of_words two_words ∙ words_again)
+  text_again : options_of_words (words_of (size ++ 32 ∷ log)) ≡ Some o
+  text_again = ap options_of_words two_words ∙ words_again
 
-  pub options_line_is_free : is_free_of 10 (options_line o) ≡ true
-  options_line_is_free = let f = free 10 (lit< tt) in free_of_both 10 size (32 ∷ log) f.0 f.1
+  text_is_free : is_free_of 10 (size ++ 32 ∷ log) ≡ true
+  text_is_free = let f = free 10 (lit< tt) in free_of_both 10 size (32 ∷ log) f.0 f.1
 
 -- what two words tell of
 module _ (size log : List ℕ) (o : Options) where
@@ -144,10 +142,14 @@ told_words [] o h = absurd (cc h)
 told_words (size ∷ []) o h = absurd (cc h)
 told_words (size ∷ log ∷ next ∷ more) o h = absurd (cc h)
 
-pub options_found : (line : List ℕ) (o : Options) → options_value line ≡ Some o → line ≡ options_line o
+some_options : Options
+some_options = record { pad = P32; unit = Block }
+
+pub options_spelled : Spells options_value (λ o. Unit {0}) options_line
 unfolding options_value
-options_found line o h =
-    let found = word_value_found (codes "options ") (λ text. options_of_words (words_of text)) line o h in
-    let text : found.0 ≡ decimal_of (pad_size o.pad) ++ 32 ∷ decimal_of (unit_log2 o.unit) =
-    sym (join_with_byte-slice_split 32 found.0) ∙ ap (join_with_byte 32) (told_words (words_of found.0) o found.2) in
-    found.1 ∙ ap (λ l. codes "options " ++ l) text
+options_spelled = word_spelled (codes "options ") refl (record {
+  some = (some_options, tt);
+  found = λ text o h. (sym (join_with_byte-slice_split 32 text) ∙ ap (join_with_byte 32) (told_words (words_of text) o h), tt);
+  again = λ o _. text_again o;
+  free = λ o _. text_is_free o;
+})

@@ -12,8 +12,6 @@ use Rattle.short_bytes.specs.Label.{IsLabel}
 use Rattle.protector_meta.specs.declared.fault.MetaFault.{MetaFault}
 use Rattle.protector_meta.specs.declared.fault.MetaFault.TheVariants.{Bad, NoMemory}
 use Rattle.protector_meta.specs.declared.wraps.Wrap.{Wrap}
-use Rattle.policy_ctx.specs.declared.policy.Pad.TheVariants.{P32}
-use Rattle.policy_ctx.specs.declared.policy.Unit.TheVariants.{Block}
 use Rattle.protector_meta.specs.declared.policy_file.Options.{Options}
 use Rattle.protector_meta.specs.declared.policy_file.PolicyFile.{PolicyFile}
 use Rattle.protector_meta.specs.Wraps.{AreWraps}
@@ -22,15 +20,15 @@ use Rattle.text_words.specs.Lines.{ended}
 use Rattle.protector_meta.specs.RecordLines.{IsFirstBad, RecordTest, TellsFirstBad, ended_lines}
 use Rattle.byte_words.specs.Bytes.{AreBytesOfLength}
 use Rattle.protector_meta.specs.PolicyText.{IsPolicyFile, IsPolicyRecord, IsWrap, option_lines, options_line, policy_lines, policy_text, version_line, wrap_line}
-use Rattle.protector_meta.specs.PolicyLines.{head_value, options_value}
+use Rattle.protector_meta.specs.PolicyLines.{head_value}
 use Rattle.protector_meta.specs.PolicyReading.{GivesInMemory, behind_id, policy_read, with_wraps, wraps_from}
 use Rattle.text_words.proofs.PieceLemmas.{AreLines, ended-append, ended-from_pieces, is_free_of, pieces_of-ended}
 use Rattle.protector_meta.proofs.LineLaws.{ended-map, ended-push}
 use Rattle.protector_meta.proofs.Readers.{Reads, Spells, Stops, Then, line_then, only_one, record_again, record_bad, record_found, stops_alike}
 use Rattle.protector_meta.proofs.SharedLines.{digits_spelled, name_spelled}
-use Rattle.protector_meta.proofs.OptionsLaws.{options_again, options_found, options_line_is_free}
-use Rattle.protector_meta.proofs.WrapLineLaws.{wrap_line_is_free}
-use Rattle.protector_meta.proofs.WrapsReadingLaws.{AreMore, wraps_again, wraps_found, wraps_stop, zero_wrap, zero_wrap_alone, zero_wrap_is}
+use Rattle.protector_meta.proofs.OptionsLaws.{options_spelled}
+use Rattle.protector_meta.proofs.WrapLineLaws.{wrap_spelled, zero_wrap, zero_wrap_is}
+use Rattle.protector_meta.proofs.WrapsReadingLaws.{AreMore, wraps_again, wraps_found, wraps_stop, zero_wrap_alone}
 
 abbrev made : List ℕ → List ℕ → Option Options → List Wrap → PolicyFile
 made name id options wraps = record { name = name; id = record { 0 = id }; options = options; wraps = wraps }
@@ -63,22 +61,11 @@ head_is_free false _ = refl
 head_spelled : Spells head_value (λ has. Unit {0}) head_of
 head_spelled = record { some = (false, tt); found = head_found; again = head_again; free = head_is_free }
 
-some_options : Options
-some_options = record { pad = P32; unit = Block }
-
-options_spelled : Spells options_value (λ o. Unit {0}) options_line
-options_spelled = record {
-  some = (some_options, tt);
-  found = λ line o h. (options_found line o h, tt);
-  again = λ o _. options_again o;
-  free = λ o _. options_line_is_free o;
-}
-
 -- ---- the wraps
 
 wrap_lines_are_lines : (wraps : List Wrap) → AllByRecursion IsWrap wraps → AreLines (map wrap_line wraps)
 wrap_lines_are_lines [] each = tt
-wrap_lines_are_lines (w ∷ wraps) each = (wrap_line_is_free w each.0, wrap_lines_are_lines wraps each.1)
+wrap_lines_are_lines (w ∷ wraps) each = (wrap_spelled.free w each.0, wrap_lines_are_lines wraps each.1)
 
 -- the lines of the policy's wraps, where this stood before them
 abbrev IsTail : List ℕ → List ℕ → Option Options → PolicyFile → RecordTest

@@ -1,5 +1,5 @@
 -- The line of a wrap is read as the wrap, and no other line is.
-use Rattle.std.proofs.Common.{◌≡◌, ℕ, true, List, [], ◌∷◌, ◌++◌, Option, Some, None, refl, sym, ap, ◌∙◌, arith}
+use Rattle.std.proofs.Common.{◌≡◌, ℕ, true, List, [], ◌∷◌, ◌++◌, replicate, Option, Some, None, refl, sym, ap, ◌∙◌, arith}
 use Rattle.std.specs.Prelude.{codes}
 use Rattle.std.proofs.lemmas.Option.{same_Some}
 use Rattle.hex.specs.Hex.{encode_lower}
@@ -12,7 +12,9 @@ use Rattle.protector_meta.specs.PolicyLines.{wrap_of_words, wrap_value}
 use Rattle.protector_meta.specs.declared.wraps.Wrap.{Wrap}
 use Rattle.text_words.proofs.PieceLemmas.{is_free_of}
 use Rattle.text_words.proofs.WordLemmas.{digits_again, digits_are_free, digits_found}
-use Rattle.protector_meta.proofs.WordLaws.{label_is_free, word_value_again, word_value_found}
+use Rattle.protector_meta.proofs.WordLaws.{label_is_free}
+use Rattle.protector_meta.proofs.Readers.{Spells}
+use Rattle.protector_meta.proofs.SharedLines.{word_spelled, zeros}
 use Rattle.protector_meta.proofs.FourWords.{four_words_again, four_words_are_free, four_words_found}
 
 module _ (w : Wrap) (is : IsWrap w) where
@@ -26,15 +28,11 @@ module _ (w : Wrap) (is : IsWrap w) where
       (label_is_free 32 w.protector (omega arith) is.protector) (digits_are_free 32 w.iv (omega arith) is.iv.1)
       (digits_are_free 32 w.key (omega arith) is.key.1) (digits_are_free 32 w.tag (omega arith) is.tag.1)
 
-  pub wrap_value_again : wrap_value (wrap_line w) ≡ Some w
-  unfolding wrap_value
-  wrap_value_again =
-      word_value_again (codes "wrap ") (λ text. wrap_of_words (words_of text))
-      (w.protector ++ 32 ∷ (encode_lower w.iv ++ 32 ∷ (encode_lower w.key ++ 32 ∷ encode_lower w.tag))) w
-      (ap wrap_of_words wrap_words_of ∙ wrap_words_again)
+  text_again : wrap_of_words (words_of (w.protector ++ 32 ∷ (encode_lower w.iv ++ 32 ∷ (encode_lower w.key ++ 32 ∷ encode_lower w.tag)))) ≡ Some w
+  text_again = ap wrap_of_words wrap_words_of ∙ wrap_words_again
 
-  pub wrap_line_is_free : is_free_of 10 (wrap_line w) ≡ true
-  wrap_line_is_free =
+  text_is_free : is_free_of 10 (w.protector ++ 32 ∷ (encode_lower w.iv ++ 32 ∷ (encode_lower w.key ++ 32 ∷ encode_lower w.tag))) ≡ true
+  text_is_free =
       four_words_are_free w.protector (encode_lower w.iv) (encode_lower w.key) (encode_lower w.tag) (label_is_free 10 w.protector (omega arith) is.protector)
       (digits_are_free 10 w.iv (omega arith) is.iv.1) (digits_are_free 10 w.key (omega arith) is.key.1) (digits_are_free 10 w.tag (omega arith) is.tag.1)
 
@@ -74,10 +72,21 @@ told_words (label ∷ iv ∷ []) w h = absurd (cc h)
 told_words (label ∷ iv ∷ key ∷ []) w h = absurd (cc h)
 told_words (label ∷ iv ∷ key ∷ tag ∷ next ∷ more) w h = absurd (cc h)
 
-pub wrap_value_found : (line : List ℕ) (w : Wrap) → wrap_value line ≡ Some w → (line ≡ wrap_line w) × IsWrap w
+-- a first wrap
+pub zero_wrap : Wrap
+zero_wrap = record { protector = codes "a"; iv = replicate 16 0; key = replicate 64 0; tag = replicate 32 0 }
+
+pub zero_wrap_is : IsWrap zero_wrap
+unfolding zero_wrap
+zero_wrap_is = record { protector = refl; iv = zeros 16; key = zeros 64; tag = zeros 32 }
+
+pub wrap_spelled : Spells wrap_value IsWrap wrap_line
 unfolding wrap_value
-wrap_value_found line w h =
-    let found = word_value_found (codes "wrap ") (λ text. wrap_of_words (words_of text)) line w h in
-    let told = told_words (words_of found.0) w found.2 in
-    let rest = four_words_found found.0 w.protector (encode_lower w.iv) (encode_lower w.key) (encode_lower w.tag) told.0 in
-    (found.1 ∙ ap (λ l. codes "wrap " ++ l) rest, told.1)
+wrap_spelled = word_spelled (codes "wrap ") refl (record {
+  some = (zero_wrap, zero_wrap_is);
+  found = λ text w h.
+      let told = told_words (words_of text) w h in
+      (four_words_found text w.protector (encode_lower w.iv) (encode_lower w.key) (encode_lower w.tag) told.0, told.1);
+  again = text_again;
+  free = text_is_free;
+})

@@ -1,6 +1,6 @@
 -- Reading the wraps, one line after another.
-use Rattle.std.proofs.Common.{◌≡◌, ℕ, suc, ◌+◌, ◌-◌, ◌<◌, ◌≤◌, ◌==◌, Bool, true, false, ◌&&◌, List, [], ◌∷◌, ◌++◌, length, take, map, replicate, Option, Some, None, Result, Ok, Err, refl, sym, ap, ◌∙◌, subst, lit≤, arith, append_assoc, append-nil, length-append, ◌⊎◌, inl, inr}
-use Rattle.std.specs.Prelude.{codes, nat_lt, nat_le, is_none, if◌then◌else◌}
+use Rattle.std.proofs.Common.{◌≡◌, ℕ, suc, ◌+◌, ◌-◌, ◌<◌, ◌≤◌, ◌==◌, Bool, true, false, ◌&&◌, List, [], ◌∷◌, ◌++◌, length, take, map, Option, Some, None, Result, Ok, Err, refl, sym, ap, ◌∙◌, subst, lit≤, arith, append_assoc, append-nil, length-append, ◌⊎◌, inl, inr}
+use Rattle.std.specs.Prelude.{nat_lt, nat_le, is_none, if◌then◌else◌}
 use Rattle.std.specs.List.{AllByRecursion}
 use Rattle.std.specs.Option.{ok_or}
 use Rattle.std.proofs.lemmas.Bool.{and_parts, cases_Bool, cond-true, cond-false, eqb-true, lt-ltb, or_parts, or_from, lt-leb, ltb-true, leb-false}
@@ -20,9 +20,8 @@ use Rattle.protector_meta.specs.PolicyLines.{next_wrap, wrap_value}
 use Rattle.protector_meta.specs.PolicyReading.{GivesInMemory, wraps_from}
 use Rattle.text_words.proofs.PieceLemmas.{first_piece}
 use Rattle.protector_meta.proofs.Readers.{Stops, stops_behind, stops_here}
-use Rattle.protector_meta.proofs.SharedLines.{zeros}
 use Rattle.protector_meta.proofs.WrapLemmas.{AreDistinct-push}
-use Rattle.protector_meta.proofs.WrapLineLaws.{wrap_value_again, wrap_value_found}
+use Rattle.protector_meta.proofs.WrapLineLaws.{wrap_spelled, zero_wrap, zero_wrap_is}
 
 -- ---- one step
 
@@ -134,7 +133,7 @@ wraps_found number wraps (line ∷ next ∷ more) all distinct few h =
     go (Some wrap) e later =
         let room = room_for wraps line wrap e in
         let found = later wrap (AreDistinct-push wraps wrap distinct room.0) (omega (arith, length-append wraps (wrap ∷ []), room.1)) (rw e at h) in
-        let told = wrap_value_found line wrap (of_line wraps line wrap e) in
+        let told = wrap_spelled.found line wrap (of_line wraps line wrap e) in
         let same : (wraps ++ wrap ∷ []) ++ found.0 ≡ wraps ++ wrap ∷ found.0 = append_assoc wraps (wrap ∷ []) found.0 in (
           wrap ∷ found.0,
           (
@@ -168,7 +167,7 @@ wraps_again number earlier [] distinct few some each =
 wraps_again number earlier (w ∷ more) distinct few some each =
     let assoc : (earlier ++ w ∷ []) ++ more ≡ earlier ++ w ∷ more = append_assoc earlier (w ∷ []) more in
     let room : length earlier < 16 = omega (arith, length-append earlier (w ∷ more)) in
-    let next = taken earlier (wrap_line w) w (wrap_value_again w each.0) (not_before earlier w more distinct) room in
+    let next = taken earlier (wrap_line w) w (wrap_spelled.again w each.0) (not_before earlier w more distinct) room in
     at_pieces number earlier (wrap_line w) (map wrap_line more ++ [] ∷ []) (omega (arith, length-append (map wrap_line more) ([] ∷ [])))
     ∙ rw next (wraps_again (number + 1) (earlier ++ w ∷ []) more (subst AreDistinct (sym assoc) distinct) (subst (λ l. length l ≤ 16) (sym assoc) few) (subst (λ l. 0 < length l) (sym assoc) some) each.1
     ∙ ap Ok assoc)
@@ -178,14 +177,6 @@ wraps_again number earlier (w ∷ more) distinct few some each =
 -- lines of wraps that can stand behind these
 abbrev pub AreMore : List Wrap → RecordTest
 AreMore wraps lines = (more : List Wrap) × ((lines ≡ map wrap_line more) × (AreWraps (wraps ++ more) × AllByRecursion IsWrap more))
-
--- a first wrap
-pub zero_wrap : Wrap
-zero_wrap = record { protector = codes "a"; iv = replicate 16 0; key = replicate 64 0; tag = replicate 32 0 }
-
-pub zero_wrap_is : IsWrap zero_wrap
-unfolding zero_wrap
-zero_wrap_is = record { protector = refl; iv = zeros 16; key = zeros 64; tag = zeros 32 }
 
 pub zero_wrap_alone : AreWraps (zero_wrap ∷ [])
 zero_wrap_alone = record { some = lit≤ tt; few = lit≤ tt; distinct = (refl, tt) }
@@ -206,7 +197,7 @@ next_so wraps line lines (w ∷ later, (are, (kept, each))) =
     let room : length wraps < 16 = omega (arith, length-append wraps (w ∷ later), kept.few) in (
       w,
       (
-        taken wraps line w (ap wrap_value first ∙ wrap_value_again w each.0) (not_before wraps w later kept.distinct) room,
+        taken wraps line w (ap wrap_value first ∙ wrap_spelled.again w each.0) (not_before wraps w later kept.distinct) room,
         (later, (rest, (subst AreWraps (sym (append_assoc wraps (w ∷ []) later)) kept, each.1))),
       ),
     )
@@ -238,7 +229,7 @@ wraps_stop number wraps (line ∷ next ∷ more) e distinct few h =
         absurd (cc (is, ap (next_wrap wraps) first, (next_so wraps l go_on.0 go_on.1).1.0)))
     go (Some wrap) is later =
         let room = room_for wraps line wrap is in
-        let told = wrap_value_found line wrap (of_line wraps line wrap is) in
+        let told = wrap_spelled.found line wrap (of_line wraps line wrap is) in
         stops_behind (AreMore wraps) (AreMore (wraps ++ wrap ∷ [])) line rest number e
         (λ ls go_on. (wrap ∷ go_on.0, (ap (λ l. l ∷ ls) told.0 ∙ ap (λ r. wrap_line wrap ∷ r) go_on.1.0, (subst AreWraps (append_assoc wraps (wrap ∷ []) go_on.0) go_on.1.1.0, (told.1, go_on.1.1.1)))))
         (λ ls go_on.
