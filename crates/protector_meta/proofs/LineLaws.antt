@@ -1,4 +1,4 @@
--- Reading a record line by line: what was read stood there, what stands there is read, and a fault is that of the first line that does not fit.
+-- Reading a record line by line: what was read stood there, and what stands there is read. Writing its lines.
 use Rattle.std.proofs.Common.{◌≡◌, ℕ, suc, ◌<◌, ◌≤◌, ◌+◌, ◌-◌, Bool, true, false, not, ltb, append_assoc, List, [], ◌∷◌, ◌++◌, length, map, take, drop, get_or, Option, Some, None, Result, Ok, Err, refl, sym, ap, ◌∙◌, arith, add-one}
 use Rattle.std.specs.Prelude.{if◌then◌else◌}
 use Rattle.std.specs.List.{before_first, after_first, flat_map, position_or_len}
@@ -84,7 +84,7 @@ value_found {A = A} value number text next y h = at (line_at number text) refl h
     at (Err e) is h = absurd (cc h)
     at (Ok x) is h = valued x.0 x.1 (value x.0) refl (line_found number text x is) h
 
--- ---- the line at fault
+-- ---- the lines that a line feed ends
 
 shorter : {X : Type 0} (x : X) (xs : List X) (k : ℕ) → length xs ≡ k + 1 → take (length (x ∷ xs) - 1) (x ∷ xs) ≡ x ∷ take (length xs - 1) xs
 shorter x [] k h = absurd (omega arith)

@@ -1,4 +1,4 @@
--- A policy's record is read as the policy, no other text is, and the line at fault is the first that does not fit.
+-- A policy's record is read as the policy, no other text is, and a fault tells the first line at fault.
 use Rattle.std.proofs.Common.{◌≡◌, ℕ, Bool, true, false, List, [], ◌∷◌, ◌++◌, map, Option, Some, None, Result, Ok, Err, IfOk, IfErr, refl, sym, ap, ◌∙◌, subst, ◌⊎◌, inl, inr, lit≤, append_assoc}
 use Rattle.std.specs.Prelude.{codes, if◌then◌else◌}
 use Rattle.std.specs.List.{AllByRecursion, flat_map}

@@ -1,4 +1,4 @@
--- A protector's record is read from its text, from no other text, and a fault is that of the first line at fault.
+-- A protector's record is read from its text, from no other text, and a fault tells the first line at fault.
 use Rattle.std.proofs.Common.{◌≡◌, ℕ, List, [], ◌∷◌, ◌++◌, Result, Ok, Err, refl, sym, ap, ◌∙◌, subst}
 use Rattle.std.specs.Prelude.{IfOk, IfErr, ◌≢◌, codes}
 use Rattle.hex.specs.Hex.{encode_lower}
