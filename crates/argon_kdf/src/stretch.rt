@@ -36,7 +36,7 @@ pub trait Stretch {
         ensures kept { OnErr result (tag.new ≡ tag.old) };
 }
 
-/// Stretch on the caller's thread, as [`argon2id`] does.
+/// Stretches on the caller's thread, as [`argon2id`] does.
 #[derive(Clone, Copy)]
 pub struct PlainStretch;
 
@@ -57,7 +57,7 @@ impl Stretch for PlainStretch {
     }
 }
 
-/// Stretch in at most one of these threads a lane, as [`argon2id_lanes`] does.
+/// Stretches in at most one of these threads a lane, as [`argon2id_lanes`] does.
 #[derive(Drop)]
 pub struct LaneStretch<'a, R> {
     pub threads: &'a R,

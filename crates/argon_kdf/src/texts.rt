@@ -4,7 +4,7 @@ ghost use Rattle.std.specs.Prelude.{◌≡◌, []};
 
 /// The texts that a tag is made of (RFC 9106, section 3.1): a password, a salt, a secret and further bytes.
 ///
-/// The salt has 8 to 1,024 bytes, the other texts at most 1,024.
+/// A tag is made of them where the salt has 8 to 1,024 bytes and the other texts at most 1,024.
 #[derive(Clone, Copy)]
 pub struct Texts<'a> {
     pub password: &'a [u8],

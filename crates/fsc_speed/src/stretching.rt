@@ -67,7 +67,7 @@ fn blake2b_of(start: &[u8; 64], message: &[u8]) -> [u8; 64]
     digest
 }
 
-/// Stretch the tag of the run before, again and again.
+/// Stretches the tag of the run before, again and again.
 #[tactic(auto, using(crate::proofs::Repeating::iterate_more))]
 pub(crate) fn argon2id_tags(
     alloc: Global,

@@ -26,7 +26,7 @@ impl StretchedKey {
         }
     }
 
-    // Stretch the key to both.
+    // Stretches the key to both.
     pub(crate) fn set(&mut self, key: &[u8; 32])
         ensures cipher { self.new.cipher ≡ cipher_key key.now }
         ensures tag_key { self.new.tag_key ≡ tag_key key.now }

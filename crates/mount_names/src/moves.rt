@@ -1,6 +1,6 @@
 //! The call that moves a name: within a directory, or to another one.
 
-ghost use Rattle.std.specs.Prelude.{◌≡◌, ◌+◌, ◌≤◌, true, Some, length, IfErr, IfOk};
+ghost use Rattle.std.specs.Prelude.{◌≡◌, ◌+◌, ◌≤◌, true, length, IfErr, IfOk};
 ghost use Rattle.disk_tree.specs.DiskTree.{IsDirAt};
 ghost use Rattle.plain_tree.specs.Nodes.{Name};
 ghost use Rattle.mount_model.specs.Carried.{IsPath};

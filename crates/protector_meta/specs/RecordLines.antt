@@ -1,4 +1,4 @@
--- Which line is at fault in a text that is no record.
+-- Which line is at fault in a text, and which is missing.
 use Rattle.std.specs.Prelude.{ℕ, ◌≡◌, ◌+◌, ◌-◌, List, [], ◌∷◌, ◌++◌, length, take}
 use Rattle.text_words.specs.Lines.{pieces_of}
 use Rattle.protector_meta.specs.declared.fault.MetaFault.{MetaFault}
@@ -17,7 +17,8 @@ abbrev pub Begins : RecordTest → List (List ℕ) → Type 0
 Begins IsRecord lines = (more : List (List ℕ)) × IsRecord (lines ++ more)
 
 -- a text has its first line at fault at this place, counted from 1: a record begins with the lines before it,
--- and none with them and the line itself, if it isn't missing. A piece that no line feed ended counts as missing
+-- and none with them and the line itself, if it isn't missing. A piece that no line feed ended counts as missing,
+-- and of a whole record the line behind its last is at fault
 pub record IsFirstBad (IsRecord : RecordTest) (text : List ℕ) (place : ℕ) : Type 0 where
   pub before : List (List ℕ)
   pub others : List (List ℕ)
