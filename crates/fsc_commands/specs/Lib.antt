@@ -1,12 +1,12 @@
 pub mod Commands
 pub mod CommandSteps
 pub mod Made
+pub mod Meant
 pub mod Opening
-pub mod PlainCalls
 pub mod PolicySteps
 pub mod ProtectorSteps
-pub mod SessionSteps
 pub mod Stars
 pub mod Steps
+pub mod Tasks
 pub mod Wiped
 pub mod Work

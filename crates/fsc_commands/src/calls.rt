@@ -2,8 +2,8 @@
 
 ghost use Rattle.std.specs.Prelude.{◌≡◌, IfOk, OnErr};
 ghost use Rattle.script_lang.specs.Asked.{IsAskable};
-ghost use Rattle.fsc_commands.specs.PlainCalls as spec;
-ghost use Rattle.fsc_commands.specs.PlainCalls.{AnyFits, MayWantMemory};
+ghost use Rattle.fsc_commands.specs.Commands as spec;
+ghost use Rattle.fsc_commands.specs.Commands.{AnyFits, MayWantMemory};
 ghost use Rattle.fsc_commands.specs.Steps.{names_in};
 
 use crate::EntryList;
@@ -26,10 +26,10 @@ pub(crate) fn plain_op(
 ) -> Result<Option<Op>, AllocError>
     requires { IsAskable verb.now }
     ensures value { IfOk result (λ op. op
-        ≡ spec.plain_op seed.now turn.caller turn.number (names_in told.now) verb.now) }
+        ≡ spec.plain_op seed.now turn.caller turn.uid turn.number (names_in told.now) verb.now) }
     ensures fits { IfOk result AnyFits }
     ensures memory { OnErr result (MayWantMemory
-        (spec.plain_op seed.now turn.caller turn.number (names_in told.now) verb.now)) }
+        (spec.plain_op seed.now turn.caller turn.uid turn.number (names_in told.now) verb.now)) }
 {
     match verb {
         Verb::AddKey(raw) => Ok(Some(Op::AddKey {

@@ -1,10 +1,10 @@
 //! One command of a caller, run on a port.
 
-ghost use Rattle.std.specs.Prelude.{◌≡◌, ◌≤◌, Some, IfOk, OnErr};
+ghost use Rattle.std.specs.Prelude.{◌≡◌, ◌≤◌, IfOk, OnErr};
 ghost use Rattle.mount_model.specs.Fits.{OpFits};
 ghost use Rattle.script_lang.specs.Asked.{IsAskable};
-ghost use Rattle.fsc_commands.specs.Commands.{command_steps, plain_or_session};
-ghost use Rattle.fsc_commands.specs.CommandSteps.{CommandSteps};
+ghost use Rattle.fsc_commands.specs.Commands.{command_steps, task_steps};
+ghost use Rattle.fsc_commands.specs.Tasks.Task.{Single};
 ghost use Rattle.fsc_commands.specs.Steps.{names_in};
 ghost use Rattle.fsc_commands.specs.Made.{Made, Begun};
 ghost use Rattle.fsc_commands.specs.Work.{MayAsk, Worked};
@@ -90,8 +90,8 @@ impl<'a, S> Work<'a, S> {
     ) -> Result<Option<Outcome>, Stop>
         requires ready { MayAsk P.who P.calls_left MOST_CALLS self.now.turn caller.old }
         requires fits { OpFits op }
-        ensures { (session : CommandSteps) → Worked P.came P.who P.calls_left caller.old caller.new MOST_CALLS
-            (plain_or_session self.now.turn.caller self.now.turn.uid (Some op) session) result }
+        ensures { Worked P.came P.who P.calls_left caller.old caller.new MOST_CALLS
+            (task_steps self.now.turn.caller self.now.turn.uid (Single op)) result }
     {
         let placed = self.ask_for(caller, op)?;
         caller.entries.push(placed)?;

@@ -1,7 +1,7 @@
 //! What the words of a command mean.
 
 ghost use Rattle.std.specs.Prelude.{◌≡◌, IfOk, replicate};
-ghost use Rattle.fsc_commands.specs.PlainCalls as spec;
+ghost use Rattle.fsc_commands.specs.Meant as spec;
 
 use fsc_keys::{KeyId, key_id};
 use item_list::Bytes;

@@ -1,7 +1,8 @@
 //! A session's work, command by command.
 
+ghost use Rattle.std.specs.Prelude.{◌≡◌};
 ghost use Rattle.script_lang.specs.Asked.{IsAskable};
-ghost use Rattle.fsc_commands.specs.SessionSteps.{opening_steps, session_steps};
+ghost use Rattle.fsc_commands.specs.Commands.{command_steps, plain_op, OpensProtector};
 ghost use Rattle.fsc_commands.specs.Steps.{names_in};
 ghost use Rattle.fsc_commands.specs.Work.{MayAsk, Worked};
 ghost use Rattle.fsc_commands.specs.declared.TheConstants.{MOST_CALLS};
@@ -15,7 +16,7 @@ use script_lang::Verb;
 use session_records::Stop;
 
 impl<'a, S: Stretch> Work<'a, S> {
-    // Runs a session's work. A command that is a single call has none, and asks nothing here.
+    // Runs a session's work.
     pub(crate) fn run_session<P: MountPort>(
         &self,
         caller: &mut Caller<P>,
@@ -24,8 +25,10 @@ impl<'a, S: Stretch> Work<'a, S> {
         requires stretches { S.ready self.now.stretches.now }
         requires ready { MayAsk P.who P.calls_left MOST_CALLS self.now.turn caller.old }
         requires asked { IsAskable verb.now }
+        requires session { plain_op self.now.seed.now self.now.turn.caller self.now.turn.uid
+            self.now.turn.number (names_in caller.old.entries.now) verb.now ≡ None }
         ensures { Worked P.came P.who P.calls_left caller.old caller.new MOST_CALLS
-            (session_steps self.now.seed.now self.now.turn.caller self.now.turn.uid self.now.turn.number
+            (command_steps self.now.seed.now self.now.turn.caller self.now.turn.uid self.now.turn.number
             (names_in caller.old.entries.now) verb.now) result }
     {
         match verb {
@@ -40,7 +43,12 @@ impl<'a, S: Stretch> Work<'a, S> {
                 settings,
             } => self.encrypt(caller, path, policy, *settings),
             Verb::Migrate(policy) => self.migrate(caller, policy),
-            _ => self.run_opening(caller, verb),
+            Verb::ProtectorChange { .. }
+            | Verb::PolicyNew { .. }
+            | Verb::PolicyAdd { .. }
+            | Verb::Unlock { .. } => self.run_opening(caller, verb),
+            // (a single call is none)
+            _ => unreachable!(),
         }
     }
 
@@ -53,9 +61,10 @@ impl<'a, S: Stretch> Work<'a, S> {
         requires stretches { S.ready self.now.stretches.now }
         requires ready { MayAsk P.who P.calls_left MOST_CALLS self.now.turn caller.old }
         requires asked { IsAskable verb.now }
+        requires opening { OpensProtector verb.now }
         ensures { Worked P.came P.who P.calls_left caller.old caller.new MOST_CALLS
-            (opening_steps self.now.seed.now self.now.turn.caller self.now.turn.uid self.now.turn.number
-            verb.now) result }
+            (command_steps self.now.seed.now self.now.turn.caller self.now.turn.uid self.now.turn.number
+            (names_in caller.old.entries.now) verb.now) result }
     {
         match verb {
             Verb::ProtectorChange {
@@ -88,7 +97,7 @@ impl<'a, S: Stretch> Work<'a, S> {
                 protector,
                 secret,
             } => self.unlock(caller, policy, Opener { protector, secret }),
-            _ => Ok(None),
+            _ => unreachable!(),
         }
     }
 }

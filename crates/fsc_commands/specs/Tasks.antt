@@ -1,0 +1,78 @@
+-- What each command is: a single call, or a session's work.
+use Rattle.std.specs.Prelude.{ℕ, List, replicate}
+use Rattle.policy_ctx.specs.Policy.{policy_bytes}
+use Rattle.mount_model.specs.declared.call.Op.{Op}
+use Rattle.mount_model.specs.declared.call.Op.TheVariants as op
+use Rattle.script_words.specs.Records.{record_name}
+use Rattle.script_lang.specs.declared.verb.Verb.{Verb}
+use Rattle.script_lang.specs.declared.verb.Verb.TheVariants as verb
+use Rattle.session_records.specs.Draws.{nonce_drawn}
+use Rattle.fsc_commands.specs.CommandSteps.{CommandSteps}
+use Rattle.fsc_commands.specs.declared.policies.AskedOfKey.TheVariants.{Removal, Status}
+use Rattle.fsc_commands.specs.Meant.{id_meant, policy_said, number_said}
+use Rattle.fsc_commands.specs.PolicySteps.{key_steps, policy_drop_steps, migrate_steps}
+use Rattle.fsc_commands.specs.PolicySteps.{encrypt_steps, unlock_steps, policy_new_steps, policy_add_steps}
+use Rattle.fsc_commands.specs.ProtectorSteps.{protector_steps, protector_change_steps, protector_link_steps}
+use Rattle.fsc_commands.specs.Stars.{path_meant}
+
+-- a single call, or a session's work, which has these steps
+pub data Task : Type 0 where
+  Single : Op → Task
+  Session : CommandSteps → Task
+
+-- what a command is, where it has this number in its caller's section and the caller was last told these names;
+-- each has a line, so that none does nothing
+abbrev pub task_of : List ℕ → ℕ → ℕ → ℕ → List (List ℕ) → Verb → Task
+task_of seed caller uid number names (verb.AddKey raw) = Single (op.AddKey raw)
+task_of seed caller uid number names (verb.RemoveKey key) = Single (op.RemoveKey (id_meant key))
+task_of seed caller uid number names (verb.RemoveKeyAll key) = Single (op.RemoveKeyAll (id_meant key))
+task_of seed caller uid number names (verb.KeyStatus key) = Single (op.KeyStatus (id_meant key))
+task_of seed caller uid number names (verb.SetPolicy path key settings) =
+    Single (op.SetPolicy (path_meant names path) (policy_bytes (policy_said (id_meant key) settings))
+    (nonce_drawn seed caller number))
+task_of seed caller uid number names (verb.SetPolicyBytes path policy) =
+    Single (op.SetPolicy (path_meant names path) policy (nonce_drawn seed caller number))
+task_of seed caller uid number names (verb.GetPolicy path) = Single (op.GetPolicy (path_meant names path))
+task_of seed caller uid number names (verb.Mkdir path) =
+    Single (op.Mkdir (path_meant names path) (nonce_drawn seed caller number))
+task_of seed caller uid number names (verb.Create path) =
+    Single (op.Create (path_meant names path) (nonce_drawn seed caller number))
+task_of seed caller uid number names (verb.Symlink path target) =
+    Single (op.Symlink (path_meant names path) target (nonce_drawn seed caller number))
+task_of seed caller uid number names (verb.ReadLink path) = Single (op.ReadLink (path_meant names path))
+task_of seed caller uid number names (verb.Unlink path) = Single (op.Unlink (path_meant names path))
+task_of seed caller uid number names (verb.Rmdir path) = Single (op.Rmdir (path_meant names path))
+task_of seed caller uid number names (verb.Rename old_path new_path) =
+    Single (op.Rename (path_meant names old_path) (path_meant names new_path))
+task_of seed caller uid number names (verb.List path start) =
+    Single (op.List (path_meant names path) (number_said start))
+task_of seed caller uid number names (verb.Stat path) = Single (op.Stat (path_meant names path))
+task_of seed caller uid number names (verb.Open path) = Single (op.OpenNode (path_meant names path))
+task_of seed caller uid number names (verb.Close handle) = Single (op.Close handle)
+task_of seed caller uid number names (verb.Read handle offset len) = Single (op.Read handle offset len)
+task_of seed caller uid number names (verb.Write handle offset bytes) = Single (op.Write handle offset bytes)
+task_of seed caller uid number names (verb.Fill handle offset len byte) =
+    Single (op.Write handle offset (replicate len byte))
+task_of seed caller uid number names verb.DropCaches = Single op.DropCaches
+task_of seed caller uid number names (verb.MetaGet name) = Single (op.MetaLoad (record_name name))
+task_of seed caller uid number names (verb.MetaPut name expected bytes) =
+    Single (op.MetaStore (record_name name) expected bytes)
+task_of seed caller uid number names (verb.Protector protector secret) =
+    Session (protector_steps seed caller uid number protector secret)
+task_of seed caller uid number names (verb.ProtectorChange protector secret new) =
+    Session (protector_change_steps seed caller uid number protector secret new)
+task_of seed caller uid number names (verb.ProtectorLink protector) =
+    Session (protector_link_steps caller uid protector)
+task_of seed caller uid number names (verb.PolicyNew policy protector secret options) =
+    Session (policy_new_steps seed caller uid number policy protector secret options)
+task_of seed caller uid number names (verb.PolicyAdd policy protector secret added added_secret) =
+    Session (policy_add_steps seed caller uid number policy protector secret added added_secret)
+task_of seed caller uid number names (verb.PolicyDrop policy protector) =
+    Session (policy_drop_steps caller uid policy protector)
+task_of seed caller uid number names (verb.Unlock policy protector secret) =
+    Session (unlock_steps caller uid policy protector secret)
+task_of seed caller uid number names (verb.Lock policy) = Session (key_steps Removal caller uid policy)
+task_of seed caller uid number names (verb.Status policy) = Session (key_steps Status caller uid policy)
+task_of seed caller uid number names (verb.Encrypt path policy settings) =
+    Session (encrypt_steps seed caller uid number names path policy settings)
+task_of seed caller uid number names (verb.Migrate policy) = Session (migrate_steps caller uid policy)
