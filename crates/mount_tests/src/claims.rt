@@ -1,7 +1,6 @@
 //! Claims of users on keys, and keys that stay while they have users.
 
 use key_ring::{FileKey, KeyId, KeyKind, KeyRing, ModeKeys, RawKey};
-use std::test::Fail;
 use user_claims::{ClaimFault, Claims};
 
 fn key(number: u8) -> KeyId {
@@ -9,7 +8,7 @@ fn key(number: u8) -> KeyId {
 }
 
 #[test]
-fn a_user_has_at_most_64_claims(rt: HostRuntime) -> Result<(), Fail> {
+fn a_user_has_at_most_64_claims(rt: HostRuntime) {
     for uid in [7, 0] {
         let mut claims = Claims::new(rt.alloc());
         for number in 0..64 {
@@ -25,36 +24,37 @@ fn a_user_has_at_most_64_claims(rt: HostRuntime) -> Result<(), Fail> {
         assert!(rt; claims.claim(&key(64), uid) == Ok(()));
         assert!(rt; claims.count_of_id(&key(64)) == 2);
     }
-    Ok(())
 }
 
 #[test]
-fn each_user_claims_for_itself(rt: HostRuntime) -> Result<(), Fail> {
+fn each_user_claims_for_itself(rt: HostRuntime) {
     let mut claims = Claims::new(rt.alloc());
-    claims.claim(&key(1), 1000)?;
-    claims.claim(&key(1), 1001)?;
-    claims.claim(&key(2), 1000)?;
+    claims.claim(&key(1), 1000).expect(&rt, "an answer");
+    claims.claim(&key(1), 1001).expect(&rt, "an answer");
+    claims.claim(&key(2), 1000).expect(&rt, "an answer");
     assert!(rt; claims.unclaim(&key(1), 1000));
     assert!(rt; !claims.has(&key(1), 1000));
     assert!(rt; claims.has(&key(1), 1001) && claims.has(&key(2), 1000));
 
-    claims.claim(&key(1), 0)?;
+    claims.claim(&key(1), 0).expect(&rt, "an answer");
     claims.clear(&key(1));
     assert!(rt; claims.count_of_id(&key(1)) == 0);
     assert!(rt; claims.count_of_uid(1000) == 1);
     assert!(rt; claims.count_of_uid(0) == 0 && claims.count_of_uid(1001) == 0);
-    Ok(())
 }
 
 #[test]
-fn a_key_stays_until_its_last_user_gives_it_up(rt: HostRuntime) -> Result<(), Fail> {
+fn a_key_stays_until_its_last_user_gives_it_up(rt: HostRuntime) {
     let alloc = rt.alloc();
     let mut ring = KeyRing::new(alloc);
-    let (first, second) = (RawKey::read(&[1; 32])?, RawKey::read(&[2; 64])?);
-    let id = ring.add(alloc, &first, 1000)?;
+    let (first, second) = (
+        RawKey::read(&[1; 32]).expect(&rt, "an answer"),
+        RawKey::read(&[2; 64]).expect(&rt, "an answer"),
+    );
+    let id = ring.add(alloc, &first, 1000).expect(&rt, "an answer");
     assert!(rt; ring.add(alloc, &first, 1001) == Ok(id));
     assert!(rt; ring.add(alloc, &first, 1000) == Ok(id));
-    let other = ring.add(alloc, &second, 1000)?;
+    let other = ring.add(alloc, &second, 1000).expect(&rt, "an answer");
     assert!(rt; ring.claims().count_of_id(&id) == 2);
 
     assert!(rt; ring.claims().has(&id, 1000));
@@ -74,22 +74,27 @@ fn a_key_stays_until_its_last_user_gives_it_up(rt: HostRuntime) -> Result<(), Fa
     ring.clear(&other);
     assert!(rt; ring.secret_of(&other).is_none());
     assert!(rt; !ring.claims().has(&other, 1000));
-    Ok(())
 }
 
 #[test]
-fn a_mode_key_stays_while_it_has_users(rt: HostRuntime) -> Result<(), Fail> {
+fn a_mode_key_stays_while_it_has_users(rt: HostRuntime) {
     let alloc = rt.alloc();
     let mut modes = ModeKeys::new(alloc);
     let id = KeyId([5; 16]);
     if modes.users_of(&id) == 0 {
-        modes.hold(alloc, &id, KeyKind::Names, FileKey::Names([1; 32]), 2)?;
+        modes
+            .hold(alloc, &id, KeyKind::Names, FileKey::Names([1; 32]), 2)
+            .expect(&rt, "an answer");
     }
     if modes.users_of(&id) == 2 {
-        modes.hold(alloc, &id, KeyKind::Contents, FileKey::Contents([2; 64]), 1)?;
+        modes
+            .hold(alloc, &id, KeyKind::Contents, FileKey::Contents([2; 64]), 1)
+            .expect(&rt, "an answer");
     }
     if modes.users_of(&id) == 3 {
-        modes.hold(alloc, &id, KeyKind::Names, FileKey::Names([3; 32]), 1)?;
+        modes
+            .hold(alloc, &id, KeyKind::Names, FileKey::Names([3; 32]), 1)
+            .expect(&rt, "an answer");
     }
     assert!(rt; modes.users_of(&id) == 4);
     assert!(rt;
@@ -99,5 +104,4 @@ fn a_mode_key_stays_while_it_has_users(rt: HostRuntime) -> Result<(), Fail> {
     );
     assert!(rt; modes.key_of(&id, KeyKind::Contents).is_some());
     assert!(rt; modes.key_of(&KeyId([6; 16]), KeyKind::Names).is_none());
-    Ok(())
 }

@@ -97,14 +97,10 @@ fn write<R: Abort>(
 
 // A new file, written in odd pieces: a gap first, then over borders of blocks and units, and other
 // bytes that a piece which covers block 1 overwrites.
-fn written_in_pieces<R: Abort>(
-    rt: &R,
-    alloc: Global,
-    key: Option<KeyText>,
-) -> Result<DiskTree, Fail> {
-    let mut disk = DiskTree::new(alloc)?;
+fn written_in_pieces<R: Abort>(rt: &R, alloc: Global, key: Option<KeyText>) -> DiskTree {
+    let mut disk = DiskTree::new(alloc).expect(rt, "an answer");
     assert!(rt; disk.node(1).is_none());
-    disk.add_node(1, file(alloc))?;
+    disk.add_node(1, file(alloc)).expect(rt, "an answer");
     let contents = contents();
     for (from, to) in [
         (5000, 9192),
@@ -121,38 +117,40 @@ fn written_in_pieces<R: Abort>(
             key,
             from,
             &contents[from as usize..to],
-        )?;
+        )
+        .expect(rt, "an answer");
     }
-    write(rt, &mut disk, alloc, key, 4000, &[0x5a; 4192])?;
-    write(rt, &mut disk, alloc, key, 4000, &contents[4000..8192])?;
-    Ok(disk)
+    write(rt, &mut disk, alloc, key, 4000, &[0x5a; 4192]).expect(rt, "an answer");
+    write(rt, &mut disk, alloc, key, 4000, &contents[4000..8192]).expect(rt, "an answer");
+    disk
 }
 
 #[test]
-fn a_file_written_in_pieces_is_stored_as_linux_stores_it(rt: HostRuntime) -> Result<(), Fail> {
+fn a_file_written_in_pieces_is_stored_as_linux_stores_it(rt: HostRuntime) {
     for (key, blocks) in [(OWN, &OWN_BLOCKS), (MODE, &MODE_BLOCKS)] {
         assert!(rt; key_of(Some(key)).is_some());
-        let disk = written_in_pieces(&rt, rt.alloc(), Some(key))?;
-        assert_eq!(rt; disk.file_size(1), 9192);
-        assert_eq!(rt; disk.block_count(1), 3);
+        let disk = written_in_pieces(&rt, rt.alloc(), Some(key));
+        assert!(rt; disk.file_size(1) == 9192);
+        assert!(rt; disk.block_count(1) == 3);
         for (index, sha256) in blocks.iter().enumerate() {
             assert!(rt; index < 2 && disk.block_count(1) == 3);
             let digest = Sha256::digest(disk.block(1, index as u32));
-            assert_eq!(rt;
-                hex::encode(rt.alloc(), digest.as_slice())?.as_str(),
-                *sha256
+            assert!(rt;
+                hex::encode(rt.alloc(), digest.as_slice())
+                    .expect(&rt, "an answer")
+                    .as_str()
+                    == *sha256
             );
         }
     }
-    Ok(())
 }
 
 #[test]
-fn a_read_gives_what_was_written(rt: HostRuntime) -> Result<(), Fail> {
+fn a_read_gives_what_was_written(rt: HostRuntime) {
     let alloc = rt.alloc();
     let contents = contents();
     for key in [Some(OWN), Some(MODE), None] {
-        let disk = written_in_pieces(&rt, alloc, key)?;
+        let disk = written_in_pieces(&rt, alloc, key);
         for (offset, len, end) in [
             (0, 4096, 4096),
             (4090, 20, 4110),
@@ -160,17 +158,23 @@ fn a_read_gives_what_was_written(rt: HostRuntime) -> Result<(), Fail> {
             (9000, 4096, 9192),
         ] {
             let mut taken = key_of(key);
-            match begin_read(&disk, alloc, 1, &mut taken, offset, len)? {
-                Some(lent) => assert_eq!(rt;
-                    finish_read(lent).as_slice(),
-                    &contents[offset as usize..end]
+            match begin_read(&disk, alloc, 1, &mut taken, offset, len).expect(&rt, "an answer") {
+                Some(lent) => assert!(rt;
+                    finish_read(lent).as_slice() == &contents[offset as usize..end]
                 ),
                 None => panic!(rt; "the file has bytes there"),
             }
         }
         let mut taken = key_of(key);
-        assert!(rt; begin_read(&disk, alloc, 1, &mut taken, 9192, 1)?.is_none());
-        assert!(rt; begin_read(&disk, alloc, 1, &mut taken, 0, 0)?.is_none());
+        assert!(rt;
+            begin_read(&disk, alloc, 1, &mut taken, 9192, 1)
+                .expect(&rt, "an answer")
+                .is_none()
+        );
+        assert!(rt;
+            begin_read(&disk, alloc, 1, &mut taken, 0, 0)
+                .expect(&rt, "an answer")
+                .is_none()
+        );
     }
-    Ok(())
 }

@@ -6,7 +6,6 @@ use disk_tree::{BlockList, Body, DirEntries, DiskFault, DiskTree, StoredNode};
 use std::alloc::Global;
 use std::hash::{FoldHasher, Hasher};
 use std::process::Abort;
-use std::test::Fail;
 
 fn dir(alloc: Global) -> StoredNode
     ensures { blocks_of result.body ≡ [] }
@@ -117,9 +116,9 @@ fn has_names(tree: &DiskTree, number: u32, names: &[&[u8]]) -> bool {
 }
 
 #[test]
-fn names_stand_in_the_order_in_which_they_were_made(rt: HostRuntime) -> Result<(), Fail> {
+fn names_stand_in_the_order_in_which_they_were_made(rt: HostRuntime) {
     let alloc = rt.alloc();
-    let mut tree = DiskTree::new(alloc)?;
+    let mut tree = DiskTree::new(alloc).expect(&rt, "an answer");
     for number in 1..4 {
         assert!(rt; add_dir(&rt, &mut tree, alloc, number).is_ok());
     }
@@ -153,7 +152,6 @@ fn names_stand_in_the_order_in_which_they_were_made(rt: HostRuntime) -> Result<(
         Some(node) => assert!(rt; node.context == Some([7; 40])),
         None => panic!(rt; "node 1 is there"),
     }
-    Ok(())
 }
 
 // The hash under which a directory finds a name.
@@ -164,26 +162,25 @@ fn hash_of(name: &[u8]) -> u64 {
 }
 
 #[test]
-fn names_of_one_hash_lead_each_to_its_node(rt: HostRuntime) -> Result<(), Fail> {
+fn names_of_one_hash_lead_each_to_its_node(rt: HostRuntime) {
     // The last eight bytes make the hash 0, whatever stands before them.
     let one = b"one name\x15\x7c\x4a\x7f\xb9\x79\x37\x9e";
     let another = b"another.\x15\x7c\x4a\x7f\xb9\x79\x37\x9e";
     assert!(rt; hash_of(one) == hash_of(another));
     let alloc = rt.alloc();
-    let mut tree = DiskTree::new(alloc)?;
+    let mut tree = DiskTree::new(alloc).expect(&rt, "an answer");
     assert!(rt; put(&rt, &mut tree, alloc, 0, one, 1).is_ok());
     assert!(rt; tree.entry(0, another).is_none() && !tree.drop_entry(0, another));
     assert!(rt; put(&rt, &mut tree, alloc, 0, another, 2).is_ok());
     assert!(rt; tree.entry(0, one) == Some(1) && tree.entry(0, another) == Some(2));
     assert!(rt; tree.drop_entry(0, one));
     assert!(rt; tree.entry(0, one).is_none() && tree.entry(0, another) == Some(2));
-    Ok(())
 }
 
 #[test]
-fn a_node_comes_and_goes_with_its_name(rt: HostRuntime) -> Result<(), Fail> {
+fn a_node_comes_and_goes_with_its_name(rt: HostRuntime) {
     let alloc = rt.alloc();
-    let mut tree = DiskTree::new(alloc)?;
+    let mut tree = DiskTree::new(alloc).expect(&rt, "an answer");
     assert!(rt; add_named(&rt, &mut tree, alloc, (0, b"a"), 1).is_ok());
     assert!(rt; add_named(&rt, &mut tree, alloc, (0, b"b"), 2).is_ok());
     assert!(rt; has_names(&tree, 0, &[b"a", b"b"]) && is_named(&tree, 2));
@@ -192,13 +189,12 @@ fn a_node_comes_and_goes_with_its_name(rt: HostRuntime) -> Result<(), Fail> {
     assert!(rt; tree.drop_named(0, b"a") == Some(1));
     assert!(rt; tree.node(1).is_none() && tree.block_total() == 0);
     assert!(rt; has_names(&tree, 0, &[b"b"]) && tree.entry(0, b"b") == Some(2));
-    Ok(())
 }
 
 #[test]
-fn a_write_changes_one_block_alone(rt: HostRuntime) -> Result<(), Fail> {
+fn a_write_changes_one_block_alone(rt: HostRuntime) {
     let alloc = rt.alloc();
-    let mut tree = DiskTree::new(alloc)?;
+    let mut tree = DiskTree::new(alloc).expect(&rt, "an answer");
     assert!(rt; tree.node(1).is_none());
     assert!(rt; tree.add_node(1, file(alloc)).is_ok());
     assert!(rt; grow(&rt, &mut tree, alloc, 1, 3).is_ok());
@@ -210,14 +206,13 @@ fn a_write_changes_one_block_alone(rt: HostRuntime) -> Result<(), Fail> {
     assert!(rt; tree.block(1, 2) == [0; 4096].as_slice());
     tree.set_size(1, 5000);
     tree.remove_node(1);
-    assert_eq!(rt; tree.block_total(), 0);
-    Ok(())
+    assert!(rt; tree.block_total() == 0);
 }
 
 #[test]
-fn the_disk_is_full_at_its_borders_and_not_before(rt: HostRuntime) -> Result<(), Fail> {
+fn the_disk_is_full_at_its_borders_and_not_before(rt: HostRuntime) {
     let alloc = rt.alloc();
-    let mut tree = DiskTree::new(alloc)?;
+    let mut tree = DiskTree::new(alloc).expect(&rt, "an answer");
     for number in 1..65536 {
         assert!(rt; add_dir(&rt, &mut tree, alloc, number).is_ok());
     }
@@ -242,5 +237,4 @@ fn the_disk_is_full_at_its_borders_and_not_before(rt: HostRuntime) -> Result<(),
     assert!(rt; tree.add_node(65535, file(alloc)).is_ok());
     assert!(rt; grow(&rt, &mut tree, alloc, 65535, 16385) == Err(DiskFault::NoSpace));
     assert!(rt; grow(&rt, &mut tree, alloc, 65535, 16384).is_ok());
-    Ok(())
 }

@@ -1,12 +1,14 @@
 //! Calls on keys.
 
+use crate::on_a_mount::{Trial, try_on_a_mount};
+use crate::told::{is_done, is_refused, is_removed, key_added};
 use mount_keys::{
     Bytes, KeyId, KeyState, MountState, Reply, add_key, drop_caches, key_status, remove_key,
     remove_key_all,
 };
 use mount_model::Refusal;
 use std::alloc::{AllocError, Global};
-use std::test::Fail;
+use std::process::Abort;
 
 /// The identifier of the key of the bytes 0 to 63, as Linux told it.
 const ID: KeyId = KeyId([
@@ -21,102 +23,65 @@ fn raw_key(alloc: Global) -> Result<Bytes, AllocError> {
     Ok(bytes)
 }
 
-#[test]
-fn adding_twice_makes_one_claim(rt: HostRuntime) -> Result<(), Fail> {
-    let alloc = rt.alloc();
-    let mut state = MountState::new(alloc)?;
-    let raw = raw_key(alloc)?;
-    for uid in [1000, 1000, 1001] {
-        let added = add_key(alloc, &mut state, uid, &raw);
-        assert!(rt; matches!(added, Reply::Added(id) if id == ID));
+// Each of the users adds that key.
+fn add_for<A: Abort>(rt: &A, alloc: Global, state: &mut MountState, uids: &[u32]) {
+    let raw = raw_key(alloc).expect(rt, "memory");
+    for uid in uids {
+        let added = add_key(alloc, state, *uid, &raw);
+        assert!(rt; key_added(added) == Some(ID));
     }
-    let told = key_status(&state, 1002, &ID);
-    assert!(rt;
-        matches!(
-            told,
-            Reply::Status {
-                state: KeyState::Present,
-                by_self: false,
-                users: 2
-            }
-        )
-    );
-    let stranger = remove_key(&mut state, 1002, &ID);
-    assert!(rt; matches!(stranger, Reply::Refused(Refusal::NoKey)));
-    let first = remove_key(&mut state, 1000, &ID);
-    assert!(rt;
-        matches!(
-            first,
-            Reply::Removed {
-                others: true,
-                busy: false
-            }
-        )
-    );
-    let again = remove_key(&mut state, 1000, &ID);
-    assert!(rt; matches!(again, Reply::Refused(Refusal::NoKey)));
-    let last = remove_key(&mut state, 1001, &ID);
-    assert!(rt;
-        matches!(
-            last,
-            Reply::Removed {
-                others: false,
-                busy: false
-            }
-        )
-    );
-    let told = key_status(&state, 1001, &ID);
-    assert!(rt;
-        matches!(
-            told,
-            Reply::Status {
-                state: KeyState::Absent,
-                by_self: false,
-                users: 0
-            }
-        )
-    );
-    Ok(())
+}
+
+// Whether that status is told of a key to who has no claim on it.
+fn is_status(told: Reply, wanted: KeyState, wanted_users: u32) -> bool {
+    matches!(
+        told,
+        Reply::Status { state, by_self: false, users } if state == wanted && users == wanted_users
+    )
 }
 
 #[test]
-fn user_0_takes_every_claim_away(rt: HostRuntime) -> Result<(), Fail> {
-    let alloc = rt.alloc();
-    let mut state = MountState::new(alloc)?;
-    let raw = raw_key(alloc)?;
-    for uid in 0..3 {
-        let added = add_key(alloc, &mut state, uid, &raw);
-        assert!(rt; matches!(added, Reply::Added(_)));
-    }
-    let user = remove_key_all(&mut state, 1, &ID);
-    assert!(rt; matches!(user, Reply::Refused(Refusal::Access)));
-    let root = remove_key_all(&mut state, 0, &ID);
-    assert!(rt;
-        matches!(
-            root,
-            Reply::Removed {
-                others: false,
-                busy: false
-            }
-        )
-    );
-    let again = remove_key_all(&mut state, 0, &ID);
-    assert!(rt; matches!(again, Reply::Refused(Refusal::NoKey)));
-    assert!(rt; matches!(drop_caches(&mut state), Reply::Done));
-    Ok(())
+fn adding_twice_makes_one_claim(rt: HostRuntime) {
+    try_on_a_mount(&rt, rt.alloc(), Trial::AddTwice);
+}
+
+pub(crate) fn add_twice<A: Abort>(rt: &A, alloc: Global, state: &mut MountState) {
+    add_for(rt, alloc, state, &[1000, 1000, 1001]);
+    assert!(rt; is_status(key_status(state, 1002, &ID), KeyState::Present, 2));
+    assert!(rt; is_refused(remove_key(state, 1002, &ID), Refusal::NoKey));
+    assert!(rt; is_removed(remove_key(state, 1000, &ID), true, false));
+    assert!(rt; is_refused(remove_key(state, 1000, &ID), Refusal::NoKey));
+    assert!(rt; is_removed(remove_key(state, 1001, &ID), false, false));
+    assert!(rt; is_status(key_status(state, 1001, &ID), KeyState::Absent, 0));
 }
 
 #[test]
-fn a_raw_key_has_32_to_64_bytes(rt: HostRuntime) -> Result<(), Fail> {
-    let alloc = rt.alloc();
-    let mut state = MountState::new(alloc)?;
-    for (length, fits) in [(31, false), (32, true), (64, true), (65, false)] {
-        let raw = Bytes::from_vec(Vec::from_elem(alloc, 7, length)?);
-        match add_key(alloc, &mut state, 1000, &raw) {
-            Reply::Added(_) => assert!(rt; fits, "{length} bytes"),
-            Reply::Refused(Refusal::Inval) => assert!(rt; !fits, "{length} bytes"),
-            _ => assert!(rt; false, "{length} bytes"),
-        }
-    }
-    Ok(())
+fn user_0_takes_every_claim_away(rt: HostRuntime) {
+    try_on_a_mount(&rt, rt.alloc(), Trial::RemoveForAll);
+}
+
+pub(crate) fn remove_for_all<A: Abort>(rt: &A, alloc: Global, state: &mut MountState) {
+    add_for(rt, alloc, state, &[0, 1, 2]);
+    assert!(rt; is_refused(remove_key_all(state, 1, &ID), Refusal::Access));
+    assert!(rt; is_removed(remove_key_all(state, 0, &ID), false, false));
+    assert!(rt; is_refused(remove_key_all(state, 0, &ID), Refusal::NoKey));
+    assert!(rt; is_done(drop_caches(state)));
+}
+
+#[test]
+fn a_raw_key_has_32_to_64_bytes(rt: HostRuntime) {
+    try_on_a_mount(&rt, rt.alloc(), Trial::AddEachSize);
+}
+
+pub(crate) fn add_each_size<A: Abort>(rt: &A, alloc: Global, state: &mut MountState) {
+    assert!(rt; is_refused(added(rt, alloc, state, 31), Refusal::Inval));
+    assert!(rt; key_added(added(rt, alloc, state, 32)).is_some());
+    assert!(rt; key_added(added(rt, alloc, state, 64)).is_some());
+    assert!(rt; is_refused(added(rt, alloc, state, 65), Refusal::Inval));
+}
+
+// What is told of adding a key of so many bytes.
+fn added<A: Abort>(rt: &A, alloc: Global, state: &mut MountState, length: usize) -> Reply {
+    let raw = Bytes::from_vec(Vec::from_elem(alloc, 7, length).expect(rt, "memory"));
+    add_key(alloc, state, 1000, &raw)
 }

@@ -22,4 +22,8 @@ mod names;
 #[cfg(test)]
 mod node_keys;
 #[cfg(test)]
+mod on_a_mount;
+#[cfg(test)]
 mod records;
+#[cfg(test)]
+mod told;

@@ -1,7 +1,6 @@
 //! Keys that nodes hold.
 
 use inode_refs::{FileKey, InodeCache, KeyId, NodeKey};
-use std::test::Fail;
 
 fn names_key(number: u8) -> FileKey {
     FileKey::Names([number; 32])
@@ -14,7 +13,7 @@ fn has_key(cache: &InodeCache, node: u32, number: u8) -> bool {
 }
 
 #[test]
-fn a_key_stays_until_it_is_evicted_without_pins(rt: HostRuntime) -> Result<(), Fail> {
+fn a_key_stays_until_it_is_evicted_without_pins(rt: HostRuntime) {
     let alloc = rt.alloc();
     let (first, second) = (KeyId([1; 16]), KeyId([2; 16]));
     let mut cache = InodeCache::new(alloc);
@@ -23,15 +22,21 @@ fn a_key_stays_until_it_is_evicted_without_pins(rt: HostRuntime) -> Result<(), F
             id: first,
             key: names_key(7),
         };
-        cache.pin(alloc, 7, Some(key))?;
+        cache.pin(alloc, 7, Some(key)).expect(&rt, "an answer");
     }
-    cache.keep(alloc, 8, first, names_key(8))?;
-    cache.keep(alloc, 9, second, names_key(9))?;
+    cache
+        .keep(alloc, 8, first, names_key(8))
+        .expect(&rt, "an answer");
+    cache
+        .keep(alloc, 9, second, names_key(9))
+        .expect(&rt, "an answer");
     cache.evict_unpinned(&first);
     assert!(rt; has_key(&cache, 7, 7) && has_key(&cache, 9, 9));
     assert!(rt; cache.key_of(8).is_none());
 
-    cache.keep(alloc, 9, second, names_key(10))?;
+    cache
+        .keep(alloc, 9, second, names_key(10))
+        .expect(&rt, "an answer");
     assert!(rt; has_key(&cache, 9, 10));
     assert!(rt; cache.pins(7) == 1);
     cache.unpin(7);
@@ -40,12 +45,11 @@ fn a_key_stays_until_it_is_evicted_without_pins(rt: HostRuntime) -> Result<(), F
     assert!(rt; cache.key_of(7).is_none());
     cache.evict_all_unpinned();
     assert!(rt; cache.key_of(9).is_none());
-    Ok(())
 }
 
 // OpenSSL's AES-256 of a block of zeros under these keys.
 #[test]
-fn cipher_is_that_of_the_names_key(rt: HostRuntime) -> Result<(), Fail> {
+fn cipher_is_that_of_the_names_key(rt: HostRuntime) {
     let alloc = rt.alloc();
     let id = KeyId([1; 16]);
     let mut cache = InodeCache::new(alloc);
@@ -53,13 +57,16 @@ fn cipher_is_that_of_the_names_key(rt: HostRuntime) -> Result<(), Fail> {
         (7, 0x0a4dee87e76ce0d47c6e1cdfc76d20a3_u128),
         (9, 0x3fb865a2e2740494ffff67a03e830ea3_u128),
     ] {
-        cache.keep(alloc, 7, id, names_key(number))?;
+        cache
+            .keep(alloc, 7, id, names_key(number))
+            .expect(&rt, "an answer");
         let block = cache
             .cipher_of(7)
             .map(|cipher| cipher.encrypt_block([0; 16]));
         assert!(rt; block == Some(want.to_be_bytes()));
     }
-    cache.keep(alloc, 7, id, FileKey::Contents([7; 64]))?;
+    cache
+        .keep(alloc, 7, id, FileKey::Contents([7; 64]))
+        .expect(&rt, "an answer");
     assert!(rt; cache.cipher_of(7).is_none() && cache.key_of(7).is_some());
-    Ok(())
 }

@@ -1,13 +1,15 @@
 //! Records by their versions, and the calls on them.
 
+use crate::on_a_mount::{Trial, try_on_a_mount};
+use crate::told::{is_refused, version_stored};
 use meta_files::{MetaFiles, StoreFault};
 use mount_model::Refusal;
 use mount_records::{Bytes, MountState, Reply, meta_load, meta_store};
 use std::alloc::{AllocError, Global};
-use std::test::Fail;
+use std::process::Abort;
 
 #[test]
-fn records_are_stored_by_their_version(rt: HostRuntime) -> Result<(), Fail> {
+fn records_are_stored_by_their_version(rt: HostRuntime) {
     let alloc = rt.alloc();
     let mut files = MetaFiles::new(alloc);
     let stores = [
@@ -21,20 +23,19 @@ fn records_are_stored_by_their_version(rt: HostRuntime) -> Result<(), Fail> {
         (b"b", 0, 8_193, Err(StoreFault::TooBig)),
     ];
     for (name, expected, length, wanted) in stores {
-        let text = Vec::from_elem(alloc, b'x', length)?;
+        let text = Vec::from_elem(alloc, b'x', length).expect(&rt, "an answer");
         let stored = files.store(alloc, name, expected, &text);
         assert!(rt; stored == wanted, "{length} bytes at version {expected}");
     }
-    let a = files.load(alloc, b"a")?;
+    let a = files.load(alloc, b"a").expect(&rt, "an answer");
     assert!(rt;
         a.is_some_and(|(version, bytes)| version == 2 && bytes.as_slice() == b"xxx".as_slice())
     );
-    assert!(rt; files.load(alloc, b"c")?.is_none());
-    Ok(())
+    assert!(rt; files.load(alloc, b"c").expect(&rt, "an answer").is_none());
 }
 
 #[test]
-fn there_are_at_most_1024_records(rt: HostRuntime) -> Result<(), Fail> {
+fn there_are_at_most_1024_records(rt: HostRuntime) {
     let alloc = rt.alloc();
     let mut files = MetaFiles::new(alloc);
     for number in 0..1_024u32 {
@@ -47,7 +48,6 @@ fn there_are_at_most_1024_records(rt: HostRuntime) -> Result<(), Fail> {
     assert!(rt; wrong_version == Err(StoreFault::Changed { version: 0 }));
     let again = files.store(alloc, &7u32.to_le_bytes(), 1, b"anew");
     assert!(rt; again == Ok(2));
-    Ok(())
 }
 
 fn bytes_of(alloc: Global, bytes: &[u8]) -> Result<Bytes, AllocError> {
@@ -55,28 +55,29 @@ fn bytes_of(alloc: Global, bytes: &[u8]) -> Result<Bytes, AllocError> {
 }
 
 #[test]
-fn a_record_that_changed_meanwhile_is_not_written(rt: HostRuntime) -> Result<(), Fail> {
-    let alloc = rt.alloc();
-    let mut state = MountState::new(alloc)?;
-    let name = bytes_of(alloc, b"policy/docs")?;
-    let first = bytes_of(alloc, &[0])?;
-    let second = bytes_of(alloc, &[1])?;
-    let long = Bytes::from_vec(Vec::from_elem(alloc, 0, 8_193)?);
-    let none = meta_load(alloc, &state, &name);
-    assert!(rt; matches!(none, Reply::Refused(Refusal::NotFound)));
-    let stored = meta_store(alloc, &mut state, &name, 0, &first);
-    assert!(rt; matches!(stored, Reply::Stored(1)));
-    match meta_load(alloc, &state, &name) {
-        Reply::Held { version, bytes } => {
-            assert!(rt; version == 1 && bytes.as_slice() == [0].as_slice())
-        }
-        _ => assert!(rt; false, "the record is there"),
+fn a_record_that_changed_meanwhile_is_not_written(rt: HostRuntime) {
+    try_on_a_mount(&rt, rt.alloc(), Trial::LoadAndStore);
+}
+
+// Whether the record of one byte 0 is told, as its first version.
+fn is_the_first(told: Reply) -> bool {
+    match told {
+        Reply::Held { version, bytes } => version == 1 && bytes.as_slice() == [0].as_slice(),
+        _ => false,
     }
-    let again = meta_store(alloc, &mut state, &name, 1, &second);
-    assert!(rt; matches!(again, Reply::Stored(2)));
-    let stale = meta_store(alloc, &mut state, &name, 1, &first);
-    assert!(rt; matches!(stale, Reply::Refused(Refusal::Changed { version: 2 })));
-    let too_big = meta_store(alloc, &mut state, &name, 2, &long);
-    assert!(rt; matches!(too_big, Reply::Refused(Refusal::TooBig)));
-    Ok(())
+}
+
+pub(crate) fn load_and_store<A: Abort>(rt: &A, alloc: Global, state: &mut MountState) {
+    let name = bytes_of(alloc, b"policy/docs").expect(rt, "memory");
+    let first = bytes_of(alloc, &[0]).expect(rt, "memory");
+    let second = bytes_of(alloc, &[1]).expect(rt, "memory");
+    let long = Bytes::from_vec(Vec::from_elem(alloc, 0, 8_193).expect(rt, "memory"));
+    assert!(rt; is_refused(meta_load(alloc, state, &name), Refusal::NotFound));
+    assert!(rt; version_stored(meta_store(alloc, state, &name, 0, &first)) == Some(1));
+    assert!(rt; is_the_first(meta_load(alloc, state, &name)));
+    assert!(rt; version_stored(meta_store(alloc, state, &name, 1, &second)) == Some(2));
+    let stale = meta_store(alloc, state, &name, 1, &first);
+    assert!(rt; is_refused(stale, Refusal::Changed { version: 2 }));
+    let too_big = meta_store(alloc, state, &name, 2, &long);
+    assert!(rt; is_refused(too_big, Refusal::TooBig));
 }

@@ -1,0 +1,40 @@
+//! What replies tell. Each of these takes its reply, so that a test holds none.
+
+use mount_model::{KeyId, Refusal, Reply};
+
+pub(crate) fn is_done(reply: Reply) -> bool {
+    matches!(reply, Reply::Done)
+}
+
+pub(crate) fn is_refused(reply: Reply, why: Refusal) -> bool {
+    matches!(reply, Reply::Refused(told) if told == why)
+}
+
+/// The key that was added, if one was.
+pub(crate) fn key_added(reply: Reply) -> Option<KeyId> {
+    match reply {
+        Reply::Added(id) => Some(id),
+        _ => None,
+    }
+}
+
+/// Whether the claim is gone, whether others have one, and whether the key is busy.
+pub(crate) fn is_removed(reply: Reply, others: bool, busy: bool) -> bool {
+    matches!(reply, Reply::Removed { others: some, busy: is_busy } if some == others && is_busy == busy)
+}
+
+/// The handle that was opened, if one was.
+pub(crate) fn handle_opened(reply: Reply) -> Option<u32> {
+    match reply {
+        Reply::Opened(handle) => Some(handle),
+        _ => None,
+    }
+}
+
+/// The version under which a record was stored, if it was.
+pub(crate) fn version_stored(reply: Reply) -> Option<u32> {
+    match reply {
+        Reply::Stored(version) => Some(version),
+        _ => None,
+    }
+}
