@@ -24,15 +24,28 @@ pub fn write_and_lock(alloc: Global, raw: &[u8], nonces: &[[u8; 16]; 3]) -> Opti
     ensures gone { IfSome result (λ locked. AbsentIsGone locked.mount.state (KeyStatus locked.id) locked.told) }
 {
     let mut mount = Mount::new(alloc).ok()?;
-    let id = add(&mut mount, bytes(alloc, raw)?)?;
+    let id = fill(alloc, &mut mount, raw, nonces)?;
+    let told = lock(&mut mount, id)?;
+    Some(Locked { mount, id, told })
+}
+
+// Adds the key, makes the directory and the file under it, and tells the key's identifier.
+fn fill(alloc: Global, mount: &mut Mount, raw: &[u8], nonces: &[[u8; 16]; 3]) -> Option<KeyId> {
+    let id = add(mount, bytes(alloc, raw)?)?;
     let dir = below(alloc, Path::root(alloc), b"e")?;
-    encrypt(alloc, &mut mount, id, &dir, nonces)?;
-    write(alloc, &mut mount, below(alloc, dir, b"f")?, nonces[2])?;
-    let Reply::Removed { .. } = ask(&mut mount, Op::RemoveKey { id })? else {
+    encrypt(alloc, mount, id, &dir, nonces)?;
+    write(alloc, mount, below(alloc, dir, b"f")?, nonces[2])?;
+    Some(id)
+}
+
+// Gives the key up, and asks for its status.
+fn lock(mount: &mut Mount, id: KeyId) -> Option<Reply>
+    ensures absent { IfSome result (λ reply. AbsentIsGone mount.new.state (KeyStatus id) reply) }
+{
+    let Reply::Removed { .. } = ask(mount, Op::RemoveKey { id })? else {
         return None;
     };
-    let told = ask(&mut mount, Op::KeyStatus { id })?;
-    Some(Locked { mount, id, told })
+    ask(mount, Op::KeyStatus { id })
 }
 
 // Adds the key, and tells its identifier.
