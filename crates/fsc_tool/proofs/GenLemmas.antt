@@ -20,7 +20,7 @@ use Rattle.fsc_session.specs.Session.{notes_of}
 use Rattle.reply_text.specs.Notes.{notes_text}
 use Rattle.reply_text.specs.declared.notes.Note.{Note}
 use Rattle.fsc_tool.specs.Gen.{zero_seed, run_summary, SummaryOfRun}
-use Rattle.fsc_tool.specs.Runs.{IsSerialRun, TellsRun}
+use Rattle.script_runs.specs.Runs.{IsSerialRun, TellsRun}
 use Rattle.fsc_tool.specs.Summary.{count_line, is_busy_removal, is_refusal, summary_text}
 
 -- ---- summaries

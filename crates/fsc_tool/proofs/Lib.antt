@@ -6,8 +6,4 @@ pub mod InspectLemmas
 pub mod LinkedLemmas
 pub mod PartLemmas
 pub mod PrintedLemmas
-pub mod RangeLemmas
-pub mod StartLemmas
-pub mod ThreadLemmas
 pub mod TopLemmas
-pub mod TurnLemmas

@@ -28,7 +28,7 @@ use Rattle.reply_text.specs.Shown.{PlacedShown, shown_history, shown_log}
 use Rattle.fsc_session.proofs.ShownRuns.{told_log}
 use Rattle.reply_text.specs.Notes.{notes_text}
 use Rattle.reply_text.specs.declared.notes.Note.{Note}
-use Rattle.fsc_tool.specs.Runs.{TellsRun}
+use Rattle.script_runs.specs.Runs.{TellsRun}
 
 -- ---- what the source gave
 

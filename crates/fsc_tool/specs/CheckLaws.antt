@@ -12,7 +12,7 @@ use Rattle.fsc_tool.specs.Limits.{input_limits}
 use Rattle.fsc_tool.specs.LogOfRun.{IsLogOfRun}
 use Rattle.fsc_tool.specs.Parted.{certificate_read, certificate_text}
 use Rattle.fsc_tool.specs.Replay.{IsOrNoMemory}
-use Rattle.fsc_tool.specs.Runs.{IsLawfulRun}
+use Rattle.script_runs.specs.Runs.{IsLawfulRun}
 
 -- a text that is a script, the line that parts, and any text behind it are read as that script and that text
 abbrev pub LogsArePartedFromScripts : Type 0

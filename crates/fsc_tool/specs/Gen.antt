@@ -14,7 +14,7 @@ use Rattle.fsc_session.specs.Serial.{serial_history}
 use Rattle.fsc_tool.specs.Ends.{EndsUnread}
 use Rattle.fsc_tool.specs.Outside.{Outside}
 use Rattle.fsc_tool.specs.Replay.{IsOrNoMemory}
-use Rattle.fsc_tool.specs.Runs.{IsSerialRun}
+use Rattle.script_runs.specs.Runs.{IsSerialRun}
 use Rattle.fsc_tool.specs.Summary.{summary_text}
 
 -- the seed of a run that is summarised

@@ -11,7 +11,7 @@ use Rattle.reply_text.specs.declared.notes.Note.{Note}
 use Rattle.image_lines.specs.ImageText.{image_text}
 use Rattle.tree_image.specs.Images.{mount_image}
 use Rattle.fsc_session.specs.Serial.{serial_history}
-use Rattle.fsc_tool.specs.Runs.{IsRunBefore, IsSerialRun, TellsRun}
+use Rattle.script_runs.specs.Runs.{IsRunBefore, IsSerialRun, TellsRun}
 
 -- the text of the image of the mount that a history leaves
 abbrev pub image_after : History → List ℕ

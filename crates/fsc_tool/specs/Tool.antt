@@ -17,7 +17,7 @@ use Rattle.fsc_tool.specs.LinkedLog.{IsLinkedLog, IsLinkedLogOfThreads}
 use Rattle.fsc_tool.specs.LogOfRun.{IsLogOfRun}
 use Rattle.fsc_tool.specs.Outside.{Outside}
 use Rattle.fsc_tool.specs.Replay.{IsReplay}
-use Rattle.fsc_tool.specs.Runs.{IsLawfulRun, IsSerialRun}
+use Rattle.script_runs.specs.Runs.{IsLawfulRun, IsSerialRun}
 
 -- a run in this form: an equation a form. Without one nothing is called. Came tells by which calls the source
 -- became what it is

@@ -10,11 +10,10 @@ ghost use Rattle.fsc_tool.specs.Replay.{IsReplay};
 ghost use Rattle.fsc_tool.specs.declared.form.Seeding.TheVariants.{Given};
 
 use crate::form::Seeding;
-use crate::replay::{history_of, prepare};
-use crate::rotation::rotate;
+use crate::replay::prepare;
 use crate::status::Status;
+use crate::streams::Streams;
 use crate::summary::wants_memory;
-use crate::told::Told;
 use crate::writing::write_text;
 use argon_kdf::PlainStretch;
 use byte_words::wipe;
@@ -22,6 +21,7 @@ use fsc_outside::{Gate, SeedSource, Sink, Source};
 use item_list::Bytes;
 use mount_shared::Mount;
 use script_lang::Script;
+use script_runs::{Told, history_of, rotate};
 use std::alloc::{AllocError, Global};
 use tree_image::write_image;
 
@@ -30,20 +30,20 @@ use tree_image::write_image;
 pub(crate) fn run_dumping<S: Source, K: Sink, E: SeedSource, G: Gate>(
     alloc: Global,
     seed: &mut [u8; 32],
-    source: &mut S,
-    sink: &mut K,
-    seeds: &mut E,
+    streams: &mut Streams<S, K, E>,
     gate: &G,
 ) -> Status
-    ensures dumped { let before = outside (S.state source.old) (K.state sink.old) (E.state seeds.old) in
-        let after = outside (S.state source.new) (K.state sink.new) (E.state seeds.new) in
-        let came = λ (calls : List ReadCall). S.came source.old calls source.new in
+    ensures dumped { let before = outside (S.state streams.old.source) (K.state streams.old.sink)
+        (E.state streams.old.seeds) in
+        let after = outside (S.state streams.new.source) (K.state streams.new.sink)
+        (E.state streams.new.seeds) in
+        let came = λ (calls : List ReadCall). S.came streams.old.source calls streams.new.source in
         IsReplay IsImageOfRun came (Given seed.old) before after result }
     ensures wiped { seed.new ≡ replicate 32 0 }
 {
     let mut seeding = Seeding::Given(*seed);
     wipe(seed);
-    let mut run = match prepare(alloc, &mut seeding, source, seeds) {
+    let mut run = match prepare(alloc, &mut seeding, &mut streams.source, &mut streams.seeds) {
         Ok(run) => run,
         Err(status) => return status,
     };
@@ -54,7 +54,7 @@ pub(crate) fn run_dumping<S: Source, K: Sink, E: SeedSource, G: Gate>(
         Err(_) => return Status::NoMemory,
     };
     match image_of(alloc, told, mount) {
-        Ok(text) => write_text(text, sink),
+        Ok(text) => write_text(text, &mut streams.sink),
         Err(_) => Status::NoMemory,
     }
 }

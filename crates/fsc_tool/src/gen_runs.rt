@@ -4,8 +4,7 @@ ghost use Rattle.std.specs.Prelude.{◌≡◌, [], IfOk};
 ghost use Rattle.fsc_tool.specs.Ends.{EndsUnread};
 ghost use Rattle.fsc_tool.specs.Gen.{IsScriptText, SummaryOfRun, zero_seed};
 
-use crate::replay::{history_of, whole_log};
-use crate::rotation::run_in_rotation;
+use crate::replay::whole_log;
 use crate::status::Status;
 use crate::summary::{summary_text, wants_memory};
 use crate::writing::write_text;
@@ -14,6 +13,7 @@ use fsc_outside::{Gate, Sink};
 use item_list::Bytes;
 use load_gen::{generate, generate_script};
 use mount_shared::MountMachine;
+use script_runs::{history_of, run_in_rotation};
 use std::alloc::{AllocError, Global};
 
 // Writes the script that the number gives into the sink, once it stands whole, and tells how the run ends.

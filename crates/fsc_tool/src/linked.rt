@@ -13,61 +13,46 @@ ghost use Rattle.fsc_tool.specs.declared.form.Seeding.TheVariants.{Given};
 use crate::form::Seeding;
 use crate::replay::prepare;
 use crate::status::Status;
+use crate::streams::Streams;
 use crate::writing::write_text;
 use argon_kdf::PlainStretch;
 use byte_words::wipe;
 use fsc_outside::{Gate, SeedSource, Sink, Source};
-use linked_turns::{LinkedTold, linked_log, run_linked_in_rotation};
+use linked_turns::{LinkedTold, Mounts, linked_log, run_linked_in_rotation};
 use mount_shared::MountMachine;
 use std::alloc::Global;
-
-// The machine that is mount 0, on which callers with an even number work, and the far one, mount 1, on which the
-// others do.
-#[derive(Drop)]
-pub(crate) struct Machines<M: MountMachine> {
-    pub(crate) machine: M,
-    pub(crate) far: M,
-}
 
 // A replay in rotation of the script that the source gives, with this seed, on two mounts: both logs and the notes go
 // into the sink.
 pub(crate) fn run_linked<S: Source, K: Sink, E: SeedSource, G: Gate, M: MountMachine>(
     alloc: Global,
     seed: &mut [u8; 32],
-    source: &mut S,
-    sink: &mut K,
-    seeds: &mut E,
+    streams: &mut Streams<S, K, E>,
     gate: &G,
-    machines: Machines<M>,
+    mounts: Mounts<M>,
 ) -> Status
-    requires leads { M.leads [] machines.machine }
-    requires leads_far { M.leads [] machines.far }
-    ensures { let before = outside (S.state source.old) (K.state sink.old) (E.state seeds.old) in
-        let after = outside (S.state source.new) (K.state sink.new) (E.state seeds.new) in
-        let came = λ (calls : List ReadCall). S.came source.old calls source.new in
+    requires leads_even { M.leads [] mounts.even }
+    requires leads_odd { M.leads [] mounts.odd }
+    ensures { let before = outside (S.state streams.old.source) (K.state streams.old.sink)
+        (E.state streams.old.seeds) in
+        let after = outside (S.state streams.new.source) (K.state streams.new.sink)
+        (E.state streams.new.seeds) in
+        let came = λ (calls : List ReadCall). S.came streams.old.source calls streams.new.source in
         IsReplay (IsLinkedLog M.lawful) came (Given seed.old) before after result }
 {
     let mut seeding = Seeding::Given(*seed);
     wipe(seed);
-    let mut run = match prepare(alloc, &mut seeding, source, seeds) {
+    let mut run = match prepare(alloc, &mut seeding, &mut streams.source, &mut streams.seeds) {
         Ok(run) => run,
         Err(status) => return status,
     };
-    let ran = run_linked_in_rotation(
-        alloc,
-        &run.script,
-        &run.seed,
-        gate,
-        &PlainStretch,
-        machines.machine,
-        machines.far,
-    );
+    let ran = run_linked_in_rotation(alloc, &run.script, &run.seed, gate, &PlainStretch, mounts);
     run.wipe(alloc);
     let told = match ran {
         Ok(told) => told,
         Err(_) => return Status::NoMemory,
     };
-    finish_linked(alloc, told, sink)
+    finish_linked(alloc, told, &mut streams.sink)
 }
 
 // Writes both logs and the notes of a run on two mounts into the sink, once they stand whole, and tells how the run

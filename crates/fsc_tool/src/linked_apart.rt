@@ -11,10 +11,12 @@ use crate::form::Seeding;
 use crate::linked::finish_linked;
 use crate::replay::prepare;
 use crate::status::Status;
+use crate::streams::Streams;
 use argon_kdf::LaneStretch;
 use byte_words::wipe;
 use fsc_outside::{Gate, SeedSource, Sink, Source};
-use linked_threads::{Mounts, run_linked_in_threads};
+use linked_threads::run_linked_in_threads;
+use linked_turns::Mounts;
 use mount_shared::MountMachine;
 use std::alloc::Global;
 use std::sync::Wait;
@@ -33,22 +35,22 @@ pub(crate) fn run_linked_apart<
     rt: &R,
     alloc: Global,
     seed: &mut [u8; 32],
-    source: &mut S,
-    sink: &mut K,
-    seeds: &mut E,
+    streams: &mut Streams<S, K, E>,
     gate: &G,
     mounts: Mounts<M>,
 ) -> Status
     requires leads_even { M.leads [] mounts.even }
     requires leads_odd { M.leads [] mounts.odd }
-    ensures { let before = outside (S.state source.old) (K.state sink.old) (E.state seeds.old) in
-        let after = outside (S.state source.new) (K.state sink.new) (E.state seeds.new) in
-        let came = λ (calls : List ReadCall). S.came source.old calls source.new in
+    ensures { let before = outside (S.state streams.old.source) (K.state streams.old.sink)
+        (E.state streams.old.seeds) in
+        let after = outside (S.state streams.new.source) (K.state streams.new.sink)
+        (E.state streams.new.seeds) in
+        let came = λ (calls : List ReadCall). S.came streams.old.source calls streams.new.source in
         IsReplay (IsLinkedLogOfThreads M.lawful) came (Given seed.old) before after result }
 {
     let mut seeding = Seeding::Given(*seed);
     wipe(seed);
-    let mut run = match prepare(alloc, &mut seeding, source, seeds) {
+    let mut run = match prepare(alloc, &mut seeding, &mut streams.source, &mut streams.seeds) {
         Ok(run) => run,
         Err(status) => return status,
     };
@@ -59,5 +61,5 @@ pub(crate) fn run_linked_apart<
         Ok(told) => told,
         Err(_) => return Status::NoMemory,
     };
-    finish_linked(alloc, told, sink)
+    finish_linked(alloc, told, &mut streams.sink)
 }

@@ -15,12 +15,10 @@ ghost use Rattle.fsc_tool.specs.Prepared.{IsPrepared, NoText};
 ghost use Rattle.fsc_tool.specs.Seed.{wiped_seeding};
 ghost use Rattle.fsc_tool.specs.Written.{EndsLog};
 
-use crate::PlacedVec;
 use crate::form::Seeding;
 use crate::limits::INPUT_LIMITS;
 use crate::seed::{take_seed, wipe_seeding};
 use crate::status::Status;
-use crate::told::Told;
 use crate::writing::write_text;
 use byte_words::wipe;
 use call_history::Entry;
@@ -30,6 +28,7 @@ use item_list::Bytes;
 use mount_model::Reply;
 use reply_text::{Note, Shown, write_log, write_notes};
 use script_lang::{Script, ScriptFault, read_script, wipe_script};
+use script_runs::{Told, history_of};
 use std::alloc::{AllocError, Global};
 
 // What a run starts from.
@@ -192,18 +191,4 @@ pub(crate) fn whole_log(
     let mut notes = write_notes(alloc, notes)?.into_vec();
     log.append(&mut notes)?;
     Ok(Bytes::from_vec(log))
-}
-
-// The entries without their places.
-pub(crate) fn history_of(
-    alloc: Global,
-    entries: PlacedVec,
-) -> Result<Vec<Entry<Shown, Reply>>, AllocError>
-    ensures { IfOk result (λ history. history.items ≡ entries_of entries.items) }
-{
-    let mut history = Vec::new(alloc);
-    'entries: for (_, entry) in entries {
-        history.push(entry)?;
-    }
-    Ok(history)
 }

@@ -7,7 +7,7 @@ ghost use Rattle.fsc_tool.specs.Forms.{form_of};
 ghost use Rattle.fsc_tool.specs.LogOfRun.{IsLogOfRun};
 ghost use Rattle.fsc_tool.specs.Outside.{outside};
 ghost use Rattle.fsc_tool.specs.Replay.{IsReplay};
-ghost use Rattle.fsc_tool.specs.Runs.{IsLawfulRun, IsSerialRun};
+ghost use Rattle.script_runs.specs.Runs.{IsLawfulRun, IsSerialRun};
 ghost use Rattle.fsc_tool.specs.Tool.{IsSerialToolRun, IsToolRun};
 
 use crate::checking::run_checking;
@@ -15,16 +15,16 @@ use crate::dump::run_dumping;
 use crate::form::{Seeding, ToolForm, Way, leave_threads, read_form, wipe_words};
 use crate::gen_runs::{run_generating, run_summarising};
 use crate::inspect::run_inspecting;
-use crate::linked::{Machines, run_linked};
+use crate::linked::run_linked;
 use crate::linked_apart::run_linked_apart;
 use crate::replay::{finish, prepare};
-use crate::rotation::run_in_rotation;
 use crate::status::Status;
-use crate::threads::run_in_threads;
+use crate::streams::Streams;
 use argon_kdf::{LaneStretch, PlainStretch};
 use fsc_outside::{Gate, OpenGate, SeedSource, Sink, Source};
-use linked_threads::Mounts;
+use linked_turns::Mounts;
 use mount_shared::MountMachine;
+use script_runs::{run_in_rotation, run_in_threads};
 use std::alloc::Global;
 use std::sync::Wait;
 use std::thread::Threads;
@@ -32,24 +32,23 @@ use std::thread::Threads;
 /// Does what the words ask for, which are those of the command line without the program's own name, and are
 /// Usage unless they are a form (`form_of`):
 /// - `replay` and `replay --serial`, alone or with `--seed HEX64` behind: replays the script that the source
-///   gives on the machine, which no call was made on, and writes its log into the sink. With `--serial` the
-///   callers take turns; else each runs in a thread of its own, and waits for its turn on the machine at each
+///   gives on mount 0, which no call was made on, and writes its log into the sink. With `--serial` the
+///   callers take turns; else each runs in a thread of its own, and waits for its turn on the mount at each
 ///   call.
 /// - `gen NUMBER`: writes the script that the number gives; with `--summary` behind, the summary of a replay of
-///   it in turns on the machine, with a seed of zeros. Neither asks the source.
+///   it in turns on mount 0, with a seed of zeros. Neither asks the source.
 /// - `dump --seed HEX64`: runs the script in turns, and writes the image of what then lies on the disk.
 /// - `inspect`, alone or with `raw:HEX` behind: reads an image, and writes its listing.
 /// - `check --seed HEX64`: reads a script, a line `---` and a log, and writes nothing.
 /// - `replay-linked --seed HEX64` and `replay-linked --serial --seed HEX64`: runs the script on two mounts, its
-///   callers as those of a replay, and writes both logs: the machine is mount 0, the far one, which no call was made
-///   on either, mount 1.
+///   callers as those of a replay, and writes both logs. No call was made on mount 1 either.
 ///
 /// `dump` and `check` make their calls on a mount of their own, and no form but the replays and
-/// `gen NUMBER --summary` uses the machine, and none but `replay-linked` the far one. Each command of a run that
-/// writes its log, its summary or its image runs between the gate's two calls. Nothing is written before all
-/// callers have ended and the whole text stands. The seed source is asked once, by a replay alone, for a script in the grammar where the words
-/// give no seed. Words that are a form are overwritten and taken away once they are read, since one of them
-/// may be a seed or a key.
+/// `gen NUMBER --summary` uses mount 0, and none but `replay-linked` mount 1. Each command of a run that writes its
+/// log, its summary or its image runs between the gate's two calls. Nothing is written before all callers have
+/// ended and the whole text stands. The seed source is asked once, by a replay alone, for a script in the grammar
+/// where the words give no seed. Words that are a form are overwritten and taken away once they are read, since one
+/// of them may be a seed or a key.
 pub fn tool<
     R: Threads + Wait + Sync,
     S: Source,
@@ -61,18 +60,17 @@ pub fn tool<
     rt: &R,
     alloc: Global,
     words: &mut Vec<String>,
-    source: &mut S,
-    sink: &mut K,
-    seeds: &mut E,
+    streams: &mut Streams<S, K, E>,
     gate: &G,
-    machine: M,
-    far: M,
+    mounts: Mounts<M>,
 ) -> Status
-    requires leads { M.leads [] machine }
-    requires leads_far { M.leads [] far }
-    ensures run { let before = outside (S.state source.old) (K.state sink.old) (E.state seeds.old) in
-        let after = outside (S.state source.new) (K.state sink.new) (E.state seeds.new) in
-        let came = λ (calls : List ReadCall). S.came source.old calls source.new in
+    requires leads_even { M.leads [] mounts.even }
+    requires leads_odd { M.leads [] mounts.odd }
+    ensures run { let before = outside (S.state streams.old.source) (K.state streams.old.sink)
+        (E.state streams.old.seeds) in
+        let after = outside (S.state streams.new.source) (K.state streams.new.sink)
+        (E.state streams.new.seeds) in
+        let came = λ (calls : List ReadCall). S.came streams.old.source calls streams.new.source in
         IsToolRun M.lawful came (map string_bytes words.old.items) before after result }
     ensures words { words.new.items
         ≡ option_map_or (λ form. []) (form_of (map string_bytes words.old.items)) words.old.items }
@@ -89,41 +87,37 @@ pub fn tool<
                 way: Way::InTurn,
                 seeding,
             },
-        ) => replay_in_rotation(alloc, seeding, source, sink, seeds, gate, machine),
+        ) => replay_in_rotation(alloc, seeding, streams, gate, mounts.even),
         Some(
             ToolForm::Replay {
                 way: Way::InThreads,
                 seeding,
             },
-        ) => replay_in_threads(rt, alloc, seeding, source, sink, seeds, gate, machine),
-        Some(ToolForm::Generate(number)) => run_generating(alloc, *number, sink),
+        ) => replay_in_threads(rt, alloc, seeding, streams, gate, mounts.even),
+        Some(ToolForm::Generate(number)) => run_generating(alloc, *number, &mut streams.sink),
         Some(ToolForm::Summarise(number)) => {
-            run_summarising(alloc, *number, sink, gate, machine)
+            run_summarising(alloc, *number, &mut streams.sink, gate, mounts.even)
         }
-        Some(ToolForm::Dump(seed)) => run_dumping(alloc, seed, source, sink, seeds, gate),
-        Some(ToolForm::Inspect(raw)) => run_inspecting(alloc, raw, source, sink),
-        Some(ToolForm::Check(seed)) => run_checking(alloc, seed, source),
+        Some(ToolForm::Dump(seed)) => run_dumping(alloc, seed, streams, gate),
+        Some(ToolForm::Inspect(raw)) => run_inspecting(
+            alloc,
+            raw,
+            &mut streams.source,
+            &mut streams.sink,
+        ),
+        Some(ToolForm::Check(seed)) => run_checking(alloc, seed, &mut streams.source),
         Some(
             ToolForm::ReplayLinked {
                 way: Way::InTurn,
                 seed,
             },
-        ) => {
-            let machines = Machines { machine, far };
-            run_linked(alloc, seed, source, sink, seeds, gate, machines)
-        }
+        ) => run_linked(alloc, seed, streams, gate, mounts),
         Some(
             ToolForm::ReplayLinked {
                 way: Way::InThreads,
                 seed,
             },
-        ) => {
-            let mounts = Mounts {
-                even: machine,
-                odd: far,
-            };
-            run_linked_apart(rt, alloc, seed, source, sink, seeds, gate, mounts)
-        }
+        ) => run_linked_apart(rt, alloc, seed, streams, gate, mounts),
     }
 }
 
@@ -139,17 +133,16 @@ pub fn tool<
 pub fn tool_serial<S: Source, K: Sink, E: SeedSource, M: MountMachine>(
     alloc: Global,
     words: &Vec<String>,
-    source: &mut S,
-    sink: &mut K,
-    seeds: &mut E,
-    machine: M,
-    far: M,
+    streams: &mut Streams<S, K, E>,
+    mounts: Mounts<M>,
 ) -> Status
-    requires leads { M.leads [] machine }
-    requires leads_far { M.leads [] far }
-    ensures { let before = outside (S.state source.old) (K.state sink.old) (E.state seeds.old) in
-        let after = outside (S.state source.new) (K.state sink.new) (E.state seeds.new) in
-        let came = λ (calls : List ReadCall). S.came source.old calls source.new in
+    requires leads_even { M.leads [] mounts.even }
+    requires leads_odd { M.leads [] mounts.odd }
+    ensures { let before = outside (S.state streams.old.source) (K.state streams.old.sink)
+        (E.state streams.old.seeds) in
+        let after = outside (S.state streams.new.source) (K.state streams.new.sink)
+        (E.state streams.new.seeds) in
+        let came = λ (calls : List ReadCall). S.came streams.old.source calls streams.new.source in
         IsSerialToolRun M.lawful came (map string_bytes words.now.items) before after result }
 {
     let mut form = None;
@@ -158,19 +151,23 @@ pub fn tool_serial<S: Source, K: Sink, E: SeedSource, M: MountMachine>(
     match &mut form {
         None => Status::Usage,
         Some(ToolForm::Replay { way: _, seeding }) => {
-            replay_in_rotation(alloc, seeding, source, sink, seeds, &OpenGate, machine)
+            replay_in_rotation(alloc, seeding, streams, &OpenGate, mounts.even)
         }
-        Some(ToolForm::Generate(number)) => run_generating(alloc, *number, sink),
+        Some(ToolForm::Generate(number)) => run_generating(alloc, *number, &mut streams.sink),
         Some(ToolForm::Summarise(number)) => {
-            run_summarising(alloc, *number, sink, &OpenGate, machine)
+            run_summarising(alloc, *number, &mut streams.sink, &OpenGate, mounts.even)
         }
-        Some(ToolForm::Dump(seed)) => run_dumping(alloc, seed, source, sink, seeds, &OpenGate),
-        Some(ToolForm::Inspect(raw)) => run_inspecting(alloc, raw, source, sink),
-        Some(ToolForm::Check(seed)) => run_checking(alloc, seed, source),
-        Some(ToolForm::ReplayLinked { way: _, seed }) => {
-            let machines = Machines { machine, far };
-            run_linked(alloc, seed, source, sink, seeds, &OpenGate, machines)
-        }
+        Some(ToolForm::Dump(seed)) => run_dumping(alloc, seed, streams, &OpenGate),
+        Some(ToolForm::Inspect(raw)) => run_inspecting(
+            alloc,
+            raw,
+            &mut streams.source,
+            &mut streams.sink,
+        ),
+        Some(ToolForm::Check(seed)) => run_checking(alloc, seed, &mut streams.source),
+        Some(ToolForm::ReplayLinked { way: _, seed }) => run_linked(
+            alloc, seed, streams, &OpenGate, mounts,
+        ),
     }
 }
 
@@ -178,19 +175,19 @@ pub fn tool_serial<S: Source, K: Sink, E: SeedSource, M: MountMachine>(
 fn replay_in_rotation<S: Source, K: Sink, E: SeedSource, G: Gate, M: MountMachine>(
     alloc: Global,
     seeding: &mut Seeding,
-    source: &mut S,
-    sink: &mut K,
-    seeds: &mut E,
+    streams: &mut Streams<S, K, E>,
     gate: &G,
     machine: M,
 ) -> Status
     requires { M.leads [] machine }
-    ensures { let before = outside (S.state source.old) (K.state sink.old) (E.state seeds.old) in
-        let after = outside (S.state source.new) (K.state sink.new) (E.state seeds.new) in
-        let came = λ (calls : List ReadCall). S.came source.old calls source.new in
+    ensures { let before = outside (S.state streams.old.source) (K.state streams.old.sink)
+        (E.state streams.old.seeds) in
+        let after = outside (S.state streams.new.source) (K.state streams.new.sink)
+        (E.state streams.new.seeds) in
+        let came = λ (calls : List ReadCall). S.came streams.old.source calls streams.new.source in
         IsReplay (IsLogOfRun (IsSerialRun M.lawful)) came seeding.old before after result }
 {
-    let mut run = match prepare(alloc, seeding, source, seeds) {
+    let mut run = match prepare(alloc, seeding, &mut streams.source, &mut streams.seeds) {
         Ok(run) => run,
         Err(status) => return status,
     };
@@ -203,7 +200,7 @@ fn replay_in_rotation<S: Source, K: Sink, E: SeedSource, G: Gate, M: MountMachin
     };
     run.wipe(alloc);
     let _few = told.count();
-    finish(alloc, told, sink)
+    finish(alloc, told, &mut streams.sink)
 }
 
 // A replay whose callers run in threads.
@@ -218,19 +215,19 @@ fn replay_in_threads<
     rt: &R,
     alloc: Global,
     seeding: &mut Seeding,
-    source: &mut S,
-    sink: &mut K,
-    seeds: &mut E,
+    streams: &mut Streams<S, K, E>,
     gate: &G,
     machine: M,
 ) -> Status
     requires { M.leads [] machine }
-    ensures { let before = outside (S.state source.old) (K.state sink.old) (E.state seeds.old) in
-        let after = outside (S.state source.new) (K.state sink.new) (E.state seeds.new) in
-        let came = λ (calls : List ReadCall). S.came source.old calls source.new in
+    ensures { let before = outside (S.state streams.old.source) (K.state streams.old.sink)
+        (E.state streams.old.seeds) in
+        let after = outside (S.state streams.new.source) (K.state streams.new.sink)
+        (E.state streams.new.seeds) in
+        let came = λ (calls : List ReadCall). S.came streams.old.source calls streams.new.source in
         IsReplay (IsLogOfRun (IsLawfulRun M.lawful)) came seeding.old before after result }
 {
-    let mut run = match prepare(alloc, seeding, source, seeds) {
+    let mut run = match prepare(alloc, seeding, &mut streams.source, &mut streams.seeds) {
         Ok(run) => run,
         Err(status) => return status,
     };
@@ -244,5 +241,5 @@ fn replay_in_threads<
     };
     run.wipe(alloc);
     let _few = told.count();
-    finish(alloc, told, sink)
+    finish(alloc, told, &mut streams.sink)
 }

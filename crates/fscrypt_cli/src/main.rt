@@ -17,7 +17,7 @@ use asked::Asked;
 use byte_words::wipe;
 use caused::CausedSink;
 use fsc_outside::{RuntimeSeed, StdSource, write_all};
-use fsc_tool::{Status, tool};
+use fsc_tool::{Mounts, Status, Streams, tool};
 use help::{VERSION, advise, help_text};
 use kept::{KeptSource, KeptText};
 use mount_shared::Mount;
@@ -39,27 +39,23 @@ fn main(rt: HostRuntime) -> ExitCode {
         }
     }
     let asked = Asked::of(words.as_slice());
-    let (Ok(mount), Ok(far)) = (Mount::new(rt.alloc()), Mount::new(rt.alloc())) else {
+    let (Ok(even), Ok(odd)) = (Mount::new(rt.alloc()), Mount::new(rt.alloc())) else {
         return end(rt, Asked::Other, Status::NoMemory, &[]);
     };
     tell_of_waiting(&rt, &words, asked);
     let is_terminal = rt.stderr().is_terminal();
     let kept = KeptText::new(rt.alloc(), is_terminal);
-    let mut sink = CausedSink::over(rt.stdout());
-    let status = tool(
-        &rt,
-        rt.alloc(),
-        &mut words,
-        &mut KeptSource::new(rt.alloc(), StdSource::new(&rt), &kept),
-        &mut sink,
-        &mut RuntimeSeed::new(&rt),
-        &TellingGate::new(&rt, &kept, is_terminal),
-        mount,
-        far,
-    );
+    let mut streams = Streams {
+        source: KeptSource::new(rt.alloc(), StdSource::new(&rt), &kept),
+        sink: CausedSink::over(rt.stdout()),
+        seeds: RuntimeSeed::new(&rt),
+    };
+    let gate = TellingGate::new(&rt, &kept, is_terminal);
+    let mounts = Mounts { even, odd };
+    let status = tool(&rt, rt.alloc(), &mut words, &mut streams, &gate, mounts);
     match status {
         Status::Usage => advise_words(&rt, &words),
-        Status::WriteFault if sink.is_closed() => tell_of_closed(&rt),
+        Status::WriteFault if streams.sink.is_closed() => tell_of_closed(&rt),
         _ => return end_run(rt, asked, status, kept),
     }
     kept.forget();

@@ -13,8 +13,9 @@ use Rattle.linked_turns.specs.declared.told.LinkedTold.{LinkedTold}
 use Rattle.linked_turns.specs.Parts.{is_even}
 use Rattle.linked_turns.proofs.EndLemmas.{none_parts}
 use Rattle.linked_threads.specs.LinkedThreads.{TellsLinkedCalls}
-use Rattle.linked_threads.specs.Threaded.{OnBoth, calls_of, HaveRun}
-use Rattle.linked_threads.proofs.OneLemmas.{same_parts}
+use Rattle.script_runs.specs.Passes.{calls_of}
+use Rattle.linked_turns.proofs.TurnLemmas.{parts_as}
+use Rattle.linked_threads.specs.Threaded.{OnBoth, HaveRun}
 
 module _ (lawful : History → Type 0) (seed : List ℕ) (script : List Section) (old new : OnBoth MountPass) (told : LinkedTold) (even odd : History)
     (ran : HaveRun seed old script new told) (first : old.even.who ≡ 0)
@@ -42,8 +43,7 @@ module _ (lawful : History → Type 0) (seed : List ℕ) (script : List Section)
       callers = run_of;
       parts = λ c. let parts = ran.called.parts c in (
         parts.0,
-        same_parts (is_even c) parts.0 (by c ran.made) (by c (calls_of new.even)) (by c (calls_of new.odd)) (by c ran.made) (entries_by c even) (entries_by c odd)
-            refl (sym (of_even c)) (sym (of_odd c)) parts.1,
+        parts_as (is_even c) parts.0 parts.0 _ _ _ _ _ _ refl refl (sym (of_even c)) (sym (of_odd c)) parts.1,
       );
     };
     even_in_place = even_in_place;

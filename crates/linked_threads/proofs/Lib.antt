@@ -1,4 +1,3 @@
-pub mod CutLemmas
 pub mod EndLemmas
 pub mod JoinLemmas
 pub mod OneLemmas

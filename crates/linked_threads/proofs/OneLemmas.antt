@@ -1,18 +1,16 @@
 -- One caller that ran its section on the mounts.
-use Rattle.std.proofs.Common.{◌≡◌, ◌≢◌, ℕ, zero, suc, ◌+◌, Bool, true, false, List, [], ◌∷◌, ◌++◌, length, Some, refl, sym, ap, ap₂, ◌∙◌, subst, ⊎_elim, arith, append-nil}
+use Rattle.std.proofs.Common.{◌≡◌, ℕ, ◌+◌, ◌*◌, mul_assoc, true, false, List, [], ◌∷◌, ◌++◌, length, Some, refl, sym, ap₂, ◌∙◌, subst, ⊎_elim, arith}
 use Rattle.std.specs.Prelude.{slice_get}
 use Rattle.std.proofs.lemmas.Bool.{cases_eq}
+use Rattle.std.proofs.lemmas.List.Sums.{sum_by-cons}
 use Rattle.turn_lock.specs.Passes.{SharedView}
 use Rattle.call_history.specs.Entries.{by}
-use Rattle.call_history.proofs.Placing.{by-by_other}
 use Rattle.mount_model.specs.History.{History}
 use Rattle.mount_model.specs.Port.{PlacedCalls}
 use Rattle.mount_shared.specs.SharedCalls.{MountPass, PassCame}
 use Rattle.script_lang.specs.declared.commands.Section.{Section}
 use Rattle.reply_text.specs.Shown.{PlacedShown, shown_calls}
-use Rattle.reply_text.specs.declared.notes.Note.{Note}
-use Rattle.fsc_session.specs.Session.{IsRunOfCaller, IsRunOfSection, notes_of_section, notes_by}
-use Rattle.fsc_session.proofs.ShownRuns.{by-shown}
+use Rattle.fsc_session.specs.Session.{IsRunOfSection, notes_of_section}
 use Rattle.mount_links.specs.declared.step.LinkStep.{LinkStep}
 use Rattle.mount_links.specs.Linked.{own_parts, far_parts}
 use Rattle.mount_links.specs.LinkCalls.{LinkCame, LinkView, link_view, load_call, load_shown}
@@ -21,77 +19,39 @@ use Rattle.linked_turns.specs.declared.told.LinkedTold.{LinkedTold}
 use Rattle.linked_turns.specs.Parts.{HasParts, is_even}
 use Rattle.linked_turns.proofs.StepLemmas.{own_tells}
 use Rattle.linked_turns.proofs.EndLemmas.{none_parts}
-use Rattle.linked_threads.specs.Threaded.{OnBoth, both, CanRunOnBoth, calls_of, RunFrom, HaveRun, Shows}
+use Rattle.linked_turns.proofs.TurnLemmas.{parts_as}
+use Rattle.script_runs.specs.Passes.{calls_needed, calls_of}
+use Rattle.script_runs.proofs.PassLemmas.{called_by, one_from, one_noted, one_section, others_none, shows_same}
+use Rattle.linked_threads.specs.Threaded.{OnBoth, both, CanRunOnBoth, HaveRun}
 
 -- ---- calls of one caller alone
 
-others_none : (who c : ℕ) (xs : PlacedCalls) → by who xs ≡ xs → c ≢ who → by c xs ≡ []
-others_none who c xs own differ = ap (by c) (sym own) ∙ by-by_other c who xs differ
-
-one_section : (sections : List Section) (section : Section) → length sections ≡ 1 → slice_get sections 0 ≡ Some section → sections ≡ section ∷ []
-one_section [] section one here = absurd (omega (arith, one))
-one_section (x ∷ []) section one here = ap (λ (s : Section). s ∷ []) (cc here)
-one_section (x ∷ y ∷ more) section one here = absurd (omega (arith, one))
-
-one_from : (seed : List ℕ) (who : ℕ) (section : Section) (xs : PlacedCalls) → by who xs ≡ xs → IsRunOfSection seed who section xs
-    → RunFrom seed who (section ∷ []) xs
-one_from seed who section xs own ran = record {
-  each = each;
-  none = λ c below. others_none who c xs own (λ same. omega (arith, same, below));
-}
-  where
-    each : (i : ℕ) → IsRunOfCaller seed (who + i) (slice_get (section ∷ []) i) (by (who + i) xs)
-    each zero = let same : who ≡ who + 0 = omega arith in
-        subst (λ (w : ℕ). IsRunOfSection seed w section (by w xs)) same (subst (IsRunOfSection seed who section) (sym own) ran)
-    each (suc i) = others_none who (who + suc i) xs own (λ same. omega (arith, same))
-
--- the same calls have the same parts
-pub same_parts : (b : Bool) (steps : List LinkStep) (made even odd made' even' odd' : PlacedCalls) → made ≡ made' → even ≡ even' → odd ≡ odd'
-    → HasParts b steps made even odd → HasParts b steps made' even' odd'
-same_parts b steps made even odd made' even' odd' one two three parts =
-    subst (λ l. HasParts b steps l even' odd') one
-    (subst (λ l. HasParts b steps made l odd') two
-    (subst (λ l. HasParts b steps made even l) three parts))
+-- where each command may make twice as many calls, all may
+pub twice_needed : (most : ℕ) (sections : List Section) → 2 * calls_needed most sections ≡ calls_needed (2 * most) sections
+twice_needed most [] = refl
+twice_needed most (section ∷ more) =
+    let rest = twice_needed most more in
+    let one : calls_needed most (section ∷ more) ≡ most * length section.commands + calls_needed most more = sum_by-cons _ section more in
+    let two : calls_needed (2 * most) (section ∷ more) ≡ 2 * most * length section.commands + calls_needed (2 * most) more = sum_by-cons _ section more in
+    let flat : 2 * most * length section.commands ≡ 2 * (most * length section.commands) = mul_assoc 2 most (length section.commands) in
+    omega (arith, rest, one, two, flat)
 
 -- the parts of one caller's calls are those of each caller
-only_of : (who : ℕ) (steps : List LinkStep) (made even odd : PlacedCalls) → by who made ≡ made → by who even ≡ even → by who odd ≡ odd
-    → HasParts (is_even who) steps made even odd
+only_of : (who : ℕ) (steps : List LinkStep) (made even odd : PlacedCalls) → by who made ≡ made → by who even ≡ even
+    → by who odd ≡ odd → HasParts (is_even who) steps made even odd
     → (c : ℕ) → (s : List LinkStep) × HasParts (is_even c) s (by c made) (by c even) (by c odd)
 only_of who steps made even odd own own_even own_odd parts c = ⊎_elim
     (λ same. (
       steps,
       subst (λ w. HasParts (is_even w) steps (by w made) (by w even) (by w odd)) (sym same)
-          (same_parts (is_even who) steps made even odd (by who made) (by who even) (by who odd) (sym own) (sym own_even) (sym own_odd) parts),
+          (parts_as (is_even who) steps steps _ _ _ _ _ _ refl (sym own) (sym own_even) (sym own_odd) parts),
     ))
     (λ differ. (
       [],
-      same_parts (is_even c) [] [] [] [] (by c made) (by c even) (by c odd) (sym (others_none who c made own differ))
+      parts_as (is_even c) [] [] _ _ _ _ _ _ refl (sym (others_none who c made own differ))
           (sym (others_none who c even own_even differ)) (sym (others_none who c odd own_odd differ)) (none_parts (is_even c)),
     ))
     (cases_eq c who)
-
--- what a pass has that made its first calls
-record Called (old new : MountPass) (calls : PlacedCalls) : Type 0 where
-  all : calls_of new ≡ calls
-  own : by old.who calls ≡ calls
-
-called_by : (lawful : History → Type 0) (old new : MountPass) (calls : PlacedCalls) → old.past ≡ [] → old.mine ≡ [] → PassCame lawful old calls new
-    → by new.who new.mine ≡ new.mine → Called old new calls
-called_by lawful old new calls no_past no_own came own =
-    let mine : new.mine ≡ calls = came.made ∙ ap (λ (l : PlacedCalls). l ++ calls) no_own in
-    let past : new.past ≡ [] = came.same_past ∙ no_past in
-    record {
-      all = ap₂ (λ (a b : PlacedCalls). a ++ b) past mine;
-      own = subst (λ (w : ℕ). by w calls ≡ calls) came.same_caller (subst (λ (xs : PlacedCalls). by new.who xs ≡ xs) mine own);
-    }
-
-one_noted : (seed : List ℕ) (who : ℕ) (section : Section) (made : PlacedCalls) (notes : List Note) → by who made ≡ made
-    → notes ≡ notes_of_section seed who section made → notes ≡ notes_by seed who (section ∷ []) made
-one_noted seed who section made notes own are =
-    are ∙ ap (notes_of_section seed who section) (sym own) ∙ sym (append-nil (notes_of_section seed who section (by who made)))
-
-shows_same : (told : PlacedShown) (placed calls : PlacedCalls) → told ≡ shown_calls placed → calls ≡ placed → Shows told calls
-shows_same told placed calls is all c = ap (by c) is ∙ by-shown c placed ∙ ap (λ (l : PlacedCalls). shown_calls (by c l)) (sym all)
 
 -- ---- a caller with an even number
 
@@ -107,7 +67,7 @@ module _ (lawful : History → Type 0) (seed : List ℕ) (shared : OnBoth Shared
       subst (λ (s : List Section). HaveRun seed (both even odd) s (both new odd) told) (sym (one_section sections section one here))
       (record {
         made = placed;
-        even_as_before = record { same_table = came.same_table; same_caller = came.same_caller; same_high = came.same_high };
+        even_as_before = called.as_before;
         odd_as_before = record { same_table = refl; same_caller = refl; same_high = refl };
         called = record {
           run = one_from seed even.who section placed called.own ran;
@@ -140,8 +100,8 @@ module _ (lawful : History → Type 0) (seed : List ℕ) (shared : OnBoth Shared
       subst (λ (s : List Section). HaveRun seed (both even odd) s (both even' odd') told) (sym (one_section sections section one here))
       (record {
         made = placed;
-        even_as_before = record { same_table = on_even.same_table; same_caller = on_even.same_caller; same_high = on_even.same_high };
-        odd_as_before = record { same_table = on_odd.same_table; same_caller = on_odd.same_caller; same_high = on_odd.same_high };
+        even_as_before = evens.as_before;
+        odd_as_before = odds.as_before;
         called = record {
           run = one_from seed even.who section placed own ran;
           parts = only_of even.who came.steps placed (calls_of even') (calls_of odd') own

@@ -8,5 +8,4 @@ mod one;
 mod threads;
 mod told;
 
-pub use mounts::Mounts;
 pub use threads::run_linked_in_threads;

@@ -1,17 +1,10 @@
 //! The two mounts, while callers share them.
 
 use mount_shared::MountMachine;
+use script_lang::Section;
 use turn_lock::{Pass, Shared};
 
-/// The machines of mount 0, on which callers with an even number work, and of mount 1, on which the others
-/// do.
-#[derive(Drop)]
-pub struct Mounts<M: MountMachine> {
-    pub even: M,
-    pub odd: M,
-}
-
-// Both machines, each behind a turn of its own.
+// The machines of both mounts, each behind a turn of its own.
 #[derive(Drop)]
 pub(crate) struct SharedMounts<M: MountMachine> {
     pub(crate) even: Shared<M>,
@@ -23,4 +16,11 @@ pub(crate) struct SharedMounts<M: MountMachine> {
 pub(crate) struct Passes<M: MountMachine> {
     pub(crate) even: Pass<M>,
     pub(crate) odd: Pass<M>,
+}
+
+// Callers before their first calls: their passes, and a section for each of them.
+#[derive(Drop)]
+pub(crate) struct Callers<'a, M: MountMachine> {
+    pub(crate) passes: Passes<M>,
+    pub(crate) sections: &'a [Section],
 }

@@ -4,8 +4,7 @@ ghost use Rattle.std.specs.Prelude.{◌≡◌, true, false, length, IfOk};
 ghost use Rattle.linked_turns.specs.Parts.{is_even};
 ghost use Rattle.linked_threads.specs.Threaded.{CanRunOnBoth, HaveRun, both};
 
-use crate::cut::calls_needed;
-use crate::mounts::{Passes, SharedMounts};
+use crate::mounts::{Callers, Passes, SharedMounts};
 use argon_kdf::Stretch;
 use fsc_commands::MOST_CALLS;
 use fsc_outside::Gate;
@@ -13,32 +12,32 @@ use fsc_session::run_caller;
 use linked_turns::LinkedTold;
 use mount_links::{LinkPort, split};
 use mount_shared::{MountMachine, SharedPort};
-use script_lang::Section;
+use script_runs::calls_needed;
 use std::alloc::{AllocError, Global};
 use std::sync::Wait;
 
-// Runs the section of the passes' one caller.
+// Runs the section of the one caller.
 pub(crate) fn run_one<R: Wait, G: Gate, S: Stretch, M: MountMachine>(
     rt: &R,
     alloc: Global,
     shared: &SharedMounts<M>,
     gate: &G,
     stretches: &S,
-    passes: Passes<M>,
-    sections: &[Section],
+    callers: Callers<M>,
     seed: &[u8; 32],
 ) -> Result<(Passes<M>, LinkedTold), AllocError>
     requires ready { S.ready stretches.now }
-    requires can_run { CanRunOnBoth (both shared.now.even shared.now.odd) (both passes.even passes.odd)
-        sections.now }
-    requires one { length sections.now ≡ 1 }
-    ensures { IfOk result (λ ran. HaveRun seed.now (both passes.even passes.odd) sections.now
+    requires can_run { CanRunOnBoth (both shared.now.even shared.now.odd)
+        (both callers.passes.even callers.passes.odd) callers.sections.now }
+    requires one { length callers.sections.now ≡ 1 }
+    ensures { IfOk result (λ ran. HaveRun seed.now
+        (both callers.entry.passes.even callers.entry.passes.odd) callers.entry.sections.now
         (both ran.0.even ran.0.odd) ran.1) }
 {
-    if passes.even.who() % 2 == 0 {
-        run_on_mount_0(rt, alloc, shared, gate, stretches, passes, sections, seed)
+    if callers.passes.even.who() % 2 == 0 {
+        run_on_mount_0(rt, alloc, shared, gate, stretches, callers, seed)
     } else {
-        run_on_both(rt, alloc, shared, gate, stretches, passes, sections, seed)
+        run_on_both(rt, alloc, shared, gate, stretches, callers, seed)
     }
 }
 
@@ -49,18 +48,19 @@ fn run_on_mount_0<R: Wait, G: Gate, S: Stretch, M: MountMachine>(
     shared: &SharedMounts<M>,
     gate: &G,
     stretches: &S,
-    passes: Passes<M>,
-    sections: &[Section],
+    callers: Callers<M>,
     seed: &[u8; 32],
 ) -> Result<(Passes<M>, LinkedTold), AllocError>
     requires ready { S.ready stretches.now }
-    requires can_run { CanRunOnBoth (both shared.now.even shared.now.odd) (both passes.even passes.odd)
-        sections.now }
-    requires one { length sections.now ≡ 1 }
-    requires even { is_even passes.even.who ≡ true }
-    ensures { IfOk result (λ ran. HaveRun seed.now (both passes.even passes.odd) sections.now
+    requires can_run { CanRunOnBoth (both shared.now.even shared.now.odd)
+        (both callers.passes.even callers.passes.odd) callers.sections.now }
+    requires one { length callers.sections.now ≡ 1 }
+    requires even { is_even callers.passes.even.who ≡ true }
+    ensures { IfOk result (λ ran. HaveRun seed.now
+        (both callers.entry.passes.even callers.entry.passes.odd) callers.entry.sections.now
         (both ran.0.even ran.0.odd) ran.1) }
 {
+    let Callers { passes, sections } = callers;
     let Passes { even, odd } = passes;
     let mut port = SharedPort::new(rt, &shared.even, even);
     let ran = run_caller(alloc, &mut port, gate, stretches, &sections[0], seed)?;
@@ -82,21 +82,22 @@ fn run_on_both<R: Wait, G: Gate, S: Stretch, M: MountMachine>(
     shared: &SharedMounts<M>,
     gate: &G,
     stretches: &S,
-    passes: Passes<M>,
-    sections: &[Section],
+    callers: Callers<M>,
     seed: &[u8; 32],
 ) -> Result<(Passes<M>, LinkedTold), AllocError>
     requires ready { S.ready stretches.now }
-    requires can_run { CanRunOnBoth (both shared.now.even shared.now.odd) (both passes.even passes.odd)
-        sections.now }
-    requires one { length sections.now ≡ 1 }
-    requires odd { is_even passes.even.who ≡ false }
-    ensures { IfOk result (λ ran. HaveRun seed.now (both passes.even passes.odd) sections.now
+    requires can_run { CanRunOnBoth (both shared.now.even shared.now.odd)
+        (both callers.passes.even callers.passes.odd) callers.sections.now }
+    requires one { length callers.sections.now ≡ 1 }
+    requires odd { is_even callers.passes.even.who ≡ false }
+    ensures { IfOk result (λ ran. HaveRun seed.now
+        (both callers.entry.passes.even callers.entry.passes.odd) callers.entry.sections.now
         (both ran.0.even ran.0.odd) ran.1) }
 {
-    let Some(calls) = calls_needed(sections, MOST_CALLS) else {
+    let Some(calls) = calls_needed(callers.sections, MOST_CALLS) else {
         return Err(AllocError);
     };
+    let Callers { passes, sections } = callers;
     let Passes { even, odd } = passes;
     let own = SharedPort::new(rt, &shared.odd, odd);
     let far = SharedPort::new(rt, &shared.even, even);

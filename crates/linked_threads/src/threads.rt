@@ -6,17 +6,18 @@ ghost use Rattle.script_lang.specs.Spelled.{IsSpelled};
 ghost use Rattle.linked_threads.specs.LinkedThreads.{TellsLinkedCalls};
 ghost use Rattle.linked_threads.specs.Threaded.{CanRunOnBoth, HaveRun, both};
 
-use crate::cut::{calls_needed, end, halve};
-use crate::mounts::{Mounts, Passes, SharedMounts};
+use crate::cut::halve;
+use crate::mounts::{Callers, Passes, SharedMounts};
 use crate::one::run_one;
 use crate::told::{append, nothing};
 use argon_kdf::Stretch;
 use call_history::sort_by_place;
 use fsc_commands::MOST_CALLS;
 use fsc_outside::Gate;
-use linked_turns::LinkedTold;
+use linked_turns::{LinkedTold, Mounts};
 use mount_shared::MountMachine;
-use script_lang::{Script, Section};
+use script_lang::Script;
+use script_runs::{calls_needed, end};
 use std::alloc::{AllocError, Global};
 use std::sync::Wait;
 use std::thread::{Threads, join};
@@ -67,7 +68,8 @@ pub fn run_linked_in_threads<
         even: even_pass,
         odd: odd_pass,
     };
-    let (passes, mut told) = run_all(rt, alloc, &shared, gate, stretches, passes, sections, seed)?;
+    let callers = Callers { passes, sections };
+    let (passes, mut told) = run_all(rt, alloc, &shared, gate, stretches, callers, seed)?;
     end(shared.even, passes.even);
     end(shared.odd, passes.odd);
     sort_by_place(&mut told.even)?;
@@ -85,46 +87,50 @@ fn run_nobody<M: MountMachine>(alloc: Global, mounts: Mounts<M>) -> LinkedTold
     nothing(alloc)
 }
 
-// Runs the section of each of the passes' callers in a thread of its own. It answers when all have ended.
+// Runs the section of each of the callers in a thread of its own. It answers when all have ended.
 fn run_all<R: Threads + Wait + Sync, G: Gate + Sync, S: Stretch + Sync, M: MountMachine + Send>(
     rt: &R,
     alloc: Global,
     shared: &SharedMounts<M>,
     gate: &G,
     stretches: &S,
-    mut passes: Passes<M>,
-    sections: &[Section],
+    callers: Callers<M>,
     seed: &[u8; 32],
 ) -> Result<(Passes<M>, LinkedTold), AllocError>
     requires ready { S.ready stretches.now }
-    requires can_run { CanRunOnBoth (both shared.now.even shared.now.odd) (both passes.even passes.odd)
-        sections.now }
-    ensures { IfOk result (λ ran. HaveRun seed.now (both passes.even passes.odd) sections.now
+    requires can_run { CanRunOnBoth (both shared.now.even shared.now.odd)
+        (both callers.passes.even callers.passes.odd) callers.sections.now }
+    ensures { IfOk result (λ ran. HaveRun seed.now
+        (both callers.entry.passes.even callers.entry.passes.odd) callers.entry.sections.now
         (both ran.0.even ran.0.odd) ran.1) }
 {
-    if sections.len() == 1 {
-        return run_one(rt, alloc, shared, gate, stretches, passes, sections, seed);
+    if callers.sections.len() == 1 {
+        return run_one(rt, alloc, shared, gate, stretches, callers, seed);
     }
-    let (first, others, upper) = halve(shared, &mut passes, sections)?;
+    let (lower, upper) = halve(shared, callers)?;
     let (one, two) = join(
         rt,
         || -> Result<(Passes<M>, LinkedTold), AllocError>
             requires { IsSync R.row × IsSync G.row × IsSync S.row × S.ready stretches.now
-                × CanRunOnBoth (both shared.now.even shared.now.odd) (both passes.even passes.odd) first.now }
-            ensures { IfOk result (λ ran. HaveRun seed.entry.now (both passes.even passes.odd)
-                first.entry.now (both ran.0.even ran.0.odd) ran.1) }
-        { run_all(rt, alloc, shared, gate, stretches, passes, first, seed) },
+                × CanRunOnBoth (both shared.now.even shared.now.odd)
+                (both lower.passes.even lower.passes.odd) lower.sections.now }
+            ensures { IfOk result (λ ran. HaveRun seed.entry.now
+                (both lower.entry.passes.even lower.entry.passes.odd) lower.entry.sections.now
+                (both ran.0.even ran.0.odd) ran.1) }
+        { run_all(rt, alloc, shared, gate, stretches, lower, seed) },
         || -> Result<(Passes<M>, LinkedTold), AllocError>
             requires { IsSync R.row × IsSync G.row × IsSync S.row × S.ready stretches.now
-                × CanRunOnBoth (both shared.now.even shared.now.odd) (both upper.even upper.odd) others.now }
-            ensures { IfOk result (λ ran. HaveRun seed.entry.now (both upper.even upper.odd)
-                others.entry.now (both ran.0.even ran.0.odd) ran.1) }
-        { run_all(rt, alloc, shared, gate, stretches, upper, others, seed) },
+                × CanRunOnBoth (both shared.now.even shared.now.odd)
+                (both upper.passes.even upper.passes.odd) upper.sections.now }
+            ensures { IfOk result (λ ran. HaveRun seed.entry.now
+                (both upper.entry.passes.even upper.entry.passes.odd) upper.entry.sections.now
+                (both ran.0.even ran.0.odd) ran.1) }
+        { run_all(rt, alloc, shared, gate, stretches, upper, seed) },
     );
     let (mut passes, mut told) = one?;
-    let (upper, more) = two?;
-    shared.even.join(&mut passes.even, upper.even);
-    shared.odd.join(&mut passes.odd, upper.odd);
+    let (others, more) = two?;
+    shared.even.join(&mut passes.even, others.even);
+    shared.odd.join(&mut passes.odd, others.odd);
     append(&mut told, more)?;
     Ok((passes, told))
 }

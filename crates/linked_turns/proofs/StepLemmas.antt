@@ -2,7 +2,6 @@
 use Rattle.std.proofs.Common.{◌≡◌, ℕ, ◌≤◌, Bool, true, false, List, [], ◌∷◌, ◌++◌, length, refl, ap, sym, ◌∙◌, subst, ⊎_elim, arith, append-nil}
 use Rattle.std.proofs.lemmas.Bool.{cases_eq}
 use Rattle.call_history.specs.Entries.{by}
-use Rattle.call_history.specs.Placed.{entries_of}
 use Rattle.call_history.proofs.Placing.{by-cons_own, by-cons_other}
 use Rattle.mount_model.specs.History.{History, MountEntry}
 use Rattle.mount_model.specs.Port.{PlacedCalls}
@@ -14,7 +13,9 @@ use Rattle.mount_links.specs.Linked.{own_part, own_parts, far_part, far_parts}
 use Rattle.mount_links.specs.LinkCalls.{AreSteps, LinkCame, LinkView, link_view, load_call}
 use Rattle.linked_turns.specs.declared.runners.LinkedRunner.{LinkedRunner}
 use Rattle.linked_turns.specs.Parts.{AreLinked, HasParts, IsLinkedStep, is_even, part_0, part_1, parts_0, parts_1}
-use Rattle.linked_turns.specs.Turns.{At, at, Goes, TurnMade}
+use Rattle.script_runs.specs.Turns.{At, Goes, at}
+use Rattle.script_runs.proofs.RoundLemmas.{goes_by, taken_by}
+use Rattle.linked_turns.specs.Turns.{TurnMade}
 
 -- ---- whose calls these are
 
@@ -93,16 +94,6 @@ of_odd c (step ∷ steps) (x ∷ xs) odd own are =
 -- ---- what they make of the mounts
 
 module _ {M : Type 0} (leads : History → M → Type 0) where
-  goes_by : (caller left : ℕ) (machine : M) (places : ℕ) (made : PlacedCalls) (port : SerialView M) (machine' : M) (places' : ℕ)
-      → machine' ≡ port.machine → places' ≡ port.places → SerialCame leads (serial_view machine places caller left) made port
-      → Goes leads caller (at machine places) made (at machine' places')
-  goes_by caller left machine places made port machine' places' one two came = record {
-    placed = came.placed;
-    given = two ∙ came.next;
-    own = came.own;
-    led = λ history so. subst (λ m. leads (history ++ entries_of made) m) (sym one) (came.led history so);
-  }
-
   goes_nowhere : (caller : ℕ) (mount : At M) → Goes leads caller mount [] mount
   goes_nowhere caller mount = record {
     placed = refl;
@@ -117,11 +108,11 @@ module _ {M : Type 0} (leads : History → M → Type 0) where
       → Stepped (SerialCame leads port) port' left' before_left seed more old.runner new.runner
       → TurnMade leads seed (at machine places) odd old (at machine' places') odd new
   even_turn seed machine places left odd old new port port' machine' places' left' before_left more even is one two kept stepped =
-      let goes = goes_by old.runner.caller left machine places stepped.made port' machine' places' one two
+      let goes = goes_by leads old.runner.caller left (at machine places) stepped.made port' (at machine' places') one two
       (subst (λ p. SerialCame leads p stepped.made port') is stepped.came_by) in
       let all = of_even old.runner.caller stepped.made even goes.own in
       record {
-        more = more;
+        taken = taken_by (SerialCame leads port) port' left' before_left seed more old.runner new.runner stepped goes.own;
         all = alone stepped.made;
         linked = all.linked;
         even_is = all.even_is;
@@ -132,14 +123,8 @@ module _ {M : Type 0} (leads : History → M → Type 0) where
         steps = [];
         even_goes = goes;
         odd_goes = goes_nowhere old.runner.caller odd;
-        own = goes.own;
         kept = kept ∙ sym (append-nil old.steps.items);
         parts = subst (λ b. HasParts b [] stepped.made stepped.made []) (sym even) (refl, refl);
-        grown = stepped.grown;
-        caller = stepped.caller;
-        section = stepped.section;
-        step = stepped.step;
-        run = stepped.run;
       }
 
   pub odd_turn : (seed : List ℕ) (even odd : At M) (own_left far_left left : ℕ) (old new : LinkedRunner)
@@ -152,11 +137,13 @@ module _ {M : Type 0} (leads : History → M → Type 0) where
       → TurnMade leads seed even odd old even' odd' new
   odd_turn seed even odd own_left far_left left old new port port' even' odd' left' before_left more is_odd is one two three four kept stepped =
       let came = subst (λ p. LinkCame (SerialCame leads) (SerialCame leads) p stepped.made port') is stepped.came_by in
-      let own_goes = goes_by old.runner.caller own_left odd.machine odd.places (own_parts load_call came.steps stepped.made) port'.own odd'.machine odd'.places one two came.on_own in
+      let own_goes = goes_by leads old.runner.caller own_left odd (own_parts load_call came.steps stepped.made) port'.own odd'
+      one two came.on_own in
       let own = own_tells old.runner.caller came.steps stepped.made came.are_steps own_goes.own in
       let all = of_odd old.runner.caller came.steps stepped.made is_odd own came.are_steps in
       record {
-        more = more;
+        taken = taken_by (LinkCame (SerialCame leads) (SerialCame leads) port) port' left' before_left seed more
+            old.runner new.runner stepped own;
         all = came.steps;
         linked = all.linked;
         even_is = all.even_is;
@@ -165,14 +152,9 @@ module _ {M : Type 0} (leads : History → M → Type 0) where
         even = far_parts came.steps stepped.made;
         odd = own_parts load_call came.steps stepped.made;
         steps = came.steps;
-        even_goes = goes_by old.runner.caller far_left even.machine even.places (far_parts came.steps stepped.made) port'.far even'.machine even'.places three four came.on_far;
+        even_goes = goes_by leads old.runner.caller far_left even (far_parts came.steps stepped.made) port'.far even'
+            three four came.on_far;
         odd_goes = own_goes;
-        own = own;
         kept = kept ∙ ap (λ (l : List LinkStep). old.steps.items ++ l) came.kept;
         parts = subst (λ b. HasParts b came.steps stepped.made (far_parts came.steps stepped.made) (own_parts load_call came.steps stepped.made)) (sym is_odd) (came.are_steps, refl, refl);
-        grown = stepped.grown;
-        caller = stepped.caller;
-        section = stepped.section;
-        step = stepped.step;
-        run = stepped.run;
       }

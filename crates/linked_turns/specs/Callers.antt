@@ -1,14 +1,17 @@
 -- Callers before their first commands, and what they are told in the end.
-use Rattle.std.specs.Prelude.{ℕ, ◌+◌, Bool, true, false, List, [], ◌∷◌, ◌++◌}
+use Rattle.std.specs.Prelude.{ℕ, ◌+◌, Bool, true, false, List, [], ◌∷◌, map}
 use Rattle.script_lang.specs.declared.commands.Section.{Section}
 use Rattle.reply_text.specs.Shown.{PlacedShown}
-use Rattle.reply_text.specs.declared.notes.Note.{Note}
 use Rattle.fsc_session.specs.Running.{RunnerView, runner_view}
 use Rattle.mount_links.specs.declared.step.LinkStep.{LinkStep}
 use Rattle.mount_links.specs.Linked.{own_parts, far_parts}
 use Rattle.mount_links.specs.LinkCalls.{load_shown}
 use Rattle.linked_turns.specs.declared.runners.LinkedRunner.{LinkedRunner}
 use Rattle.linked_turns.specs.Parts.{is_even}
+
+-- the runners of these callers
+abbrev pub runners_of : List LinkedRunner → List RunnerView
+runners_of callers = map (λ caller. caller.runner) callers
 
 -- a runner, and what became of its calls
 pub record LinkedView : Type 0 where
@@ -42,13 +45,3 @@ odd_part false caller = own_parts load_shown caller.steps.items caller.runner.en
 
 abbrev pub odd_shown : LinkedRunner → PlacedShown
 odd_shown caller = odd_part (is_even caller.runner.caller) caller
-
--- what is shown of all callers' calls, caller after caller
-abbrev pub shown_by : (LinkedRunner → PlacedShown) → List LinkedRunner → PlacedShown
-shown_by shown [] = []
-shown_by shown (caller ∷ more) = shown caller ++ shown_by shown more
-
--- and their notes
-abbrev pub noted_by : List LinkedRunner → List Note
-noted_by [] = []
-noted_by (caller ∷ more) = caller.runner.notes ++ noted_by more

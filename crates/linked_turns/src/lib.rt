@@ -9,12 +9,7 @@ mod runners;
 mod told;
 mod turn;
 
-use call_history::Entry;
 pub use log::linked_log;
-use mount_model::Reply;
-use reply_text::Shown;
+pub use mounts::Mounts;
 pub use rotation::run_linked_in_rotation;
 pub use told::LinkedTold;
-
-// What is shown of entries, with their places.
-pub(crate) type PlacedVec = Vec<(u64, Entry<Shown, Reply>)>;

@@ -1,15 +1,13 @@
 //! The text of a run on two mounts.
 
-ghost use Rattle.std.specs.Prelude.{◌≡◌, ◌++◌, IfOk, map};
+ghost use Rattle.std.specs.Prelude.{◌≡◌, IfOk};
 ghost use Rattle.call_history.specs.Placed.{entries_of};
 ghost use Rattle.linked_turns.specs.LinkedText.{linked_text};
 
-use crate::PlacedVec;
 use crate::told::LinkedTold;
-use call_history::Entry;
 use item_list::Bytes;
-use mount_model::Reply;
-use reply_text::{Shown, write_log, write_notes};
+use reply_text::{write_log, write_notes};
+use script_runs::history_of;
 use std::alloc::{AllocError, Global};
 
 /// The text of a run on two mounts: the line `mount 0` and the log of mount 0, the line `mount 1` and the log of
@@ -26,15 +24,4 @@ pub fn linked_log(alloc: Global, told: LinkedTold) -> Result<Bytes, AllocError>
     text.append(&mut write_log(alloc, odd.as_slice())?.into_vec())?;
     text.append(&mut write_notes(alloc, told.notes.as_slice())?.into_vec())?;
     Ok(Bytes::from_vec(text))
-}
-
-// The entries without their places.
-fn history_of(alloc: Global, entries: PlacedVec) -> Result<Vec<Entry<Shown, Reply>>, AllocError>
-    ensures { IfOk result (λ history. history.items ≡ entries_of entries.items) }
-{
-    let mut history = Vec::new(alloc);
-    'entries: for (_, entry) in entries {
-        history.push(entry)?;
-    }
-    Ok(history)
 }

@@ -3,11 +3,12 @@
 ghost use Rattle.std.specs.Prelude.{◌≡◌, ℕ, [], length, map, IfOk, OnOk};
 ghost use Rattle.script_lang.specs.Spelled.{IsSpelled};
 ghost use Rattle.fsc_commands.specs.Steps.Steps.{Done};
-ghost use Rattle.fsc_session.specs.Rotation.{longest, rounds_steps};
+ghost use Rattle.fsc_session.specs.Rotation.{rounds_steps};
 ghost use Rattle.linked_turns.specs.LinkedRuns.{TellsLinkedRun};
-ghost use Rattle.linked_turns.specs.Turns.{Rotating, at, sections_of, states_of};
+ghost use Rattle.script_runs.specs.Turns.{at};
+ghost use Rattle.linked_turns.specs.Turns.{Rotating, sections_of, states_of};
 
-use crate::mounts::Mounts;
+use crate::mounts::{Mounts, SerialMounts};
 use crate::runners::{LinkedRunner, fresh_runners};
 use crate::told::{LinkedTold, told_by};
 use crate::turn::take_turn;
@@ -16,35 +17,34 @@ use call_history::sort_by_place;
 use fsc_outside::Gate;
 use fsc_session::scrub_stack;
 use mount_shared::{MountMachine, SerialMount};
-use script_lang::{Script, Section};
+use script_lang::Script;
+use script_runs::longest;
 use std::alloc::{AllocError, Global};
 
 /// What a run of the script in rotation tells on two mounts, the entries of each in order of place: command 0
-/// of each caller that has one, then command 1, and so on, each between the gate's two calls. The first machine
-/// is mount 0, on which callers with an even number work; the second is mount 1, on which the others do, whose
-/// calls for protectors that are links there go to mount 0. Both stand before any call. The one error is want
-/// of memory.
+/// of each caller that has one, then command 1, and so on, each between the gate's two calls. Callers with an
+/// even number work on mount 0, the others on mount 1, whose calls for protectors that are links there go to
+/// mount 0. Both machines stand before any call. The one error is want of memory.
 pub fn run_linked_in_rotation<G: Gate, S: Stretch, M: MountMachine>(
     alloc: Global,
     script: &Script,
     seed: &[u8; 32],
     gate: &G,
     stretches: &S,
-    even: M,
-    odd: M,
+    mounts: Mounts<M>,
 ) -> Result<LinkedTold, AllocError>
     requires spelled { IsSpelled script.now }
     requires ready { S.ready stretches.now }
-    requires leads_even { M.leads [] even }
-    requires leads_odd { M.leads [] odd }
+    requires leads_even { M.leads [] mounts.even }
+    requires leads_odd { M.leads [] mounts.odd }
     ensures { IfOk result (λ told. TellsLinkedRun M.lawful seed.now script.now
         told.even.items told.odd.items told.notes.items) }
 {
     let sections = script.as_slice();
     let runners = fresh_runners(alloc, sections)?;
-    let mounts = Mounts {
-        even: SerialMount::new(even),
-        odd: SerialMount::new(odd),
+    let mounts = SerialMounts {
+        even: SerialMount::new(mounts.even),
+        odd: SerialMount::new(mounts.odd),
     };
     let (_mounts, runners) = run_all(
         alloc,
@@ -62,25 +62,16 @@ pub fn run_linked_in_rotation<G: Gate, S: Stretch, M: MountMachine>(
     Ok(told)
 }
 
-// The number of commands of the longest section.
-fn longest(sections: &[Section]) -> usize
-    ensures { result ≡ longest sections.now }
-{
-    sections
-        .iter()
-        .fold(0, |most, section| most.max(section.commands.len()))
-}
-
 // The callers take so many rounds of turns.
 fn run_all<'a, G: Gate, S: Stretch, M: MountMachine>(
     alloc: Global,
-    mounts: Mounts<M>,
+    mounts: SerialMounts<M>,
     mut runners: Vec<LinkedRunner<'a>>,
     rounds: usize,
     seed: &[u8; 32],
     gate: &G,
     stretches: &S,
-) -> Result<(Mounts<M>, Vec<LinkedRunner<'a>>), AllocError>
+) -> Result<(SerialMounts<M>, Vec<LinkedRunner<'a>>), AllocError>
     requires ready { S.ready stretches.now }
     requires begins { Rotating M.leads seed.now (sections_of runners.items)
         (rounds_steps seed.now rounds 0 (states_of runners.items))
@@ -108,13 +99,13 @@ fn run_all<'a, G: Gate, S: Stretch, M: MountMachine>(
 // The same, on a slice.
 fn run_rounds<G: Gate, S: Stretch, M: MountMachine>(
     alloc: Global,
-    mounts: Mounts<M>,
+    mounts: SerialMounts<M>,
     runners: &mut [LinkedRunner],
     rounds: usize,
     seed: &[u8; 32],
     gate: &G,
     stretches: &S,
-) -> Result<Mounts<M>, AllocError>
+) -> Result<SerialMounts<M>, AllocError>
     requires ready { S.ready stretches.now }
     requires begins { Rotating M.leads seed.now (sections_of runners.old)
         (rounds_steps seed.now rounds 0 (states_of runners.old))

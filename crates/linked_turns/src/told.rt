@@ -1,12 +1,13 @@
 //! What the callers of a run on two mounts were told.
 
 ghost use Rattle.std.specs.Prelude.{◌≡◌, ◌++◌, IfOk, OnOk};
-ghost use Rattle.linked_turns.specs.Callers as spec;
+ghost use Rattle.script_runs.specs.Callers.{noted_by, shown_by};
+ghost use Rattle.linked_turns.specs.Callers.{even_shown, odd_shown, runners_of};
 
-use crate::PlacedVec;
 use crate::runners::LinkedRunner;
 use mount_links::split;
 use reply_text::Note;
+use script_runs::PlacedVec;
 use std::alloc::{AllocError, Global};
 
 /// What is shown of the entries of both mounts, and how the callers' session commands ended.
@@ -19,9 +20,9 @@ pub struct LinkedTold {
 
 // All that the callers were told, caller after caller.
 pub(crate) fn told_by(alloc: Global, runners: Vec<LinkedRunner>) -> Result<LinkedTold, AllocError>
-    ensures even { IfOk result (λ told. told.even.items ≡ spec.shown_by spec.even_shown runners.entry.items) }
-    ensures odd { IfOk result (λ told. told.odd.items ≡ spec.shown_by spec.odd_shown runners.entry.items) }
-    ensures notes { IfOk result (λ told. told.notes.items ≡ spec.noted_by runners.entry.items) }
+    ensures even { IfOk result (λ told. told.even.items ≡ shown_by even_shown runners.entry.items) }
+    ensures odd { IfOk result (λ told. told.odd.items ≡ shown_by odd_shown runners.entry.items) }
+    ensures notes { IfOk result (λ told. told.notes.items ≡ noted_by (runners_of runners.entry.items)) }
 {
     let mut told = LinkedTold {
         even: Vec::new(alloc),
@@ -36,8 +37,8 @@ pub(crate) fn told_by(alloc: Global, runners: Vec<LinkedRunner>) -> Result<Linke
 
 // Puts what a caller was told behind that.
 fn put_told(alloc: Global, told: &mut LinkedTold, caller: LinkedRunner) -> Result<(), AllocError>
-    ensures even { OnOk result (told.new.even.items ≡ told.old.even.items ++ spec.even_shown caller.entry) }
-    ensures odd { OnOk result (told.new.odd.items ≡ told.old.odd.items ++ spec.odd_shown caller.entry) }
+    ensures even { OnOk result (told.new.even.items ≡ told.old.even.items ++ even_shown caller.entry) }
+    ensures odd { OnOk result (told.new.odd.items ≡ told.old.odd.items ++ odd_shown caller.entry) }
     ensures notes { OnOk result (told.new.notes.items ≡ told.old.notes.items ++ caller.entry.runner.notes) }
 {
     let is_even = caller.runner.caller() % 2 == 0;

@@ -2,10 +2,11 @@
 
 ghost use Rattle.std.specs.Prelude.{◌≡◌, true, false, IfOk};
 ghost use Rattle.fsc_session.specs.Asking.{AsksRightly};
-ghost use Rattle.linked_turns.specs.Turns.{TurnMade, at};
+ghost use Rattle.script_runs.specs.Turns.{at};
+ghost use Rattle.linked_turns.specs.Turns.{TurnMade};
 ghost use Rattle.linked_turns.specs.Parts.{is_even};
 
-use crate::mounts::Mounts;
+use crate::mounts::SerialMounts;
 use crate::runners::LinkedRunner;
 use argon_kdf::Stretch;
 use call_history::MOST_PLACES;
@@ -18,12 +19,12 @@ use std::alloc::{AllocError, Global};
 // The caller's next command, if it has one, on ports of its own and between the gate's two calls.
 pub(crate) fn take_turn<G: Gate, S: Stretch, M: MountMachine>(
     alloc: Global,
-    mounts: Mounts<M>,
+    mounts: SerialMounts<M>,
     caller: &mut LinkedRunner,
     seed: &[u8; 32],
     gate: &G,
     stretches: &S,
-) -> Result<Mounts<M>, AllocError>
+) -> Result<SerialMounts<M>, AllocError>
     requires ready { S.ready stretches.now }
     requires asked { AsksRightly caller.old.runner.section }
     ensures { IfOk result (λ after. TurnMade M.leads seed.now
@@ -45,11 +46,11 @@ pub(crate) fn take_turn<G: Gate, S: Stretch, M: MountMachine>(
 // The caller's next command, on the mount of its number.
 fn step<S: Stretch, M: MountMachine>(
     alloc: Global,
-    mounts: Mounts<M>,
+    mounts: SerialMounts<M>,
     caller: &mut LinkedRunner,
     seed: &[u8; 32],
     stretches: &S,
-) -> Result<Mounts<M>, AllocError>
+) -> Result<SerialMounts<M>, AllocError>
     requires ready { S.ready stretches.now }
     requires asked { AsksRightly caller.old.runner.section }
     ensures { IfOk result (λ after. TurnMade M.leads seed.now
@@ -66,11 +67,11 @@ fn step<S: Stretch, M: MountMachine>(
 // The command of a caller with an even number.
 fn step_on_mount_0<S: Stretch, M: MountMachine>(
     alloc: Global,
-    mounts: Mounts<M>,
+    mounts: SerialMounts<M>,
     caller: &mut LinkedRunner,
     seed: &[u8; 32],
     stretches: &S,
-) -> Result<Mounts<M>, AllocError>
+) -> Result<SerialMounts<M>, AllocError>
     requires ready { S.ready stretches.now }
     requires asked { AsksRightly caller.old.runner.section }
     requires even { is_even caller.old.runner.caller ≡ true }
@@ -83,7 +84,7 @@ fn step_on_mount_0<S: Stretch, M: MountMachine>(
     }
     let mut port = mounts.even.port(caller.runner.caller(), MOST_CALLS);
     caller.runner.step(alloc, &mut port, stretches, seed)?;
-    Ok(Mounts {
+    Ok(SerialMounts {
         even: port.back(),
         odd: mounts.odd,
     })
@@ -92,11 +93,11 @@ fn step_on_mount_0<S: Stretch, M: MountMachine>(
 // The command of a caller with an odd number.
 fn step_on_both<S: Stretch, M: MountMachine>(
     alloc: Global,
-    mounts: Mounts<M>,
+    mounts: SerialMounts<M>,
     caller: &mut LinkedRunner,
     seed: &[u8; 32],
     stretches: &S,
-) -> Result<Mounts<M>, AllocError>
+) -> Result<SerialMounts<M>, AllocError>
     requires ready { S.ready stretches.now }
     requires asked { AsksRightly caller.old.runner.section }
     requires odd { is_even caller.old.runner.caller ≡ false }
@@ -116,7 +117,7 @@ fn step_on_both<S: Stretch, M: MountMachine>(
     caller.runner.step(alloc, &mut port, stretches, seed)?;
     let (own, far, mut steps) = port.back();
     caller.steps.append(&mut steps)?;
-    Ok(Mounts {
+    Ok(SerialMounts {
         even: far.back(),
         odd: own.back(),
     })

@@ -1,7 +1,7 @@
 //! How runs and commands end: their statuses and outcomes, and sources, sinks and seeds that fail.
 
 use fsc_outside::{CallList, FixedSeed, MemSink, MemSource};
-use fsc_tool::{Status, tool_serial};
+use fsc_tool::{Mounts, Status, Streams, tool_serial};
 use mount_shared::Mount;
 use reply_text::Outcome;
 use std::alloc::{AllocError, Global};
@@ -124,19 +124,22 @@ fn a_fault_outside_is_told(rt: HostRuntime) -> Result<(), Fail> {
     for (seed, script, read, write, wanted, log) in cases {
         let words = words_of(alloc, seed)?;
         let input = Vec::from_slice(alloc, script.as_bytes())?;
-        let mut source = MemSource::new(input, 40, calls(alloc, read)?);
-        let mut sink = sink(alloc, write)?;
+        let mut streams = Streams {
+            source: MemSource::new(input, 40, calls(alloc, read)?),
+            sink: sink(alloc, write)?,
+            seeds: FixedSeed::failing(),
+        };
         let status = tool_serial(
             alloc,
             &words,
-            &mut source,
-            &mut sink,
-            &mut FixedSeed::failing(),
-            Mount::new(alloc)?,
-            Mount::new(alloc)?,
+            &mut streams,
+            Mounts {
+                even: Mount::new(alloc)?,
+                odd: Mount::new(alloc)?,
+            },
         );
         assert_eq!(rt; status, wanted);
-        assert_eq!(rt; sink.got(), log.as_bytes());
+        assert_eq!(rt; streams.sink.got(), log.as_bytes());
     }
     Ok(())
 }
@@ -147,21 +150,23 @@ fn the_seed_source_gives_the_seed(rt: HostRuntime) -> Result<(), Fail> {
     let alloc = rt.alloc();
     let words = words_of(alloc, None)?;
     let script = b"caller 3\nkey-status id:00000000000000000000000000000000\n";
-    let mut source = MemSource::new(Vec::from_slice(alloc, script)?, 40, calls(alloc, None)?);
-    let mut sink = sink(alloc, None)?;
-    let mut seeds = FixedSeed::new([7; 32]);
+    let mut streams = Streams {
+        source: MemSource::new(Vec::from_slice(alloc, script)?, 40, calls(alloc, None)?),
+        sink: sink(alloc, None)?,
+        seeds: FixedSeed::new([7; 32]),
+    };
     let status = tool_serial(
         alloc,
         &words,
-        &mut source,
-        &mut sink,
-        &mut seeds,
-        Mount::new(alloc)?,
-        Mount::new(alloc)?,
+        &mut streams,
+        Mounts {
+            even: Mount::new(alloc)?,
+            odd: Mount::new(alloc)?,
+        },
     );
     assert_eq!(rt; status, Status::Done);
     let log = b"0 0 3 key-status 00000000000000000000000000000000 = status absent self=0 users=0\n";
-    assert_eq!(rt; sink.got(), log.as_slice());
+    assert_eq!(rt; streams.sink.got(), log.as_slice());
     Ok(())
 }
 
@@ -191,18 +196,21 @@ fn first_run(
 ) -> Result<(Status, Vec<u8>), AllocError> {
     let words = words_of(alloc, Some(SEED))?;
     let input = Vec::from_slice(alloc, FIRST.as_bytes())?;
-    let mut source = MemSource::new(input, 7, calls(alloc, read)?);
-    let mut sink = MemSink::new(alloc, 8192, 16, calls(alloc, write)?)?;
+    let mut streams = Streams {
+        source: MemSource::new(input, 7, calls(alloc, read)?),
+        sink: MemSink::new(alloc, 8192, 16, calls(alloc, write)?)?,
+        seeds: FixedSeed::failing(),
+    };
     let status = tool_serial(
         alloc,
         &words,
-        &mut source,
-        &mut sink,
-        &mut FixedSeed::failing(),
-        Mount::new(alloc)?,
-        Mount::new(alloc)?,
+        &mut streams,
+        Mounts {
+            even: Mount::new(alloc)?,
+            odd: Mount::new(alloc)?,
+        },
     );
-    Ok((status, Vec::from_slice(alloc, sink.got())?))
+    Ok((status, Vec::from_slice(alloc, streams.sink.got())?))
 }
 
 // How often that run reads and writes: a last read finds nothing left.

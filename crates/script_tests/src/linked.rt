@@ -6,7 +6,7 @@ ghost use Rattle.std.specs.Prelude.{◌<◌, ◌^◌, length};
 use crate::replaced::Replaced;
 use argon_kdf::PlainStretch;
 use fsc_outside::{CallList, FixedSeed, MemSink, MemSource, OpenGate};
-use fsc_tool::{Status, tool_serial};
+use fsc_tool::{Mounts, Status, Streams, tool_serial};
 use item_list::Bytes;
 use linked_turns::{linked_log, run_linked_in_rotation};
 use mount_model::{Refusal, Reply};
@@ -56,8 +56,7 @@ fn replayed(alloc: Global, text: &[u8]) -> Result<Option<Bytes>, AllocError>
         &[0; 32],
         &OpenGate,
         &PlainStretch,
-        even,
-        odd,
+        Mounts { even, odd },
     )?;
     Ok(Some(linked_log(alloc, told)?))
 }
@@ -142,23 +141,26 @@ fn wanting(alloc: Global, at: u64) -> Result<Replaced, AllocError> {
 
 // Both machines have the same laws, so no clause tells which of them is which mount.
 #[test]
-fn the_far_machine_is_mount_1(rt: HostRuntime) -> Result<(), Fail> {
+fn the_odd_machine_is_mount_1(rt: HostRuntime) -> Result<(), Fail> {
     let alloc = rt.alloc();
     let mut words = Vec::new(alloc);
     for word in ["replay-linked", "--serial", "--seed", SEED] {
         words.push(String::from_str(alloc, word)?)?;
     }
     let script = b"caller 0\ndrop-caches\ndrop-caches\ncaller 1\ndrop-caches\ndrop-caches\n";
-    let mut source = MemSource::new(Vec::from_slice(alloc, script)?, 1000, CallList::new(alloc));
-    let mut sink = MemSink::new(alloc, 8192, 1000, CallList::new(alloc))?;
+    let mut streams = Streams {
+        source: MemSource::new(Vec::from_slice(alloc, script)?, 1000, CallList::new(alloc)),
+        sink: MemSink::new(alloc, 8192, 1000, CallList::new(alloc))?,
+        seeds: FixedSeed::failing(),
+    };
     let status = tool_serial(
         alloc,
         &words,
-        &mut source,
-        &mut sink,
-        &mut FixedSeed::failing(),
-        wanting(alloc, 0)?,
-        wanting(alloc, 1)?,
+        &mut streams,
+        Mounts {
+            even: wanting(alloc, 0)?,
+            odd: wanting(alloc, 1)?,
+        },
     );
     assert_eq!(rt; status, Status::Done);
     let wanted = b"mount 0\n\
@@ -167,6 +169,6 @@ fn the_far_machine_is_mount_1(rt: HostRuntime) -> Result<(), Fail> {
         mount 1\n\
         0 1 1 drop-caches = ok\n\
         1 1 1 drop-caches = refused no-memory\n";
-    assert_eq!(rt; sink.got(), wanted.as_slice());
+    assert_eq!(rt; streams.sink.got(), wanted.as_slice());
     Ok(())
 }

@@ -2,7 +2,7 @@
 
 use crate::replaced::Replaced;
 use fsc_outside::{CallList, FixedSeed, MemSink, MemSource};
-use fsc_tool::tool_serial;
+use fsc_tool::{Mounts, Streams, tool_serial};
 use mount_model::{Refusal, Reply};
 use mount_shared::Mount;
 use std::alloc::{AllocError, Global};
@@ -80,18 +80,21 @@ fn logs(alloc: Global, command: &str, far: u64, own: u64) -> Result<Vec<u8>, All
     }
     let mut script = String::from_str(alloc, BEFORE)?;
     script.push_str(command)?;
-    let mut source = MemSource::new(script.into_bytes(), 4_096, CallList::new(alloc));
-    let mut sink = MemSink::new(alloc, 65_536, 4_096, CallList::new(alloc))?;
+    let mut streams = Streams {
+        source: MemSource::new(script.into_bytes(), 4_096, CallList::new(alloc)),
+        sink: MemSink::new(alloc, 65_536, 4_096, CallList::new(alloc))?,
+        seeds: FixedSeed::failing(),
+    };
     let _ = tool_serial(
         alloc,
         &words,
-        &mut source,
-        &mut sink,
-        &mut FixedSeed::failing(),
-        wanting(alloc, far)?,
-        wanting(alloc, own)?,
+        &mut streams,
+        Mounts {
+            even: wanting(alloc, far)?,
+            odd: wanting(alloc, own)?,
+        },
     );
-    Vec::from_slice(alloc, sink.got())
+    Vec::from_slice(alloc, streams.sink.got())
 }
 
 // How many of these are made on this mount.

@@ -3,7 +3,7 @@
 use crate::kinds::{KINDS, Kind, reply, word};
 use crate::replaced::Replaced;
 use fsc_outside::{CallList, FixedSeed, MemSink, MemSource};
-use fsc_tool::tool_serial;
+use fsc_tool::{Mounts, Streams, tool_serial};
 use mount_model::Reply;
 use mount_shared::Mount;
 use std::alloc::{AllocError, Global};
@@ -55,30 +55,25 @@ fn log_with(alloc: Global, command: &str, at: u64, reply: Reply) -> Result<Vec<u
     }
     let mut script = String::from_str(alloc, BEFORE)?;
     script.push_str(command)?;
-    let mut source = MemSource::new(script.into_bytes(), 4_096, CallList::new(alloc));
-    let mut sink = MemSink::new(alloc, 65_536, 4_096, CallList::new(alloc))?;
-    let machine = Replaced {
+    let mut streams = Streams {
+        source: MemSource::new(script.into_bytes(), 4_096, CallList::new(alloc)),
+        sink: MemSink::new(alloc, 65_536, 4_096, CallList::new(alloc))?,
+        seeds: FixedSeed::failing(),
+    };
+    let even = Replaced {
         mount: Mount::new(alloc)?,
         calls: 0,
         at,
         reply: Some(reply),
     };
-    let far = Replaced {
+    let odd = Replaced {
         mount: Mount::new(alloc)?,
         calls: 0,
         at: 0,
         reply: None,
     };
-    let _ = tool_serial(
-        alloc,
-        &words,
-        &mut source,
-        &mut sink,
-        &mut FixedSeed::failing(),
-        machine,
-        far,
-    );
-    Vec::from_slice(alloc, sink.got())
+    let _ = tool_serial(alloc, &words, &mut streams, Mounts { even, odd });
+    Vec::from_slice(alloc, streams.sink.got())
 }
 
 // How many lines a text has.

@@ -1,7 +1,7 @@
 use crate::counting::Counting;
 use crate::meeting::MeetingGate;
 use fsc_outside::{CallList, FixedSeed, MemSink, MemSource, OpenGate};
-use fsc_tool::{Status, tool};
+use fsc_tool::{Mounts, Status, Streams, tool};
 use std::alloc::{AllocError, Global};
 use std::test::Fail;
 
@@ -16,7 +16,7 @@ fn words_of(alloc: Global) -> Result<Vec<String>, AllocError> {
     Ok(words)
 }
 
-// A far machine that a replay on one mount makes no call on.
+// A machine of mount 1, on which a replay on one mount makes no call.
 fn unused() -> Counting {
     Counting {
         calls: 0,
@@ -31,10 +31,13 @@ fn two_callers_meet_in_the_middle_of_their_sections(rt: HostRuntime) -> Result<(
     let alloc = rt.alloc();
     let mut words = words_of(alloc)?;
     let script = b"caller 1\ndrop-caches\ndrop-caches\ncaller 2\ndrop-caches\ndrop-caches\n";
-    let mut source = MemSource::new(Vec::from_slice(alloc, script)?, 1000, CallList::new(alloc));
-    let mut sink = MemSink::new(alloc, 8192, 1000, CallList::new(alloc))?;
+    let mut streams = Streams {
+        source: MemSource::new(Vec::from_slice(alloc, script)?, 1000, CallList::new(alloc)),
+        sink: MemSink::new(alloc, 8192, 1000, CallList::new(alloc))?,
+        seeds: FixedSeed::failing(),
+    };
     let gate = MeetingGate::new();
-    let machine = Counting {
+    let even = Counting {
         calls: 0,
         wanting: 1000,
     };
@@ -42,12 +45,12 @@ fn two_callers_meet_in_the_middle_of_their_sections(rt: HostRuntime) -> Result<(
         &rt,
         alloc,
         &mut words,
-        &mut source,
-        &mut sink,
-        &mut FixedSeed::failing(),
+        &mut streams,
         &gate,
-        machine,
-        unused(),
+        Mounts {
+            even,
+            odd: unused(),
+        },
     );
     assert_eq!(rt; status, Status::Done);
     assert_eq!(rt; gate.missed(), 0);
@@ -60,9 +63,12 @@ fn a_reply_that_wants_memory_ends_no_section(rt: HostRuntime) -> Result<(), Fail
     let alloc = rt.alloc();
     let mut words = words_of(alloc)?;
     let script = b"caller 1\ndrop-caches\ndrop-caches\ndrop-caches\n";
-    let mut source = MemSource::new(Vec::from_slice(alloc, script)?, 1000, CallList::new(alloc));
-    let mut sink = MemSink::new(alloc, 8192, 1000, CallList::new(alloc))?;
-    let machine = Counting {
+    let mut streams = Streams {
+        source: MemSource::new(Vec::from_slice(alloc, script)?, 1000, CallList::new(alloc)),
+        sink: MemSink::new(alloc, 8192, 1000, CallList::new(alloc))?,
+        seeds: FixedSeed::failing(),
+    };
+    let even = Counting {
         calls: 0,
         wanting: 1,
     };
@@ -70,16 +76,16 @@ fn a_reply_that_wants_memory_ends_no_section(rt: HostRuntime) -> Result<(), Fail
         &rt,
         alloc,
         &mut words,
-        &mut source,
-        &mut sink,
-        &mut FixedSeed::failing(),
+        &mut streams,
         &OpenGate,
-        machine,
-        unused(),
+        Mounts {
+            even,
+            odd: unused(),
+        },
     );
     assert_eq!(rt; status, Status::Done);
     let log =
         b"0 0 1 drop-caches = ok\n1 0 1 drop-caches = refused no-memory\n2 0 1 drop-caches = ok\n";
-    assert_eq!(rt; sink.got(), log.as_slice());
+    assert_eq!(rt; streams.sink.got(), log.as_slice());
     Ok(())
 }

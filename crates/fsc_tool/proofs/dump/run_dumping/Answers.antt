@@ -3,7 +3,7 @@ use Rattle.fsc_tool.proofs.TopLemmas.{text_ends, unrun_ends, want_ends}
 use Rattle.fsc_tool.proofs.dump.run_dumping.Goals as goal
 
 pub returns-in-Err-clause-dumped : goal.returns-in-Err-clause-dumped
-returns-in-Err-clause-dumped g c = unrun_ends _ _ _ _ _ c.in-Err.status (c.in-Err.ensures.ended (g.K.Sink.state c.args.sink.now))
+returns-in-Err-clause-dumped g c = unrun_ends _ _ _ _ _ c.in-Err.status (c.in-Err.ensures.ended (g.K.Sink.state c.args.streams.now.sink))
 
 pub returns-in-Err-ran-clause-dumped : goal.returns-in-Err-ran-clause-dumped
 returns-in-Err-ran-clause-dumped g c =

@@ -4,7 +4,7 @@ use Rattle.fsc_tool.proofs.LinkedLemmas.{linked_is}
 use Rattle.fsc_tool.proofs.linked.run_linked.Goals as goal
 
 pub returns-in-Err : goal.returns-in-Err
-returns-in-Err g c = unrun_ends _ _ _ _ _ c.in-Err.status (c.in-Err.ensures.ended (g.K.Sink.state c.args.sink.now))
+returns-in-Err g c = unrun_ends _ _ _ _ _ c.in-Err.status (c.in-Err.ensures.ended (g.K.Sink.state c.args.streams.now.sink))
 
 pub returns : goal.returns
 returns g c =

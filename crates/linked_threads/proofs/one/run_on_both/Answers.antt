@@ -6,24 +6,24 @@ use Rattle.fsc_session.specs.Session.{IsRunOfSection, notes_of_section}
 use Rattle.mount_links.specs.declared.step.LinkStep.{LinkStep}
 use Rattle.mount_links.specs.Linked.{own_parts, far_parts}
 use Rattle.mount_links.specs.LinkCalls.{LinkView, link_view, load_shown}
-use Rattle.linked_threads.specs.Threaded.{both, calls_needed}
-use Rattle.linked_threads.proofs.CutLemmas.{twice_needed}
-use Rattle.linked_threads.proofs.OneLemmas.{odd_runs}
+use Rattle.script_runs.specs.Passes.{calls_needed}
+use Rattle.linked_threads.specs.Threaded.{both}
+use Rattle.linked_threads.proofs.OneLemmas.{odd_runs, twice_needed}
 use Rattle.linked_threads.proofs.one.run_on_both.Goals as goal
 
 pub new-requires-clause-own_left : goal.new-requires-clause-own_left
 new-requires-clause-own_left g c =
-    let given : c.in-Some.calls ≡ calls_needed MOST_CALLS c.args.sections.now = c.in-Some.ensures.some.0 in
-    let enough : calls_needed (2 * MOST_CALLS) c.args.sections.now ≤ c.args.passes.odd.left = c.requires.can_run.on_odd.calls in
+    let given : c.in-Some.calls ≡ calls_needed MOST_CALLS c.args.callers.sections.now = c.in-Some.ensures.some.0 in
+    let enough : calls_needed (2 * MOST_CALLS) c.args.callers.sections.now ≤ c.args.callers.passes.odd.left = c.requires.can_run.on_odd.calls in
     let same = ap (λ (pass : MountPass). pass.left) c.new-own.ensures in
-    let double = twice_needed MOST_CALLS c.args.sections.now in
+    let double = twice_needed MOST_CALLS c.args.callers.sections.now in
     omega (arith, given, enough, same, double)
 
 pub returns : goal.returns
 returns g c =
     let seed = c.args.seed.now in
-    let even = c.args.passes.even in
-    let odd = c.args.passes.odd in
+    let even = c.args.callers.passes.even in
+    let odd = c.args.callers.passes.odd in
     let calls = c.in-Some.calls in
     let ran = c.in_ok-ran.ensures.ran in
     let placed = ran.placed in
@@ -35,8 +35,8 @@ returns g c =
     let shown = c.in_ok-shown.ensures in
     let is : port ≡ link_view odd even calls [] =
     c.in_ok-port.ensures ∙ ap₂ (λ (own far : MountPass). link_view own far calls []) c.new-own.ensures c.new-far.ensures in
-    odd_runs g.M.Machine.lawful seed (both c.args.shared.now.even c.args.shared.now.odd) even odd c.args.sections.now section
-    c.requires.can_run c.requires.one (slice_get_read c.args.sections.now 1 0 section (sym c.requires.one) (omega arith) c.index-sections-0.is)
+    odd_runs g.M.Machine.lawful seed (both c.args.shared.now.even c.args.shared.now.odd) even odd c.args.callers.sections.now section
+    c.requires.can_run c.requires.one (slice_get_read c.args.callers.sections.now 1 0 section (sym c.requires.one) (omega arith) c.index-sections-0.is)
     (record { even = c.into_vec.result; odd = c.into_vec-2.result; notes = c.into_vec-3.result }) entries placed ran.shown
     (subst (λ w. IsRunOfSection seed w section placed) c.requires.can_run.same_caller
     (subst (λ (p : LinkView MountPass MountPass). IsRunOfSection seed p.own.who section placed) is ran.run))

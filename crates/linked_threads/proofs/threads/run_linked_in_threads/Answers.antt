@@ -1,4 +1,4 @@
-use Rattle.std.proofs.Common.{◌≡◌, ℕ, zero, suc, ◌≤◌, ◌<◌, ◌*◌, true, false, eqb-true, length, refl, sym, ap, ◌∙◌, subst, arith}
+use Rattle.std.proofs.Common.{◌≡◌, ℕ, ◌≤◌, ◌*◌, true, eqb-true, length, refl, sym, ap, ◌∙◌, subst, arith}
 use Rattle.std.specs.Prelude.{All, ◌==◌}
 use Rattle.fsc_commands.specs.declared.TheConstants.{MOST_CALLS}
 use Rattle.fsc_session.specs.Asking.{AsksRightly}
@@ -7,13 +7,9 @@ use Rattle.reply_text.specs.Shown.{shown_history}
 use Rattle.turn_lock.specs.Passes.{merged_entries}
 use Rattle.mount_shared.specs.SharedCalls.{MountPass}
 use Rattle.linked_threads.specs.Threaded.{HaveRun, both}
-use Rattle.linked_threads.proofs.CutLemmas.{first_runs}
+use Rattle.script_runs.proofs.PassLemmas.{first_runs, positive}
 use Rattle.linked_threads.proofs.EndLemmas.{nobody_runs, tells_linked, told_even, told_odd}
 use Rattle.linked_threads.proofs.threads.run_linked_in_threads.Goals as goal
-
-positive : (n : ℕ) → false ≡ (n == 0) → 0 < n
-positive zero is = absurd (cc is)
-positive (suc n) is = omega arith
 
 nobody : (n : ℕ) → true ≡ (n == 0) → n ≡ 0
 nobody n is = eqb-true n 0 (sym is)

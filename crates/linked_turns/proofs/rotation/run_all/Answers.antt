@@ -1,8 +1,9 @@
 use Rattle.std.proofs.Common.{length, sym, subst, ap, ◌∙◌}
 use Rattle.fsc_commands.specs.Steps.Steps.{Done}
 use Rattle.fsc_session.specs.Rotation.{rounds_steps}
-use Rattle.linked_turns.specs.Turns.{Rotating, at, sections_of, states_of}
-use Rattle.linked_turns.proofs.TurnLemmas.{written_back}
+use Rattle.script_runs.specs.Turns.{at}
+use Rattle.script_runs.proofs.RoundLemmas.{written_back}
+use Rattle.linked_turns.specs.Turns.{Rotating, sections_of, states_of}
 use Rattle.linked_turns.proofs.rotation.run_all.Goals as goal
 
 pub returns : goal.returns

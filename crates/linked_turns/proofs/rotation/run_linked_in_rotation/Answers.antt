@@ -2,12 +2,16 @@ use Rattle.std.proofs.Common.{◌≤◌, [], length, map, ap, ap₂, sym, ◌∙
 use Rattle.call_history.specs.Entries.{by}
 use Rattle.call_history.specs.Placed.{entries_of}
 use Rattle.reply_text.specs.Shown.{shown_history}
+use Rattle.fsc_session.specs.Running.{state_of}
 use Rattle.fsc_session.specs.Rotation.{fresh, longest, rounds_steps}
 use Rattle.fsc_session.proofs.Asked.{spelled-few, spelled-asked}
 use Rattle.linked_turns.specs.LinkedRuns.{TellsLinkedRun}
 use Rattle.linked_turns.specs.Callers.{fresh_views}
-use Rattle.linked_turns.specs.Turns.{at, sections_of, states_of}
-use Rattle.linked_turns.proofs.EndLemmas.{before_all, fresh_sections, fresh_states, tells_linked, even_history, odd_history}
+use Rattle.script_runs.specs.Callers as runs
+use Rattle.script_runs.specs.Turns.{at}
+use Rattle.script_runs.proofs.CallerLemmas.{fresh_sections, fresh_states}
+use Rattle.linked_turns.specs.Turns.{sections_of, states_of}
+use Rattle.linked_turns.proofs.EndLemmas.{before_all, fresh_callers, tells_linked, even_history, odd_history}
 use Rattle.linked_turns.proofs.rotation.run_linked_in_rotation.Goals as goal
 
 pub fresh_runners-requires : goal.fresh_runners-requires
@@ -27,10 +31,11 @@ pub returns : goal.returns
 returns g c =
     let runners = c.in_ok-runners.runners.items in
     let made = c.in_ok-runners.ensures ∙ ap (fresh_views 0) c.as_slice-sections.ensures in
-    let same = fresh_sections 0 c.args.script.now runners made in
+    let fresh_ones = fresh_callers 0 c.args.script.now runners made in
+    let same = ap runs.sections_of fresh_ones ∙ fresh_sections 0 c.args.script.now in
     let all = c.longest.ensures ∙ ap longest (c.as_slice-sections.ensures ∙ sym same) in
     let whole = ap₂ (λ k states. rounds_steps c.args.seed.now k 0 states) all
-    (fresh_states 0 c.args.script.now runners made ∙ ap (map fresh) (sym same)) in
+    (ap (map state_of) fresh_ones ∙ fresh_states 0 c.args.script.now ∙ ap (map fresh) (sym same)) in
     let after = c.in_ok-_mounts in
     let ended = after.ensures in
     let even = at after._mounts.even.machine after._mounts.even.places in

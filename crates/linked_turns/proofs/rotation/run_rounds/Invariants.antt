@@ -1,14 +1,18 @@
-use Rattle.std.proofs.Common.{◌≡◌, ◌+◌, ◌-◌, length, take, drop}
+use Rattle.std.proofs.Common.{◌≡◌, ◌+◌, ◌-◌, length, map, take, drop}
+use Rattle.fsc_session.specs.Running.{state_of}
 use Rattle.fsc_session.specs.Rotation.{round_steps, rounds_steps}
-use Rattle.linked_turns.specs.Turns.{Rotating, at, sections_of, states_of}
-use Rattle.linked_turns.proofs.TurnLemmas.{turns_in}
+use Rattle.script_runs.specs.Turns.{at}
+use Rattle.script_runs.proofs.TurnLemmas.{turns_in}
+use Rattle.linked_turns.specs.Callers.{runners_of}
+use Rattle.linked_turns.specs.Turns.{Rotating, sections_of, states_of}
 use Rattle.linked_turns.proofs.rotation.run_rounds.Given as goal
 
 abbrev pub invariant-turns : goal.invariant-turns
 invariant-turns g l = record {
   count : length l.runners ≡ l.i-end;
   turn : Rotating g.M.Machine.leads l.seed (sections_of l.fn.runners) (rounds_steps l.seed l.rounds 0 (states_of l.fn.runners))
-      (round_steps l.seed l.number l.i (states_of (take l.i l.runners)) (states_of (drop l.i l.runners)) (rounds_steps l.seed (l.rounds - (l.number + 1)) (l.number + 1)))
+      (round_steps l.seed l.number l.i (map state_of (take l.i (runners_of l.runners)))
+      (map state_of (drop l.i (runners_of l.runners))) (rounds_steps l.seed (l.rounds - (l.number + 1)) (l.number + 1)))
       (turns_in l.number l.i) l.runners (at l.mounts.even.machine l.mounts.even.places) (at l.mounts.odd.machine l.mounts.odd.places);
 }
 

@@ -1,13 +1,21 @@
-use Rattle.std.proofs.Common.{◌++◌, ap, sym, ◌∙◌}
-use Rattle.linked_turns.specs.Callers.{even_shown, odd_shown}
-use Rattle.linked_turns.proofs.EndLemmas.{shown_by-more, noted_by-more}
+use Rattle.std.proofs.Common.{[], ◌∷◌, ◌++◌, ap, sym, ◌∙◌}
+use Rattle.std.proofs.lemmas.List.{map-append}
+use Rattle.script_runs.specs.Callers.{noted_by}
+use Rattle.script_runs.proofs.CallerLemmas.{noted_by-more, shown_by-more}
+use Rattle.linked_turns.specs.declared.runners.LinkedRunner.{LinkedRunner}
+use Rattle.linked_turns.specs.Callers.{even_shown, odd_shown, runners_of}
 use Rattle.linked_turns.proofs.told.told_by.Goals as goal
 
 pub runners-preserved : goal.runners-preserved
 runners-preserved c =
     let put = c.in_ok-put_told.ensures in
+    let before = c.runners.yielded in
+    let caller = c.in-Some.runner in
     record {
-      even = put.even ∙ ap (λ l. l ++ even_shown c.in-Some.runner) c.runners.invariant.even ∙ sym (shown_by-more even_shown c.runners.yielded c.in-Some.runner);
-      odd = put.odd ∙ ap (λ l. l ++ odd_shown c.in-Some.runner) c.runners.invariant.odd ∙ sym (shown_by-more odd_shown c.runners.yielded c.in-Some.runner);
-      notes = put.notes ∙ ap (λ l. l ++ c.in-Some.runner.runner.notes) c.runners.invariant.notes ∙ sym (noted_by-more c.runners.yielded c.in-Some.runner);
+      even = put.even ∙ ap (λ l. l ++ even_shown caller) c.runners.invariant.even
+          ∙ sym (shown_by-more even_shown before caller);
+      odd = put.odd ∙ ap (λ l. l ++ odd_shown caller) c.runners.invariant.odd ∙ sym (shown_by-more odd_shown before caller);
+      notes = put.notes ∙ ap (λ l. l ++ caller.runner.notes) c.runners.invariant.notes
+          ∙ sym (ap noted_by (map-append (λ (c : LinkedRunner). c.runner) before (caller ∷ []))
+          ∙ noted_by-more (runners_of before) caller.runner);
     }

@@ -2,7 +2,7 @@ use Rattle.std.proofs.Common.{[], ◌++◌, ◌*◌, ap, ap₂, ◌∙◌}
 use Rattle.mount_shared.specs.SerialCalls.{SerialView, serial_view}
 use Rattle.fsc_commands.specs.declared.TheConstants.{MOST_CALLS}
 use Rattle.mount_links.specs.LinkCalls.{link_view}
-use Rattle.linked_turns.specs.Turns.{at}
+use Rattle.script_runs.specs.Turns.{at}
 use Rattle.linked_turns.proofs.StepLemmas.{odd_turn}
 use Rattle.linked_turns.proofs.turn.step_on_both.Goals as goal
 

@@ -1,0 +1,71 @@
+//! A port that shows of each call and its reply that they are in range.
+
+ghost use Rattle.std.specs.Prelude.{◌≡◌};
+ghost use Rattle.script_runs.specs.InRange.{RangedCame};
+ghost use Rattle.script_runs.specs.RangeLaws.{RangedCame-none, RangedCame-on, RangedCame-caller};
+
+use mount_model::{Call, MountPort, Placed};
+use reply_text::{call_in_range, reply_in_range};
+use std::marker::Model;
+
+/// Another port, whose calls and replies are in range since they are values of the program. In clauses it is
+/// that port.
+#[derive(Drop)]
+pub(crate) struct RangedPort<P: MountPort> {
+    port: P,
+}
+
+impl<P: MountPort> Model for RangedPort<P> {
+    ghost Value = { P };
+
+    ghost view = { λ ranged. ranged.port };
+}
+
+impl<P: MountPort> RangedPort<P> {
+    // Over this port.
+    pub(crate) fn over(port: P) -> RangedPort<P>
+        ensures { result ≡ port }
+    {
+        RangedPort { port }
+    }
+
+    // The port, with what was called since.
+    pub(crate) fn back(self) -> P
+        ensures { result ≡ self }
+    {
+        self.port
+    }
+}
+
+/// It comes by the calls by which the other one does, and each is in range.
+impl<P: MountPort> MountPort for RangedPort<P> {
+    ghost who = { λ port. P.who port };
+
+    ghost calls_left = { λ port. P.calls_left port };
+
+    ghost floor = { λ port. P.floor port };
+
+    ghost came = { RangedCame P.came };
+
+    fn caller(&self) -> u32 {
+        self.port.caller()
+    }
+
+    fn left(&self) -> u64 {
+        self.port.left()
+    }
+
+    fn call(&mut self, call: &Call) -> Placed {
+        let _caller = self.port.caller();
+        let placed = self.port.call(call);
+        call_in_range(call);
+        reply_in_range(&placed.reply);
+        placed
+    }
+
+    ghost by_none = { RangedCame-none P.came P.by_none };
+
+    ghost by_more = { RangedCame-on P.came P.by_more };
+
+    ghost one_caller = { RangedCame-caller P.who P.came P.one_caller };
+}

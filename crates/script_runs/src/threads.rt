@@ -1,0 +1,173 @@
+//! Runs a script's callers in threads of their own, on a machine that they share.
+
+ghost use Rattle.std.specs.Prelude.{◌≡◌, ◌<◌, [], ◌++◌, length, IfOk};
+ghost use Rattle.std.specs.Thread.{IsSync};
+ghost use Rattle.script_lang.specs.Spelled.{IsSpelled};
+ghost use Rattle.fsc_commands.specs.declared.TheConstants.{MOST_CALLS};
+ghost use Rattle.script_runs.specs.Passes.{AreHalves, CanRun};
+ghost use Rattle.script_runs.specs.Runs.{IsLawfulRun, TellsRun};
+ghost use Rattle.script_runs.specs.Threaded.{HaveRun};
+
+use crate::passes::{calls_needed, cut, end};
+use crate::ranged_port::RangedPort;
+use crate::told::Told;
+use argon_kdf::Stretch;
+use call_history::sort_by_place;
+use fsc_commands::MOST_CALLS;
+use fsc_outside::Gate;
+use fsc_session::run_caller;
+use mount_shared::{MountMachine, SharedPort};
+use script_lang::{Script, Section};
+use std::alloc::{AllocError, Global};
+use std::sync::Wait;
+use std::thread::{Threads, join};
+use turn_lock::{Pass, Shared};
+
+// Callers before their first calls: their pass, and a section for each of them.
+#[derive(Drop)]
+struct Callers<'a, M: MountMachine> {
+    pass: Pass<M>,
+    sections: &'a [Section],
+}
+
+/// What a run of the script in threads tells, its entries in order of place: each caller runs its section in a
+/// thread of its own, each command between the gate's two calls, and waits for its turn on the machine at each
+/// call. The machine stands before any call. It answers when all threads have ended. The one error is want of
+/// memory.
+pub fn run_in_threads<
+    R: Threads + Wait + Sync,
+    G: Gate + Sync,
+    S: Stretch + Sync,
+    M: MountMachine + Send,
+>(
+    rt: &R,
+    alloc: Global,
+    script: &Script,
+    seed: &[u8; 32],
+    gate: &G,
+    stretches: &S,
+    machine: M,
+) -> Result<Told, AllocError>
+    requires spelled { IsSpelled script.now }
+    requires ready { S.ready stretches.now }
+    requires leads { M.leads [] machine }
+    ensures { IfOk result (λ told. TellsRun (IsLawfulRun M.lawful) seed.now script.now
+        told.entries.items told.notes.items) }
+{
+    let sections = script.as_slice();
+    if sections.is_empty() {
+        return Ok(run_nobody(alloc, machine));
+    }
+    let Some(calls) = calls_needed(sections, MOST_CALLS) else {
+        return Err(AllocError);
+    };
+    let (shared, pass) = Shared::start(alloc, machine, sections.len() as u32, calls)?;
+    let callers = Callers { pass, sections };
+    let (pass, mut told) = run_all(rt, alloc, &shared, gate, stretches, callers, seed)?;
+    end(shared, pass);
+    sort_by_place(&mut told.entries)?;
+    Ok(told)
+}
+
+// A run without callers: nothing is shared, and no thread starts.
+fn run_nobody<M: MountMachine>(alloc: Global, machine: M) -> Told
+    requires { M.leads [] machine }
+    ensures none { (result.entries.items ≡ []) × (result.notes.items ≡ []) }
+    ensures lawful { M.lawful [] }
+{
+    Told::nothing(alloc)
+}
+
+// Runs the section of each of the callers in a thread of its own. It answers when all have ended.
+fn run_all<R: Threads + Wait + Sync, G: Gate + Sync, S: Stretch + Sync, M: MountMachine + Send>(
+    rt: &R,
+    alloc: Global,
+    shared: &Shared<M>,
+    gate: &G,
+    stretches: &S,
+    callers: Callers<M>,
+    seed: &[u8; 32],
+) -> Result<(Pass<M>, Told), AllocError>
+    requires ready { S.ready stretches.now }
+    requires can_run { CanRun MOST_CALLS shared.now callers.pass callers.sections.now }
+    ensures { IfOk result (λ ran. HaveRun seed.now callers.entry.pass callers.entry.sections.now ran.0
+        ran.1.entries.items ran.1.notes.items) }
+{
+    if callers.sections.len() == 1 {
+        return run_one(rt, alloc, shared, gate, stretches, callers, seed);
+    }
+    let (lower, upper) = halve(shared, callers)?;
+    let (one, two) = join(
+        rt,
+        || -> Result<(Pass<M>, Told), AllocError>
+            requires { IsSync R.row × IsSync G.row × IsSync S.row × S.ready stretches.now
+                × CanRun MOST_CALLS shared.now lower.pass lower.sections.now }
+            ensures { IfOk result (λ ran. HaveRun seed.entry.now lower.entry.pass lower.entry.sections.now
+                ran.0 ran.1.entries.items ran.1.notes.items) }
+        { run_all(rt, alloc, shared, gate, stretches, lower, seed) },
+        || -> Result<(Pass<M>, Told), AllocError>
+            requires { IsSync R.row × IsSync G.row × IsSync S.row × S.ready stretches.now
+                × CanRun MOST_CALLS shared.now upper.pass upper.sections.now }
+            ensures { IfOk result (λ ran. HaveRun seed.entry.now upper.entry.pass upper.entry.sections.now
+                ran.0 ran.1.entries.items ran.1.notes.items) }
+        { run_all(rt, alloc, shared, gate, stretches, upper, seed) },
+    );
+    let (mut pass, mut told) = one?;
+    let (other, more) = two?;
+    shared.join(&mut pass, other);
+    told.append(more)?;
+    Ok((pass, told))
+}
+
+// Runs the section of the one caller.
+fn run_one<R: Wait, G: Gate, S: Stretch, M: MountMachine>(
+    rt: &R,
+    alloc: Global,
+    shared: &Shared<M>,
+    gate: &G,
+    stretches: &S,
+    callers: Callers<M>,
+    seed: &[u8; 32],
+) -> Result<(Pass<M>, Told), AllocError>
+    requires ready { S.ready stretches.now }
+    requires can_run { CanRun MOST_CALLS shared.now callers.pass callers.sections.now }
+    requires one { length callers.sections.now ≡ 1 }
+    ensures { IfOk result (λ ran. HaveRun seed.now callers.entry.pass callers.entry.sections.now ran.0
+        ran.1.entries.items ran.1.notes.items) }
+{
+    let Callers { pass, sections } = callers;
+    let port = SharedPort::new(rt, shared, pass);
+    let mut port = RangedPort::over(port);
+    let ran = run_caller(alloc, &mut port, gate, stretches, &sections[0], seed)?;
+    let pass = port.back().back();
+    // That its own entries are its caller's.
+    let _caller = pass.who();
+    Ok((pass, Told::of_caller(ran)))
+}
+
+// Cuts callers in two: the first half keep the pass, and the others get one of their own.
+fn halve<'a, M: MountMachine>(
+    shared: &Shared<M>,
+    callers: Callers<'a, M>,
+) -> Result<(Callers<'a, M>, Callers<'a, M>), AllocError>
+    requires can_run { CanRun MOST_CALLS shared.now callers.pass callers.sections.now }
+    requires several { 1 < length callers.sections.now }
+    ensures whole { IfOk result (λ halves. callers.entry.sections.now
+        ≡ halves.0.sections.now ++ halves.1.sections.now) }
+    ensures halves { IfOk result (λ halves. AreHalves MOST_CALLS shared.now callers.entry.pass
+        halves.0.pass halves.1.pass halves.0.sections.now halves.1.sections.now) }
+{
+    let Callers { mut pass, sections } = callers;
+    let (first, others) = sections.split_at(sections.len() / 2);
+    let upper = cut(shared, &mut pass, first, others, MOST_CALLS)?;
+    Ok((
+        Callers {
+            pass,
+            sections: first,
+        },
+        Callers {
+            pass: upper,
+            sections: others,
+        },
+    ))
+}

@@ -1,0 +1,75 @@
+//! What the callers of a run were told.
+
+ghost use Rattle.std.specs.Prelude.{◌≡◌, ◌<◌, ◌^◌, [], ◌++◌, length, IfOk, OnOk};
+ghost use Rattle.call_history.specs.Placed.{entries_of};
+
+use call_history::Entry;
+use fsc_session::Ran;
+use mount_model::Reply;
+use reply_text::{Note, Shown};
+use std::alloc::{AllocError, Global};
+
+/// What is shown of entries, with their places.
+pub type PlacedVec = Vec<(u64, Entry<Shown, Reply>)>;
+
+/// What is shown of callers' calls, with the replies, and how their session commands ended.
+#[derive(Drop)]
+pub struct Told {
+    pub entries: PlacedVec,
+    pub notes: Vec<Note>,
+}
+
+impl Told {
+    // What nobody was told. It takes no memory.
+    pub(crate) fn nothing(alloc: Global) -> Told
+        ensures entries { result.entries.items ≡ [] }
+        ensures notes { result.notes.items ≡ [] }
+    {
+        Told {
+            entries: Vec::new(alloc),
+            notes: Vec::new(alloc),
+        }
+    }
+
+    // What one caller was told.
+    pub(crate) fn of_caller(ran: Ran) -> Told
+        ensures entries { result.entries.items ≡ ran.entries }
+        ensures notes { result.notes.items ≡ ran.notes }
+    {
+        Told {
+            entries: ran.entries.into_vec(),
+            notes: ran.notes.into_vec(),
+        }
+    }
+
+    /// How many entries they were told: fewer than there are places.
+    pub fn count(&self) -> usize
+        ensures value { result ≡ length self.now.entries.items }
+        ensures short { length self.now.entries.items < 2 ^ 64 }
+    {
+        self.entries.len()
+    }
+
+    // Puts what others were told behind it.
+    pub(crate) fn append(&mut self, mut others: Told) -> Result<(), AllocError>
+        ensures entries { OnOk result (self.new.entries.items
+            ≡ self.old.entries.items ++ others.entries.items) }
+        ensures notes { OnOk result (self.new.notes.items
+            ≡ self.old.notes.items ++ others.notes.items) }
+    {
+        self.entries.append(&mut others.entries)?;
+        self.notes.append(&mut others.notes)?;
+        Ok(())
+    }
+}
+
+/// The entries without their places. The one error is want of memory.
+pub fn history_of(alloc: Global, entries: PlacedVec) -> Result<Vec<Entry<Shown, Reply>>, AllocError>
+    ensures { IfOk result (λ history. history.items ≡ entries_of entries.items) }
+{
+    let mut history = Vec::new(alloc);
+    'entries: for (_, entry) in entries {
+        history.push(entry)?;
+    }
+    Ok(history)
+}
