@@ -5,7 +5,6 @@ use key_counts::{count_of, one_less, one_more};
 use number_map::NumberMap;
 use std::alloc::{AllocError, Global};
 use std::collections::BTreeMap;
-use std::test::Fail;
 
 /// A list of owned things, so that the calls run at a type that isn't `Copy`.
 fn three_words(alloc: Global) -> Result<Items<Bytes>, AllocError> {
@@ -17,9 +16,9 @@ fn three_words(alloc: Global) -> Result<Items<Bytes>, AllocError> {
 }
 
 #[test]
-fn each_call_succeeds_with_memory(rt: HostRuntime) -> Result<(), Fail> {
-    let mut words = three_words(rt.alloc())?;
-    assert_eq!(rt; words.len(), 3);
+fn each_call_succeeds_with_memory(rt: HostRuntime) {
+    let mut words = three_words(rt.alloc()).expect(&rt, "memory");
+    assert!(rt; words.len() == 3);
     assert!(rt;
         words
             .get(1)
@@ -31,49 +30,47 @@ fn each_call_succeeds_with_memory(rt: HostRuntime) -> Result<(), Fail> {
 
     let last = words.pop();
     assert!(rt; last.is_some_and(|word| word.as_slice() == b"six".as_slice()));
-    assert_eq!(rt; words.into_vec().len(), 2);
+    assert!(rt; words.into_vec().len() == 2);
 
     let mut bytes = Bytes::new(rt.alloc());
     assert!(rt; bytes.is_empty());
-    bytes.push(7)?;
-    bytes.push(8)?;
-    let copy = bytes.copy(rt.alloc())?;
+    bytes.push(7).expect(&rt, "memory");
+    bytes.push(8).expect(&rt, "memory");
+    let copy = bytes.copy(rt.alloc()).expect(&rt, "memory");
     assert!(rt; bytes.pop() == Some(8));
     assert!(rt; copy.as_slice() == [7, 8].as_slice());
-    Ok(())
 }
 
 #[test]
-fn each_call_answers_once_with_ample_memory(rt: HostRuntime) -> Result<(), Fail> {
+fn each_call_answers_once_with_ample_memory(rt: HostRuntime) {
     let mut map = NumberMap::new(rt.alloc());
     for (number, value) in [(7, 70u32), (3, 30), (5, 50), (3, 31)] {
-        map.set(number, value)?;
+        map.set(number, value).expect(&rt, "memory");
     }
-    assert_eq!(rt; map.len(), 3);
-    assert_eq!(rt; map.get(3), Some(&31));
-    assert_eq!(rt; map.get(4), None);
+    assert!(rt; map.len() == 3);
+    assert!(rt; map.get(3) == Some(&31));
+    assert!(rt; map.get(4) == None);
     match map.get_mut(5) {
         Some(value) => *value = 51,
         None => panic!(rt; "5 has a value"),
     }
     assert!(rt; map.get_mut(6).is_none());
-    assert_eq!(rt; map.remove(7), Some(70));
-    assert_eq!(rt; map.remove(7), None);
-    map.set(9, 90)?;
+    assert!(rt; map.remove(7) == Some(70));
+    assert!(rt; map.remove(7) == None);
+    map.set(9, 90).expect(&rt, "memory");
     let mut left = map.iter();
     for wanted in [(3, 31), (5, 51), (9, 90)] {
         assert!(rt; left.next().map(|(number, value)| (number, *value)) == Some(wanted));
     }
     assert!(rt; left.next().is_none());
-    Ok(())
 }
 
 #[test]
-fn a_count_that_falls_to_0_goes(rt: HostRuntime) -> Result<(), Fail> {
+fn a_count_that_falls_to_0_goes(rt: HostRuntime) {
     let mut counts: BTreeMap<u32, u32> = BTreeMap::new(rt.alloc());
     for _ in 0..2 {
         if count_of(&counts, &7) < 9 {
-            one_more(&mut counts, 7)?;
+            one_more(&mut counts, 7).expect(&rt, "memory");
         }
     }
     assert!(rt; count_of(&counts, &7) == 2 && count_of(&counts, &8) == 0);
@@ -81,5 +78,4 @@ fn a_count_that_falls_to_0_goes(rt: HostRuntime) -> Result<(), Fail> {
     assert!(rt; count_of(&counts, &7) == 1 && counts.len() == 1);
     one_less(&mut counts, &7);
     assert!(rt; count_of(&counts, &7) == 0 && counts.len() == 0);
-    Ok(())
 }

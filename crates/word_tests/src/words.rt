@@ -3,7 +3,6 @@
 use byte_words::{read_word, write_words, xor_into};
 use short_bytes::{Filled, Label};
 use std::hash::{DefaultHasher, Hash, Hasher};
-use std::test::Fail;
 use text_words::{hex_bytes, lower_hex_bytes, push_decimal, push_lower_hex};
 
 #[test]
@@ -13,11 +12,11 @@ fn words_have_the_low_byte_first(rt: HostRuntime) {
     let mut want = [
         1, 2, 3, 4, 5, 6, 7, 8, 255, 255, 255, 255, 255, 255, 255, 255,
     ];
-    assert_eq!(rt; bytes, want);
-    assert_eq!(rt; read_word(&want, 0), 0x0807_0605_0403_0201);
+    assert!(rt; bytes == want);
+    assert!(rt; read_word(&want, 0) == 0x0807_0605_0403_0201);
 
     xor_into(&mut want, &bytes);
-    assert_eq!(rt; want, [0; 16]);
+    assert!(rt; want == [0; 16]);
 }
 
 /// What a map would look the value up by.
@@ -28,25 +27,24 @@ fn hash_of<T: Hash>(value: &T) -> u64 {
 }
 
 #[test]
-fn bytes_are_compared_and_hashed_as_they_are_seen(rt: HostRuntime) -> Result<(), Fail> {
+fn bytes_are_compared_and_hashed_as_they_are_seen(rt: HostRuntime) {
     let mut grown = Filled::<4>::new();
     grown.append(b"ab");
     grown.append(b"cd");
     let whole = Filled::<4>::of(b"abcd");
-    assert_eq!(rt; grown, whole);
-    assert_eq!(rt; hash_of(&grown), hash_of(&whole));
-    assert_eq!(rt; Filled::<4>::read(b"abcd"), Some(whole));
-    assert_eq!(rt; Filled::<4>::read(b"abcde"), None);
+    assert!(rt; grown == whole);
+    assert!(rt; hash_of(&grown) == hash_of(&whole));
+    assert!(rt; Filled::<4>::read(b"abcd") == Some(whole));
+    assert!(rt; Filled::<4>::read(b"abcde") == None);
 
     grown.wipe();
-    assert_eq!(rt; grown, Filled::of(&[0; 4]));
-    assert_eq!(rt; grown.len(), 4);
+    assert!(rt; grown == Filled::of(&[0; 4]));
+    assert!(rt; grown.len() == 4);
     assert!(rt; grown != Filled::of(&[0; 3]));
-    Ok(())
 }
 
 #[test]
-fn labels_have_characters_and_bounds(rt: HostRuntime) -> Result<(), Fail> {
+fn labels_have_characters_and_bounds(rt: HostRuntime) {
     assert!(rt;
         Label::read(b"login-2_b").is_some_and(|label| label.bytes() == b"login-2_b".as_slice())
     );
@@ -56,30 +54,25 @@ fn labels_have_characters_and_bounds(rt: HostRuntime) -> Result<(), Fail> {
     assert!(rt; Label::read(b"").is_none());
     assert!(rt; Label::read(b"Login").is_none());
     assert!(rt; Label::read(b"a.b").is_none());
-    Ok(())
 }
 
 #[test]
-fn digits_stand_behind_the_text(rt: HostRuntime) -> Result<(), Fail> {
-    let mut text = Vec::from_slice(rt.alloc(), b"users=")?;
-    push_decimal(&mut text, 0)?;
-    text.push(b' ')?;
-    push_decimal(&mut text, u64::MAX)?;
-    text.push(b' ')?;
-    push_lower_hex(&mut text, &[0, 0x0f, 0xa5, 0xff])?;
-    push_lower_hex(&mut text, &[])?;
-    assert_eq!(rt;
-        text.as_slice(),
-        b"users=0 18446744073709551615 000fa5ff".as_slice()
-    );
-    Ok(())
+fn digits_stand_behind_the_text(rt: HostRuntime) {
+    let mut text = Vec::from_slice(rt.alloc(), b"users=").expect(&rt, "memory");
+    push_decimal(&mut text, 0).expect(&rt, "memory");
+    text.push(b' ').expect(&rt, "memory");
+    push_decimal(&mut text, u64::MAX).expect(&rt, "memory");
+    text.push(b' ').expect(&rt, "memory");
+    push_lower_hex(&mut text, &[0, 0x0f, 0xa5, 0xff]).expect(&rt, "memory");
+    push_lower_hex(&mut text, &[]).expect(&rt, "memory");
+    assert!(rt; text.as_slice() == b"users=0 18446744073709551615 000fa5ff".as_slice());
 }
 
 #[test]
 fn digits_of_just_so_many_bytes_are_read(rt: HostRuntime) {
-    assert_eq!(rt; hex_bytes(b"0Fa5"), Some([0x0f, 0xa5]));
-    assert_eq!(rt; lower_hex_bytes(b"0fa5"), Some([0x0f, 0xa5]));
-    assert_eq!(rt; lower_hex_bytes::<2>(b"0Fa5"), None);
-    assert_eq!(rt; hex_bytes::<2>(b"0fa5f"), None);
-    assert_eq!(rt; hex_bytes::<2>(b"0fa5ff"), None);
+    assert!(rt; hex_bytes(b"0Fa5") == Some([0x0f, 0xa5]));
+    assert!(rt; lower_hex_bytes(b"0fa5") == Some([0x0f, 0xa5]));
+    assert!(rt; lower_hex_bytes::<2>(b"0Fa5") == None);
+    assert!(rt; hex_bytes::<2>(b"0fa5f") == None);
+    assert!(rt; hex_bytes::<2>(b"0fa5ff") == None);
 }
