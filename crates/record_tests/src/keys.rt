@@ -1,14 +1,15 @@
 //! Keys that are drawn from raw keys.
 
+use crate::spelled::{same, spells};
 use fsc_keys::{
     FileKey, KeyKind, KeySize, PreparedKey, RawKey, descriptor, file_key, key_id, mode_key,
 };
 use std::alloc::{AllocError, Global};
-use std::test::Fail;
+use std::process::Abort;
 
 // Identifiers that Linux 6.1 gave to these raw keys.
 #[test]
-fn identifiers_are_those_of_linux(rt: HostRuntime) -> Result<(), Fail> {
+fn identifiers_are_those_of_linux(rt: HostRuntime) {
     let cases = [
         (
             "04546cd84c7f60b84669f968838779221467a0dd9d78c03803c18ff6f0f6c894",
@@ -28,17 +29,19 @@ fn identifiers_are_those_of_linux(rt: HostRuntime) -> Result<(), Fail> {
         ),
     ];
     for (raw, want) in cases {
-        let raw = RawKey::read(&hex::decode(rt.alloc(), raw)?)?;
+        let raw = RawKey::read(&hex::decode(rt.alloc(), raw).expect(&rt, "an answer")).expect(
+            &rt,
+            "an answer",
+        );
         let id = key_id(&raw);
-        assert_eq!(rt; hex::encode(rt.alloc(), id.0)?.as_str(), want);
-        assert_eq!(rt; PreparedKey::new(raw).id(), id);
+        spells(&rt, rt.alloc(), &id.0, want);
+        assert!(rt; PreparedKey::new(raw).id() == id);
     }
-    Ok(())
 }
 
 // The keys that Python's hmac and hashlib draw for these nonces.
 #[test]
-fn file_keys_are_those_of_python(rt: HostRuntime) -> Result<(), Fail> {
+fn file_keys_are_those_of_python(rt: HostRuntime) {
     let cases = [
         (
             32,
@@ -56,25 +59,29 @@ fn file_keys_are_those_of_python(rt: HostRuntime) -> Result<(), Fail> {
         ),
     ];
     for (len, nonce, contents, names) in cases {
-        let raw = counting_key(len)?;
+        let raw = counting_key(len).expect(&rt, "an answer");
         let mut bytes = [0; 16];
-        hex::decode_to_slice(nonce, &mut bytes)?;
-        for (kind, want) in [(KeyKind::Contents, contents), (KeyKind::Names, names)] {
-            let digits = digits_of(rt.alloc(), file_key(&raw, kind, &bytes))?;
-            assert_eq!(rt; digits.as_str(), want, "{kind:?} under {nonce}");
-        }
-        let digits = digits_of(
+        hex::decode_to_slice(nonce, &mut bytes).expect(&rt, "an answer");
+        key_spells(
+            &rt,
             rt.alloc(),
-            PreparedKey::new(raw).file_key(KeyKind::Names, &bytes),
-        )?;
-        assert_eq!(rt; digits.as_str(), names, "prepared, under {nonce}");
+            file_key(&raw, KeyKind::Contents, &bytes),
+            contents,
+        );
+        key_spells(
+            &rt,
+            rt.alloc(),
+            file_key(&raw, KeyKind::Names, &bytes),
+            names,
+        );
+        let prepared = PreparedKey::new(raw).file_key(KeyKind::Names, &bytes);
+        key_spells(&rt, rt.alloc(), prepared, names);
     }
-    Ok(())
 }
 
 // The keys of modes that Python's hmac and hashlib draw.
 #[test]
-fn mode_keys_are_those_of_python(rt: HostRuntime) -> Result<(), Fail> {
+fn mode_keys_are_those_of_python(rt: HostRuntime) {
     let cases = [
         (
             32,
@@ -90,15 +97,12 @@ fn mode_keys_are_those_of_python(rt: HostRuntime) -> Result<(), Fail> {
         ),
     ];
     for (len, contents, names) in cases {
-        let raw = counting_key(len)?;
-        for (kind, want) in [(KeyKind::Contents, contents), (KeyKind::Names, names)] {
-            let digits = digits_of(rt.alloc(), mode_key(&raw, kind))?;
-            assert_eq!(rt; digits.as_str(), want, "{kind:?} of {len} bytes");
-        }
-        let digits = digits_of(rt.alloc(), PreparedKey::new(raw).mode_key(KeyKind::Names))?;
-        assert_eq!(rt; digits.as_str(), names, "prepared, of {len} bytes");
+        let raw = counting_key(len).expect(&rt, "an answer");
+        key_spells(&rt, rt.alloc(), mode_key(&raw, KeyKind::Contents), contents);
+        key_spells(&rt, rt.alloc(), mode_key(&raw, KeyKind::Names), names);
+        let prepared = PreparedKey::new(raw).mode_key(KeyKind::Names);
+        key_spells(&rt, rt.alloc(), prepared, names);
     }
-    Ok(())
 }
 
 /// The key 00, 01, 02 and so on, of as many bytes.
@@ -110,36 +114,41 @@ fn counting_key(len: usize) -> Result<RawKey, KeySize> {
     RawKey::read(counting.get(..len).unwrap_or(&[]))
 }
 
-fn digits_of(alloc: Global, key: FileKey) -> Result<String, AllocError> {
-    Ok(match key {
-        FileKey::Contents(key) => hex::encode(alloc, key)?,
-        FileKey::Names(key) => hex::encode(alloc, key)?,
-    })
+// That the key has these digits.
+fn key_spells<A: Abort>(rt: &A, alloc: Global, key: FileKey, digits: &str) {
+    match key {
+        FileKey::Contents(key) => spells(rt, alloc, &key, digits),
+        FileKey::Names(key) => spells(rt, alloc, &key, digits),
+    }
 }
 
 // Python's hashlib: the first 8 bytes of SHA-512 of SHA-512.
 #[test]
 fn descriptors_are_those_of_python(rt: HostRuntime) {
-    assert_eq!(rt; descriptor(&[0; 32]), *b"6d78a62a9362b617");
-    assert_eq!(rt; descriptor(&[1; 32]), *b"509eafe591531d4f");
-    assert_eq!(rt; descriptor(&[]), *b"826df068457df5dd");
+    same(&rt, &descriptor(&[0; 32]), b"6d78a62a9362b617", "32 zeros");
+    same(&rt, &descriptor(&[1; 32]), b"509eafe591531d4f", "32 ones");
+    same(&rt, &descriptor(&[]), b"826df068457df5dd", "nothing");
 }
 
 #[test]
-fn raw_keys_have_32_to_64_bytes(rt: HostRuntime) -> Result<(), Fail> {
+fn raw_keys_have_32_to_64_bytes(rt: HostRuntime) {
     let bytes = [7; 66];
     for (len, read) in [(0, false), (31, false), (32, true), (64, true), (65, false)] {
         match RawKey::read(&bytes[..len]) {
-            Ok(key) => assert_eq!(rt; (read, key.bytes().len()), (true, len)),
-            Err(fault) => assert_eq!(rt; (read, fault.len), (false, len)),
+            Ok(key) => assert!(rt; read && key.bytes().len() == len),
+            Err(fault) => assert!(rt; !read && fault.len == len),
         }
     }
-    let mut key = RawKey::read(&bytes[..40])?;
+    let mut key = RawKey::read(&bytes[..40]).expect(&rt, "an answer");
     key.wipe();
-    assert_eq!(rt; key.bytes(), [0; 40].as_slice());
-    let mut prepared = PreparedKey::new(RawKey::read(&bytes[..40])?);
+    same(&rt, key.bytes(), &[0; 40], "a key that was wiped");
+    let mut prepared = PreparedKey::new(RawKey::read(&bytes[..40]).expect(&rt, "an answer"));
     prepared.wipe();
-    assert_eq!(rt; prepared.bytes(), [0; 40].as_slice());
-    assert_eq!(rt; prepared.id(), key_id(&key));
-    Ok(())
+    same(
+        &rt,
+        prepared.bytes(),
+        &[0; 40],
+        "a prepared key that was wiped",
+    );
+    assert!(rt; prepared.id() == key_id(&key));
 }

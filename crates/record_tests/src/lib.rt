@@ -21,4 +21,6 @@ mod policies;
 #[cfg(test)]
 mod protectors;
 #[cfg(test)]
+mod spelled;
+#[cfg(test)]
 mod wraps;

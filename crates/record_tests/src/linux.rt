@@ -3,12 +3,14 @@ ghost use Rattle.std.specs.Prelude.{◌≡◌, ◌<◌};
 
 use crate::linux_vectors::{NAMES, RAW, TARGETS};
 use crate::linux_vectors_by_mode::{NAMES_BY_MODE, POLICIES, TARGETS_BY_MODE};
+use crate::spelled::{same, spells};
 use fsc_keys::{FileKey, KeyKind, RawKey, file_key, key_id, mode_key};
 use name_crypt::{Plain, Steps, StoredName, decrypt_name, encrypt_name, nokey_matches, nokey_text};
 use policy_ctx::{Pad, decode_policy, encode_policy};
+use std::alloc::Global;
 use std::marker::Brand;
+use std::process::Abort;
 use std::sync::ledger::{Blank, Ledger};
-use std::test::Fail;
 
 /// The names key of a directory or a symlink with this nonce.
 fn names_key(raw: &RawKey, nonce: &str) -> Option<[u8; 32]> {
@@ -53,100 +55,91 @@ fn stored_once<L: Ledger>(
     encrypt_name(key, iv, pad, name, &mut steps)
 }
 
+// The stored name, which is to have these digits and to be read back.
+fn stored_so<A: Abort>(
+    rt: &A,
+    alloc: Global,
+    key: &[u8; 32],
+    iv: [u8; 16],
+    pad: Pad,
+    texts: (&str, &str),
+) -> StoredName {
+    let plain = hex::decode(alloc, texts.0).expect(rt, "digits");
+    let name = Plain::read(&plain).expect(rt, "a name");
+    let stored = stored_once::<Brand>(Blank::new(1), key, iv, pad, &name);
+    spells(rt, alloc, stored.bytes(), texts.1);
+    assert!(rt; decrypt_name(key, iv, &stored) == Ok(name));
+    stored
+}
+
+// The raw key under which everything here was stored.
+pub(crate) fn raw_key<A: Abort>(rt: &A, alloc: Global) -> RawKey {
+    let bytes = hex::decode(alloc, RAW).expect(rt, "digits");
+    RawKey::read(&bytes).expect(rt, "a raw key")
+}
+
 #[test]
-fn names_are_those_of_linux(rt: HostRuntime) -> Result<(), Fail> {
-    let raw = RawKey::read(&hex::decode(rt.alloc(), RAW)?)?;
+fn names_are_those_of_linux(rt: HostRuntime) {
+    let raw = raw_key(&rt, rt.alloc());
     for known in &NAMES {
         let key = names_key(&raw, known.nonce).expect(&rt, "a names key");
-        let name = Plain::read(&hex::decode(rt.alloc(), known.plain)?)?;
-        let stored = stored_once::<Brand>(Blank::new(1), &key, [0; 16], known.pad, &name);
-        assert_eq!(rt;
-            hex::encode(rt.alloc(), stored.bytes())?.as_str(),
-            known.stored
+        let texts = (known.plain, known.stored);
+        let stored = stored_so(&rt, rt.alloc(), &key, [0; 16], known.pad, texts);
+        same(
+            &rt,
+            nokey_text(&stored).bytes(),
+            known.listed.as_bytes(),
+            known.listed,
         );
-        assert_eq!(rt; decrypt_name(&key, [0; 16], &stored), Ok(name));
-        assert!(rt;
-            nokey_text(&stored).bytes() == known.listed.as_bytes(),
-            "{}",
-            known.listed
-        );
-        assert!(rt;
-            nokey_matches(known.listed.as_bytes(), &stored),
-            "{}",
-            known.listed
-        );
+        assert!(rt; nokey_matches(known.listed.as_bytes(), &stored));
     }
-    Ok(())
 }
 
 #[test]
-fn targets_are_those_of_linux(rt: HostRuntime) -> Result<(), Fail> {
-    let raw = RawKey::read(&hex::decode(rt.alloc(), RAW)?)?;
+fn targets_are_those_of_linux(rt: HostRuntime) {
+    let raw = raw_key(&rt, rt.alloc());
     for known in &TARGETS {
         let key = names_key(&raw, known.nonce).expect(&rt, "a names key");
-        let target = Plain::read(&hex::decode(rt.alloc(), known.plain)?)?;
-        let stored = stored_once::<Brand>(Blank::new(1), &key, [0; 16], Pad::P32, &target);
-        assert_eq!(rt;
-            hex::encode(rt.alloc(), stored.bytes())?.as_str(),
-            known.stored
-        );
-        assert_eq!(rt; decrypt_name(&key, [0; 16], &stored), Ok(target));
+        let texts = (known.plain, known.stored);
+        let _stored = stored_so(&rt, rt.alloc(), &key, [0; 16], Pad::P32, texts);
     }
-    Ok(())
 }
 
 #[test]
-fn names_under_a_mode_key_are_those_of_linux(rt: HostRuntime) -> Result<(), Fail> {
-    let raw = RawKey::read(&hex::decode(rt.alloc(), RAW)?)?;
-    let key = names_mode_key(&raw).expect(&rt, "a names key");
+fn names_under_a_mode_key_are_those_of_linux(rt: HostRuntime) {
+    let key = names_mode_key(&raw_key(&rt, rt.alloc())).expect(&rt, "a names key");
     for known in &NAMES_BY_MODE {
+        let texts = (known.plain, known.stored);
         let iv = iv_of(known.directory);
-        let name = Plain::read(&hex::decode(rt.alloc(), known.plain)?)?;
-        let stored = stored_once::<Brand>(Blank::new(1), &key, iv, known.pad, &name);
-        assert_eq!(rt;
-            hex::encode(rt.alloc(), stored.bytes())?.as_str(),
-            known.stored
-        );
-        assert_eq!(rt; decrypt_name(&key, iv, &stored), Ok(name));
-        assert!(rt;
-            nokey_text(&stored).bytes() == known.listed.as_bytes(),
-            "{}",
-            known.listed
+        let stored = stored_so(&rt, rt.alloc(), &key, iv, known.pad, texts);
+        same(
+            &rt,
+            nokey_text(&stored).bytes(),
+            known.listed.as_bytes(),
+            known.listed,
         );
     }
-    Ok(())
 }
 
 #[test]
-fn targets_under_a_mode_key_are_those_of_linux(rt: HostRuntime) -> Result<(), Fail> {
-    let raw = RawKey::read(&hex::decode(rt.alloc(), RAW)?)?;
-    let key = names_mode_key(&raw).expect(&rt, "a names key");
+fn targets_under_a_mode_key_are_those_of_linux(rt: HostRuntime) {
+    let key = names_mode_key(&raw_key(&rt, rt.alloc())).expect(&rt, "a names key");
     for known in &TARGETS_BY_MODE {
-        let iv = iv_of(known.link);
-        let target = Plain::read(&hex::decode(rt.alloc(), known.plain)?)?;
-        let stored = stored_once::<Brand>(Blank::new(1), &key, iv, known.pad, &target);
-        assert_eq!(rt;
-            hex::encode(rt.alloc(), stored.bytes())?.as_str(),
-            known.stored
-        );
-        assert_eq!(rt; decrypt_name(&key, iv, &stored), Ok(target));
+        let texts = (known.plain, known.stored);
+        let _stored = stored_so(&rt, rt.alloc(), &key, iv_of(known.link), known.pad, texts);
     }
-    Ok(())
 }
 
 // Each names the key under which everything here was stored.
 #[test]
-fn policies_that_linux_took_decode(rt: HostRuntime) -> Result<(), Fail> {
-    let raw = RawKey::read(&hex::decode(rt.alloc(), RAW)?)?;
+fn policies_that_linux_took_decode(rt: HostRuntime) {
+    let id = key_id(&raw_key(&rt, rt.alloc()));
     for known in POLICIES {
-        let bytes = hex::decode(rt.alloc(), known)?;
-        let policy = decode_policy(&bytes)?;
-        assert_eq!(rt; policy.id, key_id(&raw), "{known}");
-        assert_eq!(rt;
-            encode_policy(&policy).as_slice(),
-            bytes.as_slice(),
-            "{known}"
+        let policy = decode_policy(&hex::decode(rt.alloc(), known).expect(&rt, "an answer")).expect(
+            &rt,
+            "an answer",
         );
+        assert!(rt; policy.id == id, "{known}");
+        spells(&rt, rt.alloc(), &encode_policy(&policy), known);
     }
-    Ok(())
 }

@@ -9,7 +9,6 @@ use name_crypt::{
 use policy_ctx::Pad;
 use std::marker::Brand;
 use std::sync::ledger::{Blank, Ledger};
-use std::test::Fail;
 
 const KEY: [u8; 32] = [7; 32];
 
@@ -24,7 +23,7 @@ fn stored_once<L: Ledger>(blank: Blank, pad: Pad, name: &Plain) -> StoredName
 }
 
 #[test]
-fn stored_name_lengths_and_round_trip(rt: HostRuntime) -> Result<(), Fail> {
+fn stored_name_lengths_and_round_trip(rt: HostRuntime) {
     let letters = [b'a'; 255];
     for (len, pad, want) in [
         (1, Pad::P32, 32),
@@ -36,21 +35,18 @@ fn stored_name_lengths_and_round_trip(rt: HostRuntime) -> Result<(), Fail> {
         (17, Pad::P8, 24),
         (249, Pad::P8, 255),
     ] {
-        let name = Plain::read(&letters[..len])?;
+        let name = Plain::read(&letters[..len]).expect(&rt, "an answer");
         let stored = stored_once::<Brand>(Blank::new(1), pad, &name);
-        assert_eq!(rt; stored.bytes().len(), want, "a name of {len} bytes");
-        assert_eq!(rt;
-            decrypt_name(&KEY, [0; 16], &stored),
-            Ok(name),
+        assert!(rt; stored.bytes().len() == want, "a name of {len} bytes");
+        assert!(rt;
+            decrypt_name(&KEY, [0; 16], &stored) == Ok(name),
             "a name of {len} bytes"
         );
-        assert_eq!(rt;
-            NameCipher::new(&KEY, 0).decrypt(&stored),
-            Ok(name),
+        assert!(rt;
+            NameCipher::new(&KEY, 0).decrypt(&stored) == Ok(name),
             "a name of {len} bytes"
         );
     }
-    Ok(())
 }
 
 /// The stored name under the key of these tests from a start, counted on a ledger of its own.
@@ -74,8 +70,8 @@ const WITHOUT_START: [u8; 32] = [
 // The two blocks are those of `openssl enc -aes-256-cbc`, swapped, with the start of node 12 in the
 // iv and without.
 #[test]
-fn start_of_a_node_is_in_the_iv(rt: HostRuntime) -> Result<(), Fail> {
-    let name = Plain::read(&NAME)?;
+fn start_of_a_node_is_in_the_iv(rt: HostRuntime) {
+    let name = Plain::read(&NAME).expect(&rt, "an answer");
     let stored = [
         (
             12 << 32,
@@ -90,13 +86,11 @@ fn start_of_a_node_is_in_the_iv(rt: HostRuntime) -> Result<(), Fail> {
     for (start, want) in stored {
         let found = stored_from::<Brand>(Blank::new(1), start, &name);
         assert!(rt; found.bytes() == want.as_slice(), "start {start}");
-        assert_eq!(rt;
-            NameCipher::new(&KEY, start).decrypt(&found),
-            Ok(name),
+        assert!(rt;
+            NameCipher::new(&KEY, start).decrypt(&found) == Ok(name),
             "start {start}"
         );
     }
-    Ok(())
 }
 
 /// The stored name under the key of these tests, written over zeros, and its length.
@@ -115,43 +109,40 @@ fn written<L: Ledger>(blank: Blank, name: &[u8]) -> ([u8; MOST_NAME_BYTES], usiz
 }
 
 #[test]
-fn a_name_is_written_over_zeros(rt: HostRuntime) -> Result<(), Fail> {
+fn a_name_is_written_over_zeros(rt: HostRuntime) {
     assert!(rt; is_plain(&NAME));
     assert!(rt; !is_plain(b"a\0b"));
     let (text, len) = written::<Brand>(Blank::new(1), &NAME);
     assert!(rt; &text[..len] == WITHOUT_START.as_slice());
-    Ok(())
 }
 
 #[test]
-fn names_and_stored_names_have_bounds(rt: HostRuntime) -> Result<(), Fail> {
+fn names_and_stored_names_have_bounds(rt: HostRuntime) {
     let zeros = [0; 256];
-    assert_eq!(rt; Plain::read(&zeros), Err(PlainFault::Length));
-    assert_eq!(rt; Plain::read(&zeros[..1]), Err(PlainFault::Nul));
-    assert_eq!(rt; StoredName::read(&zeros[..15]), Err(StoredLength));
+    assert!(rt; Plain::read(&zeros) == Err(PlainFault::Length));
+    assert!(rt; Plain::read(&zeros[..1]) == Err(PlainFault::Nul));
+    assert!(rt; StoredName::read(&zeros[..15]) == Err(StoredLength));
     assert!(rt; StoredName::read(&zeros[..255]).is_ok());
-    Ok(())
 }
 
 #[test]
-fn nokey_texts_by_length(rt: HostRuntime) -> Result<(), Fail> {
+fn nokey_texts_by_length(rt: HostRuntime) {
     let counting = [0, 1, 2, 3, 4, 5, 6, 7, 8, 9, 10, 11, 12, 13, 14, 15];
     for (bytes, text) in [
         (counting, b"AAAAAAAAAAAAAQIDBAUGBwgJCgsMDQ4P"),
         ([0xff; 16], b"AAAAAAAAAAD_____________________"),
     ] {
-        let stored = StoredName::read(&bytes)?;
+        let stored = StoredName::read(&bytes).expect(&rt, "an answer");
         assert!(rt; nokey_text(&stored).bytes() == text.as_slice());
         assert!(rt; nokey_matches(text, &stored));
     }
 
     let mut bytes = [1; 200];
     for (len, characters) in [(149, 210), (150, 252), (200, 252)] {
-        let stored = StoredName::read(&bytes[..len])?;
+        let stored = StoredName::read(&bytes[..len]).expect(&rt, "an answer");
         let text = nokey_text(&stored);
-        assert_eq!(rt;
-            text.bytes().len(),
-            characters,
+        assert!(rt;
+            text.bytes().len() == characters,
             "a stored name of {len} bytes"
         );
         assert!(rt;
@@ -160,9 +151,8 @@ fn nokey_texts_by_length(rt: HostRuntime) -> Result<(), Fail> {
         );
     }
 
-    let one = StoredName::read(&bytes)?;
+    let one = StoredName::read(&bytes).expect(&rt, "an answer");
     bytes[199] = 2;
-    let other = StoredName::read(&bytes)?;
+    let other = StoredName::read(&bytes).expect(&rt, "an answer");
     assert!(rt; !nokey_matches(nokey_text(&one).bytes(), &other));
-    Ok(())
 }

@@ -2,13 +2,9 @@
 ghost use Rattle.std.specs.Prelude.{◌≤◌};
 
 use crate::protectors::{record, with_line};
-use crate::wraps::{DOCS, WRAPPED, policy_for};
-use protector_meta::{
-    MetaFault, Options, Pad, Unit, add_protector, decode_policy_file, drop_protector,
-    encode_policy_file,
-};
+use crate::wraps::{DOCS, WRAPPED, is_at_fault, is_written, policy_for};
+use protector_meta::{Options, Pad, Unit, add_protector, decode_policy_file, drop_protector};
 use std::alloc::{AllocError, Global};
-use std::test::Fail;
 
 /// The lines before the wraps of the same policy with options, in a record of version 2.
 const WITH_OPTIONS: [&[u8]; 4] = [
@@ -29,55 +25,64 @@ fn record_with_options(alloc: Global, lines: usize) -> Result<Vec<u8>, AllocErro
     Ok(text)
 }
 
+// The lines before the wraps, with another in the place of this number, and a wrap behind them.
+fn wrapped_behind(alloc: Global, number: u32, said: &[u8]) -> Result<Vec<u8>, AllocError> {
+    let mut text = with_line(alloc, &WITH_OPTIONS, number, said)?;
+    text.extend_from_slice(b"wrap a")?;
+    text.extend_from_slice(WRAPPED)?;
+    Ok(text)
+}
+
 #[test]
-fn options_stand_in_records_of_version_2(rt: HostRuntime) -> Result<(), Fail> {
+fn options_stand_in_records_of_version_2(rt: HostRuntime) {
     let alloc = rt.alloc();
     let options = Options {
         pad: Pad::P32,
         unit: Unit::Block,
     };
     for (lines, len) in [(4, 310), (5, 549)] {
-        let text = record_with_options(alloc, lines)?;
-        assert_eq!(rt; text.len(), len);
-        let mut policy = decode_policy_file(alloc, &text)?;
-        assert_eq!(rt; policy.options, Some(options));
-        let again = encode_policy_file(alloc, &policy)?;
-        assert_eq!(rt; again.as_slice(), text.as_slice());
-
+        let text = record_with_options(alloc, lines).expect(&rt, "an answer");
+        assert!(rt; text.len() == len);
+        let mut policy = decode_policy_file(alloc, &text).expect(&rt, "an answer");
+        assert!(rt; policy.options == Some(options));
+        is_written(&rt, alloc, &policy, &text);
         policy.options = None;
-        let first_version = encode_policy_file(alloc, &policy)?;
-        let wanted = record(alloc, &DOCS[..lines])?;
-        assert_eq!(rt; first_version.as_slice(), wanted.as_slice());
+        is_written(
+            &rt,
+            alloc,
+            &policy,
+            &record(alloc, &DOCS[..lines]).expect(&rt, "an answer"),
+        );
     }
-    let mut text = with_line(alloc, &WITH_OPTIONS, 4, b"options 4 12")?;
-    text.extend_from_slice(b"wrap a")?;
-    text.extend_from_slice(WRAPPED)?;
-    let policy = decode_policy_file(alloc, &text)?;
+}
+
+#[test]
+fn other_options_are_read(rt: HostRuntime) {
+    let alloc = rt.alloc();
+    let text = wrapped_behind(alloc, 4, b"options 4 12").expect(&rt, "an answer");
+    let policy = decode_policy_file(alloc, &text).expect(&rt, "an answer");
     let options = Options {
         pad: Pad::P4,
         unit: Unit::U4096,
     };
-    assert_eq!(rt; policy.options, Some(options));
-    Ok(())
+    assert!(rt; policy.options == Some(options));
 }
 
 #[test]
-fn options_outlast_a_change_of_protectors(rt: HostRuntime) -> Result<(), Fail> {
+fn options_outlast_a_change_of_protectors(rt: HostRuntime) {
     let alloc = rt.alloc();
-    let text = record_with_options(alloc, 4)?;
-    let mut policy = decode_policy_file(alloc, &text)?;
-    let others = policy_for(alloc, b"a")?;
+    let text = record_with_options(alloc, 4).expect(&rt, "an answer");
+    let mut policy = decode_policy_file(alloc, &text).expect(&rt, "an answer");
+    let others = policy_for(&rt, alloc, b"a");
     for wrap in others.wraps.iter() {
         assert!(rt; add_protector(&mut policy, *wrap) == Ok(()));
         assert!(rt; drop_protector(&mut policy, &wrap.protector) == Ok(()));
     }
-    let again = encode_policy_file(alloc, &policy)?;
-    assert_eq!(rt; again.as_slice(), text.as_slice());
-    Ok(())
+    is_written(&rt, alloc, &policy, &text);
 }
 
 #[test]
-fn lines_of_version_2_are_at_fault_at_their_numbers(rt: HostRuntime) -> Result<(), Fail> {
+fn lines_of_version_2_are_at_fault_at_their_numbers(rt: HostRuntime) {
     let alloc = rt.alloc();
     let cases: [(u32, &[u8]); 11] = [
         (1, b"fsc-policy 02"),
@@ -93,16 +98,22 @@ fn lines_of_version_2_are_at_fault_at_their_numbers(rt: HostRuntime) -> Result<(
         (4, b"name docs"),
     ];
     for (number, said) in cases {
-        let mut text = with_line(alloc, &WITH_OPTIONS, number, said)?;
-        text.extend_from_slice(b"wrap a")?;
-        text.extend_from_slice(WRAPPED)?;
-        let decoded = decode_policy_file(alloc, &text);
-        assert_eq!(rt; decoded.err(), Some(MetaFault::Bad { line: number }));
+        let text = wrapped_behind(alloc, number, said).expect(&rt, "memory");
+        assert!(rt; is_at_fault(alloc, &text, number), "line {number}");
     }
     // No wrap at all, and no options in the place of the first wrap.
-    let decoded = decode_policy_file(alloc, &record(alloc, &WITH_OPTIONS)?);
-    assert_eq!(rt; decoded.err(), Some(MetaFault::Bad { line: 5 }));
-    let decoded = decode_policy_file(alloc, &with_line(alloc, &DOCS, 1, b"fsc-policy 2")?);
-    assert_eq!(rt; decoded.err(), Some(MetaFault::Bad { line: 4 }));
-    Ok(())
+    assert!(rt;
+        is_at_fault(
+            alloc,
+            &record(alloc, &WITH_OPTIONS).expect(&rt, "an answer"),
+            5
+        )
+    );
+    assert!(rt;
+        is_at_fault(
+            alloc,
+            &with_line(alloc, &DOCS, 1, b"fsc-policy 2").expect(&rt, "an answer"),
+            4
+        )
+    );
 }

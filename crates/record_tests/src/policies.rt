@@ -4,7 +4,6 @@ use policy_ctx::{
     CONTEXT_LEN, Context, CtxFault, KeyId, POLICY_LEN, Pad, Policy, Unit, decode_context,
     decode_policy, encode_context, encode_policy, id_in, is_by_mode,
 };
-use std::test::Fail;
 
 /// The identifier 00, 01, .. 0f.
 const COUNTING: [u8; 16] = [0, 1, 2, 3, 4, 5, 6, 7, 8, 9, 10, 11, 12, 13, 14, 15];
@@ -24,9 +23,9 @@ fn policy_padded_to_32() -> Policy {
 }
 
 #[test]
-fn policy_bytes_and_first_faults(rt: HostRuntime) -> Result<(), Fail> {
-    assert_eq!(rt; encode_policy(&policy_padded_to_32()), PADDED_TO_32);
-    assert_eq!(rt; decode_policy(&PADDED_TO_32), Ok(policy_padded_to_32()));
+fn policy_bytes_and_first_faults(rt: HostRuntime) {
+    assert!(rt; encode_policy(&policy_padded_to_32()) == PADDED_TO_32);
+    assert!(rt; decode_policy(&PADDED_TO_32) == Ok(policy_padded_to_32()));
 
     for (place, byte, fault) in [
         (0, 1, CtxFault::Version),
@@ -39,34 +38,31 @@ fn policy_bytes_and_first_faults(rt: HostRuntime) -> Result<(), Fail> {
     ] {
         let mut bytes = PADDED_TO_32;
         bytes[place] = byte;
-        assert_eq!(rt;
-            decode_policy(&bytes),
-            Err(fault),
+        assert!(rt;
+            decode_policy(&bytes) == Err(fault),
             "byte {place} set to {byte}"
         );
     }
-    assert_eq!(rt; decode_policy(&PADDED_TO_32[..23]), Err(CtxFault::Length));
-    Ok(())
+    assert!(rt; decode_policy(&PADDED_TO_32[..23]) == Err(CtxFault::Length));
 }
 
 #[test]
-fn other_flags_and_units_are_refused(rt: HostRuntime) -> Result<(), Fail> {
+fn other_flags_and_units_are_refused(rt: HostRuntime) {
     for flags in [4, 7, 12, 16, 255] {
         let mut bytes = PADDED_TO_32;
         bytes[3] = flags;
-        assert_eq!(rt; decode_policy(&bytes), Err(CtxFault::Flags), "{flags}");
+        assert!(rt; decode_policy(&bytes) == Err(CtxFault::Flags), "{flags}");
     }
     for log in [1, 8, 13, 255] {
         let mut bytes = PADDED_TO_32;
         bytes[4] = log;
-        assert_eq!(rt; decode_policy(&bytes), Err(CtxFault::Unit), "{log}");
+        assert!(rt; decode_policy(&bytes) == Err(CtxFault::Unit), "{log}");
     }
-    Ok(())
 }
 
 // Flags and units that a Linux 6.12 kernel takes, and what it takes them for.
 #[test]
-fn units_and_flag_8_are_those_of_linux(rt: HostRuntime) -> Result<(), Fail> {
+fn units_and_flag_8_are_those_of_linux(rt: HostRuntime) {
     for (flags, log, by_mode, unit) in [
         (3, 9, false, Unit::U512),
         (3, 10, false, Unit::U1024),
@@ -84,26 +80,24 @@ fn units_and_flag_8_are_those_of_linux(rt: HostRuntime) -> Result<(), Fail> {
             by_mode,
             id: KeyId(COUNTING),
         };
-        assert_eq!(rt; decode_policy(&bytes), Ok(policy), "{flags} and {log}");
-        assert_eq!(rt; encode_policy(&policy), bytes, "{flags} and {log}");
+        assert!(rt; decode_policy(&bytes) == Ok(policy), "{flags} and {log}");
+        assert!(rt; encode_policy(&policy) == bytes, "{flags} and {log}");
     }
-    Ok(())
 }
 
 #[test]
-fn context_bytes_have_the_nonce_behind(rt: HostRuntime) -> Result<(), Fail> {
+fn context_bytes_have_the_nonce_behind(rt: HostRuntime) {
     let context = Context {
         policy: policy_padded_to_32(),
         nonce: [0xee; 16],
     };
     let mut bytes = [0xee; CONTEXT_LEN];
     bytes[..POLICY_LEN].copy_from_slice(&PADDED_TO_32);
-    assert_eq!(rt; encode_context(&context), bytes);
-    assert_eq!(rt; decode_context(&bytes), Ok(context));
-    assert_eq!(rt; id_in(&bytes), KeyId(COUNTING));
+    assert!(rt; encode_context(&context) == bytes);
+    assert!(rt; decode_context(&bytes) == Ok(context));
+    assert!(rt; id_in(&bytes) == KeyId(COUNTING));
     assert!(rt; !is_by_mode(&bytes));
     bytes[3] = 11;
     assert!(rt; is_by_mode(&bytes));
-    assert_eq!(rt; decode_context(&PADDED_TO_32), Err(CtxFault::Length));
-    Ok(())
+    assert!(rt; decode_context(&PADDED_TO_32) == Err(CtxFault::Length));
 }

@@ -1,12 +1,13 @@
 //! Records of protectors.
 
+use crate::spelled::same;
 use argon_kdf::{Texts, argon2id};
 use key_wrap::unwrap;
 use protector_meta::{
     Descriptor, MetaFault, Protector, ProtectorKind, decode_protector, encode_protector,
 };
 use std::alloc::{AllocError, Global};
-use std::test::Fail;
+use std::process::Abort;
 
 /// A protector of the passphrase `correct horse`, made outside.
 pub(crate) const LOGIN: [&[u8]; 7] = [
@@ -56,59 +57,65 @@ pub(crate) fn with_line(
 }
 
 // The key of a protector whose secret is known.
-pub(crate) fn protector_key(alloc: Global, protector: &Protector) -> Result<[u8; 32], Fail> {
+pub(crate) fn protector_key<A: Abort>(rt: &A, alloc: Global, protector: &Protector) -> [u8; 32] {
     let mut wrapping = [0x11; 32];
     if let ProtectorKind::Pass(stretching) = &protector.kind {
         let costs = stretching.costs();
         let salt = stretching.salt();
         let texts = Texts::unkeyed(b"correct horse", salt);
-        argon2id(alloc, &costs, texts, &mut wrapping)?;
+        argon2id(alloc, &costs, texts, &mut wrapping).expect(rt, "memory");
     }
     let mut key = [0; 32];
-    unwrap(
+    let opened = unwrap(
         &wrapping,
         &protector.iv,
         &protector.key,
         &protector.tag,
         &mut key,
-    )?;
-    Ok(key)
+    );
+    assert!(rt; opened.is_ok());
+    key
+}
+
+// Whether the text is no record of a protector, with this line at fault.
+fn is_at_fault(text: &[u8], at: u32) -> bool {
+    matches!(decode_protector(text), Err(MetaFault::Bad { line }) if line == at)
 }
 
 #[test]
-fn records_of_a_session_open_to_the_keys_of_their_descriptors(rt: HostRuntime) -> Result<(), Fail> {
+fn records_of_a_session_open_to_the_keys_of_their_descriptors(rt: HostRuntime) {
     for (lines, len) in [(LOGIN, 279), (BACKUP, 239)] {
-        let text = record(rt.alloc(), &lines)?;
-        assert_eq!(rt; text.len(), len);
-        let protector = decode_protector(&text)?;
-        let key = protector_key(rt.alloc(), &protector)?;
+        let text = record(rt.alloc(), &lines).expect(&rt, "an answer");
+        assert!(rt; text.len() == len);
+        let protector = decode_protector(&text).expect(&rt, "an answer");
+        let key = protector_key(&rt, rt.alloc(), &protector);
         assert!(rt; Descriptor::of_key(&key) == protector.descriptor);
-        let again = encode_protector(rt.alloc(), &protector)?;
-        assert_eq!(rt; again.as_slice(), text.as_slice());
+        let again = encode_protector(rt.alloc(), &protector).expect(&rt, "an answer");
+        same(&rt, again.as_slice(), text.as_slice(), "a record");
     }
-    Ok(())
 }
 
-#[test]
-fn a_missing_line_is_at_fault_at_its_number(rt: HostRuntime) -> Result<(), Fail> {
-    for missing in 0..7 {
-        let mut lines: Vec<&[u8]> = Vec::new(rt.alloc());
-        for (i, line) in BACKUP.iter().enumerate() {
-            if i != missing {
-                lines.push(line)?;
-            }
+// The record BACKUP without the line of this number, counted from 0.
+fn record_without(alloc: Global, missing: usize) -> Result<Vec<u8>, AllocError> {
+    let mut lines: Vec<&[u8]> = Vec::new(alloc);
+    for (i, line) in BACKUP.iter().enumerate() {
+        if i != missing {
+            lines.push(line)?;
         }
-        let text = record(rt.alloc(), &lines)?;
-        let want = MetaFault::Bad {
-            line: missing as u32 + 1,
-        };
-        assert_eq!(rt; decode_protector(&text).err(), Some(want));
     }
-    Ok(())
+    record(alloc, &lines)
 }
 
 #[test]
-fn a_line_that_is_not_as_its_place_asks_is_at_fault(rt: HostRuntime) -> Result<(), Fail> {
+fn a_missing_line_is_at_fault_at_its_number(rt: HostRuntime) {
+    for missing in 0..7 {
+        let text = record_without(rt.alloc(), missing).expect(&rt, "an answer");
+        assert!(rt; is_at_fault(&text, missing as u32 + 1), "{missing}");
+    }
+}
+
+#[test]
+fn a_line_that_is_not_as_its_place_asks_is_at_fault(rt: HostRuntime) {
     let cases: [(u32, &[u8]); 20] = [
         (1, b""),
         (1, b"fsc-protector 2"),
@@ -135,39 +142,20 @@ fn a_line_that_is_not_as_its_place_asks_is_at_fault(rt: HostRuntime) -> Result<(
         ),
     ];
     for (number, said) in cases {
-        let text = with_line(rt.alloc(), &BACKUP, number, said)?;
-        assert_eq!(rt;
-            decode_protector(&text).err(),
-            Some(MetaFault::Bad { line: number })
-        );
+        let text = with_line(rt.alloc(), &BACKUP, number, said).expect(&rt, "an answer");
+        assert!(rt; is_at_fault(&text, number), "line {number}");
     }
-    Ok(())
 }
 
 #[test]
-fn what_follows_the_last_line_feed_is_at_fault_at_its_own_number(
-    rt: HostRuntime,
-) -> Result<(), Fail> {
-    assert_eq!(rt;
-        decode_protector(b"").err(),
-        Some(MetaFault::Bad { line: 1 })
-    );
-    assert_eq!(rt;
-        decode_protector(b"fsc-protector 1").err(),
-        Some(MetaFault::Bad { line: 1 })
-    );
-    let mut text = record(rt.alloc(), &BACKUP)?;
+fn what_follows_the_last_line_feed_is_at_fault_at_its_own_number(rt: HostRuntime) {
+    assert!(rt; is_at_fault(b"", 1));
+    assert!(rt; is_at_fault(b"fsc-protector 1", 1));
+    let mut text = record(rt.alloc(), &BACKUP).expect(&rt, "an answer");
     for said in [b"tag".as_slice(), b"\n", b"\n"] {
-        text.extend_from_slice(said)?;
-        assert_eq!(rt;
-            decode_protector(&text).err(),
-            Some(MetaFault::Bad { line: 8 })
-        );
+        text.extend_from_slice(said).expect(&rt, "an answer");
+        assert!(rt; is_at_fault(&text, 8));
     }
     text.truncate(238);
-    assert_eq!(rt;
-        decode_protector(&text).err(),
-        Some(MetaFault::Bad { line: 7 })
-    );
-    Ok(())
+    assert!(rt; is_at_fault(&text, 7));
 }

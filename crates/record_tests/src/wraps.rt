@@ -1,14 +1,15 @@
 //! Records of policies, and the wraps in them.
 
 use crate::protectors::{BACKUP, LOGIN, protector_key, record, with_line};
-use fsc_keys::{RawKey, key_id};
+use crate::spelled::same;
+use fsc_keys::{KeyId, RawKey, key_id};
 use key_wrap::unwrap;
 use protector_meta::{
-    MetaFault, PolicyFile, WrapFault, add_protector, decode_policy_file, decode_protector,
+    MetaFault, PolicyFile, Wrap, WrapFault, add_protector, decode_policy_file, decode_protector,
     drop_protector, encode_policy_file,
 };
 use std::alloc::{AllocError, Global};
-use std::test::Fail;
+use std::process::Abort;
 
 /// A policy of the protectors LOGIN and BACKUP, made outside.
 pub(crate) const DOCS: [&[u8]; 5] = [
@@ -42,81 +43,113 @@ fn record_for(alloc: Global, labels: &[u8]) -> Result<Vec<u8>, AllocError> {
     Ok(text)
 }
 
-pub(crate) fn policy_for(alloc: Global, labels: &[u8]) -> Result<PolicyFile, Fail> {
-    let text = record_for(alloc, labels)?;
-    Ok(decode_policy_file(alloc, &text)?)
+pub(crate) fn policy_for<A: Abort>(rt: &A, alloc: Global, labels: &[u8]) -> PolicyFile {
+    let text = record_for(alloc, labels).expect(rt, "memory");
+    decode_policy_file(alloc, &text).expect(rt, "a policy")
 }
 
-#[test]
-fn wraps_of_a_session_open_to_the_policy_key(rt: HostRuntime) -> Result<(), Fail> {
-    let alloc = rt.alloc();
-    let login = decode_protector(&record(alloc, &LOGIN)?)?;
-    let login = protector_key(alloc, &login)?;
-    let backup = decode_protector(&record(alloc, &BACKUP)?)?;
-    let backup = protector_key(alloc, &backup)?;
-    for (lines, len) in [(4, 297), (5, 536)] {
-        let text = record(alloc, &DOCS[..lines])?;
-        assert_eq!(rt; text.len(), len);
-        let policy = decode_policy_file(alloc, &text)?;
-        assert_eq!(rt; policy.wraps.len(), lines - 3);
-        for wrap in policy.wraps.iter() {
-            let is_login = wrap.protector.bytes() == b"login".as_slice();
-            let protector = if is_login { &login } else { &backup };
-            let mut key = [0; 64];
-            unwrap(protector, &wrap.iv, &wrap.key, &wrap.tag, &mut key)?;
-            let raw = RawKey::read(&key)?;
-            assert!(rt; key_id(&raw) == policy.id);
-        }
-        let again = encode_policy_file(alloc, &policy)?;
-        assert_eq!(rt; again.as_slice(), text.as_slice());
+// Whether the text is no record of a policy, with this line at fault.
+pub(crate) fn is_at_fault(alloc: Global, text: &[u8], at: u32) -> bool {
+    matches!(decode_policy_file(alloc, text), Err(MetaFault::Bad { line }) if line == at)
+}
+
+// That the policy is written as this record.
+pub(crate) fn is_written<A: Abort>(rt: &A, alloc: Global, policy: &PolicyFile, record: &[u8]) {
+    let text = encode_policy_file(alloc, policy).expect(rt, "memory");
+    same(rt, text.as_slice(), record, "a record");
+}
+
+// The key of the protector whose record has these lines.
+fn key_in<A: Abort>(rt: &A, alloc: Global, lines: &[&[u8]]) -> [u8; 32] {
+    let text = record(alloc, lines).expect(rt, "memory");
+    let protector = decode_protector(&text).expect(rt, "a protector");
+    protector_key(rt, alloc, &protector)
+}
+
+// Whether the wrap opens, by the key of one of the two protectors, to the key of this identifier.
+fn opens_to(wrap: &Wrap, login: &[u8; 32], backup: &[u8; 32], id: KeyId) -> bool {
+    let is_login = wrap.protector.bytes() == b"login".as_slice();
+    let protector = if is_login { login } else { backup };
+    let mut key = [0; 64];
+    let opened = unwrap(protector, &wrap.iv, &wrap.key, &wrap.tag, &mut key);
+    match RawKey::read(&key) {
+        Ok(raw) => opened.is_ok() && key_id(&raw) == id,
+        Err(_) => false,
     }
-    Ok(())
 }
 
 #[test]
-fn a_listed_protector_is_listed_also_at_sixteen(rt: HostRuntime) -> Result<(), Fail> {
+fn wraps_of_a_session_open_to_the_policy_key(rt: HostRuntime) {
     let alloc = rt.alloc();
-    let mut policy = policy_for(alloc, b"abcdefghijklmnop")?;
-    let others = policy_for(alloc, b"pq")?;
+    let (login, backup) = (key_in(&rt, alloc, &LOGIN), key_in(&rt, alloc, &BACKUP));
+    for (lines, len) in [(4, 297), (5, 536)] {
+        let text = record(alloc, &DOCS[..lines]).expect(&rt, "an answer");
+        assert!(rt; text.len() == len);
+        let policy = decode_policy_file(alloc, &text).expect(&rt, "an answer");
+        assert!(rt; policy.wraps.len() == lines - 3);
+        for wrap in policy.wraps.iter() {
+            assert!(rt; opens_to(wrap, &login, &backup, policy.id));
+        }
+        is_written(&rt, alloc, &policy, &text);
+    }
+}
+
+#[test]
+fn a_listed_protector_is_listed_also_at_sixteen(rt: HostRuntime) {
+    let alloc = rt.alloc();
+    let mut policy = policy_for(&rt, alloc, b"abcdefghijklmnop");
+    let others = policy_for(&rt, alloc, b"pq");
     let wanted = [WrapFault::Listed, WrapFault::Full];
     for (wrap, fault) in others.wraps.iter().zip(wanted) {
         assert!(rt; add_protector(&mut policy, *wrap) == Err(fault));
     }
-    let text = encode_policy_file(alloc, &policy)?;
-    assert_eq!(rt;
-        text.as_slice(),
-        record_for(alloc, b"abcdefghijklmnop")?.as_slice()
+    is_written(
+        &rt,
+        alloc,
+        &policy,
+        &record_for(alloc, b"abcdefghijklmnop").expect(&rt, "an answer"),
     );
-    Ok(())
 }
 
 #[test]
-fn wraps_keep_their_order(rt: HostRuntime) -> Result<(), Fail> {
+fn wraps_keep_their_order(rt: HostRuntime) {
     let alloc = rt.alloc();
-    let mut policy = policy_for(alloc, b"abc")?;
-    let b = policy_for(alloc, b"b")?;
+    let mut policy = policy_for(&rt, alloc, b"abc");
+    let b = policy_for(&rt, alloc, b"b");
     for wrap in b.wraps.iter() {
         assert!(rt; drop_protector(&mut policy, &wrap.protector) == Ok(()));
         assert!(rt; drop_protector(&mut policy, &wrap.protector) == Err(WrapFault::NotListed));
-        let text = encode_policy_file(alloc, &policy)?;
-        assert_eq!(rt; text.as_slice(), record_for(alloc, b"ac")?.as_slice());
+        is_written(
+            &rt,
+            alloc,
+            &policy,
+            &record_for(alloc, b"ac").expect(&rt, "an answer"),
+        );
 
         assert!(rt; add_protector(&mut policy, *wrap) == Ok(()));
-        let text = encode_policy_file(alloc, &policy)?;
-        assert_eq!(rt; text.as_slice(), record_for(alloc, b"acb")?.as_slice());
+        is_written(
+            &rt,
+            alloc,
+            &policy,
+            &record_for(alloc, b"acb").expect(&rt, "an answer"),
+        );
     }
-    let all = policy_for(alloc, b"cba")?;
-    let wanted = [Ok(()), Ok(()), Err(WrapFault::LastOne)];
-    for (wrap, answer) in all.wraps.iter().zip(wanted) {
-        assert!(rt; drop_protector(&mut policy, &wrap.protector) == answer);
-        let found = policy.wraps.find(&wrap.protector);
-        assert_eq!(rt; found.is_some(), answer.is_err());
-    }
-    Ok(())
 }
 
 #[test]
-fn wraps_that_are_missing_or_too_many_are_at_fault(rt: HostRuntime) -> Result<(), Fail> {
+fn the_last_wrap_stays(rt: HostRuntime) {
+    let alloc = rt.alloc();
+    let mut policy = policy_for(&rt, alloc, b"acb");
+    let all = policy_for(&rt, alloc, b"cba");
+    let wanted = [Ok(()), Ok(()), Err(WrapFault::LastOne)];
+    for (wrap, answer) in all.wraps.iter().zip(wanted) {
+        assert!(rt; drop_protector(&mut policy, &wrap.protector) == answer);
+        assert!(rt; policy.wraps.find(&wrap.protector).is_some() == answer.is_err());
+    }
+}
+
+#[test]
+fn wraps_that_are_missing_or_too_many_are_at_fault(rt: HostRuntime) {
     let cases: [(&[u8], u32); 5] = [
         (b"", 4),
         (b"aa", 5),
@@ -125,15 +158,13 @@ fn wraps_that_are_missing_or_too_many_are_at_fault(rt: HostRuntime) -> Result<()
         (b"abcdefghijklmnopa", 20),
     ];
     for (labels, line) in cases {
-        let text = record_for(rt.alloc(), labels)?;
-        let decoded = decode_policy_file(rt.alloc(), &text);
-        assert_eq!(rt; decoded.err(), Some(MetaFault::Bad { line }));
+        let text = record_for(rt.alloc(), labels).expect(&rt, "an answer");
+        assert!(rt; is_at_fault(rt.alloc(), &text, line), "line {line}");
     }
-    Ok(())
 }
 
 #[test]
-fn a_line_that_is_not_as_its_place_asks_is_at_fault(rt: HostRuntime) -> Result<(), Fail> {
+fn a_line_that_is_not_as_its_place_asks_is_at_fault(rt: HostRuntime) {
     let cases: [(u32, &[u8]); 16] = [
         (1, b""),
         (1, b"fsc-policy 3"),
@@ -171,17 +202,15 @@ fn a_line_that_is_not_as_its_place_asks_is_at_fault(rt: HostRuntime) -> Result<(
         (5, b"name docs"),
     ];
     for (number, said) in cases {
-        let text = with_line(rt.alloc(), &DOCS, number, said)?;
-        let decoded = decode_policy_file(rt.alloc(), &text);
-        assert_eq!(rt; decoded.err(), Some(MetaFault::Bad { line: number }));
+        let text = with_line(rt.alloc(), &DOCS, number, said).expect(&rt, "an answer");
+        assert!(rt; is_at_fault(rt.alloc(), &text, number), "line {number}");
     }
-    Ok(())
 }
 
 #[test]
-fn a_piece_without_a_line_feed_is_at_fault_at_its_own_number(rt: HostRuntime) -> Result<(), Fail> {
+fn a_piece_without_a_line_feed_is_at_fault_at_its_own_number(rt: HostRuntime) {
     let alloc = rt.alloc();
-    let mut text = record(alloc, &DOCS)?;
+    let mut text = record(alloc, &DOCS).expect(&rt, "an answer");
     // How many bytes are left of the text, and the line at fault.
     for (len, line) in [
         (535, 5),
@@ -195,8 +224,6 @@ fn a_piece_without_a_line_feed_is_at_fault_at_its_own_number(rt: HostRuntime) ->
         (0, 1),
     ] {
         text.truncate(len);
-        let decoded = decode_policy_file(alloc, &text);
-        assert_eq!(rt; decoded.err(), Some(MetaFault::Bad { line }), "{len} bytes");
+        assert!(rt; is_at_fault(alloc, &text, line), "{len} bytes");
     }
-    Ok(())
 }

@@ -1,4 +1,4 @@
-use Rattle.record_tests.proofs.linux.targets_under_a_mode_key_are_those_of_linux.Given as goal
+use Rattle.record_tests.proofs.linux.stored_so.Given as goal
 
 abbrev pub ghosts-stored_once : goal.ghosts-stored_once
 ghosts-stored_once g a = record { name = a.blank.name; parts = a.blank.parts }
