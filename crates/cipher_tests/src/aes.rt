@@ -62,14 +62,8 @@ fn standard_blocks_encrypt_and_decrypt(rt: HostRuntime) {
     for vectors in standard_vectors() {
         let aes = key_of(vectors.key);
         for (plain, secret) in vectors.blocks {
-            assert_eq!(rt;
-                aes.encrypt_block(plain.to_be_bytes()),
-                secret.to_be_bytes()
-            );
-            assert_eq!(rt;
-                aes.decrypt_block(secret.to_be_bytes()),
-                plain.to_be_bytes()
-            );
+            assert!(rt; aes.encrypt_block(plain.to_be_bytes()) == secret.to_be_bytes());
+            assert!(rt; aes.decrypt_block(secret.to_be_bytes()) == plain.to_be_bytes());
         }
     }
 }
@@ -103,8 +97,8 @@ fn standard_blocks_encrypt_and_decrypt_by_eight(rt: HostRuntime) {
         let encrypted = aes.encrypt_eight(plain);
         let decrypted = aes.decrypt_eight(secret);
         for i in 0..8 {
-            assert_eq!(rt; encrypted[i].to_array(), secret[i].to_array());
-            assert_eq!(rt; decrypted[i].to_array(), plain[i].to_array());
+            assert!(rt; encrypted[i].to_array() == secret[i].to_array());
+            assert!(rt; decrypted[i].to_array() == plain[i].to_array());
         }
     }
 }

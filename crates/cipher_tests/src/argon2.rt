@@ -7,7 +7,7 @@ use std::alloc::{AllocError, Global};
 
 // RFC 9106, section 5.3.
 #[test]
-fn argon2id_example(rt: HostRuntime) -> Result<(), AllocError> {
+fn argon2id_example(rt: HostRuntime) {
     let want: [u8; 32] = [
         0x0d, 0x64, 0x0d, 0xf5, 0x8d, 0x78, 0x76, 0x6c, 0x08, 0xc0, 0x37, 0xa3, 0x4a, 0x8b, 0x53,
         0xc9, 0xd0, 0x1e, 0xf0, 0x45, 0x2d, 0x75, 0xb6, 0x5e, 0xb5, 0x25, 0x20, 0xe9, 0x6b, 0x01,
@@ -25,17 +25,16 @@ fn argon2id_example(rt: HostRuntime) -> Result<(), AllocError> {
         extra: &[4; 12],
     };
     let mut tag = [0; 32];
-    argon2id(rt.alloc(), &costs, texts, &mut tag)?;
-    assert_eq!(rt; tag, want);
+    argon2id(rt.alloc(), &costs, texts, &mut tag).expect(&rt, "an answer");
+    assert!(rt; tag == want);
     let mut by_lanes = [0; 32];
-    argon2id_lanes(&rt, rt.alloc(), &costs, texts, &mut by_lanes)?;
-    assert_eq!(rt; by_lanes, want);
-    Ok(())
+    argon2id_lanes(&rt, rt.alloc(), &costs, texts, &mut by_lanes).expect(&rt, "an answer");
+    assert!(rt; by_lanes == want);
 }
 
 // What no contract says is that the threads run to their end.
 #[test]
-fn lanes_at_once_end_with_the_tag(rt: HostRuntime) -> Result<(), AllocError> {
+fn lanes_at_once_end_with_the_tag(rt: HostRuntime) {
     for lanes in 1..9 {
         for passes in [1, 3] {
             let costs = Costs {
@@ -46,12 +45,11 @@ fn lanes_at_once_end_with_the_tag(rt: HostRuntime) -> Result<(), AllocError> {
             let mut one = [0; 32];
             let mut other = [1; 32];
             let texts = Texts::unkeyed(b"password", b"somesalt");
-            argon2id(rt.alloc(), &costs, texts, &mut one)?;
-            argon2id_lanes(&rt, rt.alloc(), &costs, texts, &mut other)?;
-            assert_eq!(rt; one, other, "{lanes} lanes, {passes} passes");
+            argon2id(rt.alloc(), &costs, texts, &mut one).expect(&rt, "an answer");
+            argon2id_lanes(&rt, rt.alloc(), &costs, texts, &mut other).expect(&rt, "an answer");
+            assert!(rt; one == other, "{lanes} lanes, {passes} passes");
         }
     }
-    Ok(())
 }
 
 // Segments of 137 columns, which take two address blocks, and memory that is cut to whole segments. The
@@ -68,12 +66,11 @@ const LONG_SEGMENTS_TAG: [u8; 32] = [
 ];
 
 #[test]
-fn segments_of_more_than_128_columns(rt: HostRuntime) -> Result<(), AllocError> {
+fn segments_of_more_than_128_columns(rt: HostRuntime) {
     let mut tag = [0; 32];
     let texts = Texts::unkeyed(b"password", b"somesaltsomesalt");
-    argon2id(rt.alloc(), &LONG_SEGMENTS, texts, &mut tag)?;
-    assert_eq!(rt; tag, LONG_SEGMENTS_TAG);
-    Ok(())
+    argon2id(rt.alloc(), &LONG_SEGMENTS, texts, &mut tag).expect(&rt, "an answer");
+    assert!(rt; tag == LONG_SEGMENTS_TAG);
 }
 
 fn stretched_by<S: Stretch>(stretch: &S, alloc: Global) -> Result<[u8; 32], AllocError>
@@ -91,13 +88,14 @@ fn stretched_by<S: Stretch>(stretch: &S, alloc: Global) -> Result<[u8; 32], Allo
 }
 
 #[test]
-fn stretches_with_and_without_threads(rt: HostRuntime) -> Result<(), AllocError> {
-    assert_eq!(rt; stretched_by(&PlainStretch, rt.alloc())?, LONG_SEGMENTS_TAG);
-    assert_eq!(rt;
-        stretched_by(&LaneStretch { threads: &rt }, rt.alloc())?,
-        LONG_SEGMENTS_TAG
+fn stretches_with_and_without_threads(rt: HostRuntime) {
+    assert!(rt;
+        stretched_by(&PlainStretch, rt.alloc()).expect(&rt, "an answer") == LONG_SEGMENTS_TAG
     );
-    Ok(())
+    assert!(rt;
+        stretched_by(&LaneStretch { threads: &rt }, rt.alloc()).expect(&rt, "an answer")
+            == LONG_SEGMENTS_TAG
+    );
 }
 
 #[test]
@@ -111,6 +109,6 @@ fn costs_faults_in_order(rt: HostRuntime) {
         (17, 65_536, 8, Err(CostFault::Passes)),
         (16, 65_537, 8, Err(CostFault::Kib)),
     ] {
-        assert_eq!(rt; Costs { passes, kib, lanes }.check(), want);
+        assert!(rt; Costs { passes, kib, lanes }.check() == want);
     }
 }

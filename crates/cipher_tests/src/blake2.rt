@@ -25,7 +25,7 @@ fn blake2b_abc(rt: HostRuntime) {
         0x33, 0xcc, 0x95, 0x18, 0xd3, 0x8a, 0xa8, 0xdb, 0xf1, 0x92, 0x5a, 0xb9, 0x23, 0x86, 0xed,
         0xd4, 0x00, 0x99, 0x23,
     ];
-    assert_eq!(rt; digest_of(b"abc", 64).as_slice(), want.as_slice());
+    assert!(rt; digest_of(b"abc", 64).as_slice() == want.as_slice());
 }
 
 // The self-test of RFC 7693, appendix E, over its digests without a key. Python's hashlib gives the
@@ -54,7 +54,7 @@ fn digests_of_the_self_test(rt: HostRuntime) {
     }
     let mut out = [0; 32];
     all.finish(&mut out);
-    assert_eq!(rt; out, want);
+    assert!(rt; out == want);
 }
 
 // One message in pieces of 1 to 300 bytes, by hashlib.
@@ -77,5 +77,5 @@ fn pieces_of_each_length_make_one_message(rt: HostRuntime) {
     }
     let mut out = [0; 64];
     hasher.finish(&mut out);
-    assert_eq!(rt; out.as_slice(), want.as_slice());
+    assert!(rt; out.as_slice() == want.as_slice());
 }

@@ -69,7 +69,7 @@ fn ciphertexts_are_those_of_another_cbc(rt: HostRuntime) {
         assert!(rt; want.len() >= 16 && want.len() <= 255);
         let mut text = counted_text();
         cts_encrypt(&counted_key(), counted_iv(), &mut text[..want.len()]);
-        assert_eq!(rt; &text[..want.len()], want, "{} bytes", want.len());
+        assert!(rt; &text[..want.len()] == want, "{} bytes", want.len());
     }
 }
 
