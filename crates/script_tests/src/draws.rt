@@ -8,7 +8,6 @@ use reply_text::Shown;
 use script_lang::read_path;
 use session_records::{Purpose, draw};
 use std::alloc::{AllocError, Global};
-use std::test::Fail;
 
 // A caller, a command, a purpose, and what is drawn for them.
 type DrawRow = (u8, u64, Purpose, &'static str);
@@ -64,10 +63,13 @@ const DRAWN_FROM_COUNTING: [DrawRow; 2] = [
 ];
 
 #[test]
-fn draws_are_those_of_python(rt: HostRuntime) -> Result<(), Fail> {
+fn draws_are_those_of_python(rt: HostRuntime) {
     for (caller, command, purpose, wanted) in DRAWN_FROM_ZEROS {
-        let (whole, nonce) = drawn(rt.alloc(), &[0; 32], caller, command, purpose)?;
-        assert_eq!(rt; whole.as_str(), wanted);
+        let (whole, nonce) = drawn(rt.alloc(), &[0; 32], caller, command, purpose).expect(
+            &rt,
+            "an answer",
+        );
+        assert!(rt; whole.as_str() == wanted);
         assert!(rt; wanted.starts_with(nonce.as_str()));
     }
     let mut counting = [0; 32];
@@ -75,11 +77,13 @@ fn draws_are_those_of_python(rt: HostRuntime) -> Result<(), Fail> {
         counting[i] = i as u8;
     }
     for (caller, command, purpose, wanted) in DRAWN_FROM_COUNTING {
-        let (whole, nonce) = drawn(rt.alloc(), &counting, caller, command, purpose)?;
-        assert_eq!(rt; whole.as_str(), wanted);
+        let (whole, nonce) = drawn(rt.alloc(), &counting, caller, command, purpose).expect(
+            &rt,
+            "an answer",
+        );
+        assert!(rt; whole.as_str() == wanted);
         assert!(rt; wanted.starts_with(nonce.as_str()));
     }
-    Ok(())
 }
 
 // The digits of a whole draw, and of one of 16 bytes.
@@ -99,22 +103,24 @@ fn drawn(
 
 // A star means the name of its number, and its own text where there is none or it can't be a part.
 #[test]
-fn stars_mean_listed_names(rt: HostRuntime) -> Result<(), Fail> {
+fn stars_mean_listed_names(rt: HostRuntime) {
     let alloc = rt.alloc();
     let mut told = EntryList::new(alloc);
     told.push(listing(
         alloc,
         vec![in alloc;
-            Bytes::from_vec(Vec::from_slice(alloc, b"a b")?),
-            Bytes::from_vec(Vec::from_slice(alloc, b"..")?),
-        ]?,
-    ))?;
-    told.push(entry(alloc, Reply::Refused(Refusal::NotFound)))?;
-    let Some(path) = read_path(alloc, b"/e/*0/*1/*2/%2A0")? else {
-        assert!(rt; false);
-        return Ok(());
-    };
-    let meant = path_meant(alloc, &told, &path)?;
+            Bytes::from_vec(Vec::from_slice(alloc, b"a b").expect(&rt, "an answer")),
+            Bytes::from_vec(Vec::from_slice(alloc, b"..").expect(&rt, "an answer")),
+        ]
+        .expect(&rt, "an answer"),
+    ))
+    .expect(&rt, "an answer");
+    told.push(entry(alloc, Reply::Refused(Refusal::NotFound)))
+        .expect(&rt, "an answer");
+    let path = read_path(alloc, b"/e/*0/*1/*2/%2A0")
+        .expect(&rt, "an answer")
+        .expect(&rt, "a path");
+    let meant = path_meant(alloc, &told, &path).expect(&rt, "an answer");
     for (index, wanted) in ["e", "a b", "*1", "*2", "*0"].iter().enumerate() {
         assert!(rt;
             meant
@@ -122,8 +128,7 @@ fn stars_mean_listed_names(rt: HostRuntime) -> Result<(), Fail> {
                 .is_some_and(|part| part.bytes() == wanted.as_bytes())
         );
     }
-    assert_eq!(rt; meant.len(), 5);
-    Ok(())
+    assert!(rt; meant.len() == 5);
 }
 
 // A listing that told these names.

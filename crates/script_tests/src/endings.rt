@@ -1,15 +1,15 @@
 //! How runs and commands end: their statuses and outcomes, and sources, sinks and seeds that fail.
 
+use crate::runs::{SEED, ran, words_of};
+use crate::texts::{same, same_bytes};
 use fsc_outside::{CallList, FixedSeed, MemSink, MemSource};
-use fsc_tool::{Mounts, Status, Streams, tool_serial};
-use mount_shared::Mount;
+use fsc_tool::{Status, Streams};
 use reply_text::Outcome;
 use std::alloc::{AllocError, Global};
-use std::test::Fail;
 
 // The numbers and lines that the documents promise.
 #[test]
-fn each_status_has_its_number_and_its_line(rt: HostRuntime) -> Result<(), Fail> {
+fn each_status_has_its_number_and_its_line(rt: HostRuntime) {
     for (status, number, line) in [
         (Status::Done, 0, ""),
         (Status::Refused { place: 27 }, 1, "fsc: refused at 27"),
@@ -21,16 +21,15 @@ fn each_status_has_its_number_and_its_line(rt: HostRuntime) -> Result<(), Fail> 
         (Status::TooLong, 7, "fsc: input too long"),
         (Status::NoMemory, 8, "fsc: no memory"),
     ] {
-        assert_eq!(rt; status.number(), number);
-        let text = format!(in rt.alloc(); "{status}")?;
-        assert_eq!(rt; text.as_str(), line);
+        assert!(rt; status.number() == number, "{line}");
+        let text = format!(in rt.alloc(); "{status}").expect(&rt, "an answer");
+        same(&rt, text.as_str(), line, line);
     }
-    Ok(())
 }
 
 // The word of each outcome, as the format of notes has it.
 #[test]
-fn each_outcome_has_its_word(rt: HostRuntime) -> Result<(), Fail> {
+fn each_outcome_has_its_word(rt: HostRuntime) {
     for (outcome, word) in [
         (Outcome::Done, "ok"),
         (Outcome::Refused, "refused"),
@@ -46,24 +45,8 @@ fn each_outcome_has_its_word(rt: HostRuntime) -> Result<(), Fail> {
         (Outcome::OddReply, "odd-reply"),
         (Outcome::Current, "current"),
     ] {
-        assert_eq!(rt; outcome.word(), word);
+        same(&rt, outcome.word(), word, word);
     }
-    Ok(())
-}
-
-const SEED: &str = "0000000000000000000000000000000000000000000000000000000000000000";
-
-// The words of the form with this seed, or of the form without one.
-fn words_of(alloc: Global, seed: Option<&str>) -> Result<Vec<String>, AllocError> {
-    let mut words = Vec::new(alloc);
-    for word in ["replay", "--serial"] {
-        words.push(String::from_str(alloc, word)?)?;
-    }
-    if let Some(seed) = seed {
-        words.push(String::from_str(alloc, "--seed")?)?;
-        words.push(String::from_str(alloc, seed)?)?;
-    }
-    Ok(words)
 }
 
 // The call of this number alone, or none.
@@ -80,10 +63,29 @@ fn sink(alloc: Global, fails: Option<u32>) -> Result<MemSink, AllocError> {
     MemSink::new(alloc, 8192, 10, calls(alloc, fails)?)
 }
 
+// How a run of this script ends whose seed source fails, and what it wrote.
+fn ended(
+    alloc: Global,
+    seed: Option<&str>,
+    script: &str,
+    read: Option<u32>,
+    write: Option<u32>,
+) -> Result<(Status, Vec<u8>), AllocError> {
+    let words = words_of(alloc, "replay", seed)?;
+    let input = Vec::from_slice(alloc, script.as_bytes())?;
+    let mut streams = Streams {
+        source: MemSource::new(input, 40, calls(alloc, read)?),
+        sink: sink(alloc, write)?,
+        seeds: FixedSeed::failing(),
+    };
+    let status = ran(alloc, &words, &mut streams)?;
+    Ok((status, Vec::from_slice(alloc, streams.sink.got())?))
+}
+
 // Each fault ends the run with its own status, in the order of the steps. The seed source fails at each
 // call, but is asked only where the words give no seed and the input is a script.
 #[test]
-fn a_fault_outside_is_told(rt: HostRuntime) -> Result<(), Fail> {
+fn a_fault_outside_is_told(rt: HostRuntime) {
     let alloc = rt.alloc();
     let script =
         "caller 1000\nadd-key 0707070707070707070707070707070707070707070707070707070707070707\n";
@@ -122,52 +124,28 @@ fn a_fault_outside_is_told(rt: HostRuntime) -> Result<(), Fail> {
         ),
     ];
     for (seed, script, read, write, wanted, log) in cases {
-        let words = words_of(alloc, seed)?;
-        let input = Vec::from_slice(alloc, script.as_bytes())?;
-        let mut streams = Streams {
-            source: MemSource::new(input, 40, calls(alloc, read)?),
-            sink: sink(alloc, write)?,
-            seeds: FixedSeed::failing(),
-        };
-        let status = tool_serial(
-            alloc,
-            &words,
-            &mut streams,
-            Mounts {
-                even: Mount::new(alloc)?,
-                odd: Mount::new(alloc)?,
-            },
-        );
-        assert_eq!(rt; status, wanted);
-        assert_eq!(rt; streams.sink.got(), log.as_bytes());
+        let (status, got) = ended(alloc, seed, script, read, write).expect(&rt, "an answer");
+        assert!(rt; status == wanted);
+        same_bytes(&rt, got.as_slice(), log.as_bytes(), script);
     }
-    Ok(())
 }
 
 // A seed source that gives a seed serves the form without one.
 #[test]
-fn the_seed_source_gives_the_seed(rt: HostRuntime) -> Result<(), Fail> {
+fn the_seed_source_gives_the_seed(rt: HostRuntime) {
     let alloc = rt.alloc();
-    let words = words_of(alloc, None)?;
+    let words = words_of(alloc, "replay", None).expect(&rt, "an answer");
     let script = b"caller 3\nkey-status id:00000000000000000000000000000000\n";
+    let input = Vec::from_slice(alloc, script).expect(&rt, "an answer");
     let mut streams = Streams {
-        source: MemSource::new(Vec::from_slice(alloc, script)?, 40, calls(alloc, None)?),
-        sink: sink(alloc, None)?,
+        source: MemSource::new(input, 40, CallList::new(alloc)),
+        sink: sink(alloc, None).expect(&rt, "an answer"),
         seeds: FixedSeed::new([7; 32]),
     };
-    let status = tool_serial(
-        alloc,
-        &words,
-        &mut streams,
-        Mounts {
-            even: Mount::new(alloc)?,
-            odd: Mount::new(alloc)?,
-        },
-    );
-    assert_eq!(rt; status, Status::Done);
+    let status = ran(alloc, &words, &mut streams).expect(&rt, "an answer");
+    assert!(rt; status == Status::Done);
     let log = b"0 0 3 key-status 00000000000000000000000000000000 = status absent self=0 users=0\n";
-    assert_eq!(rt; streams.sink.got(), log.as_slice());
-    Ok(())
+    same_bytes(&rt, streams.sink.got(), log, "the log");
 }
 
 // A key that is added, asked for and removed.
@@ -194,22 +172,14 @@ fn first_run(
     read: Option<u32>,
     write: Option<u32>,
 ) -> Result<(Status, Vec<u8>), AllocError> {
-    let words = words_of(alloc, Some(SEED))?;
+    let words = words_of(alloc, "replay", Some(SEED))?;
     let input = Vec::from_slice(alloc, FIRST.as_bytes())?;
     let mut streams = Streams {
         source: MemSource::new(input, 7, calls(alloc, read)?),
         sink: MemSink::new(alloc, 8192, 16, calls(alloc, write)?)?,
         seeds: FixedSeed::failing(),
     };
-    let status = tool_serial(
-        alloc,
-        &words,
-        &mut streams,
-        Mounts {
-            even: Mount::new(alloc)?,
-            odd: Mount::new(alloc)?,
-        },
-    );
+    let status = ran(alloc, &words, &mut streams)?;
     Ok((status, Vec::from_slice(alloc, streams.sink.got())?))
 }
 
@@ -218,22 +188,35 @@ const READS: u32 = 43;
 
 const WRITES: u32 = 20;
 
+// Whether a run whose read of this number fails ends so, with nothing written.
+fn is_a_read_fault(alloc: Global, number: u32) -> Result<bool, AllocError> {
+    let (status, got) = first_run(alloc, Some(number), None)?;
+    Ok(status == Status::ReadFault && got.is_empty())
+}
+
+// Whether a run whose write of this number fails ends so, with what was written before it.
+fn is_a_write_fault(alloc: Global, number: u32) -> Result<bool, AllocError> {
+    let (status, got) = first_run(alloc, None, Some(number))?;
+    let is_cut = got.len() == 16 * number as usize && FIRST_LOG.as_bytes().starts_with(&got);
+    Ok(status == Status::WriteFault && is_cut)
+}
+
 #[test]
-fn each_read_and_each_write_fails_in_turn(rt: HostRuntime) -> Result<(), Fail> {
+fn each_read_and_each_write_fails_in_turn(rt: HostRuntime) {
     let alloc = rt.alloc();
     for number in 0..READS {
-        let (status, got) = first_run(alloc, Some(number), None)?;
-        assert_eq!(rt; status, Status::ReadFault, "read {number}");
-        assert!(rt; got.is_empty(), "read {number}");
+        assert!(rt;
+            is_a_read_fault(alloc, number).expect(&rt, "an answer"),
+            "read {number}"
+        );
     }
     for number in 0..WRITES {
-        let (status, got) = first_run(alloc, None, Some(number))?;
-        assert_eq!(rt; status, Status::WriteFault, "write {number}");
-        assert_eq!(rt; got.len(), 16 * number as usize, "write {number}");
-        assert!(rt; FIRST_LOG.as_bytes().starts_with(&got), "write {number}");
+        assert!(rt;
+            is_a_write_fault(alloc, number).expect(&rt, "an answer"),
+            "write {number}"
+        );
     }
-    let (status, got) = first_run(alloc, Some(READS), Some(WRITES))?;
-    assert_eq!(rt; status, Status::Done);
-    assert_eq!(rt; got.as_slice(), FIRST_LOG.as_bytes());
-    Ok(())
+    let (status, got) = first_run(alloc, Some(READS), Some(WRITES)).expect(&rt, "an answer");
+    assert!(rt; status == Status::Done);
+    same_bytes(&rt, got.as_slice(), FIRST_LOG.as_bytes(), "the log");
 }

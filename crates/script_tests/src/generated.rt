@@ -2,7 +2,6 @@
 
 use load_gen::generate;
 use sha2::{Digest, Sha256};
-use std::test::Fail;
 
 // The line of this number, counted from 0.
 fn line(text: &[u8], number: usize) -> &[u8] {
@@ -12,10 +11,10 @@ fn line(text: &[u8], number: usize) -> &[u8] {
 }
 
 #[test]
-fn generated_texts_are_those_of_another_program(rt: HostRuntime) -> Result<(), Fail> {
-    let mut removal = Vec::from_slice(rt.alloc(), b"remove-key raw:")?;
+fn generated_texts_are_those_of_another_program(rt: HostRuntime) {
+    let mut removal = Vec::from_slice(rt.alloc(), b"remove-key raw:").expect(&rt, "an answer");
     for _ in 0..128 {
-        removal.push(b'1')?;
+        removal.push(b'1').expect(&rt, "an answer");
     }
     for (number, seventh, digest) in [
         (
@@ -34,14 +33,15 @@ fn generated_texts_are_those_of_another_program(rt: HostRuntime) -> Result<(), F
             "38cd003b689625daed73f3403f2521d0c85e1d7c5b3932ae5f27c30c3e7b46cc",
         ),
     ] {
-        let text = generate(rt.alloc(), number)?;
-        assert_eq!(rt; line(text.as_slice(), 0), b"caller 1000".as_slice());
-        assert_eq!(rt; line(text.as_slice(), 6), seventh);
-        assert_eq!(rt;
-            hex::encode(rt.alloc(), Sha256::digest(text.as_slice()).as_slice())?.as_str(),
-            digest,
+        let text = generate(rt.alloc(), number).expect(&rt, "an answer");
+        assert!(rt; line(text.as_slice(), 0) == b"caller 1000".as_slice());
+        assert!(rt; line(text.as_slice(), 6) == seventh);
+        assert!(rt;
+            hex::encode(rt.alloc(), Sha256::digest(text.as_slice()).as_slice())
+                .expect(&rt, "an answer")
+                .as_str()
+                == digest,
             "the text of {number}"
         );
     }
-    Ok(())
 }

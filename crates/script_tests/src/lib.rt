@@ -22,6 +22,8 @@ mod replaced;
 #[cfg(test)]
 mod replies;
 #[cfg(test)]
+mod runs;
+#[cfg(test)]
 mod scripted;
 #[cfg(test)]
 mod scripts;

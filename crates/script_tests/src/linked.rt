@@ -3,17 +3,13 @@
 
 ghost use Rattle.std.specs.Prelude.{◌<◌, ◌^◌, length};
 
-use crate::replaced::Replaced;
-use argon_kdf::PlainStretch;
-use fsc_outside::{CallList, FixedSeed, MemSink, MemSource, OpenGate};
-use fsc_tool::{Mounts, Status, Streams, tool_serial};
+use crate::linked_commands::wanting;
+use crate::runs::{linked_text, log_of};
+use crate::texts::same_bytes;
+use fsc_tool::Status;
 use item_list::Bytes;
-use linked_turns::{linked_log, run_linked_in_rotation};
-use mount_model::{Refusal, Reply};
-use mount_shared::Mount;
 use script_lang::{ScriptFault, read_script};
 use std::alloc::{AllocError, Global};
-use std::test::Fail;
 
 // The record of the protector that caller 0 makes with the secret of 32 bytes 11.
 const PROTECTOR: &str = "\
@@ -49,20 +45,11 @@ fn replayed(alloc: Global, text: &[u8]) -> Result<Option<Bytes>, AllocError>
         Err(ScriptFault::NoMemory) => return Err(AllocError),
         Err(_) => return Ok(None),
     };
-    let (even, odd) = (Mount::new(alloc)?, Mount::new(alloc)?);
-    let told = run_linked_in_rotation(
-        alloc,
-        &script,
-        &[0; 32],
-        &OpenGate,
-        &PlainStretch,
-        Mounts { even, odd },
-    )?;
-    Ok(Some(linked_log(alloc, told)?))
+    Ok(Some(linked_text(alloc, &script)?))
 }
 
 #[test]
-fn linked_protector_on_two_mounts(rt: HostRuntime) -> Result<(), Fail> {
+fn linked_protector_on_two_mounts(rt: HostRuntime) {
     let alloc = rt.alloc();
     let script = b"caller 0\n\
         protector login raw:1111111111111111111111111111111111111111111111111111111111111111\n\
@@ -100,14 +87,14 @@ fn linked_protector_on_two_mounts(rt: HostRuntime) -> Result<(), Fail> {
         note 1 7 ok\n\
         note 1 8 ok\n\
         note 1 9 ok\n"
-    )?;
-    let got = replayed(alloc, script)?;
+    )
+    .expect(&rt, "an answer");
+    let got = replayed(alloc, script).expect(&rt, "an answer");
     assert!(rt; got.is_some_and(|text| text.as_slice() == wanted.as_bytes()));
-    Ok(())
 }
 
 #[test]
-fn a_link_that_leads_nowhere_is_refused(rt: HostRuntime) -> Result<(), Fail> {
+fn a_link_that_leads_nowhere_is_refused(rt: HostRuntime) {
     let script = b"caller 0\n\
         stat /\n\
         caller 1000\n\
@@ -122,53 +109,24 @@ fn a_link_that_leads_nowhere_is_refused(rt: HostRuntime) -> Result<(), Fail> {
         2 1 1000 meta-get protector/login = record 1 6673632d6c696e6b20310a6e616d65206c6f67696e0a\n\
         note 1 4 ok\n\
         note 1 5 refused\n";
-    let got = replayed(rt.alloc(), script)?;
+    let got = replayed(rt.alloc(), script).expect(&rt, "an answer");
     assert!(rt; got.is_some_and(|text| text.as_slice() == wanted.as_slice()));
-    Ok(())
-}
-
-const SEED: &str = "0000000000000000000000000000000000000000000000000000000000000000";
-
-// A mount whose call of this number, from 0, wants memory.
-fn wanting(alloc: Global, at: u64) -> Result<Replaced, AllocError> {
-    Ok(Replaced {
-        mount: Mount::new(alloc)?,
-        calls: 0,
-        at,
-        reply: Some(Reply::Refused(Refusal::NoMemory)),
-    })
 }
 
 // Both machines have the same laws, so no clause tells which of them is which mount.
 #[test]
-fn the_odd_machine_is_mount_1(rt: HostRuntime) -> Result<(), Fail> {
+fn the_odd_machine_is_mount_1(rt: HostRuntime) {
     let alloc = rt.alloc();
-    let mut words = Vec::new(alloc);
-    for word in ["replay-linked", "--serial", "--seed", SEED] {
-        words.push(String::from_str(alloc, word)?)?;
-    }
     let script = b"caller 0\ndrop-caches\ndrop-caches\ncaller 1\ndrop-caches\ndrop-caches\n";
-    let mut streams = Streams {
-        source: MemSource::new(Vec::from_slice(alloc, script)?, 1000, CallList::new(alloc)),
-        sink: MemSink::new(alloc, 8192, 1000, CallList::new(alloc))?,
-        seeds: FixedSeed::failing(),
-    };
-    let status = tool_serial(
-        alloc,
-        &words,
-        &mut streams,
-        Mounts {
-            even: wanting(alloc, 0)?,
-            odd: wanting(alloc, 1)?,
-        },
-    );
-    assert_eq!(rt; status, Status::Done);
+    let script = Vec::from_slice(alloc, script).expect(&rt, "an answer");
+    let (even, odd) = (wanting(0), wanting(1));
+    let (status, got) = log_of(alloc, "replay-linked", script, even, odd).expect(&rt, "an answer");
+    assert!(rt; status == Status::Done);
     let wanted = b"mount 0\n\
         0 0 0 drop-caches = refused no-memory\n\
         1 0 0 drop-caches = ok\n\
         mount 1\n\
         0 1 1 drop-caches = ok\n\
         1 1 1 drop-caches = refused no-memory\n";
-    assert_eq!(rt; streams.sink.got(), wanted.as_slice());
-    Ok(())
+    same_bytes(&rt, got.as_slice(), wanted, "the logs");
 }

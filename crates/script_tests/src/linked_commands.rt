@@ -1,10 +1,7 @@
 //! A command of a caller on two mounts, of which one call wants memory, for tests.
 
-use crate::replaced::Replaced;
-use fsc_outside::{CallList, FixedSeed, MemSink, MemSource};
-use fsc_tool::{Mounts, Streams, tool_serial};
+use crate::runs::{Instead, log_of};
 use mount_model::{Refusal, Reply};
-use mount_shared::Mount;
 use std::alloc::{AllocError, Global};
 
 // Three protectors on mount 0 with their links on mount 1, where one lies that is no link, a policy that two of the
@@ -47,8 +44,6 @@ const OWN_BEFORE: u64 = 16;
 
 const NOTES_BEFORE: u64 = 9;
 
-const SEED: &str = "0000000000000000000000000000000000000000000000000000000000000000";
-
 // No run has so many calls.
 const NEVER: u64 = u64::MAX;
 
@@ -62,39 +57,21 @@ pub(crate) enum On {
 // What a command asks: on which mount, and in which words of the log.
 pub(crate) type Asked = (On, &'static str);
 
-// A mount whose call of this number, from 0, wants memory.
-fn wanting(alloc: Global, at: u64) -> Result<Replaced, AllocError> {
-    Ok(Replaced {
-        mount: Mount::new(alloc)?,
-        calls: 0,
+// The call of this number on a mount, from 0, wants memory.
+pub(crate) fn wanting(at: u64) -> Instead {
+    Instead {
         at,
         reply: Some(Reply::Refused(Refusal::NoMemory)),
-    })
+    }
 }
 
 // The logs of a run of the command behind those above, on two mounts of which the calls of these numbers want memory.
 fn logs(alloc: Global, command: &str, far: u64, own: u64) -> Result<Vec<u8>, AllocError> {
-    let mut words = Vec::new(alloc);
-    for word in ["replay-linked", "--serial", "--seed", SEED] {
-        words.push(String::from_str(alloc, word)?)?;
-    }
     let mut script = String::from_str(alloc, BEFORE)?;
     script.push_str(command)?;
-    let mut streams = Streams {
-        source: MemSource::new(script.into_bytes(), 4_096, CallList::new(alloc)),
-        sink: MemSink::new(alloc, 65_536, 4_096, CallList::new(alloc))?,
-        seeds: FixedSeed::failing(),
-    };
-    let _ = tool_serial(
-        alloc,
-        &words,
-        &mut streams,
-        Mounts {
-            even: wanting(alloc, far)?,
-            odd: wanting(alloc, own)?,
-        },
-    );
-    Vec::from_slice(alloc, streams.sink.got())
+    let script = script.into_bytes();
+    let ended = log_of(alloc, "replay-linked", script, wanting(far), wanting(own))?;
+    Ok(ended.1)
 }
 
 // How many of these are made on this mount.

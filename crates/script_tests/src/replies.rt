@@ -1,13 +1,9 @@
 //! Each command of a session with another reply in the place of each of its calls'.
 
 use crate::kinds::{KINDS, Kind, reply, word};
-use crate::replaced::Replaced;
-use fsc_outside::{CallList, FixedSeed, MemSink, MemSource};
-use fsc_tool::{Mounts, Streams, tool_serial};
+use crate::runs::{Instead, log_of};
 use mount_model::Reply;
-use mount_shared::Mount;
 use std::alloc::{AllocError, Global};
-use std::test::Fail;
 
 // Three protectors, a policy that two of them open, a policy of the first version, and an empty directory. Line
 // by line a reply, but for two of the policy that is made and four of the one that gets a wrap.
@@ -41,39 +37,52 @@ const BEFORE_CALLS: u64 = 11;
 // The lines of the log behind which the last command's note comes, but for its entries: five notes and itself.
 const NOTES: u64 = 6;
 
-const LOGIN: &str = "raw:1111111111111111111111111111111111111111111111111111111111111111";
-
-const THIRD: &str = "raw:3333333333333333333333333333333333333333333333333333333333333333";
-
-const SEED: &str = "0000000000000000000000000000000000000000000000000000000000000000";
+// Each command, and what the replies to its calls are to be.
+const COMMANDS: [(&str, &[Kind]); 11] = [
+    (
+        "protector other raw:3333333333333333333333333333333333333333333333333333333333333333\n",
+        &[Kind::Stored],
+    ),
+    ("protector-link far\n", &[Kind::Stored]),
+    (
+        "protector-change login raw:1111111111111111111111111111111111111111111111111111111111111111 \
+        raw:3333333333333333333333333333333333333333333333333333333333333333\n",
+        &[Kind::Held, Kind::Stored],
+    ),
+    (
+        "policy-new other login raw:1111111111111111111111111111111111111111111111111111111111111111\n",
+        &[Kind::Held, Kind::Stored],
+    ),
+    (
+        "policy-add docs login raw:1111111111111111111111111111111111111111111111111111111111111111 \
+        third raw:3333333333333333333333333333333333333333333333333333333333333333\n",
+        &[Kind::Held, Kind::Held, Kind::Held, Kind::Stored],
+    ),
+    ("policy-drop docs spare\n", &[Kind::Held, Kind::Stored]),
+    (
+        "unlock docs login raw:1111111111111111111111111111111111111111111111111111111111111111\n",
+        &[Kind::Held, Kind::Held, Kind::Added],
+    ),
+    ("lock docs\n", &[Kind::Held, Kind::Removed]),
+    ("status docs\n", &[Kind::Held, Kind::Status]),
+    ("encrypt /e docs\n", &[Kind::Held, Kind::Done]),
+    ("migrate old\n", &[Kind::Held, Kind::Stored]),
+];
 
 // The log of a run of these commands behind those above, in which the call of this number has this reply.
 fn log_with(alloc: Global, command: &str, at: u64, reply: Reply) -> Result<Vec<u8>, AllocError> {
-    let mut words = Vec::new(alloc);
-    for word in ["replay", "--serial", "--seed", SEED] {
-        words.push(String::from_str(alloc, word)?)?;
-    }
     let mut script = String::from_str(alloc, BEFORE)?;
     script.push_str(command)?;
-    let mut streams = Streams {
-        source: MemSource::new(script.into_bytes(), 4_096, CallList::new(alloc)),
-        sink: MemSink::new(alloc, 65_536, 4_096, CallList::new(alloc))?,
-        seeds: FixedSeed::failing(),
-    };
-    let even = Replaced {
-        mount: Mount::new(alloc)?,
-        calls: 0,
-        at,
-        reply: Some(reply),
-    };
-    let odd = Replaced {
-        mount: Mount::new(alloc)?,
-        calls: 0,
-        at: 0,
-        reply: None,
-    };
-    let _ = tool_serial(alloc, &words, &mut streams, Mounts { even, odd });
-    Vec::from_slice(alloc, streams.sink.got())
+    let reply = Some(reply);
+    let none = Instead { at: 0, reply: None };
+    let ended = log_of(
+        alloc,
+        "replay",
+        script.into_bytes(),
+        Instead { at, reply },
+        none,
+    )?;
+    Ok(ended.1)
 }
 
 // How many lines a text has.
@@ -114,92 +123,9 @@ fn first_wrong(
 }
 
 #[test]
-fn a_protector_ends_at_its_reply(rt: HostRuntime) -> Result<(), Fail> {
-    let command = format!(in rt.alloc(); "protector other {THIRD}\n")?;
-    let wrong = first_wrong(rt.alloc(), &command, &[Kind::Stored])?;
-    assert_eq!(rt; wrong, None);
-    Ok(())
-}
-
-#[test]
-fn a_link_ends_at_its_reply(rt: HostRuntime) -> Result<(), Fail> {
-    let wrong = first_wrong(rt.alloc(), "protector-link far\n", &[Kind::Stored])?;
-    assert_eq!(rt; wrong, None);
-    Ok(())
-}
-
-#[test]
-fn a_changed_protector_ends_at_each_reply(rt: HostRuntime) -> Result<(), Fail> {
-    let command = format!(in rt.alloc(); "protector-change login {LOGIN} {THIRD}\n")?;
-    let wrong = first_wrong(rt.alloc(), &command, &[Kind::Held, Kind::Stored])?;
-    assert_eq!(rt; wrong, None);
-    Ok(())
-}
-
-#[test]
-fn a_new_policy_ends_at_each_reply(rt: HostRuntime) -> Result<(), Fail> {
-    let command = format!(in rt.alloc(); "policy-new other login {LOGIN}\n")?;
-    let wrong = first_wrong(rt.alloc(), &command, &[Kind::Held, Kind::Stored])?;
-    assert_eq!(rt; wrong, None);
-    Ok(())
-}
-
-#[test]
-fn a_wider_policy_ends_at_each_reply(rt: HostRuntime) -> Result<(), Fail> {
-    let command = format!(in rt.alloc(); "policy-add docs login {LOGIN} third {THIRD}\n")?;
-    let wrong = first_wrong(
-        rt.alloc(),
-        &command,
-        &[Kind::Held, Kind::Held, Kind::Held, Kind::Stored],
-    )?;
-    assert_eq!(rt; wrong, None);
-    Ok(())
-}
-
-#[test]
-fn a_narrower_policy_ends_at_each_reply(rt: HostRuntime) -> Result<(), Fail> {
-    let command = format!(in rt.alloc(); "policy-drop docs spare\n")?;
-    let wrong = first_wrong(rt.alloc(), &command, &[Kind::Held, Kind::Stored])?;
-    assert_eq!(rt; wrong, None);
-    Ok(())
-}
-
-#[test]
-fn an_unlock_ends_at_each_reply(rt: HostRuntime) -> Result<(), Fail> {
-    let command = format!(in rt.alloc(); "unlock docs login {LOGIN}\n")?;
-    let wrong = first_wrong(rt.alloc(), &command, &[Kind::Held, Kind::Held, Kind::Added])?;
-    assert_eq!(rt; wrong, None);
-    Ok(())
-}
-
-#[test]
-fn a_lock_ends_at_each_reply(rt: HostRuntime) -> Result<(), Fail> {
-    let command = format!(in rt.alloc(); "lock docs\n")?;
-    let wrong = first_wrong(rt.alloc(), &command, &[Kind::Held, Kind::Removed])?;
-    assert_eq!(rt; wrong, None);
-    Ok(())
-}
-
-#[test]
-fn a_status_ends_at_each_reply(rt: HostRuntime) -> Result<(), Fail> {
-    let command = format!(in rt.alloc(); "status docs\n")?;
-    let wrong = first_wrong(rt.alloc(), &command, &[Kind::Held, Kind::Status])?;
-    assert_eq!(rt; wrong, None);
-    Ok(())
-}
-
-#[test]
-fn an_encryption_ends_at_each_reply(rt: HostRuntime) -> Result<(), Fail> {
-    let command = format!(in rt.alloc(); "encrypt /e docs\n")?;
-    let wrong = first_wrong(rt.alloc(), &command, &[Kind::Held, Kind::Done])?;
-    assert_eq!(rt; wrong, None);
-    Ok(())
-}
-
-#[test]
-fn a_migration_ends_at_each_reply(rt: HostRuntime) -> Result<(), Fail> {
-    let command = format!(in rt.alloc(); "migrate old\n")?;
-    let wrong = first_wrong(rt.alloc(), &command, &[Kind::Held, Kind::Stored])?;
-    assert_eq!(rt; wrong, None);
-    Ok(())
+fn each_command_ends_at_each_reply(rt: HostRuntime) {
+    for (command, wanted) in COMMANDS {
+        let wrong = first_wrong(rt.alloc(), command, wanted).expect(&rt, "an answer");
+        assert!(rt; wrong == None, "{command}");
+    }
 }

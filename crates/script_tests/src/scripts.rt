@@ -1,15 +1,11 @@
 //! What is read of a script, and what is written of it. Lines inside the grammar and outside of it stand in
 //! `examples/lines/`.
 
-use crate::texts::repeated;
+use crate::texts::{repeated, same, same_bytes};
 use item_list::Bytes;
 use script_lang::{KeyRef, Script, ScriptFault, Verb, read_script, write_script};
 use std::alloc::{AllocError, Global};
-use std::test::Fail;
-
-const ID: &str = "000102030405060708090a0b0c0d0e0f";
-
-const KEY: &str = "404142434445464748494a4b4c4d4e4f505152535455565758595a5b5c5d5e5f";
+use std::process::Abort;
 
 // The script that the text spells, if it spells one.
 fn read(alloc: Global, text: &[u8]) -> Result<Option<Script>, AllocError> {
@@ -74,59 +70,65 @@ fn rewritten(alloc: Global, text: &[u8]) -> Result<Bytes, AllocError> {
     }
 }
 
-#[test]
-fn a_script_is_read_with_its_lines_and_keys(rt: HostRuntime) -> Result<(), Fail> {
-    let alloc = rt.alloc();
-    let text = format!(in alloc;
-        "\ncaller 1000\n# a key\nadd-key 00fFa5\n\nkey-status raw:{KEY}\ncaller 4294967295\ncaller 7\nremove-key id:{ID}\n"
-    )?;
-    let want = format!(in alloc;
-        "user 1000;4 add 00ffa5;6 status raw {KEY};user 4294967295;user 7;9 remove id {ID};"
-    )?;
-    let script = read(alloc, text.as_bytes())?.expect(&rt, "a script");
-    assert_eq!(rt; told(alloc, &script)?, want);
-    Ok(())
+// That the script which this text spells is written as the wanted text.
+fn is_written<A: Abort>(rt: &A, alloc: Global, text: &str, wanted: &str) {
+    let written = rewritten(alloc, text.as_bytes()).expect(rt, "an answer");
+    same_bytes(rt, written.as_slice(), wanted.as_bytes(), text);
 }
 
 #[test]
-fn scripts_are_written_with_each_command_in_its_line(rt: HostRuntime) -> Result<(), Fail> {
+fn a_script_is_read_with_its_lines_and_keys(rt: HostRuntime) {
+    let text = "\ncaller 1000\n# a key\nadd-key 00fFa5\n\n\
+        key-status raw:404142434445464748494a4b4c4d4e4f505152535455565758595a5b5c5d5e5f\n\
+        caller 4294967295\ncaller 7\nremove-key id:000102030405060708090a0b0c0d0e0f\n";
+    let wanted = "user 1000;4 add 00ffa5;\
+        6 status raw 404142434445464748494a4b4c4d4e4f505152535455565758595a5b5c5d5e5f;\
+        user 4294967295;user 7;9 remove id 000102030405060708090a0b0c0d0e0f;";
+    let script = read(rt.alloc(), text.as_bytes())
+        .expect(&rt, "an answer")
+        .expect(&rt, "a script");
+    same(
+        &rt,
+        told(rt.alloc(), &script).expect(&rt, "an answer").as_str(),
+        wanted,
+        text,
+    );
+}
+
+#[test]
+fn scripts_are_written_with_each_command_in_its_line(rt: HostRuntime) {
+    let bare = "caller 1000\nadd-key 00ff\nremove-key id:000102030405060708090a0b0c0d0e0f\n\
+        key-status raw:404142434445464748494a4b4c4d4e4f505152535455565758595a5b5c5d5e5f\n\
+        caller 0\n\nkey-status id:000102030405060708090a0b0c0d0e0f\ncaller 4294967295\n";
+    is_written(&rt, rt.alloc(), bare, bare);
+    let commented = "# first\n\ncaller 1000\n# a key\nadd-key 0A\n\ncaller 7\n\
+        key-status id:000102030405060708090a0b0c0d0e0f\n# last\n";
+    let wanted = "caller 1000\n\n\n\nadd-key 0a\ncaller 7\n\n\
+        key-status id:000102030405060708090a0b0c0d0e0f\n";
+    is_written(&rt, rt.alloc(), commented, wanted);
+}
+
+#[test]
+fn keys_of_each_size_are_written(rt: HostRuntime) {
     let alloc = rt.alloc();
-    let bare = format!(in alloc;
-        "caller 1000\nadd-key 00ff\nremove-key id:{ID}\nkey-status raw:{KEY}\ncaller 0\n\nkey-status id:{ID}\ncaller 4294967295\n"
-    )?;
-    assert_eq!(rt;
-        rewritten(alloc, bare.as_bytes())?.as_slice(),
-        bare.as_bytes()
-    );
-    let (short, key, longest) = (
-        repeated(alloc, "07", 31)?,
-        repeated(alloc, "07", 32)?,
-        repeated(alloc, "07", 65)?,
-    );
-    let sizes = format!(in alloc;
-        "caller 1000\nadd-key {short}\nadd-key {key}\nadd-key {longest}\n"
-    )?;
-    assert_eq!(rt;
-        rewritten(alloc, sizes.as_bytes())?.as_slice(),
-        sizes.as_bytes()
-    );
-    let commented = format!(in alloc;
-        "# first\n\ncaller 1000\n# a key\nadd-key 0A\n\ncaller 7\nkey-status id:{ID}\n# last\n"
-    )?;
-    let want = format!(in alloc;
-        "caller 1000\n\n\n\nadd-key 0a\ncaller 7\n\nkey-status id:{ID}\n"
-    )?;
-    assert_eq!(rt;
-        rewritten(alloc, commented.as_bytes())?.as_slice(),
-        want.as_bytes()
-    );
-    Ok(())
+    let mut text = String::from_str(alloc, "caller 1000\n").expect(&rt, "an answer");
+    for bytes in [31, 32, 65] {
+        text.push_str("add-key ").expect(&rt, "an answer");
+        text.push_str(
+            repeated(alloc, "07", bytes)
+                .expect(&rt, "an answer")
+                .as_str(),
+        )
+        .expect(&rt, "an answer");
+        text.push('\n').expect(&rt, "an answer");
+    }
+    is_written(&rt, alloc, text.as_str(), text.as_str());
 }
 
 // One command of each name, with all words that it may have.
 #[test]
-fn each_command_is_written_as_it_was(rt: HostRuntime) -> Result<(), Fail> {
-    let text = b"caller 1000\n\
+fn each_command_is_written_as_it_was(rt: HostRuntime) {
+    let text = "caller 1000\n\
         add-key 00ff\n\
         remove-key id:000102030405060708090a0b0c0d0e0f\n\
         remove-key-all id:000102030405060708090a0b0c0d0e0f\n\
@@ -159,13 +161,11 @@ fn each_command_is_written_as_it_was(rt: HostRuntime) -> Result<(), Fail> {
         status docs\n\
         encrypt /home/u docs 16 12\n\
         migrate docs\n";
-    let written = rewritten(rt.alloc(), text)?;
-    assert_eq!(rt; written.as_slice(), text.as_slice());
-    Ok(())
+    is_written(&rt, rt.alloc(), text, text);
 }
 
 #[test]
-fn words_are_written_in_one_way(rt: HostRuntime) -> Result<(), Fail> {
+fn words_are_written_in_one_way(rt: HostRuntime) {
     let alloc = rt.alloc();
     for (line, want) in [
         ("write 0 0 00A5", "write 0 0 00a5"),
@@ -183,18 +183,24 @@ fn words_are_written_in_one_way(rt: HostRuntime) -> Result<(), Fail> {
         ("encrypt /a p 8", "encrypt /a p 8"),
         ("policy-new p l pass:a", "policy-new p l pass:a"),
     ] {
-        let text = format!(in alloc; "caller 7\n{line}\n")?;
-        let wanted = format!(in alloc; "caller 7\n{want}\n")?;
-        let written = rewritten(alloc, text.as_bytes())?;
-        assert_eq!(rt; written.as_slice(), wanted.as_bytes(), "{line}");
+        let text = format!(in alloc; "caller 7\n{line}\n").expect(&rt, "an answer");
+        let wanted = format!(in alloc; "caller 7\n{want}\n").expect(&rt, "an answer");
+        is_written(&rt, alloc, text.as_str(), wanted.as_str());
     }
-    let (secret, long) = (repeated(alloc, "A5", 32)?, repeated(alloc, "l", 32)?);
+}
+
+#[test]
+fn digits_of_secrets_are_written_in_lower_case(rt: HostRuntime) {
+    let alloc = rt.alloc();
+    let (secret, long) = (
+        repeated(alloc, "A5", 32).expect(&rt, "an answer"),
+        repeated(alloc, "l", 32).expect(&rt, "an answer"),
+    );
     let text = format!(in alloc;
         "caller 7\nprotector-change {long} raw:{secret} raw:{secret}\n\
         policy-add p {long} raw:{secret} b raw:{secret}\nset-policy /a raw:{secret} 4\n"
-    )?;
-    let wanted = text.replace(alloc, "A5", "a5")?;
-    let written = rewritten(alloc, text.as_bytes())?;
-    assert_eq!(rt; written.as_slice(), wanted.as_bytes());
-    Ok(())
+    )
+    .expect(&rt, "an answer");
+    let wanted = text.replace(alloc, "A5", "a5").expect(&rt, "an answer");
+    is_written(&rt, alloc, text.as_str(), wanted.as_str());
 }

@@ -10,7 +10,7 @@ use reply_text::Outcome;
 use script_lang::Verb;
 use short_bytes::Label;
 use std::alloc::{AllocError, Global};
-use std::test::Fail;
+use std::process::Abort;
 
 // A policy of the first version with one wrap.
 const RECORD: &str = "\
@@ -82,46 +82,34 @@ fn ends_by_its_first_reply(alloc: Global, verb: &Verb) -> Result<bool, AllocErro
 }
 
 // The label of these tests.
-fn label() -> Option<Label> {
-    Label::read(b"docs")
+fn label<A: Abort>(rt: &A) -> Label {
+    Label::read(b"docs").expect(rt, "a label")
 }
 
 #[test]
-fn a_lock_ends_by_its_first_reply(rt: HostRuntime) -> Result<(), Fail> {
-    let Some(label) = label() else {
-        assert!(rt; false);
-        return Ok(());
-    };
-    let lock = Verb::Lock(label);
+fn a_lock_ends_by_its_first_reply(rt: HostRuntime) -> Result<(), AllocError> {
+    let lock = Verb::Lock(label(&rt));
     assert!(rt; ends_by_its_first_reply(rt.alloc(), &lock)?);
     Ok(())
 }
 
 #[test]
-fn a_lock_ends_by_its_second_reply(rt: HostRuntime) -> Result<(), Fail> {
-    let Some(label) = label() else {
-        assert!(rt; false);
-        return Ok(());
-    };
-    let lock = Verb::Lock(label);
+fn a_lock_ends_by_its_second_reply(rt: HostRuntime) -> Result<(), AllocError> {
+    let lock = Verb::Lock(label(&rt));
     let wanting = ended_behind(rt.alloc(), &lock, Reply::Refused(Refusal::NoMemory))?;
+    assert!(rt; wanting == Some(Outcome::NoMemory));
     let odd = ended_behind(rt.alloc(), &lock, Reply::Done)?;
-    assert_eq!(rt; wanting, Some(Outcome::NoMemory));
-    assert_eq!(rt; odd, Some(Outcome::OddReply));
+    assert!(rt; odd == Some(Outcome::OddReply));
     Ok(())
 }
 
 #[test]
-fn a_migration_ends_by_its_store(rt: HostRuntime) -> Result<(), Fail> {
-    let Some(label) = label() else {
-        assert!(rt; false);
-        return Ok(());
-    };
-    let migrate = Verb::Migrate(label);
+fn a_migration_ends_by_its_store(rt: HostRuntime) -> Result<(), AllocError> {
+    let migrate = Verb::Migrate(label(&rt));
     let stored = ended_behind(rt.alloc(), &migrate, Reply::Stored(2))?;
+    assert!(rt; stored == Some(Outcome::Done));
     let changed = Reply::Refused(Refusal::Changed { version: 2 });
     let changed = ended_behind(rt.alloc(), &migrate, changed)?;
-    assert_eq!(rt; stored, Some(Outcome::Done));
-    assert_eq!(rt; changed, Some(Outcome::Conflict));
+    assert!(rt; changed == Some(Outcome::Conflict));
     Ok(())
 }

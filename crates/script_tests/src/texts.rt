@@ -1,6 +1,7 @@
-//! Texts for the tests of words and scripts.
+//! Texts for the tests, and how they are compared. Each comparison is proved once, here, and not where it is made.
 
 use std::alloc::{AllocError, Global};
+use std::process::Abort;
 
 // A text, so many times.
 pub(crate) fn repeated(alloc: Global, text: &str, times: usize) -> Result<String, AllocError> {
@@ -9,4 +10,14 @@ pub(crate) fn repeated(alloc: Global, text: &str, times: usize) -> Result<String
         whole.push_str(text)?;
     }
     Ok(whole)
+}
+
+// That the text is the one that is wanted; else the test fails, and tells what the text is about.
+pub(crate) fn same<A: Abort>(rt: &A, got: &str, wanted: &str, about: &str) {
+    assert_eq!(rt; got, wanted, "{about}");
+}
+
+// That the bytes are those that are wanted.
+pub(crate) fn same_bytes<A: Abort>(rt: &A, got: &[u8], wanted: &[u8], about: &str) {
+    assert_eq!(rt; got, wanted, "{about}");
 }

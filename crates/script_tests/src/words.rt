@@ -1,12 +1,12 @@
 //! Words, targets, parts and paths at the edges of the grammar, through the readers and the writers.
 
-use crate::texts::repeated;
+use crate::texts::{repeated, same};
 use item_list::Bytes;
 use script_words::{
     ScriptPart, read_part, read_path, read_target, read_word, write_path, write_word,
 };
 use std::alloc::{AllocError, Global};
-use std::test::Fail;
+use std::process::Abort;
 
 // A given part as its digits, a star as its number.
 fn part_shown(alloc: Global, part: &ScriptPart) -> Result<String, AllocError> {
@@ -37,9 +37,21 @@ fn word_shown(alloc: Global, word: Option<Bytes>) -> Result<String, AllocError> 
     }
 }
 
+// That each of these paths is shown so.
+fn paths_are_shown<A: Abort>(
+    rt: &A,
+    alloc: Global,
+    cases: &[(&str, &str)],
+) -> Result<(), AllocError> {
+    for (text, want) in cases {
+        same(rt, path_shown(alloc, text.as_bytes())?.as_str(), want, text);
+    }
+    Ok(())
+}
+
 #[test]
-fn stars_are_stars_as_they_stand(rt: HostRuntime) -> Result<(), Fail> {
-    for (text, want) in [
+fn stars_are_stars_as_they_stand(rt: HostRuntime) {
+    let cases = [
         ("/*0", "/star 0"),
         ("/*17/a", "/star 17/61"),
         ("/*4294967295", "/star 4294967295"),
@@ -51,19 +63,13 @@ fn stars_are_stars_as_they_stand(rt: HostRuntime) -> Result<(), Fail> {
         ("/*", "/2a"),
         ("/*1a", "/2a3161"),
         ("/*+1", "/2a2b31"),
-    ] {
-        assert_eq!(rt;
-            path_shown(rt.alloc(), text.as_bytes())?.as_str(),
-            want,
-            "{text}"
-        );
-    }
-    Ok(())
+    ];
+    paths_are_shown(&rt, rt.alloc(), &cases).expect(&rt, "an answer");
 }
 
 #[test]
-fn parts_are_checked_after_decoding(rt: HostRuntime) -> Result<(), Fail> {
-    for (text, want) in [
+fn parts_are_checked_after_decoding(rt: HostRuntime) {
+    let cases = [
         ("/", ""),
         ("/...", "/2e2e2e"),
         ("/.a/a.", "/2e61/612e"),
@@ -89,29 +95,26 @@ fn parts_are_checked_after_decoding(rt: HostRuntime) -> Result<(), Fail> {
         ("a/b", "refused"),
         ("", "refused"),
         ("/a b", "refused"),
-    ] {
-        assert_eq!(rt;
-            path_shown(rt.alloc(), text.as_bytes())?.as_str(),
-            want,
-            "{text}"
-        );
-    }
-    Ok(())
+    ];
+    paths_are_shown(&rt, rt.alloc(), &cases).expect(&rt, "an answer");
 }
 
 #[test]
-fn paths_have_at_most_32_parts(rt: HostRuntime) -> Result<(), Fail> {
+fn paths_have_at_most_32_parts(rt: HostRuntime) {
     let alloc = rt.alloc();
-    let most = repeated(alloc, "/a", 32)?;
-    let path = read_path(alloc, most.as_bytes())?;
+    let most = repeated(alloc, "/a", 32).expect(&rt, "an answer");
+    let path = read_path(alloc, most.as_bytes()).expect(&rt, "an answer");
     assert!(rt; path.is_some_and(|path| path.parts().len() == 32));
-    let more = repeated(alloc, "/a", 33)?;
-    assert!(rt; read_path(alloc, more.as_bytes())?.is_none());
-    Ok(())
+    let more = repeated(alloc, "/a", 33).expect(&rt, "an answer");
+    assert!(rt;
+        read_path(alloc, more.as_bytes())
+            .expect(&rt, "an answer")
+            .is_none()
+    );
 }
 
 #[test]
-fn words_have_graphic_characters_and_whole_escapes(rt: HostRuntime) -> Result<(), Fail> {
+fn words_have_graphic_characters_and_whole_escapes(rt: HostRuntime) {
     let alloc = rt.alloc();
     let cases: [(&[u8], &str, &str); 17] = [
         (b"a", "61", "61"),
@@ -133,38 +136,46 @@ fn words_have_graphic_characters_and_whole_escapes(rt: HostRuntime) -> Result<()
         (b"\x80", "refused", "refused"),
     ];
     for (text, word, target) in cases {
-        assert_eq!(rt; word_shown(alloc, read_word(alloc, text)?)?.as_str(), word);
-        assert_eq!(rt;
-            word_shown(alloc, read_target(alloc, text)?)?.as_str(),
-            target
+        let read = word_shown(alloc, read_word(alloc, text).expect(&rt, "an answer")).expect(
+            &rt,
+            "an answer",
         );
+        same(&rt, read.as_str(), word, "a word");
+        let read = word_shown(alloc, read_target(alloc, text).expect(&rt, "an answer")).expect(
+            &rt,
+            "an answer",
+        );
+        same(&rt, read.as_str(), target, "a target");
     }
-    Ok(())
+}
+
+// How many bytes the word has that the text spells, if it spells one.
+fn length_read(alloc: Global, text: &[u8]) -> Result<Option<usize>, AllocError> {
+    Ok(read_word(alloc, text)?.map(|word| word.len()))
 }
 
 #[test]
-fn words_have_at_most_1000_bytes(rt: HostRuntime) -> Result<(), Fail> {
+fn words_have_at_most_1000_bytes(rt: HostRuntime) {
     let alloc = rt.alloc();
     for piece in ["a", "%61"] {
-        let most = repeated(alloc, piece, 1000)?;
-        let word = read_word(alloc, most.as_bytes())?;
+        let most = repeated(alloc, piece, 1000).expect(&rt, "an answer");
+        assert!(rt; length_read(alloc, most.as_bytes()).expect(&rt, "an answer") == Some(1000));
+        let more = repeated(alloc, piece, 1001).expect(&rt, "an answer");
         assert!(rt;
-            word.is_some_and(|word| word.len() == 1000),
-            "1,000 of {piece}"
+            length_read(alloc, more.as_bytes())
+                .expect(&rt, "an answer")
+                .is_none()
         );
-        let more = repeated(alloc, piece, 1001)?;
         assert!(rt;
-            read_word(alloc, more.as_bytes())?.is_none(),
-            "1,001 of {piece}"
+            read_part(alloc, more.as_bytes())
+                .expect(&rt, "an answer")
+                .is_none()
         );
-        let part = read_part(alloc, more.as_bytes())?;
-        assert!(rt; part.is_none(), "1,001 of {piece}");
     }
-    Ok(())
 }
 
 #[test]
-fn words_are_written_as_url_quoting_writes_them(rt: HostRuntime) -> Result<(), Fail> {
+fn words_are_written_as_url_quoting_writes_them(rt: HostRuntime) {
     let alloc = rt.alloc();
     // Python's `urllib.parse.quote(bytes(range(256)), safe='')`, a row for each 32 bytes.
     let want = [
@@ -179,16 +190,20 @@ fn words_are_written_as_url_quoting_writes_them(rt: HostRuntime) -> Result<(), F
     ];
     let mut bytes = Vec::new(alloc);
     for byte in 0..=255u8 {
-        bytes.push(byte)?;
+        bytes.push(byte).expect(&rt, "an answer");
     }
     for (row, want) in bytes.chunks(32).zip(want) {
-        assert_eq!(rt; write_word(alloc, row)?.as_str(), want);
+        same(
+            &rt,
+            write_word(alloc, row).expect(&rt, "an answer").as_str(),
+            want,
+            "a row",
+        );
     }
-    Ok(())
 }
 
 #[test]
-fn paths_are_written_without_needless_escapes(rt: HostRuntime) -> Result<(), Fail> {
+fn paths_are_written_without_needless_escapes(rt: HostRuntime) {
     let alloc = rt.alloc();
     for (text, want) in [
         ("/", "/"),
@@ -196,10 +211,14 @@ fn paths_are_written_without_needless_escapes(rt: HostRuntime) -> Result<(), Fai
         ("/%2e%2e%2e/%25/%7E-_.a", "/.../%25/~-_.a"),
         ("/caf%c3%a9/a+b", "/caf%C3%A9/a%2Bb"),
     ] {
-        let Some(path) = read_path(alloc, text.as_bytes())? else {
-            return Err(Fail::new(text));
-        };
-        assert_eq!(rt; write_path(alloc, &path)?.as_str(), want, "{text}");
+        let path = read_path(alloc, text.as_bytes())
+            .expect(&rt, "an answer")
+            .expect(&rt, text);
+        same(
+            &rt,
+            write_path(alloc, &path).expect(&rt, "an answer").as_str(),
+            want,
+            text,
+        );
     }
-    Ok(())
 }
