@@ -39,7 +39,7 @@ keys_left disk claims keys held node =
 abbrev pub names_left : Disk → ClaimSet → NameList → Bool → ℕ → NameList
 names_left disk claims names held node =
     if held || (is_lasting disk node && is_key_due claims (context_on_disk (get disk node)))
-      || not (is_dir_on_disk disk node) then names
+    || not (is_dir_on_disk disk node) then names
     else dir_forgotten names node
 
 -- the mode key that the node uses has one user less

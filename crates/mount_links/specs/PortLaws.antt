@@ -43,9 +43,9 @@ module _ {P Q : Type 0} (own_came : P → PlacedCalls → P → Type 0) (far_cam
   }
 
   pub LinkCame-on : ((first second third : P) (e f : PlacedCalls) → own_came first e second → own_came second f third
-        → own_came first (e ++ f) third)
+      → own_came first (e ++ f) third)
       → ((first second third : Q) (e f : PlacedCalls) → far_came first e second → far_came second f third
-        → far_came first (e ++ f) third)
+      → far_came first (e ++ f) third)
       → (first second third : LinkView P Q) (e f : PlacedCalls)
       → LinkCame own_came far_came first e second → LinkCame own_came far_came second f third
       → LinkCame own_came far_came first (e ++ f) third

@@ -26,7 +26,7 @@ tells_more claims (x ∷ h) e tells tell = (tells.0, tells_more (claims_left cla
 -- a history goes on by a step that changes the claims as it says and tells them as they are
 pub more : (h : History) (e : MountEntry) (old new : MountState) → StandsAfter h old
     → ((m : PlainMount) → StandsFor old m → (is_refused e.reply ≡ false → KeyAgrees m.raws e.call.op)
-      → TakesStep m e new)
+    → TakesStep m e new)
     → new.ring.claims ≡ claims_left old.ring.claims e → TellsClaim old.ring.claims e → StandsAfter (h ++ e ∷ []) new
 more h e old new before steps claims told =
     let stood : KeysAgree (h ++ e ∷ []) → StandsFor old (mount_after h) = λ agree.
