@@ -253,26 +253,79 @@ def is_checked(said, crate, place):
     return any(re.match(rf"fn {crate}::{re.escape(place)}: (proved|no holes|depends on a hole)\b", it) for it in said)
 
 
-def in_rounds(edits, texts, most):
-    """The edits in as few rounds as there can be of at most this many, each of a function of its own; and those that go alone.
-    Functions whose place isn't sure come first, so that few rounds have one: such a round goes over the whole crate."""
+def has_free_proof(crate, function, texts):
+    """Whether a copy of the function under another name has the same proof, but for the name: its place is sure, it doesn't call
+    itself, and no file outside of its proof's own folder cites what is in it."""
+    place = place_of(function, texts)
+    if not place:
+        return False
+    lines = texts[function.file].split("\n")[function.body:function.last]
+    calls = re.compile(rf"\b{function.name}\b")
+    cited = re.compile(rf"\bRattle\.{crate}\.proofs\.{re.escape(place.replace('::', '.'))}\b")
+    folder = f"proofs/{place.replace('::', '/')}/"
+    others = [it for file, it in texts.items() if file.endswith(".antt") and not file.startswith(folder)]
+    return not any(map(calls.search, lines)) and not any(map(cited.search, others))
+
+
+def header_of(function, lines):
+    """The lines that open the block in which a method stands."""
+    first = next(it for it in range(function.first, -1, -1) if BLOCK.match(lines[it]))
+    return lines[first:1 + next(it for it in range(first, function.first) if lines[it].endswith("{"))]
+
+
+def with_copies(crate, edits, texts):
+    """The texts with copies, at the ends of their files, of the functions that several of these edits are of, and the edits each in
+    a function of its own: a copy has another name and the proof of the first, which it doesn't hide and that doesn't hide it."""
+    texts, made, taken = dict(texts), [], []
+    for edit in edits:
+        home = edit.function
+        if home not in taken:
+            taken.append(home)
+            made.append(edit)
+            continue
+        place, lines = place_of(home, texts), texts[home.file].rstrip("\n").split("\n")
+        name = f"{home.name}_as_{len(made) + 1}"
+        opens, closes = (header_of(home, lines), ["}"]) if home.of_type else ([], [])
+        part = lines[home.first:home.last + 1]
+        head = next(at for at, it in enumerate(part) if FUNCTION.match(it))
+        part[head] = re.sub(rf"\bfn {home.name}\b", f"fn {name}", part[head], count=1)
+        first = len(lines) + 1 + len(opens)
+        moved = lambda line: line + first - home.first
+        taken.append(Function(home.file, home.of_type, name, first, moved(home.body), moved(home.last), home.is_plain))
+        made.append(Edit(edit.name, edit.pairs, taken[-1], edit.refused))
+        own, folder = f"Rattle.{crate}.proofs.{place.replace('::', '.')}.", f"proofs/{place.replace('::', '/')}/"
+        for file in [it for it in texts if it.startswith(folder)]:
+            text = texts[file].replace(own, f"{own[:-len(home.name) - 1]}{name}.")
+            texts[f"{folder[:-len(home.name) - 1]}{name}/{file[len(folder):]}"] = text
+        texts[home.file] = "\n".join([*lines, "", *opens, *part, *closes, ""])
+    return texts, made
+
+
+def in_rounds(crate, edits, texts, most):
+    """The edits in as few rounds as there can be of at most this many, each of a function of its own or of a copy of it; and those
+    that go alone. Functions whose place isn't sure come first, so that few rounds have one: such a round goes over the whole crate."""
     of_function, alone = {}, [it for it in edits if not it.function]
     for edit in edits:
         if edit.function:
             of_function.setdefault(edit.function, []).append(edit)
-    number = max([-(-sum(map(len, of_function.values())) // most), *map(len, of_function.values())], default=0)
+    single = {it: made for it, made in of_function.items() if not has_free_proof(crate, it, texts)}
+    number = max([-(-sum(map(len, of_function.values())) // most), *map(len, single.values())], default=0)
     rounds = [[] for _ in range(number)]
-    for function in sorted(of_function, key=lambda it: (place_of(it, texts) is not None, -len(of_function[it]))):
-        free = sorted(rounds, key=len)
-        for edit, made in zip(of_function[function], free):
+    for function in sorted(single, key=lambda it: (place_of(it, texts) is not None, -len(single[it]))):
+        for edit, made in zip(single[function], sorted(rounds, key=len)):
             made.append(edit)
+    for edit in (it for function, made in of_function.items() if function not in single for it in made):
+        min(rounds, key=len).append(edit)
     return rounds, alone
 
 
 def changes_nothing(texts, taken):
-    """An edit that adds a comment to a function of the crate, one that isn't taken where there is one."""
+    """An edit that adds a comment to a function of the crate, one that isn't taken and names none that is, where there is one: what
+    calls a function that is refused is told as not proved."""
     every = [it for it in every_function(dict(sorted(texts.items()))) if "test" not in it.file and place_of(it, texts)]
-    home = next((it for it in every if it not in taken), every[0])
+    names, others = {it.name for it in taken if it}, [it for it in every if it not in taken]
+    words = lambda it: re.findall(r"\w+", "\n".join(texts[it.file].split("\n")[it.body:it.last]))
+    home = next((it for it in others if names.isdisjoint(words(it))), (others or every)[0])
     line = texts[home.file].split("\n")[home.last]
     if home.first == home.last:
         return Edit("(a comment)", ((home.file, line, f"{line} // as it was"),), home)
