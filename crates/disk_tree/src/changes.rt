@@ -73,16 +73,9 @@ impl DiskTree {
         ensures no_space { IfErr result (λ fault. fault ≡ DiskFault.NoSpace
             → MOST_CHILDREN ≤ length (children self.old dir)) }
     {
-        if self.entry_count(dir) >= MOST_CHILDREN {
-            return Err(DiskFault::NoSpace);
-        }
-        match edits::add_entry(&mut self.nodes, alloc, dir, name, number) {
-            Ok(()) => {
-                edits::set_named(&mut self.nodes, number, true);
-                Ok(())
-            }
-            Err(_) => Err(DiskFault::NoMemory),
-        }
+        edits::add_within(&mut self.nodes, alloc, dir, name, number)?;
+        edits::set_named(&mut self.nodes, number, true);
+        Ok(())
     }
 
     /// Takes the entry away, and its node's name with it. False where no entry has the name.

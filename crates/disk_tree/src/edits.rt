@@ -57,7 +57,7 @@ pub(crate) fn add_entry(
 
 // Makes an entry in the directory; NoSpace where it has as many as it may have. The directory is looked up
 // once for both.
-fn add_within(
+pub(crate) fn add_within(
     nodes: &mut NumberMap<StoredNode>,
     alloc: Global,
     dir: u32,
