@@ -1,7 +1,6 @@
 //! A part of a file's contents is read in two halves: stored blocks are copied, and then deciphered.
 ghost use Rattle.std.specs.Prelude.{◌≡◌, ◌+◌, ◌*◌, ◌/◌, ◌%◌, ◌<◌, ◌≤◌, ◌^◌};
 ghost use Rattle.std.specs.Prelude.{take, drop, length, replicate, IfOk, IfSome, OnOk};
-ghost use Rattle.byte_words.specs.Bytes.{AreBytes};
 ghost use Rattle.data_crypt.specs.Laws.{IsKeyOfBytes};
 ghost use Rattle.data_crypt.specs.Parts.{blocks_joined, content_of, opened_text};
 ghost use Rattle.disk_tree.specs.DiskTree.{file_blocks, file_size};
@@ -12,6 +11,7 @@ use crate::cipher::read;
 use crate::key::{ContentsKey, FileCipher};
 use crate::lent::LentRead;
 use crate::rooms::{fill_lent, room_for_lent, wipe_cipher, wipe_key, wipe_lent};
+use byte_words::slice_is_bytes;
 use data_crypt::BLOCK_SIZE;
 use disk_tree::DiskTree;
 use mount_limits::MOST_READ_BYTES;
@@ -143,7 +143,7 @@ fn copy_key(
 {
     match key {
         Some(key) => {
-            are_bytes(key.bytes.as_slice());
+            slice_is_bytes(key.bytes.as_slice());
             let mut copy = boxed_zeros(alloc, key)?;
             copy.bytes = key.bytes;
             Ok(Some(copy))
@@ -166,13 +166,6 @@ fn boxed_zeros(alloc: Global, key: &ContentsKey) -> Result<Box<ContentsKey>, All
         Ok(boxed) => Ok(boxed),
         Err(_) => Err(AllocError),
     }
-}
-
-// Does nothing. Its contract is that bytes are below 256.
-fn are_bytes(bytes: &[u8])
-    ensures { AreBytes bytes.now }
-{
-    let _len = bytes.len();
 }
 
 // Opens each block of the text; the first is block `first` of the file.

@@ -1,8 +1,9 @@
 //! That the nonces of a mount are 16 bytes. The functions do nothing: their contracts say it.
 
-ghost use Rattle.byte_words.specs.Bytes.{AreBytes, AreBytesOfLength};
+ghost use Rattle.byte_words.specs.Bytes.{AreBytesOfLength};
 ghost use Rattle.listing_laws.specs.Nonces.{CarriesNonce, MountsHaveNonces};
 
+use byte_words::slice_is_bytes;
 use mount_model::{Call, Op};
 
 /// A call that brings a nonce brings 16 bytes, as its type has it.
@@ -39,14 +40,7 @@ pub fn call_carries_nonce(call: &Call)
 fn is_nonce(nonce: &[u8; 16])
     ensures { AreBytesOfLength 16 nonce.now }
 {
-    are_bytes(nonce);
-}
-
-// Each is below 256.
-fn are_bytes(bytes: &[u8])
-    ensures { AreBytes bytes.now }
-{
-    let _len = bytes.len();
+    slice_is_bytes(nonce);
 }
 
 /// Each nonce of the mount that a history leaves is 16 bytes, where those of its calls are.

@@ -19,6 +19,7 @@ ghost use Rattle.mount_state.specs.Led.{LeadsKeyed};
 
 use super::MountState;
 use crate::contexts::context_of;
+use byte_words::slice_is_bytes;
 use disk_tree::StoredNode;
 use fsc_keys::{FileKey, KeyKind};
 use name_crypt::{Aes256, MOST_NAME_BYTES, Plain, Steps, encrypt_into, name_iv, names_come_back};
@@ -57,7 +58,7 @@ impl MountState {
     {
         // That two names are stored alike only where they are the same.
         names_come_back();
-        are_bytes(name);
+        slice_is_bytes(name);
         let context = context_of(node)?;
         if let Some(cipher) = self.own_cipher(dir, &context) {
             return entry_under(node, dir, &context, cipher, name, steps);
@@ -164,7 +165,7 @@ fn set_cipher(room: &mut Option<Aes256>, key: &FileKey)
     ensures ranged { IfSome room.new AreBytes }
 {
     if let FileKey::Names(bytes) = key {
-        are_bytes(&bytes[..]);
+        slice_is_bytes(&bytes[..]);
         if let Some(cipher) = room {
             cipher.set(bytes);
         }
@@ -191,13 +192,6 @@ fn entry_under<L: Ledger>(
     let mut text = [0; MOST_NAME_BYTES];
     let len = encrypt_into(cipher, iv, context.policy.pad, name, &mut text, steps);
     node.body.find(&text[..len])
-}
-
-// Each number of a slice of bytes lies below 256.
-fn are_bytes(bytes: &[u8])
-    ensures { AreBytes bytes.now }
-{
-    let _len = bytes.len();
 }
 
 /// Where the names of the directory, or the symlink's target, count their units from.

@@ -24,7 +24,7 @@ returns-in-Some-clause-stands g c m context st is_dir here keyed =
     let found : own_names_key s.inodes d c.in_ok-context.context ≡ Some c.in-Some.cipher.now = search rules in
     let key = own_is m d context here s.inodes s.modes st.caches (dir_kind (get m.nodes d) is_dir) c.in-Some.cipher.now (subst (λ (x : Context). own_names_key s.inodes d x ≡ Some c.in-Some.cipher.now) read found) in
     led_under m d context here s.disk s.next_node st.well st.tree is_dir c.names_come_back.ensures.distinct keyed c.in-Some.cipher.now c.in_ok-context.context read (ap key_bytes key) c.in-Some.ensures.ranged
-    c.args.name.now c.requires.plain c.are_bytes.ensures
+    c.args.name.now c.requires.plain c.slice_is_bytes.ensures
     c.entry_under.result
     (c.entry_under.ensures.value
     ∙ ap (λ (es : Entries). number_under (stored_name c.in-Some.cipher.now (node_start d c.in_ok-context.context) c.in_ok-context.context.policy.pad c.args.name.now) es) (sym (ap entries_in c.requires.there)))
@@ -38,4 +38,4 @@ returns-clause-stands g c m context st is_dir here keyed =
     let read : c.in_ok-context.context ≡ context = same_context _ _ (sym was ∙ c.context_of.ensures.read context (sized_here m d context here s.disk s.next_node st.well st.tree is_dir) stored) in
     let uncached : own_names_key s.inodes d c.in_ok-context.context ≡ None = search rules in
     led_by_other m d context here s.disk s.next_node st.well st.tree is_dir c.names_come_back.ensures.distinct keyed s.ring s.inodes s.modes s.handles.live s.forgets c.entry_anew.ensures.claimed
-    st.keys st.caches st.handles.live c.in_ok-context.context read uncached c.args.node.now c.requires.there c.args.name.now c.requires.plain c.are_bytes.ensures c.entry_anew.result c.entry_anew.ensures.value
+    st.keys st.caches st.handles.live c.in_ok-context.context read uncached c.args.node.now c.requires.there c.args.name.now c.requires.plain c.slice_is_bytes.ensures c.entry_anew.result c.entry_anew.ensures.value
