@@ -1,4 +1,5 @@
 pub mod Units
 pub mod Blocks
+pub mod Ciphers
 pub mod Parts
 pub mod Laws

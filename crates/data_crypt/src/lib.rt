@@ -1,6 +1,9 @@
-//! Blocks of file contents: sealed and opened under a file's key, and changed in a part.
+//! Blocks of file contents: sealed and opened under a file's key, stored and read by a file's cipher, and
+//! changed in a part.
 #![tactic(auto)]
 
+mod cipher;
+mod file_blocks;
 mod laws;
 
 ghost use Rattle.std.specs.Prelude.{◌≡◌, ◌+◌, ◌-◌, ◌≤◌, ◌^◌, length};
@@ -8,6 +11,8 @@ ghost use Rattle.byte_words.specs.Contents.{spliced};
 ghost use Rattle.data_crypt.specs.Parts.{block_with};
 ghost use Rattle.data_crypt.specs.Units.{opened_block, sealed_block};
 
+pub use cipher::FileCipher;
+pub use file_blocks::{read_block, store_block, wipe_cipher};
 pub use laws::{contents_come_back, opening_undoes_sealing, parts_are_read, pieces_are_written};
 pub use mount_limits::BLOCK_SIZE;
 use policy_ctx::Unit;

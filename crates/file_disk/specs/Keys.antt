@@ -4,7 +4,6 @@ use Rattle.std.specs.declared.boxed.Box.{Box}
 use Rattle.std.specs.Global.{Global}
 use Rattle.data_crypt.specs.Blocks.{Seal}
 use Rattle.file_disk.specs.declared.key.ContentsKey.{ContentsKey}
-use Rattle.file_disk.specs.declared.key.FileCipher.{FileCipher}
 
 abbrev pub key_seal : ContentsKey → Seal
 key_seal key = record { key = key.bytes; start = key.start; unit = key.unit }
@@ -18,11 +17,3 @@ seal_of (Some key) = Some (key_seal key)
 abbrev pub lent_seal : Option (Box ContentsKey Global) → Option Seal
 lent_seal None = None
 lent_seal (Some key) = Some (key_seal key.value)
-
--- the same of a key with its round keys
-abbrev pub cipher_seal : FileCipher → Seal
-cipher_seal cipher = record { key = cipher.key; start = cipher.start; unit = cipher.unit }
-
-abbrev pub seal_by : Option FileCipher → Option Seal
-seal_by None = None
-seal_by (Some cipher) = Some (cipher_seal cipher)

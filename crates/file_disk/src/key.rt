@@ -3,7 +3,6 @@ ghost use Rattle.std.specs.Prelude.{◌≡◌, ◌%◌, ◌^◌, replicate};
 
 use byte_words::wipe;
 use policy_ctx::Unit;
-use xts_mode::XtsKey;
 
 /// A key for the contents of files: its 64 bytes, the index at which the units of a file start, and
 /// their size.
@@ -25,13 +24,4 @@ impl ContentsKey {
     {
         wipe(&mut self.bytes);
     }
-}
-
-// A key with its round keys.
-#[derive(Drop)]
-pub(crate) struct FileCipher {
-    pub(crate) key: XtsKey,
-    pub(crate) start: u64,
-    pub(crate) unit: Unit,
-    pub ghost apart: { start % 2 ^ 32 ≡ 0 },
 }

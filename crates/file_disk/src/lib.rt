@@ -2,7 +2,6 @@
 //! read in two halves.
 #![tactic(auto)]
 
-mod cipher;
 mod key;
 mod laws;
 mod lent;

@@ -1,18 +1,18 @@
 //! A part of a file's contents is read in two halves: stored blocks are copied, and then deciphered.
 ghost use Rattle.std.specs.Prelude.{◌≡◌, ◌+◌, ◌*◌, ◌/◌, ◌%◌, ◌<◌, ◌≤◌, ◌^◌};
 ghost use Rattle.std.specs.Prelude.{take, drop, length, replicate, IfOk, IfSome, OnOk};
+ghost use Rattle.data_crypt.specs.Ciphers.{seal_by};
 ghost use Rattle.data_crypt.specs.Laws.{IsKeyOfBytes};
 ghost use Rattle.data_crypt.specs.Parts.{blocks_joined, content_of, opened_text};
 ghost use Rattle.disk_tree.specs.DiskTree.{file_blocks, file_size};
-ghost use Rattle.file_disk.specs.Keys.{lent_seal, seal_by, seal_of};
+ghost use Rattle.file_disk.specs.Keys.{lent_seal, seal_of};
 ghost use Rattle.file_disk.specs.Lent.{IsAt, IsCopied, IsPart, whole_size};
 
-use crate::cipher::read;
-use crate::key::{ContentsKey, FileCipher};
+use crate::key::ContentsKey;
 use crate::lent::LentRead;
-use crate::rooms::{fill_lent, room_for_lent, wipe_cipher, wipe_key, wipe_lent};
+use crate::rooms::{fill_lent, room_for_lent, wipe_key, wipe_lent};
 use byte_words::slice_is_bytes;
-use data_crypt::BLOCK_SIZE;
+use data_crypt::{BLOCK_SIZE, FileCipher, read_block, wipe_cipher};
 use disk_tree::DiskTree;
 use mount_limits::MOST_READ_BYTES;
 use std::alloc::{AllocError, Global};
@@ -175,7 +175,7 @@ fn open_text(cipher: &Option<FileCipher>, first: u32, text: &mut [u8])
     ensures { text.new ≡ opened_text (seal_by cipher.now) first text.old }
 {
     'each: for i in 0..text.len() / BLOCK_SIZE {
-        read(
+        read_block(
             cipher,
             first + i as u32,
             &mut text[BLOCK_SIZE * i..BLOCK_SIZE * i + BLOCK_SIZE],

@@ -1,32 +1,10 @@
 //! Keys and round keys are made, used and overwritten in one place.
 ghost use Rattle.std.specs.Prelude.{◌≡◌, IfSome, is_some, replicate};
-ghost use Rattle.file_disk.specs.Keys.{cipher_seal, key_seal, lent_seal, seal_by, seal_of};
+ghost use Rattle.data_crypt.specs.Ciphers.{cipher_seal, seal_by};
+ghost use Rattle.file_disk.specs.Keys.{key_seal, lent_seal, seal_of};
 
-use crate::key::{ContentsKey, FileCipher};
-use policy_ctx::Unit;
-use xts_mode::XtsKey;
-
-impl FileCipher {
-    // Room for round keys: those of zeros.
-    fn zeros() -> FileCipher
-        ensures { cipher_seal result ≡ record { key = replicate 64 0; start = 0; unit = Unit.Block } }
-    {
-        FileCipher {
-            key: XtsKey::zeros(),
-            start: 0,
-            unit: Unit::Block,
-        }
-    }
-
-    // Makes the round keys of the key in this room.
-    fn set(&mut self, key: &ContentsKey)
-        ensures { cipher_seal self.new ≡ key_seal key.now }
-    {
-        self.key.set(&key.bytes);
-        self.start = key.start;
-        self.unit = key.unit;
-    }
-}
+use crate::key::ContentsKey;
+use data_crypt::FileCipher;
 
 // Room for round keys, where there is a key.
 pub(crate) fn room_for(key: &Option<ContentsKey>) -> Option<FileCipher>
@@ -48,14 +26,23 @@ pub(crate) fn room_for_lent(key: &Option<Box<ContentsKey>>) -> Option<FileCipher
     }
 }
 
-// Makes the round keys in their room.
+// Makes the round keys of the key in this room.
+fn set_cipher(cipher: &mut FileCipher, key: &ContentsKey)
+    ensures { cipher_seal cipher.new ≡ key_seal key.now }
+{
+    cipher.key.set(&key.bytes);
+    cipher.start = key.start;
+    cipher.unit = key.unit;
+}
+
+// Makes the round keys in their room, where there is a key.
 pub(crate) fn fill(cipher: &mut Option<FileCipher>, key: &Option<ContentsKey>)
     requires { is_some cipher.old ≡ is_some key.now }
     ensures { seal_by cipher.new ≡ seal_of key.now }
 {
     if let Some(cipher) = cipher {
         if let Some(key) = key {
-            cipher.set(key);
+            set_cipher(cipher, key);
         }
     }
 }
@@ -67,17 +54,8 @@ pub(crate) fn fill_lent(cipher: &mut Option<FileCipher>, key: &Option<Box<Conten
 {
     if let Some(cipher) = cipher {
         if let Some(key) = key {
-            cipher.set(key);
+            set_cipher(cipher, key);
         }
-    }
-}
-
-// Overwrites the round keys, where there are any.
-pub(crate) fn wipe_cipher(cipher: &mut Option<FileCipher>)
-    ensures { IfSome cipher.new (λ cipher. cipher.key ≡ replicate 64 0) }
-{
-    if let Some(cipher) = cipher {
-        cipher.key.wipe();
     }
 }
 

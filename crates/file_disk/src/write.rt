@@ -1,14 +1,14 @@
 //! A piece is written into a file's stored blocks.
 ghost use Rattle.std.specs.Prelude.{◌≡◌, ◌+◌, ◌/◌, ◌<◌, ◌≤◌, ◌^◌, length, min, replicate, IfErr, IfSome, IsOk, OnErr, OnOk};
+ghost use Rattle.data_crypt.specs.Ciphers.{seal_by};
 ghost use Rattle.disk_tree.specs.DiskTree.{IsFileAt, file_blocks};
 ghost use Rattle.file_disk.specs.Bodies.{ExceedsDisk, blocks_rewritten, covers_block, disk_written, end_block};
 ghost use Rattle.file_disk.specs.Bodies.{stored_anew};
-ghost use Rattle.file_disk.specs.Keys.{seal_by, seal_of};
+ghost use Rattle.file_disk.specs.Keys.{seal_of};
 
-use crate::cipher::{read, store};
-use crate::key::{ContentsKey, FileCipher};
-use crate::rooms::{fill, room_for, wipe_cipher, wipe_key};
-use data_crypt::{BLOCK_SIZE, put_part};
+use crate::key::ContentsKey;
+use crate::rooms::{fill, room_for, wipe_key};
+use data_crypt::{BLOCK_SIZE, FileCipher, put_part, read_block, store_block, wipe_cipher};
 use disk_tree::{DiskFault, DiskTree};
 use mount_limits::MOST_FILE_BYTES;
 use std::alloc::Global;
@@ -124,10 +124,10 @@ fn rewrite_block(
     ensures { block.new ≡ stored_anew (seal_by cipher.now) had offset bytes.now index block.old }
 {
     if (index as usize) < had && !covers_block(index, offset, bytes.len()) {
-        read(cipher, index, block);
+        read_block(cipher, index, block);
     }
     put_part(block, index, offset, bytes);
-    store(cipher, index, block);
+    store_block(cipher, index, block);
 }
 
 // Whether `len` bytes that are written from byte `offset` on cover all of block `index`.

@@ -1,20 +1,16 @@
 //! What names and contents are deciphered with. Keys and round keys are overwritten behind their use.
 
-ghost use Rattle.std.specs.Prelude.{◌≡◌, ◌↔◌, ◌<◌, ◌≤◌, ◌^◌, [], true, Some, IsErr, IfOk, is_some, length, replicate};
-ghost use Rattle.mount_limits.specs.declared.TheConstants.{BLOCK_SIZE};
+ghost use Rattle.std.specs.Prelude.{◌≡◌, ◌↔◌, [], true, Some, IsErr, IfOk, is_some};
 ghost use Rattle.fsc_keys.specs.declared.file_keys.KeyKind.TheVariants.{Contents, Names};
 ghost use Rattle.fsc_keys.specs.Keys.{key_bytes, key_kind};
-ghost use Rattle.data_crypt.specs.Blocks.{read_block};
-ghost use Rattle.data_crypt.specs.Units.{unit_count};
+ghost use Rattle.data_crypt.specs.Ciphers.{cipher_seal, seal_by};
 ghost use Rattle.tree_listing.specs.Sights.{name_under, seal_in};
-ghost use Rattle.tree_listing.specs.Ciphers.{cipher_seal, seal_by};
 
-use crate::cipher::ContentsCipher;
 use crate::reader::{Reader, start_in, unit_in};
-use data_crypt::{BLOCK_SIZE, open_block};
+use data_crypt::FileCipher;
 use fsc_keys::{FileKey, KeyKind};
 use name_crypt::{Aes256, NameCipher, NotPlain, Plain, StoredName};
-use policy_ctx::{CONTEXT_LEN, Unit};
+use policy_ctx::CONTEXT_LEN;
 use xts_mode::XtsKey;
 
 // The name of a stored one in the directory of this number and context, or the target of the link. There is
@@ -52,20 +48,9 @@ fn set_names_key(cipher: &mut Aes256, key: &FileKey)
     }
 }
 
-// Room for round keys: those of zeros.
-pub(crate) fn room() -> ContentsCipher
-    ensures { cipher_seal result ≡ record { key = replicate 64 0; start = 0; unit = Unit.Block } }
-{
-    ContentsCipher {
-        key: XtsKey::zeros(),
-        start: 0,
-        unit: Unit::Block,
-    }
-}
-
 // Makes the round keys of the file of this number and context in their room.
 pub(crate) fn fill(
-    cipher: &mut Option<ContentsCipher>,
+    cipher: &mut Option<FileCipher>,
     reader: &Reader<'_>,
     context: &[u8; CONTEXT_LEN],
     number: u32,
@@ -79,7 +64,7 @@ pub(crate) fn fill(
 }
 
 fn set_cipher(
-    cipher: &mut ContentsCipher,
+    cipher: &mut FileCipher,
     reader: &Reader<'_>,
     context: &[u8; CONTEXT_LEN],
     number: u32,
@@ -102,37 +87,5 @@ fn set_contents_key(cipher: &mut XtsKey, key: &FileKey)
     match key {
         FileKey::Contents(bytes) => cipher.set(bytes),
         FileKey::Names(_) => unreachable!(),
-    }
-}
-
-// Overwrites the round keys, where there are any.
-pub(crate) fn wipe_cipher(cipher: &mut Option<ContentsCipher>) {
-    if let Some(cipher) = cipher {
-        cipher.key.wipe();
-    }
-}
-
-// Reads what is stored as block `index` of the file.
-#[tactic(auto, unfolding(data_crypt::specs::Blocks::read_block))]
-pub(crate) fn read(cipher: &Option<ContentsCipher>, index: u32, block: &mut [u8])
-    requires block_size { length block.old ≡ BLOCK_SIZE }
-    requires near { index < 2 ^ 20 }
-    ensures { block.new ≡ read_block (seal_by cipher.now) index block.old }
-{
-    if let Some(cipher) = cipher {
-        let first = cipher.start + u64::from(index) * units_in_block(cipher.unit);
-        open_block(&cipher.key, cipher.unit, first, block);
-    }
-}
-
-fn units_in_block(unit: Unit) -> u64
-    ensures value { result ≡ unit_count unit }
-    ensures few { result ≤ 8 }
-{
-    match unit {
-        Unit::U512 => 8,
-        Unit::U1024 => 4,
-        Unit::U2048 => 2,
-        Unit::Block | Unit::U4096 => 1,
     }
 }

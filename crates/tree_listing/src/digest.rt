@@ -5,14 +5,14 @@ ghost use Rattle.sha2.specs.Sha256.{sha256};
 ghost use Rattle.mount_limits.specs.declared.TheConstants.{MOST_FILE_BYTES};
 ghost use Rattle.text_words.specs.Lines.{pieces_of};
 ghost use Rattle.data_crypt.specs.Blocks.{read_contents};
+ghost use Rattle.data_crypt.specs.Ciphers.{seal_by};
 ghost use Rattle.image_lines.specs.Reading.{blocks_at};
 ghost use Rattle.image_lines.specs.Rules.{blocks_for};
-ghost use Rattle.tree_listing.specs.Ciphers.{seal_by};
 ghost use Rattle.tree_listing.specs.Sights.{digest_seen, sight_of};
 
-use crate::cipher::ContentsCipher;
-use crate::ciphers::{fill, read, room, wipe_cipher};
+use crate::ciphers::fill;
 use crate::reader::Reader;
+use data_crypt::{FileCipher, read_block, wipe_cipher};
 use image_lines::read_block_line;
 use mount_limits::BLOCK_SIZE;
 use policy_ctx::CONTEXT_LEN;
@@ -36,7 +36,7 @@ pub(crate) fn digest_shown(
         None => Some(digest_of(&None, size, lines)),
         Some(context) => match reader {
             Some(reader) if reader.opens(context) => {
-                let mut cipher = Some(room());
+                let mut cipher = Some(FileCipher::zeros());
                 fill(&mut cipher, reader, context, number);
                 let digest = digest_of(&cipher, size, lines);
                 wipe_cipher(&mut cipher);
@@ -48,7 +48,7 @@ pub(crate) fn digest_shown(
 }
 
 // The SHA-256 of the contents of so many bytes whose blocks stand on the first lines.
-fn digest_of(cipher: &Option<ContentsCipher>, size: u32, lines: &[u8]) -> [u8; 32]
+fn digest_of(cipher: &Option<FileCipher>, size: u32, lines: &[u8]) -> [u8; 32]
     requires blocks { length (blocks_at (pieces_of lines.now)) ≡ blocks_for size }
     requires small { size ≤ MOST_FILE_BYTES }
     ensures { result ≡ sha256 (read_contents (seal_by cipher.now) size (blocks_at (pieces_of lines.now))) }
@@ -60,7 +60,7 @@ fn digest_of(cipher: &Option<ContentsCipher>, size: u32, lines: &[u8]) -> [u8; 3
         let Some(mut block) = read_block_line(line.bytes) else {
             unreachable!();
         };
-        read(cipher, index, &mut block);
+        read_block(cipher, index, &mut block);
         let left = size as usize - BLOCK_SIZE * index as usize;
         hasher.update(&block[..left.min(BLOCK_SIZE)]);
         rest = line.rest;

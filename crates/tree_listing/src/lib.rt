@@ -1,7 +1,6 @@
 //! The listing of an image: what it shows of a tree to who has a raw key, and to who has none.
 #![tactic(auto)]
 
-mod cipher;
 mod ciphers;
 mod digest;
 mod entries;

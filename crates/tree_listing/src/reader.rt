@@ -1,6 +1,6 @@
 //! Who an image is listed for, and what the bytes of a context tell.
 
-ghost use Rattle.std.specs.Prelude.{◌≡◌, ◌≤◌, ◌-◌, ◌^◌, ◌%◌, length};
+ghost use Rattle.std.specs.Prelude.{◌≡◌, ◌^◌, ◌%◌, length};
 ghost use Rattle.byte_words.specs.Bytes.{AreBytes};
 ghost use Rattle.policy_ctx.specs.Context.{id_in};
 ghost use Rattle.policy_ctx.specs.KeyIds.{same_id};
@@ -78,7 +78,7 @@ pub(crate) fn unit_in(context: &[u8; CONTEXT_LEN]) -> Unit
 // Where a node of this number and context counts its units from.
 pub(crate) fn start_in(number: u32, context: &[u8; CONTEXT_LEN]) -> u64
     ensures value { result ≡ spec.start_in number context.now }
-    ensures room { result ≤ 2 ^ 64 - 2 ^ 32 }
+    ensures apart { result % 2 ^ 32 ≡ 0 }
 {
     if is_by_mode(context) {
         u64::from(number) * 0x1_0000_0000

@@ -5,7 +5,7 @@ use Rattle.byte_words.proofs.BlockLemmas.{between-block_at}
 use Rattle.byte_words.proofs.InPlace.{all_in_place, none_in_place, read_in_place_below, write_in_place_below}
 use Rattle.data_crypt.specs.Blocks.{read_block}
 use Rattle.data_crypt.specs.Parts.{opened_text}
-use Rattle.file_disk.specs.Keys.{seal_by}
+use Rattle.data_crypt.specs.Ciphers.{seal_by}
 use Rattle.file_disk.proofs.ReadLemmas.{length-opened_at}
 use Rattle.file_disk.proofs.read.open_text.Goals as goal
 
@@ -26,11 +26,11 @@ each-preserved c =
     let long : 4096 * i + 4096 - 4096 * i ≡ 4096 = omega arith in
     let read : block_at 4096 c.each.text i ≡ block_at 4096 c.args.text.now i =
     read_in_place_below 4096 f i c.each.text c.args.text.now sizes c.each.invariant in
-    let here : c.read.new.block ≡ f i =
-    c.read.ensures
+    let here : c.read_block.new.block ≡ f i =
+    c.read_block.ensures
     ∙ ap (read_block (seal_by c.args.cipher.now) (c.args.first + i))
     (between-block_at 4096 c.each.text i (4096 * i) (4096 * i + 4096) refl refl ∙ read) in
-    write_in_place_below 4096 f i (4096 * i) (4096 * i + 4096 - 4096 * i) c.each.text c.args.text.now c.read.new.block sizes refl long c.each.invariant here
+    write_in_place_below 4096 f i (4096 * i) (4096 * i + 4096 - 4096 * i) c.each.text c.args.text.now c.read_block.new.block sizes refl long c.each.invariant here
 
 pub returns : goal.returns
 unfolding opened_text

@@ -2,7 +2,7 @@
 use Rattle.std.proofs.Common.{◌≡◌, ◌+◌, ◌*◌, ◌++◌, drop}
 use Rattle.byte_words.specs.Blocks.{block_at, first_blocks}
 use Rattle.data_crypt.specs.Blocks.{read_block}
-use Rattle.file_disk.specs.Keys.{seal_by}
+use Rattle.data_crypt.specs.Ciphers.{seal_by}
 use Rattle.file_disk.proofs.read.open_text.Given as goal
 
 abbrev pub invariant-each : goal.invariant-each

@@ -6,7 +6,7 @@ use Rattle.data_crypt.specs.Parts.{edited, rewritten}
 use Rattle.disk_tree.specs.Blocks.{block_of, with_block}
 use Rattle.disk_tree.specs.DiskTree.{file_blocks}
 use Rattle.disk_tree.specs.Nodes.{on_body, with_blocks}
-use Rattle.file_disk.specs.Keys.{seal_by}
+use Rattle.data_crypt.specs.Ciphers.{seal_by}
 use Rattle.file_disk.proofs.DiskLemmas.{blocks_begin, blocks_so_far, there_so_far, disk_next}
 use Rattle.file_disk.proofs.write.rewrite_blocks.Goals as goal
 

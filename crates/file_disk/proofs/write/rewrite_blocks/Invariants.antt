@@ -4,7 +4,7 @@ use Rattle.number_map.specs.Numbered.{changed}
 use Rattle.data_crypt.specs.Blocks.{read_block, stored_block}
 use Rattle.data_crypt.specs.Parts.{edited, rewritten}
 use Rattle.disk_tree.specs.Nodes.{on_body, with_blocks}
-use Rattle.file_disk.specs.Keys.{seal_by}
+use Rattle.data_crypt.specs.Ciphers.{seal_by}
 use Rattle.file_disk.proofs.write.rewrite_blocks.Given as goal
 
 abbrev pub invariant-each : goal.invariant-each

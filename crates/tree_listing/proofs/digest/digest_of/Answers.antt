@@ -5,7 +5,7 @@ use Rattle.image_lines.specs.Reading.{blocks_at}
 use Rattle.text_words.specs.Lines.{pieces_of}
 use Rattle.byte_words.specs.Blocks.{first_blocks}
 use Rattle.data_crypt.specs.Blocks.{read_block}
-use Rattle.tree_listing.specs.Ciphers.{seal_by}
+use Rattle.data_crypt.specs.Ciphers.{seal_by}
 use Rattle.tree_listing.proofs.EntryLemmas.{one_block, no_block}
 use Rattle.tree_listing.proofs.DigestLemmas.{block_read, no_blocks, none_taken, contents_are, begins_within, one_block_more, sized_more, first_is, some_left}
 use Rattle.tree_listing.proofs.digest.digest_of.Goals as goal
@@ -33,17 +33,17 @@ blocks-2-preserved c =
     (nothing_left c.next_line-line.result.ended c.blocks-2.rest.now c.next_line-line.result.rest.now c.next_line-line.ensures.ended c.next_line-line.ensures.rest)
     (sym c.read_block_line.ensures ∙ c.in-Some.is) in
     let first = first_is blocks index c.in-Some.block (blocks_at (pieces_of c.next_line-line.result.rest.now)) (sym c.blocks-2.invariant.lines ∙ step) in
-    let opened : block_read seal blocks index ≡ c.read.new.block = ap (read_block seal index) first.0 ∙ sym c.read.ensures in
-    let whole : length c.read.new.block ≡ 4096 = omega arith in
+    let opened : block_read seal blocks index ≡ c.read_block.new.block = ap (read_block seal index) first.0 ∙ sym c.read_block.ensures in
+    let whole : length c.read_block.new.block ≡ 4096 = omega arith in
     let within : 4096 * index < c.args.size = begins_within c.args.size index (omega (arith, c.div_ceil-index-end.ensures, c.blocks-2-test.true)) in
     let held = c.blocks-2.invariant.read in record {
       read = (
-        held.0 ++ take c.min.result c.read.new.block,
+        held.0 ++ take c.min.result c.read_block.new.block,
         c.update.ensures held.0 held.1,
-        (λ i. held.2 i ++ take (c.min.ensures i) c.read.new.block)
-            ∙ sym (one_block_more (block_read seal blocks) c.args.size index c.read.new.block opened whole c.blocks-2.invariant.sized within),
+        (λ i. held.2 i ++ take (c.min.ensures i) c.read_block.new.block)
+            ∙ sym (one_block_more (block_read seal blocks) c.args.size index c.read_block.new.block opened whole c.blocks-2.invariant.sized within),
       );
-      sized = sized_more (block_read seal blocks) index c.read.new.block opened whole c.blocks-2.invariant.sized;
+      sized = sized_more (block_read seal blocks) index c.read_block.new.block opened whole c.blocks-2.invariant.sized;
       lines = sym first.1;
     }
 
