@@ -191,14 +191,12 @@ fn replay_in_rotation<S: Source, K: Sink, E: SeedSource, G: Gate, M: MountMachin
         Ok(run) => run,
         Err(status) => return status,
     };
-    let told = match run_in_rotation(alloc, &run.script, &run.seed, gate, &PlainStretch, machine) {
-        Ok(told) => told,
-        Err(_) => {
-            run.wipe(alloc);
-            return Status::NoMemory;
-        }
-    };
+    let ran = run_in_rotation(alloc, &run.script, &run.seed, gate, &PlainStretch, machine);
     run.wipe(alloc);
+    let told = match ran {
+        Ok(told) => told,
+        Err(_) => return Status::NoMemory,
+    };
     let _few = told.count();
     finish(alloc, told, &mut streams.sink)
 }
@@ -232,14 +230,12 @@ fn replay_in_threads<
         Err(status) => return status,
     };
     let stretches = LaneStretch { threads: rt };
-    let told = match run_in_threads(rt, alloc, &run.script, &run.seed, gate, &stretches, machine) {
-        Ok(told) => told,
-        Err(_) => {
-            run.wipe(alloc);
-            return Status::NoMemory;
-        }
-    };
+    let ran = run_in_threads(rt, alloc, &run.script, &run.seed, gate, &stretches, machine);
     run.wipe(alloc);
+    let told = match ran {
+        Ok(told) => told,
+        Err(_) => return Status::NoMemory,
+    };
     let _few = told.count();
     finish(alloc, told, &mut streams.sink)
 }

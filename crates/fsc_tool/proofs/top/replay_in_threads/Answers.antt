@@ -6,5 +6,5 @@ returns-in-Err g c = unrun_ends _ _ _ _ _ c.in-Err.status (c.in-Err.ensures.ende
 
 pub returns : goal.returns
 returns g c =
-    run_ends _ _ _ _ _ c.deref.result.now.script c.deref-2.result.now.seed c.in-Ok-run_in_threads.told.entries.items c.in-Ok-run_in_threads.told.notes.items _
-    (rw c.deref.ensures (rw c.deref-2.ensures c.in-Ok.ensures.prepared)) c.in-Ok-run_in_threads.ensures c.count-few.ensures.short c.finish.ensures
+    run_ends _ _ _ _ _ c.deref.result.now.script c.deref-2.result.now.seed c.in-Ok-ran.told.entries.items c.in-Ok-ran.told.notes.items _
+    (rw c.deref.ensures (rw c.deref-2.ensures c.in-Ok.ensures.prepared)) c.in-Ok-ran.ensures c.count-few.ensures.short c.finish.ensures
