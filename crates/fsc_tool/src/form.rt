@@ -1,7 +1,6 @@
 //! The words of the command line.
 
-ghost use Rattle.std.specs.Prelude.{◌≡◌, [], map, string_bytes};
-ghost use Rattle.text_words.specs.Digits.{hex_bytes_of_length};
+ghost use Rattle.std.specs.Prelude.{◌≡◌, ◌∷◌, [], map, string_bytes};
 ghost use Rattle.fsc_tool.specs.Forms as spec;
 ghost use Rattle.fsc_tool.specs.Forms.{form_of, generated_behind, generated_of, inspected_of, linked_of, replay_of};
 ghost use Rattle.fsc_tool.specs.Forms.{seed_given, seeding_of, without_threads};
@@ -13,7 +12,7 @@ use fsc_session::scrub_stack;
 use script_words::{KeyRef, read_key_ref};
 use std::alloc::Global;
 use std::mem;
-use text_words::{decimal_value, hex_bytes_into};
+use text_words::{decimal_value, hex_bytes};
 
 /// How the callers of a script run.
 #[derive(Clone, Copy)]
@@ -72,28 +71,23 @@ fn read_form_unscrubbed(words: &[String], form: &mut Option<ToolForm>)
 fn form_of(words: &[String]) -> Option<ToolForm>
     ensures { result ≡ form_of (map string_bytes words.now) }
 {
-    if words.is_empty() {
-        return None;
+    let (verb, words) = words.split_first()?;
+    form_behind(verb.as_str(), words)
+}
+
+// The form that the words behind the verb make.
+fn form_behind(verb: &str, words: &[String]) -> Option<ToolForm>
+    ensures { result ≡ form_of (verb.now ∷ map string_bytes words.now) }
+{
+    match verb {
+        "replay" => read_replay(words),
+        "gen" => read_generated(words),
+        "dump" => read_given_seed(words).map(ToolForm::Dump),
+        "inspect" => read_inspected(words),
+        "check" => read_given_seed(words).map(ToolForm::Check),
+        "replay-linked" => read_linked(words),
+        _ => None,
     }
-    if words[0].as_str() == "replay" {
-        return read_replay(&words[1..]);
-    }
-    if words[0].as_str() == "gen" {
-        return read_generated(&words[1..]);
-    }
-    if words[0].as_str() == "dump" {
-        return read_given_seed(&words[1..]).map(ToolForm::Dump);
-    }
-    if words[0].as_str() == "inspect" {
-        return read_inspected(&words[1..]);
-    }
-    if words[0].as_str() == "check" {
-        return read_given_seed(&words[1..]).map(ToolForm::Check);
-    }
-    if words[0].as_str() == "replay-linked" {
-        return read_linked(&words[1..]);
-    }
-    None
 }
 
 // Overwrites the words, of which one may be a seed, and takes them away. It takes no memory.
@@ -149,10 +143,8 @@ fn read_replay(words: &[String]) -> Option<ToolForm>
 fn replayed(way: Way, seeding: Option<Seeding>) -> Option<ToolForm>
     ensures { result ≡ spec.replayed way seeding }
 {
-    match seeding {
-        Some(seeding) => Some(ToolForm::Replay { way, seeding }),
-        None => None,
-    }
+    let seeding = seeding?;
+    Some(ToolForm::Replay { way, seeding })
 }
 
 // Where the words behind those of the run say that the seed comes from.
@@ -165,7 +157,7 @@ fn read_seeding(words: &[String]) -> Option<Seeding>
     read_given_seed(words).map(Seeding::Given)
 }
 
-// The seed that the words give.
+// The seed that the words give, in 64 digits.
 fn read_given_seed(words: &[String]) -> Option<[u8; 32]>
     ensures { result ≡ seed_given (map string_bytes words.now) }
 {
@@ -175,18 +167,7 @@ fn read_given_seed(words: &[String]) -> Option<[u8; 32]>
     if words[0].as_str() != "--seed" {
         return None;
     }
-    read_seed(words[1].as_bytes())
-}
-
-// The 32 bytes that 64 digits spell.
-fn read_seed(digits: &[u8]) -> Option<[u8; 32]>
-    ensures { result ≡ hex_bytes_of_length 32 digits.now }
-{
-    let mut seed = [0; 32];
-    if !hex_bytes_into(digits, &mut seed) {
-        return None;
-    }
-    Some(seed)
+    hex_bytes(words[1].as_bytes())
 }
 
 // The form that the words behind `replay-linked` make.
@@ -205,10 +186,8 @@ fn read_linked(words: &[String]) -> Option<ToolForm>
 fn replayed_linked(way: Way, seed: Option<[u8; 32]>) -> Option<ToolForm>
     ensures { result ≡ spec.replayed_linked way seed }
 {
-    match seed {
-        Some(seed) => Some(ToolForm::ReplayLinked { way, seed }),
-        None => None,
-    }
+    let seed = seed?;
+    Some(ToolForm::ReplayLinked { way, seed })
 }
 
 // The form that the words behind `gen` make.
