@@ -1,6 +1,6 @@
 //! A replay on two mounts, on which callers reach protectors of mount 0 through links of mount 1.
 
-ghost use Rattle.std.specs.Prelude.{List, []};
+ghost use Rattle.std.specs.Prelude.{◌≡◌, List, [], replicate};
 ghost use Rattle.call_history.specs.Placed.{entries_of};
 ghost use Rattle.fsc_outside.specs.Reads.{ReadCall};
 ghost use Rattle.linked_turns.specs.LinkedText.{linked_text};
@@ -23,7 +23,7 @@ use mount_shared::MountMachine;
 use std::alloc::Global;
 
 // A replay in rotation of the script that the source gives, with this seed, on two mounts: both logs and the notes go
-// into the sink.
+// into the sink. The seed is overwritten.
 pub(crate) fn run_linked<S: Source, K: Sink, E: SeedSource, G: Gate, M: MountMachine>(
     alloc: Global,
     seed: &mut [u8; 32],
@@ -33,12 +33,13 @@ pub(crate) fn run_linked<S: Source, K: Sink, E: SeedSource, G: Gate, M: MountMac
 ) -> Status
     requires leads_even { M.leads [] mounts.even }
     requires leads_odd { M.leads [] mounts.odd }
-    ensures { let before = outside (S.state streams.old.source) (K.state streams.old.sink)
+    ensures linked { let before = outside (S.state streams.old.source) (K.state streams.old.sink)
         (E.state streams.old.seeds) in
         let after = outside (S.state streams.new.source) (K.state streams.new.sink)
         (E.state streams.new.seeds) in
         let came = λ (calls : List ReadCall). S.came streams.old.source calls streams.new.source in
         IsReplay (IsLinkedLog M.lawful) came (Given seed.old) before after result }
+    ensures wiped { seed.new ≡ replicate 32 0 }
 {
     let mut seeding = Seeding::Given(*seed);
     wipe(seed);

@@ -1,6 +1,6 @@
 //! A replay on two mounts whose callers run in threads of their own.
 
-ghost use Rattle.std.specs.Prelude.{List, []};
+ghost use Rattle.std.specs.Prelude.{◌≡◌, List, [], replicate};
 ghost use Rattle.fsc_outside.specs.Reads.{ReadCall};
 ghost use Rattle.fsc_tool.specs.LinkedLog.{IsLinkedLogOfThreads};
 ghost use Rattle.fsc_tool.specs.Outside.{outside};
@@ -23,7 +23,7 @@ use std::sync::Wait;
 use std::thread::Threads;
 
 // A replay of the script that the source gives, with this seed, on two mounts, each caller in a thread of its own: both
-// logs and the notes go into the sink.
+// logs and the notes go into the sink. The seed is overwritten.
 pub(crate) fn run_linked_apart<
     R: Threads + Wait + Sync,
     S: Source,
@@ -41,12 +41,13 @@ pub(crate) fn run_linked_apart<
 ) -> Status
     requires leads_even { M.leads [] mounts.even }
     requires leads_odd { M.leads [] mounts.odd }
-    ensures { let before = outside (S.state streams.old.source) (K.state streams.old.sink)
+    ensures linked { let before = outside (S.state streams.old.source) (K.state streams.old.sink)
         (E.state streams.old.seeds) in
         let after = outside (S.state streams.new.source) (K.state streams.new.sink)
         (E.state streams.new.seeds) in
         let came = λ (calls : List ReadCall). S.came streams.old.source calls streams.new.source in
         IsReplay (IsLinkedLogOfThreads M.lawful) came (Given seed.old) before after result }
+    ensures wiped { seed.new ≡ replicate 32 0 }
 {
     let mut seeding = Seeding::Given(*seed);
     wipe(seed);
