@@ -74,20 +74,10 @@ fn list_with(alloc: Global, image: &Image<'_>, raw: &Option<RawKey>) -> Result<B
     let Some(raw) = raw else {
         return list_image(alloc, image, None);
     };
-    let mut key = PreparedKey::new(copy_of(raw));
+    let mut key = PreparedKey::new(raw.copy());
     let listed = list_image(alloc, image, Some(&key));
     key.wipe();
     listed
-}
-
-// The same key once more.
-fn copy_of(raw: &RawKey) -> RawKey
-    ensures { result ≡ raw.now }
-{
-    match RawKey::read(raw.bytes()) {
-        Ok(copy) => copy,
-        Err(_) => unreachable!(),
-    }
 }
 
 // Overwrites the raw key, if there is one.
