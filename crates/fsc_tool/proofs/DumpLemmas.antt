@@ -14,17 +14,17 @@ use Rattle.image_lines.specs.ImageText.{image_text}
 use Rattle.tree_image.specs.Images.{image_of}
 use Rattle.tree_image.proofs.ImageLemmas.{images_agree}
 use Rattle.fsc_tool.specs.ImageOfRun.{IsImageOfRun, RanOnMount, image_after}
-use Rattle.fsc_tool.proofs.GenLemmas.{never_wants}
+use Rattle.fsc_tool.proofs.GenLemmas.{never_wants, unplaced_want}
 
 -- the image of the disk that a run in rotation left
-pub image_is : (seed : List ℕ) (script : List Section) (told : PlacedShown) (notes : List Note) (state : MountState) (history : ShownHistory) (text : List ℕ)
-    → RanOnMount seed script told notes state → history ≡ entries_of told
-    → list_any (λ (e : ShownEntry). is_want_of_memory e.reply) history ≡ false → text ≡ image_text (image_of state.disk)
-    → IsImageOfRun seed script text
-image_is seed script told notes state history text ran listed none written =
-    let is : history ≡ shown_history ran.history = listed ∙ ap entries_of ran.in_place ∙ map-numbered 0 (shown_history ran.history) in
+pub image_is : (seed : List ℕ) (script : List Section) (told : PlacedShown) (notes : List Note) (state : MountState) (text : List ℕ)
+    → RanOnMount seed script told notes state → list_any (λ (x : ℕ × ShownEntry). is_want_of_memory x.1.reply) told ≡ false
+    → text ≡ image_text (image_of state.disk) → IsImageOfRun seed script text
+image_is seed script told notes state text ran none written =
+    let is : entries_of told ≡ shown_history ran.history = ap entries_of ran.in_place ∙ map-numbered 0 (shown_history ran.history) in
     let no_want : NeverWantsMemory ran.history =
-    never_wants ran.history (subst (λ (h : ShownHistory). list_any (λ (e : ShownEntry). is_want_of_memory e.reply) h ≡ false) is none) in
+    never_wants ran.history
+    (subst (λ (h : ShownHistory). list_any (λ (e : ShownEntry). is_want_of_memory e.reply) h ≡ false) is (unplaced_want told ∙ none)) in
     let led : StandsAfter ran.history state = ran.run.1 in
     let image : (agree : KeysAgree ran.history) → text ≡ image_after ran.history =
     λ agree. written ∙ ap image_text (images_agree state.disk state.next_node (mount_after ran.history) (led.stands agree).tree) in

@@ -38,6 +38,13 @@ never_wants (e ∷ es) h =
     All-cons (λ (e : MountEntry). e.reply ≢ Refused refusal.NoMemory) e es
     (λ is. let both = sym parts.0 ∙ ap is_want_of_memory is in cc both) (never_wants es parts.1)
 
+-- whether a call wanted memory is nothing of places
+pub unplaced_want : (told : PlacedShown)
+    → list_any (λ (e : ShownEntry). is_want_of_memory e.reply) (entries_of told)
+    ≡ list_any (λ (x : ℕ × ShownEntry). is_want_of_memory x.1.reply) told
+unplaced_want [] = refl
+unplaced_want (x ∷ xs) = ap (λ (b : Bool). is_want_of_memory x.1.reply || b) (unplaced_want xs)
+
 counts_shown : (p : Reply → Bool) (history : History)
     → count_by (λ (e : ShownEntry). p e.reply) (shown_history history) ≡ count_by (λ (e : MountEntry). p e.reply) history
 counts_shown p history = counts_from 0 history
@@ -59,16 +66,17 @@ summary_shown history log =
     ++ (count_line (codes "busy") n ++ (codes "sha256 " ++ (encode_lower (sha256 log) ++ codes "\n"))))) (counts_shown is_busy_removal history)
 
 -- the summary of what a run of the generated script told
-pub summary_is : (lawful : History → Type 0) (number : ℕ) (script : List Section) (seed : List ℕ) (told : PlacedShown) (notes : List Note) (history : ShownHistory) (text : List ℕ)
-    → script ≡ generated_script number → seed ≡ zero_seed → TellsRun (IsSerialRun lawful) seed script told notes → history ≡ entries_of told
-    → list_any (λ (e : ShownEntry). is_want_of_memory e.reply) history ≡ false → text ≡ summary_text history (shown_log history ++ notes_text notes)
-    → SummaryOfRun lawful number text
-summary_is lawful number script seed told notes history text made zeros run listed none summed =
+pub summary_is : (lawful : History → Type 0) (number : ℕ) (script : List Section) (seed : List ℕ) (told : PlacedShown) (notes : List Note) (text : List ℕ)
+    → script ≡ generated_script number → seed ≡ zero_seed → TellsRun (IsSerialRun lawful) seed script told notes
+    → list_any (λ (x : ℕ × ShownEntry). is_want_of_memory x.1.reply) told ≡ false
+    → text ≡ summary_text (entries_of told) (shown_log (entries_of told) ++ notes_text notes) → SummaryOfRun lawful number text
+summary_is lawful number script seed told notes text made zeros run none summed =
     let ran : TellsRun (IsSerialRun lawful) zero_seed (generated_script number) told notes =
     subst (λ s. TellsRun (IsSerialRun lawful) zero_seed s told notes) made (subst (λ z. TellsRun (IsSerialRun lawful) z script told notes) zeros run) in
-    let is : history ≡ shown_history ran.history = listed ∙ ap entries_of ran.in_place ∙ map-numbered 0 (shown_history ran.history) in
+    let is : entries_of told ≡ shown_history ran.history = ap entries_of ran.in_place ∙ map-numbered 0 (shown_history ran.history) in
     let no_want : NeverWantsMemory ran.history =
-    never_wants ran.history (subst (λ (h : ShownHistory). list_any (λ (e : ShownEntry). is_want_of_memory e.reply) h ≡ false) is none) in
+    never_wants ran.history
+    (subst (λ (h : ShownHistory). list_any (λ (e : ShownEntry). is_want_of_memory e.reply) h ≡ false) is (unplaced_want told ∙ none)) in
     let summary : text ≡ run_summary zero_seed (generated_script number) ran.history =
     summed ∙ ap₂ (λ (h : ShownHistory) (ns : List Note). summary_text h (shown_log h ++ notes_text ns)) is ran.noted
     ∙ ap (λ (lines : List ℕ). summary_text (shown_history ran.history) (lines ++ notes_text (notes_of zero_seed (generated_script number) ran.history))) (log_shown ran.history)

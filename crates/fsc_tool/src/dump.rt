@@ -21,7 +21,7 @@ use fsc_outside::{Gate, SeedSource, Sink, Source};
 use item_list::Bytes;
 use mount_shared::Mount;
 use script_lang::Script;
-use script_runs::{Told, history_of, rotate};
+use script_runs::{Told, rotate};
 use std::alloc::{AllocError, Global};
 use tree_image::write_image;
 
@@ -73,15 +73,23 @@ fn run_on_mount<G: Gate>(
     rotate(alloc, script, seed, gate, &PlainStretch, mount)
 }
 
-// The image of the mount that a run left. A run in which a call wanted memory has none: what it would show depends
-// on where memory was wanting.
+// The image of the mount that a run left, which is let go before the image is written.
 fn image_of(alloc: Global, told: Told, mount: Mount) -> Result<Bytes, AllocError>
     ensures { IfOk result (λ text. (seed : List ℕ) (script : List Section)
         → RanOnMount seed script told.entries.items told.notes.items mount.state
         → IsImageOfRun seed script text) }
 {
-    let history = history_of(alloc, told.entries)?;
-    if wants_memory(history.as_slice()) {
+    image_left(alloc, &told, &mount)
+}
+
+// The same of a mount that stays. A run in which a call wanted memory has no image: what it would show depends on
+// where memory was wanting.
+fn image_left(alloc: Global, told: &Told, mount: &Mount) -> Result<Bytes, AllocError>
+    ensures { IfOk result (λ text. (seed : List ℕ) (script : List Section)
+        → RanOnMount seed script told.now.entries.items told.now.notes.items mount.now.state
+        → IsImageOfRun seed script text) }
+{
+    if wants_memory(told.entries.as_slice()) {
         return Err(AllocError);
     }
     let text = write_image(alloc, &mount.state.disk)?;

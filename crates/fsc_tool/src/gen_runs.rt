@@ -1,19 +1,28 @@
 //! The runs of the forms that generate a script. They ask neither the source nor the seed source.
 
-ghost use Rattle.std.specs.Prelude.{◌≡◌, [], IfOk};
+ghost use Rattle.std.specs.Prelude.{◌≡◌, ◌++◌, false, [], IfOk, OnOk};
+ghost use Rattle.std.specs.List.{list_any};
+ghost use Rattle.call_history.specs.Placed.{entries_of};
+ghost use Rattle.mount_model.specs.History.{is_want_of_memory};
+ghost use Rattle.reply_text.specs.Notes.{notes_text};
+ghost use Rattle.reply_text.specs.Shown.{shown_log};
 ghost use Rattle.fsc_tool.specs.Ends.{EndsUnread};
 ghost use Rattle.fsc_tool.specs.Gen.{IsScriptText, SummaryOfRun, zero_seed};
+ghost use Rattle.fsc_tool.specs.Summary.{summary_text};
 
 use crate::replay::whole_log;
 use crate::status::Status;
 use crate::summary::{summary_text, wants_memory};
 use crate::writing::write_text;
 use argon_kdf::PlainStretch;
+use call_history::Entry;
 use fsc_outside::{Gate, Sink};
 use item_list::Bytes;
 use load_gen::{generate, generate_script};
+use mount_model::Reply;
 use mount_shared::MountMachine;
-use script_runs::{history_of, run_in_rotation};
+use reply_text::{Note, Shown};
+use script_runs::{Told, history_of, run_in_rotation};
 use std::alloc::{AllocError, Global};
 
 // Writes the script that the number gives into the sink, once it stands whole, and tells how the run ends.
@@ -56,13 +65,35 @@ fn summary_of<G: Gate, M: MountMachine>(
 {
     let script = generate_script(alloc, number)?;
     let told = run_in_rotation(alloc, &script, &zero_seed(), gate, &PlainStretch, machine)?;
-    let history = history_of(alloc, told.entries)?;
-    if wants_memory(history.as_slice()) {
+    let text = summary_of_told(alloc, told)?;
+    Ok(text)
+}
+
+// The summary of what the callers of a run were told, in which no call wanted memory.
+fn summary_of_told(alloc: Global, told: Told) -> Result<Bytes, AllocError>
+    ensures no_want { OnOk result (list_any (λ placed. is_want_of_memory placed.1.reply) told.entries.items
+        ≡ false) }
+    ensures text { IfOk result (λ text. text ≡ summary_text (entries_of told.entries.items)
+        (shown_log (entries_of told.entries.items) ++ notes_text told.notes.items)) }
+{
+    if wants_memory(told.entries.as_slice()) {
         return Err(AllocError);
     }
-    let log = whole_log(alloc, history.as_slice(), told.notes.as_slice())?;
-    let text = summary_text(alloc, history.as_slice(), log.as_slice())?;
-    Ok(text)
+    let history = history_of(alloc, told.entries)?;
+    summary_of_history(alloc, history.as_slice(), told.notes.as_slice())
+}
+
+// The same of a history and its notes.
+fn summary_of_history(
+    alloc: Global,
+    history: &[Entry<Shown, Reply>],
+    notes: &[Note],
+) -> Result<Bytes, AllocError>
+    ensures { IfOk result (λ text. text
+        ≡ summary_text history.now (shown_log history.now ++ notes_text notes.now)) }
+{
+    let log = whole_log(alloc, history, notes)?;
+    summary_text(alloc, history, log.as_slice())
 }
 
 // The seed of such a run.

@@ -175,8 +175,7 @@ fn log_of(alloc: Global, told: Told) -> Result<Bytes, AllocError>
         log ≡ shown_log (entries_of told.entries.items) ++ notes_text told.notes.items) }
 {
     let history = history_of(alloc, told.entries)?;
-    let log = whole_log(alloc, history.as_slice(), told.notes.as_slice())?;
-    Ok(log)
+    whole_log(alloc, history.as_slice(), told.notes.as_slice())
 }
 
 // The log of a history, and behind it the notes.

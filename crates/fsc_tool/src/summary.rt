@@ -81,8 +81,8 @@ fn is_busy_removal(reply: &Reply) -> bool
 }
 
 // Whether a call found no memory.
-pub(crate) fn wants_memory(history: &[Entry<Shown, Reply>]) -> bool
-    ensures { result ≡ list_any (λ e. is_want_of_memory e.reply) history.now }
+pub(crate) fn wants_memory(entries: &[(u64, Entry<Shown, Reply>)]) -> bool
+    ensures { result ≡ list_any (λ placed. is_want_of_memory placed.1.reply) entries.now }
 {
-    history.iter().any(|entry| matches!(entry.reply, Reply::Refused(Refusal::NoMemory)))
+    entries.iter().any(|(_, entry)| matches!(entry.reply, Reply::Refused(Refusal::NoMemory)))
 }
