@@ -1,11 +1,11 @@
 -- What a mount's reply tells of the others.
-use Rattle.std.proofs.Common.{◌≡◌, ◌≢◌, ℕ, IsTrue, List, [], ◌∷◌, ◌++◌, sym, subst, ⊎_elim}
+use Rattle.std.proofs.Common.{◌≡◌, ◌≢◌, ℕ, IsTrue, List, [], ◌∷◌, ◌++◌, ap, sym, ◌∙◌, subst, ⊎_elim}
 use Rattle.call_history.specs.Entries.{entry}
 use Rattle.mount_model.specs.declared.call.Call.{Call}
 use Rattle.mount_model.specs.declared.reply.Reply.{Reply}
 use Rattle.mount_model.specs.declared.reply.Reply.TheVariants.{Refused}
 use Rattle.mount_model.specs.declared.reply.Refusal.TheVariants.{NoMemory}
-use Rattle.mount_model.specs.History.{History}
+use Rattle.mount_model.specs.History.{History, MountEntry}
 use Rattle.mount_model.specs.Lawful.{IsLawful}
 use Rattle.mount_model.specs.Step.{takes_memory}
 use Rattle.reply_text.specs.Log.{entry_text}
@@ -31,14 +31,16 @@ unreplied_so led lawful old new text place caller call given goes no_want no_lin
     (λ same. no_wanting wants.0 (subst (λ (r : Reply). BeginsWith text (entry_text place (entry caller call r))) same begins)) wants.1)
     (mounts_have_one_reply history caller call given reply own legal)
 
--- the call that the mount was asked is the one
+-- the same of entries: the one that was asked has want of memory, and the one that was answered what was given
 pub unreplied : {M : Type 0} (led : History → M → Type 0) (lawful : (history : History) (mount : M) → led history mount → IsLawful history)
-    (old new : M) (text : List ℕ) (place caller : ℕ) (call asked : Call) (given : Reply) → asked ≡ call
-    → ((history : History) → led history old → led (history ++ entry caller asked given ∷ []) new)
-    → given ≢ Refused NoMemory → (BeginsWith text (entry_text place (entry caller asked given)) → ⊥)
-    → (IsTrue (takes_memory call.op) → BeginsWith text (entry_text place (entry caller call (Refused NoMemory))) → ⊥)
-    → IsUnreplied led old text place caller call
-unreplied led lawful old new text place caller call asked given same goes no_want no_line no_wanting =
-    unreplied_so led lawful old new text place caller call given
-    (subst (λ (it : Call). (history : History) → led history old → led (history ++ entry caller it given ∷ []) new) same goes)
-    no_want (subst (λ (it : Call). BeginsWith text (entry_text place (entry caller it given)) → ⊥) same no_line) no_wanting
+    (old new : M) (text : List ℕ) (place : ℕ) (asked answered : MountEntry) (given : Reply)
+    → asked.reply ≡ Refused NoMemory → answered ≡ entry asked.who asked.call given
+    → ((history : History) → led history old → led (history ++ entry asked.who asked.call given ∷ []) new)
+    → answered.reply ≢ Refused NoMemory → (BeginsWith text (entry_text place answered) → ⊥)
+    → (IsTrue (takes_memory asked.call.op) → BeginsWith text (entry_text place asked) → ⊥)
+    → IsUnreplied led old text place asked.who asked.call
+unreplied led lawful old new text place asked answered given wants is goes no_want no_line no_wanting =
+    unreplied_so led lawful old new text place asked.who asked.call given goes
+    (λ want. no_want (ap (λ (e : MountEntry). e.reply) is ∙ want))
+    (subst (λ (e : MountEntry). BeginsWith text (entry_text place e) → ⊥) is no_line)
+    (λ takes begins. no_wanting takes (subst (λ (r : Reply). BeginsWith text (entry_text place (entry asked.who asked.call r))) (sym wants) begins))

@@ -1,10 +1,13 @@
 //! What a text says that a call was replied.
 
 ghost use Rattle.std.specs.Prelude.{◌≡◌, ◌≢◌, ◌++◌, false, IfOk, IsTrue, MatchOption};
+ghost use Rattle.call_history.specs.Entries.{entry};
 ghost use Rattle.log_check.specs.Certificate.{BeginsWith};
 ghost use Rattle.log_check.specs.Replies.{IsReplied, IsUnreplied};
 ghost use Rattle.mount_model.specs.Fits.{Fits};
 ghost use Rattle.mount_model.specs.Step.{takes_memory};
+ghost use Rattle.mount_model.specs.declared.reply.Refusal.TheVariants.{NoMemory};
+ghost use Rattle.mount_model.specs.declared.reply.Reply.TheVariants.{Refused};
 ghost use Rattle.reply_text.specs.Log.{entry_text};
 
 use crate::lines::behind_line;
@@ -31,31 +34,52 @@ pub(crate) fn replied<'t, T: OneThread>(
         (IsUnreplied T.led mount.old text.now place caller call)
         (λ told. IsReplied T.led mount.old mount.new text.now place caller call told.0 told.1.now)) }
 {
-    let wanting = Entry {
+    let mut entry = Entry {
         who: caller,
         call,
         reply: Reply::Refused(Refusal::NoMemory),
     };
-    if let Some(behind) = behind_want(alloc, place, &wanting, text)? {
-        entry_in_range(&wanting);
-        return Ok(Some((reply_of(alloc, wanting), behind)));
+    let behind = behind_reply(alloc, place, &mut entry, text, mount);
+    let reply = reply_of(alloc, entry);
+    match behind? {
+        Some(behind) => Ok(Some((reply, behind))),
+        None => Ok(None),
     }
-    let call = call_of(wanting);
-    let reply = mount.answer(caller, &call);
-    let answered = Entry {
-        who: caller,
-        call,
-        reply,
-    };
-    match behind_line(alloc, place, &answered, text)? {
+}
+
+// The same of the call of an entry that comes with want of memory: what stands behind the line, whose reply the entry
+// has then. It is lent, so that its call is given up in one place.
+fn behind_reply<'t, T: OneThread>(
+    alloc: Global,
+    place: u64,
+    asked: &mut Entry<Call, Reply>,
+    text: &'t [u8],
+    mount: &mut T,
+) -> Result<Option<&'t [u8]>, AllocError>
+    requires fits { Fits asked.old.call }
+    requires wanting { asked.old.reply ≡ Refused NoMemory }
+    ensures { IfOk result (λ behind. MatchOption behind
+        (IsUnreplied T.led mount.old text.now place asked.old.who asked.old.call)
+        (λ left. IsReplied T.led mount.old mount.new text.now place asked.old.who asked.old.call
+        asked.new.reply left.now)) }
+{
+    if let Some(behind) = behind_want(alloc, place, asked, text)? {
+        entry_in_range(asked);
+        return Ok(Some(behind));
+    }
+    let reply = mount.answer(asked.who, &asked.call);
+    put_reply(asked, reply);
+    match behind_line(alloc, place, asked, text)? {
         Some(behind) => {
-            entry_in_range(&answered);
-            Ok(Some((reply_of(alloc, answered), behind)))
+            entry_in_range(asked);
+            Ok(Some(behind))
         }
         None => {
-            let wanted = wants_memory(&answered.reply);
-            leave(alloc, answered);
-            if wanted { Err(AllocError) } else { Ok(None) }
+            if wants_memory(&asked.reply) {
+                Err(AllocError)
+            } else {
+                Ok(None)
+            }
         }
     }
 }
@@ -73,8 +97,7 @@ fn behind_want<'t>(
         × (text.now ≡ entry_text place wanting.now ++ left.now))) }
 {
     if takes_memory(&wanting.call.op) {
-        let behind = behind_line(alloc, place, wanting, text)?;
-        Ok(behind)
+        behind_line(alloc, place, wanting, text)
     } else {
         Ok(None)
     }
@@ -117,23 +140,18 @@ fn wants_memory(reply: &Reply) -> bool
     matches!(reply, Reply::Refused(Refusal::NoMemory))
 }
 
-// The entry's reply, its call, and nothing: each in a function, which lets go of the rest in one place. What no log
-// shows of a call is overwritten as it is let go.
-fn reply_of(alloc: Global, entry: Entry<Call, Reply>) -> Reply
-    ensures { result ≡ entry.reply }
+// The entry with this reply in place of its own.
+fn put_reply(asked: &mut Entry<Call, Reply>, reply: Reply)
+    ensures { asked.new ≡ entry asked.old.who asked.old.call reply }
 {
-    let mut call = entry.call;
-    wipe_call(alloc, &mut call);
-    entry.reply
+    asked.reply = reply;
 }
 
-fn call_of(entry: Entry<Call, Reply>) -> Call
-    ensures { result ≡ entry.call }
+// The entry's reply. What no log shows of its call is overwritten as it is let go.
+fn reply_of(alloc: Global, answered: Entry<Call, Reply>) -> Reply
+    ensures { result ≡ answered.reply }
 {
-    entry.call
-}
-
-fn leave(alloc: Global, entry: Entry<Call, Reply>) {
-    let mut call = entry.call;
+    let mut call = answered.call;
     wipe_call(alloc, &mut call);
+    answered.reply
 }
