@@ -73,7 +73,7 @@ impl KeyRing {
         ensures quota { IsErrOf result ClaimFault.Quota
             ↔ IsOverQuota self.old.claims (key_id_of raw.now) uid }
     {
-        let mut key = PreparedKey::new(copy_of(raw));
+        let mut key = PreparedKey::new(raw.copy());
         let id = key.id();
         if let Err(fault) = self.claims.claim(&id, uid) {
             key.wipe();
@@ -125,15 +125,5 @@ impl KeyRing {
         ensures secrets { HoldsClaimedSecrets self.now }
     {
         &self.claims
-    }
-}
-
-// The same key once more.
-fn copy_of(raw: &RawKey) -> RawKey
-    ensures { result ≡ raw.now }
-{
-    match RawKey::read(raw.bytes()) {
-        Ok(copy) => copy,
-        Err(_) => unreachable!(),
     }
 }

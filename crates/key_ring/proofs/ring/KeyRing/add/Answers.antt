@@ -28,7 +28,7 @@ pub returns-then-is_err-clause-held : goal.returns-then-is_err-clause-held
 returns-then-is_err-clause-held c = λ held.
     let new = unheld c.self.inside.claims (secrets_of c.self.inside.secrets.entries) c.self.invariant c.id-id.result c.args.uid c.keep.result (sym c.is_err.ensures.value ∙ c.if-is_err.true) c.keep.ensures.held in
     absurd (true≢false (sym held ∙ (sym (ap (λ (ring : Holding). has_claim ring.claims (key_id_of c.args.raw.now) c.args.uid) c.self.view_is)
-    ∙ (sym (ap (λ id. has_claim c.self.inside.claims id c.args.uid) (c.id-id.ensures ∙ ap key_id_of (c.new-key.ensures ∙ c.copy_of.ensures))) ∙ new))))
+    ∙ (sym (ap (λ id. has_claim c.self.inside.claims id c.args.uid) (c.id-id.ensures ∙ ap key_id_of (c.new-key.ensures ∙ c.copy.ensures))) ∙ new))))
 
 pub invariant_of-self-else-is_err : goal.invariant_of-self-else-is_err
 invariant_of-self-else-is_err c =
