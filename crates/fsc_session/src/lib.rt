@@ -13,7 +13,7 @@ pub use laws::{
     what_is_told_determines_the_history,
 };
 use reply_text::Note;
-pub use runner::{Ran, Runner};
+pub use runner::{Ran, Runner, note};
 pub use session::run_caller;
 pub use stack::scrub_stack;
 

@@ -148,14 +148,16 @@ impl<'a> Runner<'a> {
     }
 }
 
-// Puts the note of a command behind the others, if it has one.
-fn note(
+/// Puts the note of a command behind the others, if it has one. The one error is want of memory: then the notes
+/// are as before.
+pub fn note(
     notes: &mut NoteList,
     caller: u32,
     command: &Command,
     outcome: Option<Outcome>,
 ) -> Result<(), AllocError>
-    ensures { OnOk result (notes.new ≡ notes.old ++ noted caller command.now outcome) }
+    ensures noted { OnOk result (notes.new ≡ notes.old ++ noted caller command.now outcome) }
+    ensures kept { OnErr result (notes.new ≡ notes.old) }
 {
     if let Some(outcome) = outcome {
         notes.push(Note {

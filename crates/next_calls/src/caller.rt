@@ -5,17 +5,16 @@ ghost use Rattle.call_history.specs.Entries.{entry};
 ghost use Rattle.mount_model.specs.declared.call.Call.{Call};
 ghost use Rattle.mount_model.specs.Port.{PlacedCalls};
 ghost use Rattle.fsc_session.specs.Asking.{AsksRightly};
-ghost use Rattle.fsc_session.specs.Session.{noted};
 ghost use Rattle.next_calls.specs.Callers.{Awaits, GoesOn, IsNearer, StandsIn, WaitingFits};
 
 use crate::listing::keep_last_listing;
 use crate::next::{Next, discard, next_call};
 use argon_kdf::Stretch;
 use fsc_commands::{EntryList, Turn};
-use fsc_session::NoteList;
+use fsc_session::{NoteList, note};
 use mount_model::{Call, Reply};
-use reply_text::{Note, Outcome};
-use script_lang::{Command, Section};
+use reply_text::Note;
+use script_lang::Section;
 use std::alloc::{AllocError, Global};
 use std::marker::Model;
 use std::mem;
@@ -193,25 +192,6 @@ impl<'a> Caller<'a> {
             }
         }
     }
-}
-
-// Puts the note of a command behind the others, if it has one.
-fn note(
-    notes: &mut NoteList,
-    caller: u32,
-    command: &Command,
-    outcome: Option<Outcome>,
-) -> Result<(), AllocError>
-    ensures { OnOk result (notes.new ≡ notes.old ++ noted caller command.now outcome) }
-{
-    if let Some(outcome) = outcome {
-        notes.push(Note {
-            caller,
-            line: command.line,
-            outcome,
-        })?;
-    }
-    Ok(())
 }
 
 // Overwrites what no log shows of a call that was waited for, and lets it go.

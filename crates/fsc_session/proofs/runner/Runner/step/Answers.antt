@@ -43,7 +43,7 @@ returns-clause-stepped g c =
     (g.P.MountPort.calls_left c.args.port.now) c.args.seed.now c.index-commands-self.result c.in_ok-outcome.outcome
     c.self.inside.caller c.self.inside.section.now c.self.inside.next c.self.inside.entries c.run_command-ran.new.entries c.self.inside.notes c.note.new.notes
     (there _ _ _ _ c.as_slice-commands.ensures c.self.invariant c.if-self-commands.false c.index-commands-self.is)
-    c.in_ok-note.ensures c.in_ok-outcome.ensures.made)
+    c.in_ok-note.ensures.noted c.in_ok-outcome.ensures.made)
 
 pub run_command-ran-requires-clause-asked : goal.run_command-ran-requires-clause-asked
 run_command-ran-requires-clause-asked g c =
