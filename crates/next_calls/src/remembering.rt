@@ -89,7 +89,7 @@ impl<'a, S: Stretch> Stretch for Remembering<'a, S> {
     }
 }
 
-// Writes the tag that is kept, if one is, where it is that of this password and salt.
+// Writes the tag that is kept, if one is, where it is that of this password and salt at these costs.
 fn recalls(
     kept: &RefCell<Option<Stretched>>,
     costs: &Costs,
@@ -103,23 +103,9 @@ fn recalls(
     let Ok(kept) = kept.try_borrow() else {
         return false;
     };
-    match &*kept {
-        Some(stretched) => recalled(stretched, costs, password, salt, tag),
-        None => false,
-    }
-}
-
-// Writes the tag, where it is that of this password and salt at these costs.
-fn recalled(
-    stretched: &Stretched,
-    costs: &Costs,
-    password: &[u8],
-    salt: &[u8],
-    tag: &mut [u8; 32],
-) -> bool
-    ensures recalled { IsTrue result → tag.new ≡ argon2id_tag costs.now password.now salt.now [] [] }
-    ensures kept { IsFalse result → tag.new ≡ tag.old }
-{
+    let Some(stretched) = &*kept else {
+        return false;
+    };
     if stretched.costs == *costs
         && stretched.password.as_slice() == password
         && stretched.salt.as_slice() == salt
