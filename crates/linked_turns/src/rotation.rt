@@ -1,6 +1,6 @@
 //! Runs a script on two mounts that nobody else calls: the callers take turns, command by command.
 
-ghost use Rattle.std.specs.Prelude.{◌≡◌, ℕ, [], length, map, IfOk, OnOk};
+ghost use Rattle.std.specs.Prelude.{◌≡◌, [], length, IfOk, OnOk};
 ghost use Rattle.script_lang.specs.Spelled.{IsSpelled};
 ghost use Rattle.fsc_commands.specs.Steps.Steps.{Done};
 ghost use Rattle.fsc_session.specs.Rotation.{rounds_steps};
@@ -41,15 +41,15 @@ pub fn run_linked_in_rotation<G: Gate, S: Stretch, M: MountMachine>(
         told.even.items told.odd.items told.notes.items) }
 {
     let sections = script.as_slice();
-    let runners = fresh_runners(alloc, sections)?;
+    let mut runners = fresh_runners(alloc, sections)?;
     let mounts = SerialMounts {
         even: SerialMount::new(mounts.even),
         odd: SerialMount::new(mounts.odd),
     };
-    let (_mounts, runners) = run_all(
+    let _mounts = run_rounds(
         alloc,
         mounts,
-        runners,
+        runners.as_mut_slice(),
         longest(sections),
         seed,
         gate,
@@ -63,40 +63,6 @@ pub fn run_linked_in_rotation<G: Gate, S: Stretch, M: MountMachine>(
 }
 
 // The callers take so many rounds of turns.
-fn run_all<'a, G: Gate, S: Stretch, M: MountMachine>(
-    alloc: Global,
-    mounts: SerialMounts<M>,
-    mut runners: Vec<LinkedRunner<'a>>,
-    rounds: usize,
-    seed: &[u8; 32],
-    gate: &G,
-    stretches: &S,
-) -> Result<(SerialMounts<M>, Vec<LinkedRunner<'a>>), AllocError>
-    requires ready { S.ready stretches.now }
-    requires begins { Rotating M.leads seed.now (sections_of runners.items)
-        (rounds_steps seed.now rounds 0 (states_of runners.items))
-        (rounds_steps seed.now rounds 0 (states_of runners.items))
-        (λ j. 0) runners.items
-        (at mounts.even.machine mounts.even.places) (at mounts.odd.machine mounts.odd.places) }
-    ensures { IfOk result (λ r. Rotating M.leads seed.now (sections_of runners.entry.items)
-        (rounds_steps seed.now rounds 0 (states_of runners.entry.items))
-        (Done (states_of r.1.items))
-        (λ j. rounds) r.1.items
-        (at r.0.even.machine r.0.even.places) (at r.0.odd.machine r.0.odd.places)) }
-{
-    let mounts = run_rounds(
-        alloc,
-        mounts,
-        runners.as_mut_slice(),
-        rounds,
-        seed,
-        gate,
-        stretches,
-    )?;
-    Ok((mounts, runners))
-}
-
-// The same, on a slice.
 fn run_rounds<G: Gate, S: Stretch, M: MountMachine>(
     alloc: Global,
     mounts: SerialMounts<M>,

@@ -1,6 +1,6 @@
 //! Runs a script on a machine that nobody else calls: the callers take turns, command by command.
 
-ghost use Rattle.std.specs.Prelude.{◌≡◌, ◌≤◌, ℕ, [], length, map, IfOk, OnOk};
+ghost use Rattle.std.specs.Prelude.{◌≡◌, ◌≤◌, [], length, map, IfOk, OnOk};
 ghost use Rattle.script_lang.specs.Spelled.{IsSpelled};
 ghost use Rattle.fsc_commands.specs.Steps.Steps.{Done};
 ghost use Rattle.fsc_session.specs.Asking.{AsksRightly};
@@ -59,11 +59,11 @@ pub fn rotate<G: Gate, S: Stretch, M: MountMachine>(
         seed.now script.now r.0.entries.items r.0.notes.items) }
 {
     let sections = script.as_slice();
-    let runners = fresh_runners(alloc, sections)?;
-    let (mount, runners) = run_all(
+    let mut runners = fresh_runners(alloc, sections)?;
+    let mount = run_rounds(
         alloc,
         SerialMount::new(machine),
-        runners,
+        runners.as_mut_slice(),
         longest(sections),
         seed,
         gate,
@@ -97,38 +97,6 @@ fn fresh_runners(alloc: Global, sections: &[Section]) -> Result<Vec<Runner<'_>>,
 }
 
 // The callers take so many rounds of turns.
-fn run_all<'a, G: Gate, S: Stretch, M: MountMachine>(
-    alloc: Global,
-    mount: SerialMount<M>,
-    mut runners: Vec<Runner<'a>>,
-    rounds: usize,
-    seed: &[u8; 32],
-    gate: &G,
-    stretches: &S,
-) -> Result<(SerialMount<M>, Vec<Runner<'a>>), AllocError>
-    requires ready { S.ready stretches.now }
-    requires begins { Rotating M.leads seed.now (sections_of runners.items)
-        (rounds_steps seed.now rounds 0 (map state_of runners.items))
-        (rounds_steps seed.now rounds 0 (map state_of runners.items))
-        (λ j. 0) runners.items (at mount.machine mount.places) }
-    ensures { IfOk result (λ r. Rotating M.leads seed.now (sections_of runners.entry.items)
-        (rounds_steps seed.now rounds 0 (map state_of runners.entry.items))
-        (Done (map state_of r.1.items))
-        (λ j. rounds) r.1.items (at r.0.machine r.0.places)) }
-{
-    let mount = run_rounds(
-        alloc,
-        mount,
-        runners.as_mut_slice(),
-        rounds,
-        seed,
-        gate,
-        stretches,
-    )?;
-    Ok((mount, runners))
-}
-
-// The same, on a slice.
 fn run_rounds<G: Gate, S: Stretch, M: MountMachine>(
     alloc: Global,
     mount: SerialMount<M>,
