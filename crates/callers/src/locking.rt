@@ -24,9 +24,22 @@ pub fn write_and_lock(alloc: Global, raw: &[u8], nonces: &[[u8; 16]; 3]) -> Opti
     ensures gone { IfSome result (λ locked. AbsentIsGone locked.mount.state (KeyStatus locked.id) locked.told) }
 {
     let mut mount = Mount::new(alloc).ok()?;
-    let id = fill(alloc, &mut mount, raw, nonces)?;
-    let told = lock(&mut mount, id)?;
+    let (id, told) = write_in(alloc, &mut mount, raw, nonces)?;
     Some(Locked { mount, id, told })
+}
+
+// The same in a mount that is lent: tells the key's identifier, and what the mount told of it.
+fn write_in(
+    alloc: Global,
+    mount: &mut Mount,
+    raw: &[u8],
+    nonces: &[[u8; 16]; 3],
+) -> Option<(KeyId, Reply)>
+    ensures absent { IfSome result (λ r. AbsentIsGone mount.new.state (KeyStatus r.0) r.1) }
+{
+    let id = fill(alloc, mount, raw, nonces)?;
+    let reply = lock(mount, id)?;
+    Some((id, reply))
 }
 
 // Adds the key, makes the directory and the file under it, and tells the key's identifier.
@@ -34,7 +47,7 @@ fn fill(alloc: Global, mount: &mut Mount, raw: &[u8], nonces: &[[u8; 16]; 3]) ->
     let id = add(mount, bytes(alloc, raw)?)?;
     let dir = below(alloc, Path::root(alloc), b"e")?;
     encrypt(alloc, mount, id, &dir, nonces)?;
-    write(alloc, mount, below(alloc, dir, b"f")?, nonces[2])?;
+    write(alloc, mount, &below(alloc, dir, b"f")?, nonces[2])?;
     Some(id)
 }
 
@@ -77,12 +90,11 @@ fn encrypt(
 }
 
 // Makes the file and writes it, through a handle that is closed again.
-fn write(alloc: Global, mount: &mut Mount, file: Path, nonce: [u8; 16]) -> Option<()> {
+fn write(alloc: Global, mount: &mut Mount, file: &Path, nonce: [u8; 16]) -> Option<()> {
     let path = file.copy(alloc).ok()?;
     done(ask(mount, Op::Create { path, nonce })?)?;
-    let Reply::Opened(handle) = ask(mount, Op::OpenNode { path: file })? else {
-        return None;
-    };
+    let path = file.copy(alloc).ok()?;
+    let handle = opened(ask(mount, Op::OpenNode { path })?)?;
     let (offset, bytes) = (0, bytes(alloc, b"hi")?);
     let written = Op::Write {
         handle,
@@ -119,6 +131,14 @@ fn ask(mount: &mut Mount, op: Op) -> Option<Reply>
 fn done(reply: Reply) -> Option<()> {
     match reply {
         Reply::Done => Some(()),
+        _ => None,
+    }
+}
+
+// The handle, where one was opened.
+fn opened(reply: Reply) -> Option<u32> {
+    match reply {
+        Reply::Opened(handle) => Some(handle),
         _ => None,
     }
 }
