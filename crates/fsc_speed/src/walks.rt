@@ -63,14 +63,37 @@ pub(crate) fn walk_often<L: Ledger>(
 {
     let mut steps = Steps::<L>::new(blank);
     let mut state = MountState::new(alloc)?;
-    let path = path_walked(alloc, &mut state, walk, &mut steps)?;
+    walk_in(alloc, &mut state, walk, count, &mut steps)
+}
+
+// The same in a mount that is lent, since all calls of a function that owns one are dear to prove.
+fn walk_in<L: Ledger>(
+    alloc: Global,
+    state: &mut MountState,
+    walk: Walk,
+    count: u32,
+    steps: &mut Steps<L>,
+) -> Result<[u8; 32], AllocError> {
+    let path = path_walked(alloc, state, walk, steps)?;
+    let found = sum_found(alloc, state, &path, count, steps);
+    Ok(Sha256::digest(&found.to_be_bytes()))
+}
+
+// The sum of the nodes that so many walks find.
+fn sum_found<L: Ledger>(
+    alloc: Global,
+    state: &mut MountState,
+    path: &Path,
+    count: u32,
+    steps: &mut Steps<L>,
+) -> u32 {
     let mut found = 0u32;
     for _ in 0..count {
-        if let Ok(node) = walked_node(alloc, &mut state, &path, &mut steps) {
+        if let Ok(node) = walked_node(alloc, state, path, steps) {
             found = found.wrapping_add(node);
         }
     }
-    Ok(Sha256::digest(&found.to_be_bytes()))
+    found
 }
 
 // Makes the directories, and tells the path to the last.
@@ -80,7 +103,7 @@ fn path_walked<L: Ledger>(
     walk: Walk,
     steps: &mut Steps<L>,
 ) -> Result<Path, AllocError> {
-    let _made = mkdir(alloc, state, &path_to(alloc, 0, TOP)?, &NONCE, steps);
+    make_dir(alloc, state, 0, TOP, steps)?;
     let id = match walk {
         Walk::Plain => None,
         Walk::Keyed | Walk::Locked => encrypt_top(alloc, state, steps)?,
@@ -94,6 +117,32 @@ fn path_walked<L: Ledger>(
     }
 }
 
+// Makes a directory of this name at that depth.
+fn make_dir<L: Ledger>(
+    alloc: Global,
+    state: &mut MountState,
+    depth: u32,
+    name: &[u8],
+    steps: &mut Steps<L>,
+) -> Result<(), AllocError> {
+    let path = path_to(alloc, depth, name)?;
+    let _made = mkdir(alloc, state, &path, &NONCE, steps);
+    Ok(())
+}
+
+// Makes the file of this number at that depth.
+fn make_file<L: Ledger>(
+    alloc: Global,
+    state: &mut MountState,
+    depth: u32,
+    number: u32,
+    steps: &mut Steps<L>,
+) -> Result<(), AllocError> {
+    let path = path_to(alloc, depth, file_name(alloc, number)?.as_slice())?;
+    let _made = create(alloc, state, &path, &NONCE, steps);
+    Ok(())
+}
+
 // Adds a key, and encrypts the top directory under it.
 fn encrypt_top<L: Ledger>(
     alloc: Global,
@@ -104,13 +153,24 @@ fn encrypt_top<L: Ledger>(
     let Reply::Added(id) = add_key(alloc, state, 0, &raw) else {
         return Ok(None);
     };
+    encrypt_under(alloc, state, &id, steps)?;
+    Ok(Some(id))
+}
+
+// Encrypts the top directory under this key.
+fn encrypt_under<L: Ledger>(
+    alloc: Global,
+    state: &mut MountState,
+    id: &KeyId,
+    steps: &mut Steps<L>,
+) -> Result<(), AllocError> {
     let mut policy = [
         2, 1, 4, 3, 0, 0, 0, 0, 0, 0, 0, 0, 0, 0, 0, 0, 0, 0, 0, 0, 0, 0, 0, 0,
     ];
     policy[8..].copy_from_slice(&id.0);
     let top = path_to(alloc, 0, TOP)?;
     let _set = set_policy(alloc, state, 0, &top, &policy, &NONCE, steps);
-    Ok(Some(id))
+    Ok(())
 }
 
 // Makes the files and then the next directory in the directory at that depth, so that a search from the
@@ -122,13 +182,9 @@ fn fill<L: Ledger>(
     steps: &mut Steps<L>,
 ) -> Result<(), AllocError> {
     for number in 0..FILES {
-        let name = file_name(alloc, number)?;
-        let path = path_to(alloc, depth, name.as_slice())?;
-        let _made = create(alloc, state, &path, &NONCE, steps);
+        make_file(alloc, state, depth, number, steps)?;
     }
-    let next = path_to(alloc, depth, NEXT)?;
-    let _made = mkdir(alloc, state, &next, &NONCE, steps);
-    Ok(())
+    make_dir(alloc, state, depth, NEXT, steps)
 }
 
 // Takes the key away, and tells the path of texts to the last directory.
@@ -139,26 +195,50 @@ fn locked_path<L: Ledger>(
     steps: &mut Steps<L>,
 ) -> Result<Path, AllocError> {
     let mut nodes = Vec::new(alloc);
-    nodes.push(found_at(alloc, state, &path_to(alloc, 0, TOP)?, steps))?;
-    for depth in 1..=DEPTH {
-        nodes.push(found_at(alloc, state, &path_to(alloc, depth, NEXT)?, steps))?;
-    }
+    push_nodes(&mut nodes, alloc, state, steps)?;
     let _removed = remove_key(state, 0, id);
     let mut path = path_to(alloc, 0, TOP)?;
-    for (dir, node) in nodes.iter().zip(nodes.iter().skip(1)) {
-        path.push(text_of(alloc, &state.disk, *dir, *node)?)?;
-    }
+    push_texts(&mut path, alloc, &state.disk, nodes.as_slice())?;
     Ok(path)
 }
 
-// The node at the end of the path, or the root.
+// Puts the nodes of the directories, from the top on.
+fn push_nodes<L: Ledger>(
+    nodes: &mut Vec<u32>,
+    alloc: Global,
+    state: &mut MountState,
+    steps: &mut Steps<L>,
+) -> Result<(), AllocError> {
+    nodes.push(found_at(alloc, state, 0, TOP, steps)?)?;
+    for depth in 1..=DEPTH {
+        nodes.push(found_at(alloc, state, depth, NEXT, steps)?)?;
+    }
+    Ok(())
+}
+
+// The node of a name at that depth, or the root.
 fn found_at<L: Ledger>(
     alloc: Global,
     state: &mut MountState,
-    path: &Path,
+    depth: u32,
+    name: &[u8],
     steps: &mut Steps<L>,
-) -> u32 {
-    walked_node(alloc, state, path, steps).unwrap_or(0)
+) -> Result<u32, AllocError> {
+    let path = path_to(alloc, depth, name)?;
+    Ok(walked_node(alloc, state, &path, steps).unwrap_or(0))
+}
+
+// Puts the text of each of these nodes but the first, each of which lies in the one before it.
+fn push_texts(
+    path: &mut Path,
+    alloc: Global,
+    disk: &DiskTree,
+    nodes: &[u32],
+) -> Result<(), AllocError> {
+    for (dir, node) in nodes.iter().zip(nodes.iter().skip(1)) {
+        path.push(text_of(alloc, disk, *dir, *node)?)?;
+    }
+    Ok(())
 }
 
 // The text that stands for the node's name in the directory.
@@ -186,11 +266,15 @@ fn shown_part(alloc: Global, stored: &[u8]) -> Result<Part, AllocError> {
 fn path_to(alloc: Global, depth: u32, name: &[u8]) -> Result<Path, AllocError> {
     let mut path = Path::root(alloc);
     for above in 0..depth {
-        let dir = if above == 0 { TOP } else { NEXT };
-        path.push(part(alloc, dir)?)?;
+        push_part(&mut path, alloc, if above == 0 { TOP } else { NEXT })?;
     }
-    path.push(part(alloc, name)?)?;
+    push_part(&mut path, alloc, name)?;
     Ok(path)
+}
+
+fn push_part(path: &mut Path, alloc: Global, name: &[u8]) -> Result<(), AllocError> {
+    path.push(part(alloc, name)?)?;
+    Ok(())
 }
 
 fn part(alloc: Global, name: &[u8]) -> Result<Part, AllocError> {
