@@ -1,13 +1,16 @@
 //! What commands draw, and the names that stars mean.
 
+ghost use Rattle.std.specs.Prelude.{◌≤◌, length};
+
 use call_history::Entry;
 use fsc_commands::{EntryList, path_meant};
 use item_list::Bytes;
-use mount_model::{NameList, Refusal, Reply};
+use mount_model::{NameList, Path, Refusal, Reply};
 use reply_text::Shown;
 use script_lang::read_path;
 use session_records::{Purpose, draw};
 use std::alloc::{AllocError, Global};
+use std::process::Abort;
 
 // A caller, a command, a purpose, and what is drawn for them.
 type DrawRow = (u8, u64, Purpose, &'static str);
@@ -62,84 +65,86 @@ const DRAWN_FROM_COUNTING: [DrawRow; 2] = [
     ),
 ];
 
+// What is drawn for the row, as its digits: so many bytes as there is room for, at most 64.
+fn drawn(
+    alloc: Global,
+    seed: &[u8; 32],
+    row: &DrawRow,
+    room: &mut [u8],
+) -> Result<String, AllocError>
+    requires { length room.old ≤ 64 }
+{
+    draw(seed, row.0, row.1, row.2, room);
+    hex::encode(alloc, room)
+}
+
+// That this is drawn for each row, whole and by 16 bytes.
+fn are_drawn<A: Abort>(rt: &A, alloc: Global, seed: &[u8; 32], rows: &[DrawRow]) {
+    for row in rows {
+        let whole = drawn(alloc, seed, row, &mut [0; 64]).expect(rt, "an answer");
+        assert!(rt; whole.as_str() == row.3);
+        let nonce = drawn(alloc, seed, row, &mut [0; 16]).expect(rt, "an answer");
+        assert!(rt; row.3.starts_with(nonce.as_str()));
+    }
+}
+
 #[test]
 fn draws_are_those_of_python(rt: HostRuntime) {
-    for (caller, command, purpose, wanted) in DRAWN_FROM_ZEROS {
-        let (whole, nonce) = drawn(rt.alloc(), &[0; 32], caller, command, purpose).expect(
-            &rt,
-            "an answer",
-        );
-        assert!(rt; whole.as_str() == wanted);
-        assert!(rt; wanted.starts_with(nonce.as_str()));
-    }
+    are_drawn(&rt, rt.alloc(), &[0; 32], &DRAWN_FROM_ZEROS);
     let mut counting = [0; 32];
     for i in 0..32 {
         counting[i] = i as u8;
     }
-    for (caller, command, purpose, wanted) in DRAWN_FROM_COUNTING {
-        let (whole, nonce) = drawn(rt.alloc(), &counting, caller, command, purpose).expect(
-            &rt,
-            "an answer",
-        );
-        assert!(rt; whole.as_str() == wanted);
-        assert!(rt; wanted.starts_with(nonce.as_str()));
+    are_drawn(&rt, rt.alloc(), &counting, &DRAWN_FROM_COUNTING);
+}
+
+// The path with stars, where these entries are told.
+fn meant(alloc: Global, told: &EntryList) -> Result<Option<Path>, AllocError> {
+    match read_path(alloc, b"/e/*0/*1/*2/%2A0")? {
+        Some(path) => Ok(Some(path_meant(alloc, told, &path)?)),
+        None => Ok(None),
     }
 }
 
-// The digits of a whole draw, and of one of 16 bytes.
-fn drawn(
-    alloc: Global,
-    seed: &[u8; 32],
-    caller: u8,
-    command: u64,
-    purpose: Purpose,
-) -> Result<(String, String), AllocError> {
-    let mut bytes = [0; 64];
-    draw(seed, caller, command, purpose, &mut bytes);
-    let mut nonce = [0; 16];
-    draw(seed, caller, command, purpose, &mut nonce);
-    Ok((hex::encode(alloc, bytes)?, hex::encode(alloc, nonce)?))
+// Whether these are the parts of the path.
+fn has_parts(path: &Path, wanted: &[&str]) -> bool {
+    for (index, wanted) in wanted.iter().enumerate() {
+        match path.part(index) {
+            Some(part) if part.bytes() == wanted.as_bytes() => (),
+            _ => return false,
+        }
+    }
+    path.len() == wanted.len()
 }
 
 // A star means the name of its number, and its own text where there is none or it can't be a part.
 #[test]
 fn stars_mean_listed_names(rt: HostRuntime) {
-    let alloc = rt.alloc();
-    let mut told = EntryList::new(alloc);
-    told.push(listing(
-        alloc,
-        vec![in alloc;
-            Bytes::from_vec(Vec::from_slice(alloc, b"a b").expect(&rt, "an answer")),
-            Bytes::from_vec(Vec::from_slice(alloc, b"..").expect(&rt, "an answer")),
-        ]
-        .expect(&rt, "an answer"),
-    ))
-    .expect(&rt, "an answer");
-    told.push(entry(alloc, Reply::Refused(Refusal::NotFound)))
-        .expect(&rt, "an answer");
-    let path = read_path(alloc, b"/e/*0/*1/*2/%2A0")
+    let mut told = EntryList::new(rt.alloc());
+    tell_two_calls(&mut told, rt.alloc()).expect(&rt, "memory");
+    let path = meant(rt.alloc(), &told)
         .expect(&rt, "an answer")
         .expect(&rt, "a path");
-    let meant = path_meant(alloc, &told, &path).expect(&rt, "an answer");
-    for (index, wanted) in ["e", "a b", "*1", "*2", "*0"].iter().enumerate() {
-        assert!(rt;
-            meant
-                .part(index)
-                .is_some_and(|part| part.bytes() == wanted.as_bytes())
-        );
-    }
-    assert!(rt; meant.len() == 5);
+    assert!(rt; has_parts(&path, &["e", "a b", "*1", "*2", "*0"]));
 }
 
-// A listing that told these names.
-fn listing(alloc: Global, names: Vec<Bytes>) -> (u64, Entry<Shown, Reply>) {
-    entry(
-        alloc,
-        Reply::Names {
-            names: NameList::from_vec(names),
-            more: false,
-        },
-    )
+// Tells a listing of two names, and a call that was refused.
+fn tell_two_calls(told: &mut EntryList, alloc: Global) -> Result<(), AllocError> {
+    let names = listed_names(alloc)?;
+    told.push(entry(alloc, Reply::Names { names, more: false }))?;
+    told.push(entry(alloc, Reply::Refused(Refusal::NotFound)))
+}
+
+fn listed_names(alloc: Global) -> Result<NameList, AllocError> {
+    let mut names = NameList::new(alloc);
+    for name in &["a b", ".."] {
+        push_name(&mut names, alloc, name.as_bytes())?;
+    }
+    Ok(names)
+}
+
+fn push_name(names: &mut NameList, alloc: Global, name: &[u8]) -> Result<(), AllocError> {
+    names.push(Bytes::from_vec(Vec::from_slice(alloc, name)?))
 }
 
 // A call with this reply.

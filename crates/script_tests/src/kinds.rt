@@ -75,11 +75,3 @@ pub(crate) fn reply(alloc: Global, kind: Kind) -> Reply {
         Kind::Wanting => Reply::Refused(Refusal::NoMemory),
     }
 }
-
-// The word of a command to which this kind of reply comes that isn't the one wanted.
-pub(crate) fn word(kind: Kind) -> &'static str {
-    match kind {
-        Kind::Wanting => "no-memory",
-        _ => "odd-reply",
-    }
-}

@@ -7,9 +7,9 @@ use crate::linked_commands::wanting;
 use crate::runs::{linked_text, log_of};
 use crate::texts::same_bytes;
 use fsc_tool::Status;
-use item_list::Bytes;
-use script_lang::{ScriptFault, read_script};
+use script_lang::read_script;
 use std::alloc::{AllocError, Global};
+use std::process::Abort;
 
 // The record of the protector that caller 0 makes with the secret of 32 bytes 11.
 const PROTECTOR: &str = "\
@@ -36,32 +36,35 @@ const LINK: &str = "\
 6673632d6c696e6b20310a6e616d65206c6f67696e0a\
 ";
 
-// The text of the script's run in turns on two mounts; nothing where it is no script.
-fn replayed(alloc: Global, text: &[u8]) -> Result<Option<Bytes>, AllocError>
+// Whether the text is a script whose run in turns on two mounts is told by this text.
+fn is_told<A: Abort>(rt: &A, alloc: Global, text: &[u8], wanted: &[u8]) -> bool
     requires { length text.now < 2 ^ 32 }
 {
-    let script = match read_script(alloc, text) {
-        Ok(script) => script,
-        Err(ScriptFault::NoMemory) => return Err(AllocError),
-        Err(_) => return Ok(None),
-    };
-    Ok(Some(linked_text(alloc, &script)?))
+    match read_script(alloc, text) {
+        Ok(script) => {
+            linked_text(rt, alloc, &script)
+                .expect(rt, "an answer")
+                .as_slice()
+                == wanted
+        }
+        Err(_) => false,
+    }
 }
 
-#[test]
-fn linked_protector_on_two_mounts(rt: HostRuntime) {
-    let alloc = rt.alloc();
-    let script = b"caller 0\n\
-        protector login raw:1111111111111111111111111111111111111111111111111111111111111111\n\
-        caller 1000\n\
-        protector-link login\n\
-        policy-new docs login raw:1111111111111111111111111111111111111111111111111111111111111111\n\
-        mkdir /e\n\
-        unlock docs login raw:1111111111111111111111111111111111111111111111111111111111111111\n\
-        encrypt /e docs 32\n\
-        protector-change login \
-        raw:1111111111111111111111111111111111111111111111111111111111111111 pass:1:64:1:x\n";
-    let wanted = format!(in alloc;
+const LINKED: &[u8] = b"caller 0\n\
+    protector login raw:1111111111111111111111111111111111111111111111111111111111111111\n\
+    caller 1000\n\
+    protector-link login\n\
+    policy-new docs login raw:1111111111111111111111111111111111111111111111111111111111111111\n\
+    mkdir /e\n\
+    unlock docs login raw:1111111111111111111111111111111111111111111111111111111111111111\n\
+    encrypt /e docs 32\n\
+    protector-change login \
+    raw:1111111111111111111111111111111111111111111111111111111111111111 pass:1:64:1:x\n";
+
+// What is told of it.
+fn linked_told(alloc: Global) -> Result<String, AllocError> {
+    format!(in alloc;
         "mount 0\n\
         0 0 0 meta-put protector/login 0 238 = stored 1\n\
         1 1 1000 meta-get protector/login = record 1 {PROTECTOR}\n\
@@ -88,45 +91,49 @@ fn linked_protector_on_two_mounts(rt: HostRuntime) {
         note 1 8 ok\n\
         note 1 9 ok\n"
     )
-    .expect(&rt, "an answer");
-    let got = replayed(alloc, script).expect(&rt, "an answer");
-    assert!(rt; got.is_some_and(|text| text.as_slice() == wanted.as_bytes()));
 }
 
 #[test]
-fn a_link_that_leads_nowhere_is_refused(rt: HostRuntime) {
-    let script = b"caller 0\n\
-        stat /\n\
-        caller 1000\n\
-        protector-link login\n\
-        unlock docs login pass:x\n";
-    let wanted = b"mount 0\n\
-        0 0 0 stat / = stat dir 0 0 enc=0 key=1\n\
-        1 1 1000 meta-get protector/login = refused not-found\n\
-        mount 1\n\
-        0 1 1000 meta-get protector/login = refused not-found\n\
-        1 1 1000 meta-put protector/login 0 22 = stored 1\n\
-        2 1 1000 meta-get protector/login = record 1 6673632d6c696e6b20310a6e616d65206c6f67696e0a\n\
-        note 1 4 ok\n\
-        note 1 5 refused\n";
-    let got = replayed(rt.alloc(), script).expect(&rt, "an answer");
-    assert!(rt; got.is_some_and(|text| text.as_slice() == wanted.as_slice()));
+fn linked_protector_on_two_mounts(rt: HostRuntime) {
+    let wanted = linked_told(rt.alloc()).expect(&rt, "an answer");
+    assert!(rt; is_told(&rt, rt.alloc(), LINKED, wanted.as_bytes()));
 }
+
+const LED_NOWHERE: &[u8] = b"caller 0\n\
+    stat /\n\
+    caller 1000\n\
+    protector-link login\n\
+    unlock docs login pass:x\n";
+
+const NOWHERE_TOLD: &[u8] = b"mount 0\n\
+    0 0 0 stat / = stat dir 0 0 enc=0 key=1\n\
+    1 1 1000 meta-get protector/login = refused not-found\n\
+    mount 1\n\
+    0 1 1000 meta-get protector/login = refused not-found\n\
+    1 1 1000 meta-put protector/login 0 22 = stored 1\n\
+    2 1 1000 meta-get protector/login = record 1 6673632d6c696e6b20310a6e616d65206c6f67696e0a\n\
+    note 1 4 ok\n\
+    note 1 5 refused\n";
+
+#[test]
+fn a_link_that_leads_nowhere_is_refused(rt: HostRuntime) {
+    assert!(rt; is_told(&rt, rt.alloc(), LED_NOWHERE, NOWHERE_TOLD));
+}
+
+const DROPS: &str = "caller 0\ndrop-caches\ndrop-caches\ncaller 1\ndrop-caches\ndrop-caches\n";
+
+const DROPS_LOGS: &[u8] = b"mount 0\n\
+    0 0 0 drop-caches = refused no-memory\n\
+    1 0 0 drop-caches = ok\n\
+    mount 1\n\
+    0 1 1 drop-caches = ok\n\
+    1 1 1 drop-caches = refused no-memory\n";
 
 // Both machines have the same laws, so no clause tells which of them is which mount.
 #[test]
 fn the_odd_machine_is_mount_1(rt: HostRuntime) {
-    let alloc = rt.alloc();
-    let script = b"caller 0\ndrop-caches\ndrop-caches\ncaller 1\ndrop-caches\ndrop-caches\n";
-    let script = Vec::from_slice(alloc, script).expect(&rt, "an answer");
     let (even, odd) = (wanting(0), wanting(1));
-    let (status, got) = log_of(alloc, "replay-linked", script, even, odd).expect(&rt, "an answer");
+    let (status, got) = log_of(&rt, rt.alloc(), "replay-linked", DROPS, even, odd);
     assert!(rt; status == Status::Done);
-    let wanted = b"mount 0\n\
-        0 0 0 drop-caches = refused no-memory\n\
-        1 0 0 drop-caches = ok\n\
-        mount 1\n\
-        0 1 1 drop-caches = ok\n\
-        1 1 1 drop-caches = refused no-memory\n";
-    same_bytes(&rt, got.as_slice(), wanted, "the logs");
+    same_bytes(&rt, got.as_slice(), DROPS_LOGS, "the logs");
 }

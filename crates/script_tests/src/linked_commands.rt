@@ -1,8 +1,11 @@
 //! A command of a caller on two mounts, of which one call wants memory, for tests.
 
+ghost use Rattle.std.specs.Prelude.{◌<◌, length};
+
 use crate::runs::{Instead, log_of};
 use mount_model::{Refusal, Reply};
 use std::alloc::{AllocError, Global};
+use std::process::Abort;
 
 // Three protectors on mount 0 with their links on mount 1, where one lies that is no link, a policy that two of the
 // linked ones open, a policy of the first version, and an empty directory.
@@ -66,12 +69,16 @@ pub(crate) fn wanting(at: u64) -> Instead {
 }
 
 // The logs of a run of the command behind those above, on two mounts of which the calls of these numbers want memory.
-fn logs(alloc: Global, command: &str, far: u64, own: u64) -> Result<Vec<u8>, AllocError> {
+fn logs<A: Abort>(rt: &A, alloc: Global, command: &str, far: u64, own: u64) -> Vec<u8> {
+    let script = behind_those(alloc, command).expect(rt, "memory");
+    let (far, own) = (wanting(far), wanting(own));
+    log_of(rt, alloc, "replay-linked", script.as_str(), far, own).1
+}
+
+fn behind_those(alloc: Global, command: &str) -> Result<String, AllocError> {
     let mut script = String::from_str(alloc, BEFORE)?;
     script.push_str(command)?;
-    let script = script.into_bytes();
-    let ended = log_of(alloc, "replay-linked", script, wanting(far), wanting(own))?;
-    Ok(ended.1)
+    Ok(script)
 }
 
 // How many of these are made on this mount.
@@ -111,15 +118,16 @@ fn put_wanting(
     Ok(())
 }
 
-// The logs of a run whose last call is this one, which wants memory, behind these of the command: what was asked
-// before stands as in the logs of the whole command, which makes all of these calls.
-fn logs_until(
+// Puts the logs of a run whose last call is this one, which wants memory, behind these of the command: what was
+// asked before stands as in the logs of the whole command, which makes all of these calls.
+fn put_logs_until(
+    got: &mut Vec<u8>,
     alloc: Global,
     whole: &[u8],
     calls: &[Asked],
     made: &[Asked],
     call: Asked,
-) -> Result<Vec<u8>, AllocError> {
+) -> Result<(), AllocError> {
     let far = FAR_BEFORE.wrapping_add(count(made, On::Far));
     let own = OWN_BEFORE.wrapping_add(count(made, On::Own));
     let mount_1 = FAR_BEFORE
@@ -129,53 +137,60 @@ fn logs_until(
         .wrapping_add(OWN_BEFORE)
         .wrapping_add(count(calls, On::Own))
         .wrapping_add(1);
-    let mut got = Vec::new(alloc);
-    put_lines(&mut got, whole, 0, far.wrapping_add(1))?;
+    put_lines(got, whole, 0, far.wrapping_add(1))?;
     if call.0 == On::Far {
-        put_wanting(&mut got, alloc, far, call.1)?;
+        put_wanting(got, alloc, far, call.1)?;
     }
-    put_lines(&mut got, whole, mount_1, own.wrapping_add(1))?;
+    put_lines(got, whole, mount_1, own.wrapping_add(1))?;
     if call.0 == On::Own {
-        put_wanting(&mut got, alloc, own, call.1)?;
+        put_wanting(got, alloc, own, call.1)?;
     }
-    put_lines(&mut got, whole, notes, NOTES_BEFORE)?;
+    put_lines(got, whole, notes, NOTES_BEFORE)?;
     got.extend_from_slice(b"note 1 14 no-memory\n")?;
-    Ok(got)
+    Ok(())
 }
 
 // The logs of the command where the call wants memory that it makes behind these.
-fn logs_at(alloc: Global, command: &str, made: &[Asked], on: On) -> Result<Vec<u8>, AllocError> {
+fn logs_at<A: Abort>(rt: &A, alloc: Global, command: &str, made: &[Asked], on: On) -> Vec<u8> {
+    let far = FAR_BEFORE.wrapping_add(count(made, On::Far));
+    let own = OWN_BEFORE.wrapping_add(count(made, On::Own));
     match on {
-        On::Far => logs(
-            alloc,
-            command,
-            FAR_BEFORE.wrapping_add(count(made, on)),
-            NEVER,
-        ),
-        On::Own => logs(
-            alloc,
-            command,
-            NEVER,
-            OWN_BEFORE.wrapping_add(count(made, on)),
-        ),
+        On::Far => logs(rt, alloc, command, far, NEVER),
+        On::Own => logs(rt, alloc, command, NEVER, own),
     }
+}
+
+// Whether want of memory at the command's call of this number is its end, behind the calls before it and no other.
+fn ends_at<A: Abort>(
+    rt: &A,
+    alloc: Global,
+    command: &str,
+    whole: &[u8],
+    calls: &[Asked],
+    at: usize,
+) -> bool
+    requires { at < length calls.now }
+{
+    let (made, call) = (&calls[..at], calls[at]);
+    let mut wanted = Vec::new(alloc);
+    put_logs_until(&mut wanted, alloc, whole, calls, made, call).expect(rt, "memory");
+    let got = logs_at(rt, alloc, command, made, call.0);
+    got.as_slice() == wanted.as_slice()
 }
 
 // The first of a command's calls, line 14 of its script, at which want of memory isn't the command's end, behind the
 // calls before it and no other.
-pub(crate) fn first_wrong(
+pub(crate) fn first_wrong<A: Abort>(
+    rt: &A,
     alloc: Global,
     command: &str,
     calls: &[Asked],
-) -> Result<Option<usize>, AllocError> {
-    let whole = logs(alloc, command, NEVER, NEVER)?;
+) -> Option<usize> {
+    let whole = logs(rt, alloc, command, NEVER, NEVER);
     for at in 0..calls.len() {
-        let (made, call) = (&calls[..at], calls[at]);
-        let got = logs_at(alloc, command, made, call.0)?;
-        let wanted = logs_until(alloc, &whole, calls, made, call)?;
-        if got.as_slice() != wanted.as_slice() {
-            return Ok(Some(at));
+        if !ends_at(rt, alloc, command, &whole, calls, at) {
+            return Some(at);
         }
     }
-    Ok(None)
+    None
 }

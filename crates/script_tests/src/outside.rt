@@ -4,63 +4,103 @@ use fsc_outside::{
     CallList, FixedSeed, InputFault, InputLimits, MemSink, MemSource, RuntimeSeed, SeedSource,
     Sink, Source, StdSink, StdSource, SteadySink, SteadySource, read_all,
 };
+use std::alloc::{AllocError, Global};
 use std::io;
+use std::process::Abort;
 use std::random::RandomSource;
+
+const TEXT: &[u8; 18] = b"one two three four";
+
+// The call of this number alone.
+fn listed_call(alloc: Global, number: u32) -> Result<CallList, AllocError> {
+    let mut list = CallList::new(alloc);
+    list.push(number)?;
+    Ok(list)
+}
+
+// A source of the text, which gives five bytes a call and fails at this one.
+fn failing_source(alloc: Global, listed: u32) -> Result<MemSource, AllocError> {
+    let text = Vec::from_slice(alloc, TEXT)?;
+    Ok(MemSource::new(text, 5, listed_call(alloc, listed)?))
+}
+
+// A sink with room for the text, which takes five bytes a call and fails at this one.
+fn failing_sink(alloc: Global, listed: u32) -> Result<MemSink, AllocError> {
+    MemSink::new(alloc, TEXT.len(), 5, listed_call(alloc, listed)?)
+}
+
+// Writes the piece, once more where the first call fails.
+fn write_once<A: Abort>(rt: &A, sink: &mut MemSink, piece: &[u8]) {
+    let taken = match sink.write(piece) {
+        Ok(taken) => taken,
+        Err(_) => sink.write(piece).expect(rt, "an answer"),
+    };
+    assert!(rt; taken == piece.len());
+}
+
+// Copies what one call reads, which fails at the listed call alone.
+fn copy_once<A: Abort>(rt: &A, source: &mut MemSource, sink: &mut MemSink, is_listed: bool) {
+    let mut piece = [0; 8];
+    let count = match source.read(&mut piece) {
+        Ok(count) => count,
+        Err(_) => {
+            assert!(rt; is_listed);
+            0
+        }
+    };
+    if count > 0 {
+        write_once(rt, sink, &piece[..count]);
+    }
+}
 
 // Each call that the lists name fails and no other, and what comes before and after arrives.
 #[test]
 fn each_listed_call_fails_alone(rt: HostRuntime) {
-    let text = b"one two three four";
     for listed in 0..4u32 {
-        let mut reads = CallList::new(rt.alloc());
-        reads.push(listed).expect(&rt, "an answer");
-        let mut writes = CallList::new(rt.alloc());
-        writes.push(listed).expect(&rt, "an answer");
-        let mut source = MemSource::new(
-            Vec::from_slice(rt.alloc(), text).expect(&rt, "an answer"),
-            5,
-            reads,
-        );
-        let mut sink = MemSink::new(rt.alloc(), text.len(), 5, writes).expect(&rt, "an answer");
+        let mut source = failing_source(rt.alloc(), listed).expect(&rt, "memory");
+        let mut sink = failing_sink(rt.alloc(), listed).expect(&rt, "memory");
         for call in 0..5u32 {
-            let mut piece = [0; 8];
-            let count = match source.read(&mut piece) {
-                Ok(count) => count,
-                Err(_) => {
-                    assert!(rt; call == listed);
-                    0
-                }
-            };
-            if count > 0 {
-                match sink.write(&piece[..count]) {
-                    Ok(taken) => assert!(rt; taken == count),
-                    Err(_) => assert!(rt;
-                        sink.write(&piece[..count]).expect(&rt, "an answer") == count
-                    ),
-                }
-            }
+            copy_once(&rt, &mut source, &mut sink, call == listed);
         }
-        assert!(rt; sink.got() == text.as_slice());
+        assert!(rt; sink.got() == TEXT.as_slice());
         assert!(rt; sink.write(b"!").is_err());
     }
 }
 
+// How many bytes come.
+fn count_read<A: Abort, S: Source>(rt: &A, source: &mut S, piece: &mut [u8]) -> usize {
+    source.read(piece).expect(rt, "an answer")
+}
+
+// How many bytes are taken.
+fn count_written<A: Abort, K: Sink>(rt: &A, sink: &mut K, piece: &[u8]) -> usize {
+    sink.write(piece).expect(rt, "an answer")
+}
+
 #[test]
-fn standard_streams_and_steady_fakes_answer(rt: HostRuntime) {
+fn standard_streams_answer(rt: HostRuntime) {
     let mut piece = [0; 4];
-    let mut reader = StdSource::over(b"some text".as_slice());
-    assert!(rt; reader.read(&mut piece).expect(&rt, "an answer") == 4);
+    assert!(rt;
+        count_read(
+            &rt,
+            &mut StdSource::over(b"some text".as_slice()),
+            &mut piece
+        ) == 4
+    );
     assert!(rt; piece.as_slice() == b"some".as_slice());
-    let mut input = StdSource::new(&rt);
-    assert!(rt; input.read(&mut []).expect(&rt, "an answer") == 0);
-    let mut output = StdSink::new(&rt);
-    assert!(rt; output.write(b"").expect(&rt, "an answer") == 0);
-    let mut steady = SteadySource::new(Vec::from_slice(rt.alloc(), b"abc").expect(
-        &rt,
-        "an answer",
-    ));
-    assert!(rt; steady.read(&mut piece).expect(&rt, "an answer") == 3);
-    assert!(rt; SteadySink::new().write(b"abc").expect(&rt, "an answer") == 3);
+    assert!(rt; count_read(&rt, &mut StdSource::new(&rt), &mut []) == 0);
+    assert!(rt; count_written(&rt, &mut StdSink::new(&rt), b"") == 0);
+}
+
+fn steady_source(alloc: Global, text: &[u8]) -> Result<SteadySource, AllocError> {
+    Ok(SteadySource::new(Vec::from_slice(alloc, text)?))
+}
+
+#[test]
+fn steady_fakes_answer(rt: HostRuntime) {
+    let mut steady = steady_source(rt.alloc(), b"abc").expect(&rt, "memory");
+    assert!(rt; count_read(&rt, &mut steady, &mut [0; 4]) == 3);
+    assert!(rt; count_written(&rt, &mut SteadySink::new(), b"abc") == 3);
     assert!(rt; FixedSeed::new([7; 32]).seed().expect(&rt, "an answer")[31] == 7);
     assert!(rt; FixedSeed::failing().seed().is_err());
 }
@@ -74,19 +114,17 @@ impl RandomSource for Broken {
     }
 }
 
-// Of 16 seeds, no two are alike and no byte is the same in all.
-#[test]
-fn the_runtime_gives_other_bytes_each_time(rt: HostRuntime) {
-    let mut seeds = RuntimeSeed::new(&rt);
-    let mut given = [[0; 32]; 16];
-    for i in 0..16 {
-        given[i] = seeds.seed().expect(&rt, "an answer");
-    }
+// That of these seeds no two are alike.
+fn no_two_are_alike<A: Abort>(rt: &A, given: &[[u8; 32]; 16]) {
     for i in 0..16 {
         for j in 0..i {
             assert!(rt; given[i] != given[j], "seeds {j} and {i}");
         }
     }
+}
+
+// That no byte is the same in all.
+fn no_byte_is_the_same<A: Abort>(rt: &A, given: &[[u8; 32]; 16]) {
     for place in 0..32 {
         let first = given[0][place];
         assert!(rt;
@@ -94,31 +132,52 @@ fn the_runtime_gives_other_bytes_each_time(rt: HostRuntime) {
             "byte {place}"
         );
     }
+}
+
+#[test]
+fn the_runtime_gives_other_bytes_each_time(rt: HostRuntime) {
+    let mut seeds = RuntimeSeed::new(&rt);
+    let mut given = [[0; 32]; 16];
+    for i in 0..16 {
+        given[i] = seeds.seed().expect(&rt, "an answer");
+    }
+    no_two_are_alike(&rt, &given);
+    no_byte_is_the_same(&rt, &given);
     assert!(rt; RuntimeSeed::new(&Broken).seed().is_err());
+}
+
+const LIMITS: InputLimits = InputLimits { bytes: 6, lines: 2 };
+
+// A text, what is read of it within the limits, and how much the next call then gives.
+type InputRow = (&'static str, Result<&'static str, InputFault>, usize);
+
+const INPUTS: [InputRow; 5] = [
+    ("", Ok(""), 0),
+    ("a\nb\n", Ok("a\nb\n"), 0),
+    ("a\nb\nc", Err(InputFault::TooLong), 0),
+    ("abcdef", Ok("abcdef"), 0),
+    ("abcdefgh", Err(InputFault::TooLong), 1),
+];
+
+// Whether what is read of the source is this.
+fn gives(alloc: Global, source: &mut SteadySource, wanted: &Result<&str, InputFault>) -> bool {
+    match (read_all(alloc, source, LIMITS), wanted) {
+        (Ok(text), Ok(wanted)) => text.as_slice() == wanted.as_bytes(),
+        (Err(fault), Err(wanted)) => fault == *wanted,
+        _ => false,
+    }
 }
 
 // A text at a limit is read, and one line or byte more is too long. Nothing behind the first byte that
 // is too many is read.
 #[test]
 fn inputs_are_read_within_their_limits(rt: HostRuntime) {
-    let limits = InputLimits { bytes: 6, lines: 2 };
-    for (text, wanted, left) in [
-        ("", Ok(""), 0),
-        ("a\nb\n", Ok("a\nb\n"), 0),
-        ("a\nb\nc", Err(InputFault::TooLong), 0),
-        ("abcdef", Ok("abcdef"), 0),
-        ("abcdefgh", Err(InputFault::TooLong), 1),
-    ] {
-        let mut source = SteadySource::new(Vec::from_slice(rt.alloc(), text.as_bytes()).expect(
-            &rt,
-            "an answer",
-        ));
-        let read = read_all(rt.alloc(), &mut source, limits);
-        match (read, wanted) {
-            (Ok(text), Ok(wanted)) => assert!(rt; text.as_slice() == wanted.as_bytes()),
-            (Err(fault), Err(wanted)) => assert!(rt; fault == wanted),
-            _ => assert!(rt; false, "of {text:?}"),
-        }
-        assert!(rt; source.read(&mut [0; 8]).expect(&rt, "an answer") == left);
+    for (text, wanted, left) in &INPUTS {
+        let mut source = steady_source(rt.alloc(), text.as_bytes()).expect(&rt, "memory");
+        assert!(rt; gives(rt.alloc(), &mut source, wanted), "of {text:?}");
+        assert!(rt;
+            count_read(&rt, &mut source, &mut [0; 8]) == *left,
+            "behind {text:?}"
+        );
     }
 }

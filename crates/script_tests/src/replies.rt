@@ -1,9 +1,10 @@
 //! Each command of a session with another reply in the place of each of its calls'.
 
-use crate::kinds::{KINDS, Kind, reply, word};
+use crate::kinds::{KINDS, Kind, reply};
 use crate::runs::{Instead, log_of};
 use mount_model::Reply;
 use std::alloc::{AllocError, Global};
+use std::process::Abort;
 
 // Three protectors, a policy that two of them open, a policy of the first version, and an empty directory. Line
 // by line a reply, but for two of the policy that is made and four of the one that gets a wrap.
@@ -69,20 +70,26 @@ const COMMANDS: [(&str, &[Kind]); 11] = [
     ("migrate old\n", &[Kind::Held, Kind::Stored]),
 ];
 
-// The log of a run of these commands behind those above, in which the call of this number has this reply.
-fn log_with(alloc: Global, command: &str, at: u64, reply: Reply) -> Result<Vec<u8>, AllocError> {
-    let mut script = String::from_str(alloc, BEFORE)?;
-    script.push_str(command)?;
+// The log of a run of this command behind those above, in which the call of this number has this reply.
+fn log_with<A: Abort>(rt: &A, alloc: Global, command: &str, at: u64, reply: Reply) -> Vec<u8> {
+    let script = behind_those(alloc, command).expect(rt, "memory");
     let reply = Some(reply);
     let none = Instead { at: 0, reply: None };
-    let ended = log_of(
+    log_of(
+        rt,
         alloc,
         "replay",
-        script.into_bytes(),
+        script.as_str(),
         Instead { at, reply },
         none,
-    )?;
-    Ok(ended.1)
+    )
+    .1
+}
+
+fn behind_those(alloc: Global, command: &str) -> Result<String, AllocError> {
+    let mut script = String::from_str(alloc, BEFORE)?;
+    script.push_str(command)?;
+    Ok(script)
 }
 
 // How many lines a text has.
@@ -96,36 +103,46 @@ fn lines(text: &[u8]) -> u64 {
     count
 }
 
-// Whether the command, on line 9, ends with this word at the call of this number, behind which it makes none.
-fn ends_there(alloc: Global, command: &str, at: u64, kind: Kind) -> Result<bool, AllocError> {
-    let log = log_with(alloc, command, at, reply(alloc, kind))?;
-    let note = format!(in alloc; "\nnote 0 9 {}\n", word(kind))?;
+// How a log ends whose last command, on line 9, was ended by another kind of reply than it wanted.
+fn last_note(kind: Kind) -> &'static str {
+    match kind {
+        Kind::Wanting => "\nnote 0 9 no-memory\n",
+        _ => "\nnote 0 9 odd-reply\n",
+    }
+}
+
+// Whether the command, on line 9, ends with this kind's word at the call of this number, behind which it makes none.
+fn ends_there<A: Abort>(rt: &A, alloc: Global, command: &str, at: u64, kind: Kind) -> bool {
+    let log = log_with(rt, alloc, command, at, reply(alloc, kind));
     let is_last = lines(&log) == at.wrapping_add(1).wrapping_add(NOTES);
-    Ok(is_last && log.ends_with(note.as_bytes()))
+    is_last && log.ends_with(last_note(kind).as_bytes())
 }
 
 // The first of a command's calls, which want these replies, and the other reply to it that doesn't end the command
 // there, with the word that it has to.
-fn first_wrong(
+fn first_wrong<A: Abort>(
+    rt: &A,
     alloc: Global,
     command: &str,
     wanted: &[Kind],
-) -> Result<Option<(usize, Kind)>, AllocError> {
+) -> Option<(usize, Kind)> {
     for place in 0..wanted.len() {
-        for kind in KINDS {
+        for kind in &KINDS {
             let at = BEFORE_CALLS.wrapping_add(place as u64);
-            if kind != wanted[place] && !ends_there(alloc, command, at, kind)? {
-                return Ok(Some((place, kind)));
+            if *kind != wanted[place] && !ends_there(rt, alloc, command, at, *kind) {
+                return Some((place, *kind));
             }
         }
     }
-    Ok(None)
+    None
 }
 
 #[test]
 fn each_command_ends_at_each_reply(rt: HostRuntime) {
-    for (command, wanted) in COMMANDS {
-        let wrong = first_wrong(rt.alloc(), command, wanted).expect(&rt, "an answer");
-        assert!(rt; wrong == None, "{command}");
+    for (command, wanted) in &COMMANDS {
+        assert!(rt;
+            first_wrong(&rt, rt.alloc(), command, wanted) == None,
+            "{command}"
+        );
     }
 }

@@ -46,39 +46,37 @@ fn ended(alloc: Global, verb: &Verb, replies: Vec<Reply>) -> Result<Option<Outco
     )
 }
 
-// How it ends where this is the reply to its first call.
-fn ended_by(alloc: Global, verb: &Verb, reply: Reply) -> Result<Option<Outcome>, AllocError>
+// Whether it ends so where this is the reply to its first call.
+fn ends_by(alloc: Global, verb: &Verb, reply: Reply, wanted: Outcome) -> bool
     requires { IsAskable verb.now }
 {
-    let mut replies = Vec::new(alloc);
-    replies.push(reply)?;
-    ended(alloc, verb, replies)
+    match vec![in alloc; reply] {
+        Ok(replies) => ends_so(alloc, verb, replies, wanted),
+        Err(_) => false,
+    }
 }
 
-// How it ends where its first call gives the record, and its second call this reply.
-fn ended_behind(alloc: Global, verb: &Verb, reply: Reply) -> Result<Option<Outcome>, AllocError>
+// Whether it ends so where its first call gives the record, and its second call this reply.
+fn ends_behind(alloc: Global, verb: &Verb, reply: Reply, wanted: Outcome) -> bool
     requires { IsAskable verb.now }
 {
+    match held_before(alloc, reply) {
+        Ok(replies) => ends_so(alloc, verb, replies, wanted),
+        Err(_) => false,
+    }
+}
+
+// Whether it ends so where these are the replies, the first one last.
+fn ends_so(alloc: Global, verb: &Verb, replies: Vec<Reply>, wanted: Outcome) -> bool
+    requires { IsAskable verb.now }
+{
+    matches!(ended(alloc, verb, replies), Ok(Some(outcome)) if outcome == wanted)
+}
+
+// The record as a reply, and this reply behind it.
+fn held_before(alloc: Global, reply: Reply) -> Result<Vec<Reply>, AllocError> {
     let bytes = Bytes::from_vec(Vec::from_slice(alloc, RECORD.as_bytes())?);
-    let mut replies = Vec::new(alloc);
-    replies.push(reply)?;
-    replies.push(Reply::Held { version: 1, bytes })?;
-    ended(alloc, verb, replies)
-}
-
-// Whether the command ends as it has to where its first call wants memory, is refused, or has a reply
-// that it never has.
-fn ends_by_its_first_reply(alloc: Global, verb: &Verb) -> Result<bool, AllocError>
-    requires { IsAskable verb.now }
-{
-    let wanting = ended_by(alloc, verb, Reply::Refused(Refusal::NoMemory))?;
-    let refused = ended_by(alloc, verb, Reply::Refused(Refusal::NotFound))?;
-    let odd = ended_by(alloc, verb, Reply::Done)?;
-    Ok(
-        wanting == Some(Outcome::NoMemory)
-            && refused == Some(Outcome::Refused)
-            && odd == Some(Outcome::OddReply),
-    )
+    Ok(vec![in alloc; reply, Reply::Held { version: 1, bytes }]?)
 }
 
 // The label of these tests.
@@ -87,29 +85,26 @@ fn label<A: Abort>(rt: &A) -> Label {
 }
 
 #[test]
-fn a_lock_ends_by_its_first_reply(rt: HostRuntime) -> Result<(), AllocError> {
-    let lock = Verb::Lock(label(&rt));
-    assert!(rt; ends_by_its_first_reply(rt.alloc(), &lock)?);
-    Ok(())
+fn a_lock_ends_by_its_first_reply(rt: HostRuntime) {
+    let (alloc, lock) = (rt.alloc(), Verb::Lock(label(&rt)));
+    let (wanting, refused) = (Refusal::NoMemory, Refusal::NotFound);
+    assert!(rt; ends_by(alloc, &lock, Reply::Refused(wanting), Outcome::NoMemory));
+    assert!(rt; ends_by(alloc, &lock, Reply::Refused(refused), Outcome::Refused));
+    assert!(rt; ends_by(alloc, &lock, Reply::Done, Outcome::OddReply));
 }
 
 #[test]
-fn a_lock_ends_by_its_second_reply(rt: HostRuntime) -> Result<(), AllocError> {
-    let lock = Verb::Lock(label(&rt));
-    let wanting = ended_behind(rt.alloc(), &lock, Reply::Refused(Refusal::NoMemory))?;
-    assert!(rt; wanting == Some(Outcome::NoMemory));
-    let odd = ended_behind(rt.alloc(), &lock, Reply::Done)?;
-    assert!(rt; odd == Some(Outcome::OddReply));
-    Ok(())
+fn a_lock_ends_by_its_second_reply(rt: HostRuntime) {
+    let (alloc, lock) = (rt.alloc(), Verb::Lock(label(&rt)));
+    let wanting = Reply::Refused(Refusal::NoMemory);
+    assert!(rt; ends_behind(alloc, &lock, wanting, Outcome::NoMemory));
+    assert!(rt; ends_behind(alloc, &lock, Reply::Done, Outcome::OddReply));
 }
 
 #[test]
-fn a_migration_ends_by_its_store(rt: HostRuntime) -> Result<(), AllocError> {
-    let migrate = Verb::Migrate(label(&rt));
-    let stored = ended_behind(rt.alloc(), &migrate, Reply::Stored(2))?;
-    assert!(rt; stored == Some(Outcome::Done));
+fn a_migration_ends_by_its_store(rt: HostRuntime) {
+    let (alloc, migrate) = (rt.alloc(), Verb::Migrate(label(&rt)));
+    assert!(rt; ends_behind(alloc, &migrate, Reply::Stored(2), Outcome::Done));
     let changed = Reply::Refused(Refusal::Changed { version: 2 });
-    let changed = ended_behind(rt.alloc(), &migrate, changed)?;
-    assert!(rt; changed == Some(Outcome::Conflict));
-    Ok(())
+    assert!(rt; ends_behind(alloc, &migrate, changed, Outcome::Conflict));
 }
