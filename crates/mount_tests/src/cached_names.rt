@@ -1,11 +1,10 @@
 //! Names that a mount caches, in an encrypted directory `/e`.
 
-use crate::encrypted_dir::{NONCE, cached, encrypted, found, in_e, keyed, made, name_of};
+use crate::encrypted_dir::{Ask, asked, cached, encrypted, found, keyed, name_of, renamed};
 use crate::on_a_mount::{Trial, try_on_a_mount};
 use crate::told::{is_done, is_refused, is_removed};
 use mount_keys::{drop_caches, remove_key};
-use mount_model::{KeyState, Refusal};
-use mount_names::{mkdir, rename, rmdir, stat, unlink};
+use mount_model::{KeyId, KeyState, Refusal};
 use mount_state::MountState;
 use name_crypt::Steps;
 use std::alloc::Global;
@@ -14,17 +13,17 @@ use std::sync::ledger::Ledger;
 
 #[test]
 fn a_name_is_cached_once_it_is_looked_up(rt: HostRuntime) {
-    try_on_a_mount(&rt, rt.alloc(), Trial::LookOneUp);
+    try_on_a_mount(&rt, rt.alloc(), Trial::TakeTurns(&LOOK_ONE_UP));
 }
 
 #[test]
 fn a_name_that_moves_or_goes_is_forgotten(rt: HostRuntime) {
-    try_on_a_mount(&rt, rt.alloc(), Trial::MoveAndRemove);
+    try_on_a_mount(&rt, rt.alloc(), Trial::TakeTurns(&MOVE_AND_REMOVE));
 }
 
 #[test]
 fn a_directory_that_goes_is_forgotten(rt: HostRuntime) {
-    try_on_a_mount(&rt, rt.alloc(), Trial::MakeAndRemove);
+    try_on_a_mount(&rt, rt.alloc(), Trial::TakeTurns(&MAKE_AND_REMOVE));
 }
 
 #[test]
@@ -37,79 +36,98 @@ fn of_257_names_the_first_is_gone(rt: HostRuntime) {
     try_on_a_mount(&rt, rt.alloc(), Trial::Look257Up);
 }
 
-pub(crate) fn look_one_up<L: Ledger, A: Abort>(
+/// A turn in `/e`, and what is to come of it.
+#[derive(Clone, Copy)]
+pub(crate) enum Turn {
+    /// It is done.
+    Done(Ask, &'static [u8]),
+    /// The first name becomes the second.
+    Renamed(&'static [u8], &'static [u8]),
+    /// The name isn't found by its path.
+    NotFound(&'static [u8]),
+    /// The name leads there once it is looked up.
+    Leads(&'static [u8], Option<u32>),
+    /// The name is cached so, or not.
+    Cached(&'static [u8], Option<u32>),
+    /// All caches are dropped.
+    Dropped,
+}
+
+const LOOK_ONE_UP: [Turn; 11] = [
+    Turn::Done(Ask::Create, b"f"),
+    Turn::Cached(b"f", None),
+    Turn::Leads(b"f", Some(2)),
+    Turn::Cached(b"f", Some(2)),
+    Turn::Leads(b"f", Some(2)),
+    Turn::Dropped,
+    Turn::Cached(b"f", None),
+    Turn::Leads(b"f", Some(2)),
+    Turn::Cached(b"f", Some(2)),
+    Turn::Leads(b"f", Some(2)),
+    Turn::Dropped,
+];
+
+// A name that moves or goes is forgotten at once, and the new one is cached once it is looked up.
+const MOVE_AND_REMOVE: [Turn; 11] = [
+    Turn::Done(Ask::Create, b"f"),
+    Turn::Leads(b"f", Some(2)),
+    Turn::Renamed(b"f", b"g"),
+    Turn::Cached(b"f", None),
+    Turn::Cached(b"g", None),
+    Turn::NotFound(b"f"),
+    Turn::Leads(b"g", Some(2)),
+    Turn::Cached(b"g", Some(2)),
+    Turn::Done(Ask::Unlink, b"g"),
+    Turn::Cached(b"g", None),
+    Turn::Leads(b"g", None),
+];
+
+// So it is with a directory.
+const MAKE_AND_REMOVE: [Turn; 5] = [
+    Turn::Done(Ask::Mkdir, b"d"),
+    Turn::Leads(b"d", Some(2)),
+    Turn::Cached(b"d", Some(2)),
+    Turn::Done(Ask::Rmdir, b"d"),
+    Turn::Cached(b"d", None),
+];
+
+/// Takes these turns in a new `/e`.
+pub(crate) fn take_turns<L: Ledger, A: Abort>(
     rt: &A,
     alloc: Global,
     state: &mut MountState,
+    turns: &[Turn],
     steps: &mut Steps<L>,
 ) {
     let _id = encrypted(rt, alloc, state, steps);
-    made(rt, alloc, state, b"f", steps);
-    for _ in 0..2 {
-        assert!(rt; cached(state, b"f").is_none());
-        assert!(rt; found(rt, alloc, state, b"f", steps) == Some(2));
-        assert!(rt; cached(state, b"f") == Some(2));
-        assert!(rt; found(rt, alloc, state, b"f", steps) == Some(2));
-        assert!(rt; is_done(drop_caches(state)));
+    for (place, turn) in turns.iter().enumerate() {
+        assert!(rt; comes_so(rt, alloc, state, *turn, steps), "turn {place}");
     }
 }
 
-// A name that moves or goes is forgotten, and the new one is cached once it is looked up.
-pub(crate) fn move_and_remove<L: Ledger, A: Abort>(
+fn comes_so<L: Ledger, A: Abort>(
     rt: &A,
     alloc: Global,
     state: &mut MountState,
+    turn: Turn,
     steps: &mut Steps<L>,
-) {
-    let _id = encrypted(rt, alloc, state, steps);
-    made(rt, alloc, state, b"f", steps);
-    assert!(rt; found(rt, alloc, state, b"f", steps) == Some(2));
-    move_f_to_g(rt, alloc, state, steps);
-    assert!(rt; cached(state, b"f").is_none());
-    assert!(rt; cached(state, b"g").is_none());
-    assert!(rt; found(rt, alloc, state, b"g", steps) == Some(2));
-    assert!(rt; cached(state, b"g") == Some(2));
-    unlink_g(rt, alloc, state, steps);
-    assert!(rt; cached(state, b"g").is_none());
-    assert!(rt; found(rt, alloc, state, b"g", steps).is_none());
+) -> bool {
+    match turn {
+        Turn::Done(ask, name) => is_done(asked(rt, alloc, state, (ask, name), steps)),
+        Turn::Renamed(from, to) => is_done(renamed(rt, alloc, state, (from, to), steps)),
+        Turn::NotFound(name) => {
+            let told = asked(rt, alloc, state, (Ask::Stat, name), steps);
+            is_refused(told, Refusal::NotFound)
+        }
+        Turn::Leads(name, node) => found(rt, alloc, state, name, steps) == node,
+        Turn::Cached(name, node) => cached(state, name) == node,
+        Turn::Dropped => is_done(drop_caches(state)),
+    }
 }
 
-fn move_f_to_g<L: Ledger, A: Abort>(
-    rt: &A,
-    alloc: Global,
-    state: &mut MountState,
-    steps: &mut Steps<L>,
-) {
-    let f = in_e(alloc, b"f").expect(rt, "memory");
-    let g = in_e(alloc, b"g").expect(rt, "memory");
-    assert!(rt; is_done(rename(alloc, state, &f, &g, steps)));
-    assert!(rt; is_refused(stat(alloc, state, &f, steps), Refusal::NotFound));
-}
-
-fn unlink_g<L: Ledger, A: Abort>(
-    rt: &A,
-    alloc: Global,
-    state: &mut MountState,
-    steps: &mut Steps<L>,
-) {
-    let g = in_e(alloc, b"g").expect(rt, "memory");
-    assert!(rt; is_done(unlink(alloc, state, &g, steps)));
-}
-
-// So it is with a directory.
-pub(crate) fn make_and_remove<L: Ledger, A: Abort>(
-    rt: &A,
-    alloc: Global,
-    state: &mut MountState,
-    steps: &mut Steps<L>,
-) {
-    let _id = encrypted(rt, alloc, state, steps);
-    let d = in_e(alloc, b"d").expect(rt, "memory");
-    assert!(rt; is_done(mkdir(alloc, state, &d, &NONCE, steps)));
-    assert!(rt; found(rt, alloc, state, b"d", steps) == Some(2));
-    assert!(rt; cached(state, b"d") == Some(2));
-    assert!(rt; is_done(rmdir(alloc, state, &d, steps)));
-    assert!(rt; cached(state, b"d").is_none());
+// The node of the name of this number, which is made in its turn.
+fn node_of(number: u16) -> Option<u32> {
+    Some(u32::from(number) + 2)
 }
 
 // Makes so many names, and looks each up once it is made.
@@ -121,9 +139,9 @@ fn make_names<L: Ledger, A: Abort>(
     steps: &mut Steps<L>,
 ) {
     for number in 0..count {
-        made(rt, alloc, state, &name_of(number), steps);
-        let node = found(rt, alloc, state, &name_of(number), steps);
-        assert!(rt; node == Some(u32::from(number) + 2));
+        let name = name_of(number);
+        assert!(rt; is_done(asked(rt, alloc, state, (Ask::Create, &name), steps)));
+        assert!(rt; found(rt, alloc, state, &name, steps) == node_of(number));
     }
 }
 
@@ -137,15 +155,19 @@ pub(crate) fn lose_the_key<L: Ledger, A: Abort>(
     let id = encrypted(rt, alloc, state, steps);
     make_names(rt, alloc, state, 300, steps);
     assert!(rt; cached(state, &name_of(299)) == Some(301));
-    assert!(rt; is_removed(remove_key(state, 0, &id), false, false));
-    assert!(rt; state.status(&id) == KeyState::Absent);
-    for number in 0..300 {
-        assert!(rt; cached(state, &name_of(number)).is_none());
-    }
+    remove_and_forget(rt, state, &id);
     assert!(rt; keyed(rt, alloc, state) == id);
     for number in 0..300 {
-        let node = found(rt, alloc, state, &name_of(number), steps);
-        assert!(rt; node == Some(u32::from(number) + 2));
+        assert!(rt; found(rt, alloc, state, &name_of(number), steps) == node_of(number));
+    }
+}
+
+// Removes the last claim on the key.
+fn remove_and_forget<A: Abort>(rt: &A, state: &mut MountState, id: &KeyId) {
+    assert!(rt; is_removed(remove_key(state, 0, id), false, false));
+    assert!(rt; state.status(id) == KeyState::Absent);
+    for number in 0..300 {
+        assert!(rt; cached(state, &name_of(number)).is_none());
     }
 }
 
@@ -160,6 +182,6 @@ pub(crate) fn look_257_up<L: Ledger, A: Abort>(
     make_names(rt, alloc, state, 257, steps);
     assert!(rt; cached(state, &name_of(0)).is_none());
     for number in 1..257 {
-        assert!(rt; cached(state, &name_of(number)) == Some(u32::from(number) + 2));
+        assert!(rt; cached(state, &name_of(number)) == node_of(number));
     }
 }

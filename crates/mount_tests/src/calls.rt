@@ -12,28 +12,36 @@ fn bytes_of(alloc: Global, length: usize) -> Result<Bytes, AllocError> {
     Ok(bytes)
 }
 
+fn adding_key(alloc: Global, length: usize) -> Result<Call, AllocError> {
+    let raw = bytes_of(alloc, length)?;
+    Ok(Call {
+        uid: 1000,
+        op: Op::AddKey { raw },
+    })
+}
+
+// Whether a copy of the call may be asked.
+fn copy_fits(alloc: Global, call: &Call) -> Result<bool, AllocError> {
+    let copy = call.copy(alloc)?;
+    Ok(copy.fits())
+}
+
 #[test]
 fn keys_of_1_to_128_bytes_may_be_asked_for(rt: HostRuntime) {
     let alloc = rt.alloc();
     for (length, fits) in [(0, false), (1, true), (128, true), (129, false)] {
-        let raw = bytes_of(alloc, length).expect(&rt, "an answer");
-        let call = Call {
-            uid: 1000,
-            op: Op::AddKey { raw },
-        };
+        let call = adding_key(alloc, length).expect(&rt, "memory");
         assert!(rt; call.fits() == fits, "a raw key of {length} bytes");
-        let copy = call.copy(alloc).expect(&rt, "an answer");
-        assert!(rt; copy.fits() == fits);
+        assert!(rt; copy_fits(alloc, &call) == Ok(fits));
     }
 }
 
 #[test]
 fn paths_are_copied(rt: HostRuntime) {
-    let alloc = rt.alloc();
-    let mut path = Path::root(alloc);
-    path.push(Part::new(bytes_of(alloc, 1000).expect(&rt, "an answer")))
-        .expect(&rt, "an answer");
-    let copy = path.copy(alloc).expect(&rt, "an answer");
+    let mut path = Path::root(rt.alloc());
+    let part = Part::new(bytes_of(rt.alloc(), 1000).expect(&rt, "memory"));
+    path.push(part).expect(&rt, "memory");
+    let copy = path.copy(rt.alloc()).expect(&rt, "memory");
     assert!(rt; copy.len() == 1);
     assert!(rt; copy.part(1).is_none());
 }

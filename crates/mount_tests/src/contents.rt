@@ -1,13 +1,11 @@
 //! Files in blocks, as Linux stores them.
-ghost use Rattle.std.specs.Prelude.{◌≡◌, ◌%◌, ◌^◌, []};
-ghost use Rattle.disk_tree.specs.Nodes.{blocks_of};
+ghost use Rattle.std.specs.Prelude.{◌≡◌, ◌%◌, ◌^◌};
 
-use disk_tree::{BlockList, Body, StoredNode};
-use file_disk::{ContentsKey, DiskFault, DiskTree, Unit, begin_read, finish_read, write_file};
+use crate::disk::add_file;
+use file_disk::{ContentsKey, DiskTree, Unit, begin_read, finish_read, write_file};
 use sha2::{Digest, Sha256};
-use std::alloc::Global;
+use std::alloc::{AllocError, Global};
 use std::process::Abort;
-use std::test::Fail;
 
 // Files of 9,192 bytes that Linux 6.12 stored in units of 512 bytes, with the SHA-256 of their first
 // two blocks: under a key of the file's own, and under a mode key as inode 116. Byte q is
@@ -36,19 +34,6 @@ fn contents() -> [u8; 9192] {
         *byte = (sum.wrapping_add(1) % 256) as u8;
     }
     contents
-}
-
-fn file(alloc: Global) -> StoredNode
-    ensures { blocks_of result.body ≡ [] }
-{
-    StoredNode {
-        context: None,
-        named: false,
-        body: Body::File {
-            blocks: BlockList::new(alloc),
-            size: 0,
-        },
-    }
 }
 
 // A key as its digits, and the index at which the units of a file start.
@@ -81,6 +66,7 @@ fn key_of(text: Option<KeyText>) -> Option<ContentsKey> {
     })
 }
 
+// Writes file 1.
 fn write<R: Abort>(
     rt: &R,
     disk: &mut DiskTree,
@@ -88,19 +74,17 @@ fn write<R: Abort>(
     key: Option<KeyText>,
     offset: u32,
     bytes: &[u8],
-) -> Result<(), DiskFault> {
+) {
     assert!(rt; disk.is_file(1));
     assert!(rt; offset <= 500_000 && bytes.len() <= 500_000);
     let mut key = key_of(key);
-    write_file(disk, alloc, 1, &mut key, offset, bytes)
+    let written = write_file(disk, alloc, 1, &mut key, offset, bytes);
+    assert!(rt; written == Ok(()), "a piece at {offset}");
 }
 
-// A new file, written in odd pieces: a gap first, then over borders of blocks and units, and other
+// A file that is written in odd pieces: a gap first, then over borders of blocks and units, and other
 // bytes that a piece which covers block 1 overwrites.
-fn written_in_pieces<R: Abort>(rt: &R, alloc: Global, key: Option<KeyText>) -> DiskTree {
-    let mut disk = DiskTree::new(alloc).expect(rt, "an answer");
-    assert!(rt; disk.node(1).is_none());
-    disk.add_node(1, file(alloc)).expect(rt, "an answer");
+fn write_in_pieces<R: Abort>(rt: &R, disk: &mut DiskTree, alloc: Global, key: Option<KeyText>) {
     let contents = contents();
     for (from, to) in [
         (5000, 9192),
@@ -110,71 +94,93 @@ fn written_in_pieces<R: Abort>(rt: &R, alloc: Global, key: Option<KeyText>) -> D
         (4097, 5000),
         (700, 700),
     ] {
-        write(
-            rt,
-            &mut disk,
-            alloc,
-            key,
-            from,
-            &contents[from as usize..to],
-        )
-        .expect(rt, "an answer");
+        let piece = contents.get(from as usize..to).expect(rt, "a piece");
+        write(rt, disk, alloc, key, from, piece);
     }
-    write(rt, &mut disk, alloc, key, 4000, &[0x5a; 4192]).expect(rt, "an answer");
-    write(rt, &mut disk, alloc, key, 4000, &contents[4000..8192]).expect(rt, "an answer");
+    write(rt, disk, alloc, key, 4000, &[0x5a; 4192]);
+    write(rt, disk, alloc, key, 4000, &contents[4000..8192]);
+}
+
+// A disk with that file alone.
+fn written_in_pieces<R: Abort>(rt: &R, alloc: Global, key: Option<KeyText>) -> DiskTree {
+    let mut disk = DiskTree::new(alloc).expect(rt, "memory");
+    assert!(rt; add_file(rt, &mut disk, alloc, 1).is_ok());
+    write_in_pieces(rt, &mut disk, alloc, key);
     disk
 }
 
 #[test]
 fn a_file_written_in_pieces_is_stored_as_linux_stores_it(rt: HostRuntime) {
-    for (key, blocks) in [(OWN, &OWN_BLOCKS), (MODE, &MODE_BLOCKS)] {
+    for (key, blocks) in [(OWN, OWN_BLOCKS), (MODE, MODE_BLOCKS)] {
         assert!(rt; key_of(Some(key)).is_some());
         let disk = written_in_pieces(&rt, rt.alloc(), Some(key));
-        assert!(rt; disk.file_size(1) == 9192);
-        assert!(rt; disk.block_count(1) == 3);
-        for (index, sha256) in blocks.iter().enumerate() {
-            assert!(rt; index < 2 && disk.block_count(1) == 3);
-            let digest = Sha256::digest(disk.block(1, index as u32));
-            assert!(rt;
-                hex::encode(rt.alloc(), digest.as_slice())
-                    .expect(&rt, "an answer")
-                    .as_str()
-                    == *sha256
-            );
-        }
+        expect_blocks(&rt, &disk, rt.alloc(), blocks);
     }
+}
+
+// That the file has three blocks, of which the first two have these digests.
+fn expect_blocks<R: Abort>(rt: &R, disk: &DiskTree, alloc: Global, blocks: [&str; 2]) {
+    assert!(rt; disk.file_size(1) == 9192);
+    assert!(rt; disk.block_count(1) == 3);
+    for (index, sha256) in [(0, blocks[0]), (1, blocks[1])] {
+        let digits = digest_of(disk, alloc, index).expect(rt, "memory");
+        assert!(rt; digits.as_str() == sha256);
+    }
+}
+
+// The digits of a block's digest; of no block, where the file hasn't this one.
+fn digest_of(disk: &DiskTree, alloc: Global, index: u32) -> Result<String, AllocError> {
+    if index as usize >= disk.block_count(1) {
+        return Ok(String::new(alloc));
+    }
+    let digest = Sha256::digest(disk.block(1, index));
+    hex::encode(alloc, digest.as_slice())
 }
 
 #[test]
 fn a_read_gives_what_was_written(rt: HostRuntime) {
-    let alloc = rt.alloc();
-    let contents = contents();
     for key in [Some(OWN), Some(MODE), None] {
-        let disk = written_in_pieces(&rt, alloc, key);
-        for (offset, len, end) in [
-            (0, 4096, 4096),
-            (4090, 20, 4110),
-            (2048, 4096, 6144),
-            (9000, 4096, 9192),
-        ] {
-            let mut taken = key_of(key);
-            match begin_read(&disk, alloc, 1, &mut taken, offset, len).expect(&rt, "an answer") {
-                Some(lent) => assert!(rt;
-                    finish_read(lent).as_slice() == &contents[offset as usize..end]
-                ),
-                None => panic!(rt; "the file has bytes there"),
-            }
-        }
-        let mut taken = key_of(key);
-        assert!(rt;
-            begin_read(&disk, alloc, 1, &mut taken, 9192, 1)
-                .expect(&rt, "an answer")
-                .is_none()
-        );
-        assert!(rt;
-            begin_read(&disk, alloc, 1, &mut taken, 0, 0)
-                .expect(&rt, "an answer")
-                .is_none()
-        );
+        let disk = written_in_pieces(&rt, rt.alloc(), key);
+        read_in_parts(&rt, &disk, rt.alloc(), key);
+        read_nothing(&rt, &disk, rt.alloc(), key);
+    }
+}
+
+fn read_in_parts<R: Abort>(rt: &R, disk: &DiskTree, alloc: Global, key: Option<KeyText>) {
+    let contents = contents();
+    for (offset, len, end) in [
+        (0, 4096, 4096),
+        (4090, 20, 4110),
+        (2048, 4096, 6144),
+        (9000, 4096, 9192),
+    ] {
+        let wanted = contents.get(offset as usize..end).expect(rt, "a part");
+        read(rt, disk, alloc, key, (offset, len), wanted);
+    }
+}
+
+// That a read of so many bytes from there on gives these.
+fn read<R: Abort>(
+    rt: &R,
+    disk: &DiskTree,
+    alloc: Global,
+    key: Option<KeyText>,
+    (offset, len): (u32, u32),
+    wanted: &[u8],
+) {
+    assert!(rt; len <= 4096);
+    let mut key = key_of(key);
+    match begin_read(disk, alloc, 1, &mut key, offset, len).expect(rt, "memory") {
+        Some(lent) => assert!(rt; finish_read(lent).as_slice() == wanted),
+        None => panic!(rt; "the file has bytes there"),
+    }
+}
+
+// At the file's end, and where no byte is asked for.
+fn read_nothing<R: Abort>(rt: &R, disk: &DiskTree, alloc: Global, key: Option<KeyText>) {
+    let mut key = key_of(key);
+    for (offset, len) in [(9192, 1), (0, 0)] {
+        let part = begin_read(disk, alloc, 1, &mut key, offset, len).expect(rt, "memory");
+        assert!(rt; part.is_none());
     }
 }

@@ -1,10 +1,11 @@
 //! An encrypted directory `/e`, and what is asked of its names. A mount is always lent: a function that owns one gives
 //! it up at each of its ends, and is dear to prove.
+use crate::paths::{part, path_in, path_of};
 use crate::told::{is_done, key_added};
 use item_list::Bytes;
 use mount_keys::add_key;
-use mount_model::{KeyId, Part, Path};
-use mount_names::{create, lookup, mkdir, set_policy};
+use mount_model::{KeyId, Part, Path, Reply};
+use mount_names::{create, lookup, mkdir, rename, rmdir, set_policy, stat, unlink};
 use mount_state::MountState;
 use name_crypt::Steps;
 use std::alloc::{AllocError, Global};
@@ -14,7 +15,7 @@ use std::sync::ledger::Ledger;
 /// The number of `/e`, which is made first.
 const DIR: u32 = 1;
 
-pub(crate) const NONCE: [u8; 16] = [7; 16];
+const NONCE: [u8; 16] = [7; 16];
 
 /// AES-256-XTS and AES-256-CTS-CBC, names padded to 32 bytes, as Linux lays a policy out; then 16 bytes of an
 /// identifier.
@@ -37,10 +38,21 @@ pub(crate) fn encrypted<L: Ledger, A: Abort>(
 ) -> KeyId {
     let id = keyed(rt, alloc, state);
     let e = path_of(alloc, b"e").expect(rt, "memory");
-    assert!(rt; is_done(mkdir(alloc, state, &e, &NONCE, steps)));
-    let policy = policy_under(&id);
-    assert!(rt; is_done(set_policy(alloc, state, 0, &e, &policy, &NONCE, steps)));
+    encrypt(rt, alloc, state, (&e, &id), steps);
     id
+}
+
+// Makes the directory, and sets the policy under the key.
+fn encrypt<L: Ledger, A: Abort>(
+    rt: &A,
+    alloc: Global,
+    state: &mut MountState,
+    (dir, id): (&Path, &KeyId),
+    steps: &mut Steps<L>,
+) {
+    assert!(rt; is_done(mkdir(alloc, state, dir, &NONCE, steps)));
+    let policy = policy_under(id);
+    assert!(rt; is_done(set_policy(alloc, state, 0, dir, &policy, &NONCE, steps)));
 }
 
 // The policy under the key.
@@ -50,16 +62,55 @@ fn policy_under(id: &KeyId) -> [u8; 24] {
     policy
 }
 
-/// Makes the file `/e/NAME`.
-pub(crate) fn made<L: Ledger, A: Abort>(
+/// What is asked of a name in `/e`.
+#[derive(Clone, Copy)]
+pub(crate) enum Ask {
+    Create,
+    Mkdir,
+    Stat,
+    Unlink,
+    Rmdir,
+}
+
+/// Asks this of `/e/NAME`.
+pub(crate) fn asked<L: Ledger, A: Abort>(
     rt: &A,
     alloc: Global,
     state: &mut MountState,
-    name: &[u8],
+    (ask, name): (Ask, &[u8]),
     steps: &mut Steps<L>,
-) {
-    let path = in_e(alloc, name).expect(rt, "memory");
-    assert!(rt; is_done(create(alloc, state, &path, &NONCE, steps)));
+) -> Reply {
+    let path = path_in(alloc, b"e", name).expect(rt, "memory");
+    asked_at(alloc, state, ask, &path, steps)
+}
+
+fn asked_at<L: Ledger>(
+    alloc: Global,
+    state: &mut MountState,
+    ask: Ask,
+    path: &Path,
+    steps: &mut Steps<L>,
+) -> Reply {
+    match ask {
+        Ask::Create => create(alloc, state, path, &NONCE, steps),
+        Ask::Mkdir => mkdir(alloc, state, path, &NONCE, steps),
+        Ask::Stat => stat(alloc, state, path, steps),
+        Ask::Unlink => unlink(alloc, state, path, steps),
+        Ask::Rmdir => rmdir(alloc, state, path, steps),
+    }
+}
+
+/// Renames `/e/FROM` to `/e/TO`.
+pub(crate) fn renamed<L: Ledger, A: Abort>(
+    rt: &A,
+    alloc: Global,
+    state: &mut MountState,
+    (from, to): (&[u8], &[u8]),
+    steps: &mut Steps<L>,
+) -> Reply {
+    let from = path_in(alloc, b"e", from).expect(rt, "memory");
+    let to = path_in(alloc, b"e", to).expect(rt, "memory");
+    rename(alloc, state, &from, &to, steps)
 }
 
 /// Where the name leads in `/e`.
@@ -71,10 +122,21 @@ pub(crate) fn found<L: Ledger, A: Abort>(
     steps: &mut Steps<L>,
 ) -> Option<u32> {
     let part = part(alloc, name).expect(rt, "memory");
-    if !state.disk.is_dir(DIR) || part.bytes().len() > 255 {
+    looked_up(alloc, state, DIR, &part, steps)
+}
+
+/// Where the name leads in the directory.
+pub(crate) fn looked_up<L: Ledger>(
+    alloc: Global,
+    state: &mut MountState,
+    dir: u32,
+    part: &Part,
+    steps: &mut Steps<L>,
+) -> Option<u32> {
+    if !state.disk.is_dir(dir) || part.bytes().len() > 255 {
         return None;
     }
-    lookup(alloc, state, DIR, &part, steps)
+    lookup(alloc, state, dir, part, steps)
 }
 
 /// Where the name leads that is cached of `/e`.
@@ -99,22 +161,4 @@ pub(crate) fn name_of(number: u16) -> [u8; 5] {
         0x60 | (low >> 4),
         0x60 | (low & 15),
     ]
-}
-
-fn part(alloc: Global, name: &[u8]) -> Result<Part, AllocError> {
-    Ok(Part::new(Bytes::from_vec(Vec::from_slice(alloc, name)?)))
-}
-
-// The path of one part.
-fn path_of(alloc: Global, name: &[u8]) -> Result<Path, AllocError> {
-    let mut path = Path::root(alloc);
-    path.push(part(alloc, name)?)?;
-    Ok(path)
-}
-
-/// The path `/e/NAME`.
-pub(crate) fn in_e(alloc: Global, name: &[u8]) -> Result<Path, AllocError> {
-    let mut path = path_of(alloc, b"e")?;
-    path.push(part(alloc, name)?)?;
-    Ok(path)
 }

@@ -26,7 +26,10 @@ fn numbers_of_handles_are_not_given_again(rt: HostRuntime) {
 
 #[test]
 fn an_empty_mount_holds_no_key_and_no_name(rt: HostRuntime) {
-    let state = MountState::new(rt.alloc()).expect(&rt, "memory");
+    try_on_a_mount(&rt, rt.alloc(), Trial::AskAnEmptyMount);
+}
+
+pub(crate) fn ask_an_empty_mount<A: Abort>(rt: &A, state: &MountState) {
     assert!(rt; state.status(&KeyId([7; 16])) == KeyState::Absent);
     assert!(rt; state.keyed(0));
     assert!(rt; state.entry_by_name(0, b"letter").is_none());
@@ -46,13 +49,25 @@ pub(crate) fn open_and_close<L: Ledger, A: Abort>(
 ) {
     let root = Path::root(alloc);
     for number in 0..2 {
-        let opened = open_node(alloc, state, 7, &root, steps);
-        assert!(rt; handle_opened(opened) == Some(number));
+        assert!(rt; opens(alloc, state, &root, steps) == Some(number));
     }
+    close_both(rt, state);
+    assert!(rt; opens(alloc, state, &root, steps) == Some(2));
+}
+
+// The handle that user 7 opens.
+fn opens<L: Ledger>(
+    alloc: Global,
+    state: &mut MountState,
+    path: &Path,
+    steps: &mut Steps<L>,
+) -> Option<u32> {
+    handle_opened(open_node(alloc, state, 7, path, steps))
+}
+
+fn close_both<A: Abort>(rt: &A, state: &mut MountState) {
     assert!(rt; is_refused(close(state, 8, 0), Refusal::BadHandle));
     assert!(rt; is_done(close(state, 7, 0)));
     assert!(rt; is_refused(close(state, 7, 0), Refusal::BadHandle));
     assert!(rt; is_done(close(state, 7, 1)));
-    let third = open_node(alloc, state, 7, &root, steps);
-    assert!(rt; handle_opened(third) == Some(2));
 }

@@ -24,6 +24,8 @@ mod node_keys;
 #[cfg(test)]
 mod on_a_mount;
 #[cfg(test)]
+mod paths;
+#[cfg(test)]
 mod records;
 #[cfg(test)]
 mod told;

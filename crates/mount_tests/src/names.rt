@@ -1,13 +1,14 @@
 //! Calls on names.
 
+use crate::encrypted_dir::looked_up;
 use crate::on_a_mount::{Trial, try_on_a_mount};
+use crate::paths::{part, path_in, path_of};
 use crate::told::{is_done, is_refused};
-use item_list::Bytes;
-use mount_model::{NodeKind, Part, Path, Refusal, Reply};
-use mount_names::{create, get_policy, lookup, mkdir, read_link, stat};
+use mount_model::{NodeKind, Path, Refusal, Reply};
+use mount_names::{create, get_policy, mkdir, read_link, stat};
 use mount_state::MountState;
 use name_crypt::Steps;
-use std::alloc::{AllocError, Global};
+use std::alloc::Global;
 use std::process::Abort;
 use std::sync::ledger::Ledger;
 
@@ -41,17 +42,6 @@ fn is_plain(told: Reply, kind: NodeKind, node: u32) -> bool {
     )
 }
 
-fn part(alloc: Global, name: &[u8]) -> Result<Part, AllocError> {
-    Ok(Part::new(Bytes::from_vec(Vec::from_slice(alloc, name)?)))
-}
-
-// The path `/letters`.
-fn letters(alloc: Global) -> Result<Path, AllocError> {
-    let mut letters = Path::root(alloc);
-    letters.push(part(alloc, b"letters")?)?;
-    Ok(letters)
-}
-
 fn ask_of_the_root<L: Ledger, A: Abort>(
     rt: &A,
     alloc: Global,
@@ -59,13 +49,21 @@ fn ask_of_the_root<L: Ledger, A: Abort>(
     steps: &mut Steps<L>,
 ) {
     let root = Path::root(alloc);
-    assert!(rt; is_plain(stat(alloc, state, &root, steps), NodeKind::Dir, 0));
-    assert!(rt; is_refused(get_policy(alloc, state, &root, steps), Refusal::NoData));
-    assert!(rt; is_refused(read_link(alloc, state, &root, steps), Refusal::Inval));
+    ask_at_the_root(rt, alloc, state, &root, steps);
     let part = part(alloc, b"letter").expect(rt, "memory");
-    if state.disk.is_dir(0) && part.bytes().len() < 255 {
-        assert!(rt; lookup(alloc, state, 0, &part, steps).is_none());
-    }
+    assert!(rt; looked_up(alloc, state, 0, &part, steps).is_none());
+}
+
+fn ask_at_the_root<L: Ledger, A: Abort>(
+    rt: &A,
+    alloc: Global,
+    state: &mut MountState,
+    root: &Path,
+    steps: &mut Steps<L>,
+) {
+    assert!(rt; is_plain(stat(alloc, state, root, steps), NodeKind::Dir, 0));
+    assert!(rt; is_refused(get_policy(alloc, state, root, steps), Refusal::NoData));
+    assert!(rt; is_refused(read_link(alloc, state, root, steps), Refusal::Inval));
 }
 
 fn make_a_directory<L: Ledger, A: Abort>(
@@ -74,7 +72,7 @@ fn make_a_directory<L: Ledger, A: Abort>(
     state: &mut MountState,
     steps: &mut Steps<L>,
 ) {
-    let letters = letters(alloc).expect(rt, "memory");
+    let letters = path_of(alloc, b"letters").expect(rt, "memory");
     assert!(rt; is_done(mkdir(alloc, state, &letters, &[7; 16], steps)));
     assert!(rt;
         is_refused(
@@ -90,9 +88,7 @@ fn make_a_file<L: Ledger, A: Abort>(
     state: &mut MountState,
     steps: &mut Steps<L>,
 ) {
-    let mut file = letters(alloc).expect(rt, "memory");
-    file.push(part(alloc, b"letter").expect(rt, "memory"))
-        .expect(rt, "memory");
+    let file = path_in(alloc, b"letters", b"letter").expect(rt, "memory");
     assert!(rt; is_done(create(alloc, state, &file, &[9; 16], steps)));
     assert!(rt; is_plain(stat(alloc, state, &file, steps), NodeKind::File, 2));
 }

@@ -2,10 +2,8 @@
 //! dear to prove.
 ghost use Rattle.std.specs.Prelude.{◌≡◌, ◌<◌};
 
-use crate::cached_names::{
-    look_257_up, look_one_up, lose_the_key, make_and_remove, move_and_remove,
-};
-use crate::handles::open_and_close;
+use crate::cached_names::{Turn, look_257_up, lose_the_key, take_turns};
+use crate::handles::{ask_an_empty_mount, open_and_close};
 use crate::keys::{add_each_size, add_twice, remove_for_all};
 use crate::names::ask_a_new_mount;
 use crate::records::load_and_store;
@@ -19,11 +17,10 @@ use std::sync::ledger::{Blank, Ledger};
 /// What is tried.
 #[derive(Clone, Copy)]
 pub(crate) enum Trial {
-    LookOneUp,
-    MoveAndRemove,
-    MakeAndRemove,
+    TakeTurns(&'static [Turn]),
     LoseTheKey,
     Look257Up,
+    AskAnEmptyMount,
     AskANewMount,
     OpenAndClose,
     AddTwice,
@@ -34,18 +31,24 @@ pub(crate) enum Trial {
 
 /// Tries this on a new mount.
 pub(crate) fn try_on_a_mount<A: Abort>(rt: &A, alloc: Global, trial: Trial) {
-    own_a_mount::<Brand, A>(rt, alloc, Blank::new(1), trial);
+    let mut state = MountState::new(alloc).expect(rt, "memory");
+    try_counted::<Brand, A>(rt, alloc, Blank::new(1), &mut state, trial);
 }
 
 // With a ledger of its own, on which each encryption ticks: that a cached name ticks nothing is a clause.
-fn own_a_mount<L: Ledger, A: Abort>(rt: &A, alloc: Global, blank: Blank, trial: Trial)
+fn try_counted<L: Ledger, A: Abort>(
+    rt: &A,
+    alloc: Global,
+    blank: Blank,
+    state: &mut MountState,
+    trial: Trial,
+)
     requires name { blank.name ≡ L.name }
     requires parts { blank.parts ≡ L.parts }
     requires some { 0 < L.parts }
 {
     let mut steps = Steps::<L>::new(blank);
-    let mut state = MountState::new(alloc).expect(rt, "memory");
-    try_on(rt, alloc, &mut state, &mut steps, trial);
+    try_on(rt, alloc, state, &mut steps, trial);
 }
 
 fn try_on<L: Ledger, A: Abort>(
@@ -56,11 +59,10 @@ fn try_on<L: Ledger, A: Abort>(
     trial: Trial,
 ) {
     match trial {
-        Trial::LookOneUp => look_one_up(rt, alloc, state, steps),
-        Trial::MoveAndRemove => move_and_remove(rt, alloc, state, steps),
-        Trial::MakeAndRemove => make_and_remove(rt, alloc, state, steps),
+        Trial::TakeTurns(turns) => take_turns(rt, alloc, state, turns, steps),
         Trial::LoseTheKey => lose_the_key(rt, alloc, state, steps),
         Trial::Look257Up => look_257_up(rt, alloc, state, steps),
+        Trial::AskAnEmptyMount => ask_an_empty_mount(rt, state),
         Trial::AskANewMount => ask_a_new_mount(rt, alloc, state, steps),
         Trial::OpenAndClose => open_and_close(rt, alloc, state, steps),
         Trial::AddTwice => add_twice(rt, alloc, state),

@@ -69,15 +69,34 @@ fn is_the_first(told: Reply) -> bool {
 
 pub(crate) fn load_and_store<A: Abort>(rt: &A, alloc: Global, state: &mut MountState) {
     let name = bytes_of(alloc, b"policy/docs").expect(rt, "memory");
-    let first = bytes_of(alloc, &[0]).expect(rt, "memory");
-    let second = bytes_of(alloc, &[1]).expect(rt, "memory");
-    let long = Bytes::from_vec(Vec::from_elem(alloc, 0, 8_193).expect(rt, "memory"));
     assert!(rt; is_refused(meta_load(alloc, state, &name), Refusal::NotFound));
-    assert!(rt; version_stored(meta_store(alloc, state, &name, 0, &first)) == Some(1));
-    assert!(rt; is_the_first(meta_load(alloc, state, &name)));
-    assert!(rt; version_stored(meta_store(alloc, state, &name, 1, &second)) == Some(2));
-    let stale = meta_store(alloc, state, &name, 1, &first);
+    store_first(rt, alloc, state, &name);
+    store_again(rt, alloc, state, &name);
+}
+
+fn store_first<A: Abort>(rt: &A, alloc: Global, state: &mut MountState, name: &Bytes) {
+    let first = stored(rt, alloc, state, (name, 0), &[0]);
+    assert!(rt; version_stored(first) == Some(1));
+    assert!(rt; is_the_first(meta_load(alloc, state, name)));
+}
+
+fn store_again<A: Abort>(rt: &A, alloc: Global, state: &mut MountState, name: &Bytes) {
+    let second = stored(rt, alloc, state, (name, 1), &[1]);
+    assert!(rt; version_stored(second) == Some(2));
+    let stale = stored(rt, alloc, state, (name, 1), &[0]);
     assert!(rt; is_refused(stale, Refusal::Changed { version: 2 }));
-    let too_big = meta_store(alloc, state, &name, 2, &long);
+    let too_big = stored(rt, alloc, state, (name, 2), &[0; 8_193]);
     assert!(rt; is_refused(too_big, Refusal::TooBig));
+}
+
+// What is told of storing these bytes over this version.
+fn stored<A: Abort>(
+    rt: &A,
+    alloc: Global,
+    state: &mut MountState,
+    (name, version): (&Bytes, u32),
+    bytes: &[u8],
+) -> Reply {
+    let bytes = bytes_of(alloc, bytes).expect(rt, "memory");
+    meta_store(alloc, state, name, version, &bytes)
 }
