@@ -1,10 +1,11 @@
 //! Keys that are drawn from raw keys.
 
-use crate::spelled::{same, spells};
+use crate::linux::raw_key_of;
+use crate::spelled::{expect_digits, expect_same};
 use fsc_keys::{
     FileKey, KeyKind, KeySize, PreparedKey, RawKey, descriptor, file_key, key_id, mode_key,
 };
-use std::alloc::{AllocError, Global};
+use std::alloc::Global;
 use std::process::Abort;
 
 // Identifiers that Linux 6.1 gave to these raw keys.
@@ -29,12 +30,9 @@ fn identifiers_are_those_of_linux(rt: HostRuntime) {
         ),
     ];
     for (raw, want) in cases {
-        let raw = RawKey::read(&hex::decode(rt.alloc(), raw).expect(&rt, "an answer")).expect(
-            &rt,
-            "an answer",
-        );
+        let raw = raw_key_of(&rt, rt.alloc(), raw);
         let id = key_id(&raw);
-        spells(&rt, rt.alloc(), &id.0, want);
+        expect_digits(&rt, rt.alloc(), &id.0, want);
         assert!(rt; PreparedKey::new(raw).id() == id);
     }
 }
@@ -59,23 +57,23 @@ fn file_keys_are_those_of_python(rt: HostRuntime) {
         ),
     ];
     for (len, nonce, contents, names) in cases {
-        let raw = counting_key(len).expect(&rt, "an answer");
+        let raw = counting_key(len).expect(&rt, "a key");
         let mut bytes = [0; 16];
-        hex::decode_to_slice(nonce, &mut bytes).expect(&rt, "an answer");
-        key_spells(
+        hex::decode_to_slice(nonce, &mut bytes).expect(&rt, "digits");
+        expect_key(
             &rt,
             rt.alloc(),
             file_key(&raw, KeyKind::Contents, &bytes),
             contents,
         );
-        key_spells(
+        expect_key(
             &rt,
             rt.alloc(),
             file_key(&raw, KeyKind::Names, &bytes),
             names,
         );
         let prepared = PreparedKey::new(raw).file_key(KeyKind::Names, &bytes);
-        key_spells(&rt, rt.alloc(), prepared, names);
+        expect_key(&rt, rt.alloc(), prepared, names);
     }
 }
 
@@ -97,11 +95,11 @@ fn mode_keys_are_those_of_python(rt: HostRuntime) {
         ),
     ];
     for (len, contents, names) in cases {
-        let raw = counting_key(len).expect(&rt, "an answer");
-        key_spells(&rt, rt.alloc(), mode_key(&raw, KeyKind::Contents), contents);
-        key_spells(&rt, rt.alloc(), mode_key(&raw, KeyKind::Names), names);
+        let raw = counting_key(len).expect(&rt, "a key");
+        expect_key(&rt, rt.alloc(), mode_key(&raw, KeyKind::Contents), contents);
+        expect_key(&rt, rt.alloc(), mode_key(&raw, KeyKind::Names), names);
         let prepared = PreparedKey::new(raw).mode_key(KeyKind::Names);
-        key_spells(&rt, rt.alloc(), prepared, names);
+        expect_key(&rt, rt.alloc(), prepared, names);
     }
 }
 
@@ -115,19 +113,19 @@ fn counting_key(len: usize) -> Result<RawKey, KeySize> {
 }
 
 // That the key has these digits.
-fn key_spells<A: Abort>(rt: &A, alloc: Global, key: FileKey, digits: &str) {
+fn expect_key<A: Abort>(rt: &A, alloc: Global, key: FileKey, digits: &str) {
     match key {
-        FileKey::Contents(key) => spells(rt, alloc, &key, digits),
-        FileKey::Names(key) => spells(rt, alloc, &key, digits),
+        FileKey::Contents(key) => expect_digits(rt, alloc, &key, digits),
+        FileKey::Names(key) => expect_digits(rt, alloc, &key, digits),
     }
 }
 
 // Python's hashlib: the first 8 bytes of SHA-512 of SHA-512.
 #[test]
 fn descriptors_are_those_of_python(rt: HostRuntime) {
-    same(&rt, &descriptor(&[0; 32]), b"6d78a62a9362b617", "32 zeros");
-    same(&rt, &descriptor(&[1; 32]), b"509eafe591531d4f", "32 ones");
-    same(&rt, &descriptor(&[]), b"826df068457df5dd", "nothing");
+    expect_same(&rt, &descriptor(&[0; 32]), b"6d78a62a9362b617", "32 zeros");
+    expect_same(&rt, &descriptor(&[1; 32]), b"509eafe591531d4f", "32 ones");
+    expect_same(&rt, &descriptor(&[]), b"826df068457df5dd", "nothing");
 }
 
 #[test]
@@ -139,12 +137,16 @@ fn raw_keys_have_32_to_64_bytes(rt: HostRuntime) {
             Err(fault) => assert!(rt; !read && fault.len == len),
         }
     }
-    let mut key = RawKey::read(&bytes[..40]).expect(&rt, "an answer");
+}
+
+#[test]
+fn keys_that_are_wiped_are_zeros(rt: HostRuntime) {
+    let mut key = RawKey::read(&[7; 40]).expect(&rt, "a key");
+    let mut prepared = PreparedKey::new(RawKey::read(&[7; 40]).expect(&rt, "a key"));
     key.wipe();
-    same(&rt, key.bytes(), &[0; 40], "a key that was wiped");
-    let mut prepared = PreparedKey::new(RawKey::read(&bytes[..40]).expect(&rt, "an answer"));
+    expect_same(&rt, key.bytes(), &[0; 40], "a key that was wiped");
     prepared.wipe();
-    same(
+    expect_same(
         &rt,
         prepared.bytes(),
         &[0; 40],

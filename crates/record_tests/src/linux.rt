@@ -3,7 +3,7 @@ ghost use Rattle.std.specs.Prelude.{◌≡◌, ◌<◌};
 
 use crate::linux_vectors::{NAMES, RAW, TARGETS};
 use crate::linux_vectors_by_mode::{NAMES_BY_MODE, POLICIES, TARGETS_BY_MODE};
-use crate::spelled::{same, spells};
+use crate::spelled::{expect_digits, expect_same};
 use fsc_keys::{FileKey, KeyKind, RawKey, file_key, key_id, mode_key};
 use name_crypt::{Plain, Steps, StoredName, decrypt_name, encrypt_name, nokey_matches, nokey_text};
 use policy_ctx::{Pad, decode_policy, encode_policy};
@@ -67,14 +67,19 @@ fn stored_so<A: Abort>(
     let plain = hex::decode(alloc, texts.0).expect(rt, "digits");
     let name = Plain::read(&plain).expect(rt, "a name");
     let stored = stored_once::<Brand>(Blank::new(1), key, iv, pad, &name);
-    spells(rt, alloc, stored.bytes(), texts.1);
+    expect_digits(rt, alloc, stored.bytes(), texts.1);
     assert!(rt; decrypt_name(key, iv, &stored) == Ok(name));
     stored
 }
 
 // The raw key under which everything here was stored.
 pub(crate) fn raw_key<A: Abort>(rt: &A, alloc: Global) -> RawKey {
-    let bytes = hex::decode(alloc, RAW).expect(rt, "digits");
+    raw_key_of(rt, alloc, RAW)
+}
+
+// The raw key of these digits.
+pub(crate) fn raw_key_of<A: Abort>(rt: &A, alloc: Global, digits: &str) -> RawKey {
+    let bytes = hex::decode(alloc, digits).expect(rt, "digits");
     RawKey::read(&bytes).expect(rt, "a raw key")
 }
 
@@ -85,14 +90,14 @@ fn names_are_those_of_linux(rt: HostRuntime) {
         let key = names_key(&raw, known.nonce).expect(&rt, "a names key");
         let texts = (known.plain, known.stored);
         let stored = stored_so(&rt, rt.alloc(), &key, [0; 16], known.pad, texts);
-        same(
-            &rt,
-            nokey_text(&stored).bytes(),
-            known.listed.as_bytes(),
-            known.listed,
-        );
-        assert!(rt; nokey_matches(known.listed.as_bytes(), &stored));
+        expect_nokey(&rt, &stored, known.listed);
     }
+}
+
+// That the stored name is listed so without its key.
+fn expect_nokey<A: Abort>(rt: &A, stored: &StoredName, listed: &str) {
+    expect_same(rt, nokey_text(stored).bytes(), listed.as_bytes(), listed);
+    assert!(rt; nokey_matches(listed.as_bytes(), stored));
 }
 
 #[test]
@@ -112,12 +117,7 @@ fn names_under_a_mode_key_are_those_of_linux(rt: HostRuntime) {
         let texts = (known.plain, known.stored);
         let iv = iv_of(known.directory);
         let stored = stored_so(&rt, rt.alloc(), &key, iv, known.pad, texts);
-        same(
-            &rt,
-            nokey_text(&stored).bytes(),
-            known.listed.as_bytes(),
-            known.listed,
-        );
+        expect_nokey(&rt, &stored, known.listed);
     }
 }
 
@@ -135,11 +135,9 @@ fn targets_under_a_mode_key_are_those_of_linux(rt: HostRuntime) {
 fn policies_that_linux_took_decode(rt: HostRuntime) {
     let id = key_id(&raw_key(&rt, rt.alloc()));
     for known in POLICIES {
-        let policy = decode_policy(&hex::decode(rt.alloc(), known).expect(&rt, "an answer")).expect(
-            &rt,
-            "an answer",
-        );
+        let bytes = hex::decode(rt.alloc(), known).expect(&rt, "digits");
+        let policy = decode_policy(&bytes).expect(&rt, "a policy");
         assert!(rt; policy.id == id, "{known}");
-        spells(&rt, rt.alloc(), &encode_policy(&policy), known);
+        expect_digits(&rt, rt.alloc(), &encode_policy(&policy), known);
     }
 }

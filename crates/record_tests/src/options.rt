@@ -1,8 +1,8 @@
 //! Options in records of policies.
 ghost use Rattle.std.specs.Prelude.{◌≤◌};
 
-use crate::protectors::{record, with_line};
-use crate::wraps::{DOCS, WRAPPED, is_at_fault, is_written, policy_for};
+use crate::protectors::{push_lines, record, with_line};
+use crate::wraps::{DOCS, expect_written, is_at_fault, policy_for, push_wrap};
 use protector_meta::{Options, Pad, Unit, add_protector, decode_policy_file, drop_protector};
 use std::alloc::{AllocError, Global};
 
@@ -20,16 +20,14 @@ fn record_with_options(alloc: Global, lines: usize) -> Result<Vec<u8>, AllocErro
     requires within { lines ≤ 5 }
 {
     let mut text = record(alloc, &WITH_OPTIONS)?;
-    let wraps = record(alloc, &DOCS[3..lines])?;
-    text.extend_from_slice(&wraps)?;
+    push_lines(&mut text, &DOCS[3..lines])?;
     Ok(text)
 }
 
 // The lines before the wraps, with another in the place of this number, and a wrap behind them.
 fn wrapped_behind(alloc: Global, number: u32, said: &[u8]) -> Result<Vec<u8>, AllocError> {
     let mut text = with_line(alloc, &WITH_OPTIONS, number, said)?;
-    text.extend_from_slice(b"wrap a")?;
-    text.extend_from_slice(WRAPPED)?;
+    push_wrap(&mut text, b'a')?;
     Ok(text)
 }
 
@@ -41,26 +39,22 @@ fn options_stand_in_records_of_version_2(rt: HostRuntime) {
         unit: Unit::Block,
     };
     for (lines, len) in [(4, 310), (5, 549)] {
-        let text = record_with_options(alloc, lines).expect(&rt, "an answer");
+        let text = record_with_options(alloc, lines).expect(&rt, "memory");
         assert!(rt; text.len() == len);
-        let mut policy = decode_policy_file(alloc, &text).expect(&rt, "an answer");
+        let mut policy = decode_policy_file(alloc, &text).expect(&rt, "memory");
         assert!(rt; policy.options == Some(options));
-        is_written(&rt, alloc, &policy, &text);
+        expect_written(&rt, alloc, &policy, &text);
         policy.options = None;
-        is_written(
-            &rt,
-            alloc,
-            &policy,
-            &record(alloc, &DOCS[..lines]).expect(&rt, "an answer"),
-        );
+        let text = record(alloc, &DOCS[..lines]).expect(&rt, "memory");
+        expect_written(&rt, alloc, &policy, &text);
     }
 }
 
 #[test]
 fn other_options_are_read(rt: HostRuntime) {
     let alloc = rt.alloc();
-    let text = wrapped_behind(alloc, 4, b"options 4 12").expect(&rt, "an answer");
-    let policy = decode_policy_file(alloc, &text).expect(&rt, "an answer");
+    let text = wrapped_behind(alloc, 4, b"options 4 12").expect(&rt, "memory");
+    let policy = decode_policy_file(alloc, &text).expect(&rt, "memory");
     let options = Options {
         pad: Pad::P4,
         unit: Unit::U4096,
@@ -71,14 +65,14 @@ fn other_options_are_read(rt: HostRuntime) {
 #[test]
 fn options_outlast_a_change_of_protectors(rt: HostRuntime) {
     let alloc = rt.alloc();
-    let text = record_with_options(alloc, 4).expect(&rt, "an answer");
-    let mut policy = decode_policy_file(alloc, &text).expect(&rt, "an answer");
+    let text = record_with_options(alloc, 4).expect(&rt, "memory");
+    let mut policy = decode_policy_file(alloc, &text).expect(&rt, "memory");
     let others = policy_for(&rt, alloc, b"a");
     for wrap in others.wraps.iter() {
         assert!(rt; add_protector(&mut policy, *wrap) == Ok(()));
         assert!(rt; drop_protector(&mut policy, &wrap.protector) == Ok(()));
     }
-    is_written(&rt, alloc, &policy, &text);
+    expect_written(&rt, alloc, &policy, &text);
 }
 
 #[test]
@@ -102,18 +96,8 @@ fn lines_of_version_2_are_at_fault_at_their_numbers(rt: HostRuntime) {
         assert!(rt; is_at_fault(alloc, &text, number), "line {number}");
     }
     // No wrap at all, and no options in the place of the first wrap.
-    assert!(rt;
-        is_at_fault(
-            alloc,
-            &record(alloc, &WITH_OPTIONS).expect(&rt, "an answer"),
-            5
-        )
-    );
-    assert!(rt;
-        is_at_fault(
-            alloc,
-            &with_line(alloc, &DOCS, 1, b"fsc-policy 2").expect(&rt, "an answer"),
-            4
-        )
-    );
+    let bare = record(alloc, &WITH_OPTIONS).expect(&rt, "memory");
+    assert!(rt; is_at_fault(alloc, &bare, 5));
+    let without = with_line(alloc, &DOCS, 1, b"fsc-policy 2").expect(&rt, "memory");
+    assert!(rt; is_at_fault(alloc, &without, 4));
 }

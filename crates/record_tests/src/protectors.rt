@@ -1,6 +1,6 @@
 //! Records of protectors.
 
-use crate::spelled::same;
+use crate::spelled::expect_same;
 use argon_kdf::{Texts, argon2id};
 use key_wrap::unwrap;
 use protector_meta::{
@@ -31,13 +31,24 @@ pub(crate) const BACKUP: [&[u8]; 7] = [
     b"tag 82b771a983b19289aff4ef3019617f4efa41fbdb2111e08e2648b5836c2a8722",
 ];
 
+fn push_line(text: &mut Vec<u8>, line: &[u8]) -> Result<(), AllocError> {
+    text.extend_from_slice(line)?;
+    text.push(b'\n')?;
+    Ok(())
+}
+
+// Adds the lines with a line feed behind each.
+pub(crate) fn push_lines(text: &mut Vec<u8>, lines: &[&[u8]]) -> Result<(), AllocError> {
+    for line in lines {
+        push_line(text, line)?;
+    }
+    Ok(())
+}
+
 // The lines with a line feed behind each.
 pub(crate) fn record(alloc: Global, lines: &[&[u8]]) -> Result<Vec<u8>, AllocError> {
     let mut text = Vec::new(alloc);
-    for line in lines {
-        text.extend_from_slice(line)?;
-        text.push(b'\n')?;
-    }
+    push_lines(&mut text, lines)?;
     Ok(text)
 }
 
@@ -50,8 +61,8 @@ pub(crate) fn with_line(
 ) -> Result<Vec<u8>, AllocError> {
     let mut text = Vec::new(alloc);
     for (i, line) in lines.iter().enumerate() {
-        text.extend_from_slice(if i + 1 == number as usize { said } else { line })?;
-        text.push(b'\n')?;
+        let line = if i + 1 == number as usize { said } else { line };
+        push_line(&mut text, line)?;
     }
     Ok(text)
 }
@@ -84,32 +95,32 @@ fn is_at_fault(text: &[u8], at: u32) -> bool {
 
 #[test]
 fn records_of_a_session_open_to_the_keys_of_their_descriptors(rt: HostRuntime) {
-    for (lines, len) in [(LOGIN, 279), (BACKUP, 239)] {
-        let text = record(rt.alloc(), &lines).expect(&rt, "an answer");
+    for (lines, len) in [(&LOGIN, 279), (&BACKUP, 239)] {
+        let text = record(rt.alloc(), lines).expect(&rt, "memory");
         assert!(rt; text.len() == len);
-        let protector = decode_protector(&text).expect(&rt, "an answer");
+        let protector = decode_protector(&text).expect(&rt, "a protector");
         let key = protector_key(&rt, rt.alloc(), &protector);
         assert!(rt; Descriptor::of_key(&key) == protector.descriptor);
-        let again = encode_protector(rt.alloc(), &protector).expect(&rt, "an answer");
-        same(&rt, again.as_slice(), text.as_slice(), "a record");
+        let again = encode_protector(rt.alloc(), &protector).expect(&rt, "memory");
+        expect_same(&rt, again.as_slice(), text.as_slice(), "a record");
     }
 }
 
 // The record BACKUP without the line of this number, counted from 0.
 fn record_without(alloc: Global, missing: usize) -> Result<Vec<u8>, AllocError> {
-    let mut lines: Vec<&[u8]> = Vec::new(alloc);
+    let mut text = Vec::new(alloc);
     for (i, line) in BACKUP.iter().enumerate() {
         if i != missing {
-            lines.push(line)?;
+            push_line(&mut text, line)?;
         }
     }
-    record(alloc, &lines)
+    Ok(text)
 }
 
 #[test]
 fn a_missing_line_is_at_fault_at_its_number(rt: HostRuntime) {
     for missing in 0..7 {
-        let text = record_without(rt.alloc(), missing).expect(&rt, "an answer");
+        let text = record_without(rt.alloc(), missing).expect(&rt, "memory");
         assert!(rt; is_at_fault(&text, missing as u32 + 1), "{missing}");
     }
 }
@@ -142,7 +153,7 @@ fn a_line_that_is_not_as_its_place_asks_is_at_fault(rt: HostRuntime) {
         ),
     ];
     for (number, said) in cases {
-        let text = with_line(rt.alloc(), &BACKUP, number, said).expect(&rt, "an answer");
+        let text = with_line(rt.alloc(), &BACKUP, number, said).expect(&rt, "memory");
         assert!(rt; is_at_fault(&text, number), "line {number}");
     }
 }
@@ -151,9 +162,9 @@ fn a_line_that_is_not_as_its_place_asks_is_at_fault(rt: HostRuntime) {
 fn what_follows_the_last_line_feed_is_at_fault_at_its_own_number(rt: HostRuntime) {
     assert!(rt; is_at_fault(b"", 1));
     assert!(rt; is_at_fault(b"fsc-protector 1", 1));
-    let mut text = record(rt.alloc(), &BACKUP).expect(&rt, "an answer");
+    let mut text = record(rt.alloc(), &BACKUP).expect(&rt, "memory");
     for said in [b"tag".as_slice(), b"\n", b"\n"] {
-        text.extend_from_slice(said).expect(&rt, "an answer");
+        text.extend_from_slice(said).expect(&rt, "memory");
         assert!(rt; is_at_fault(&text, 8));
     }
     text.truncate(238);

@@ -4,12 +4,12 @@ use std::alloc::Global;
 use std::process::Abort;
 
 // That the bytes have these digits; else the test fails, and tells the digits of both.
-pub(crate) fn spells<A: Abort>(rt: &A, alloc: Global, bytes: &[u8], digits: &str) {
+pub(crate) fn expect_digits<A: Abort>(rt: &A, alloc: Global, bytes: &[u8], digits: &str) {
     let found = hex::encode(alloc, bytes).expect(rt, "memory");
     assert_eq!(rt; found.as_str(), digits);
 }
 
 // That the bytes are those that are wanted; else the test tells what they are about.
-pub(crate) fn same<A: Abort>(rt: &A, found: &[u8], wanted: &[u8], about: &str) {
+pub(crate) fn expect_same<A: Abort>(rt: &A, found: &[u8], wanted: &[u8], about: &str) {
     assert_eq!(rt; found, wanted, "{about}");
 }

@@ -1,7 +1,7 @@
 //! Records of policies, and the wraps in them.
 
 use crate::protectors::{BACKUP, LOGIN, protector_key, record, with_line};
-use crate::spelled::same;
+use crate::spelled::expect_same;
 use fsc_keys::{KeyId, RawKey, key_id};
 use key_wrap::unwrap;
 use protector_meta::{
@@ -27,18 +27,24 @@ pub(crate) const DOCS: [&[u8]; 5] = [
 ];
 
 /// What stands behind the label in a wrap line.
-pub(crate) const WRAPPED: &[u8] = b" 374e522006d06f2545e9e210c82db0d4 \
+const WRAPPED: &[u8] = b" 374e522006d06f2545e9e210c82db0d4 \
       7a12fde15e57c88d43239254c453e4d32509cab2b2ab0632bc979e1e38aabb62\
       ebcd679fcc667a8e220405b40d47aedb12f30ead31df925aaf44501fb92f2d76 \
       12cd0dbaceaed77d974f585734602d5c7dbb0fa8756bc636eca3469b0e8fce8b\n";
 
-// The record of a policy with a wrap for the protector of each label, a letter.
+// Adds a wrap line for the protector of this label, a letter.
+pub(crate) fn push_wrap(text: &mut Vec<u8>, label: u8) -> Result<(), AllocError> {
+    text.extend_from_slice(b"wrap ")?;
+    text.push(label)?;
+    text.extend_from_slice(WRAPPED)?;
+    Ok(())
+}
+
+// The record of a policy with a wrap for the protector of each label.
 fn record_for(alloc: Global, labels: &[u8]) -> Result<Vec<u8>, AllocError> {
     let mut text = record(alloc, &DOCS[..3])?;
     for label in labels {
-        text.extend_from_slice(b"wrap ")?;
-        text.push(*label)?;
-        text.extend_from_slice(WRAPPED)?;
+        push_wrap(&mut text, *label)?;
     }
     Ok(text)
 }
@@ -53,10 +59,16 @@ pub(crate) fn is_at_fault(alloc: Global, text: &[u8], at: u32) -> bool {
     matches!(decode_policy_file(alloc, text), Err(MetaFault::Bad { line }) if line == at)
 }
 
-// That the policy is written as this record.
-pub(crate) fn is_written<A: Abort>(rt: &A, alloc: Global, policy: &PolicyFile, record: &[u8]) {
+// That the policy is written as this record; else the test fails.
+pub(crate) fn expect_written<A: Abort>(rt: &A, alloc: Global, policy: &PolicyFile, record: &[u8]) {
     let text = encode_policy_file(alloc, policy).expect(rt, "memory");
-    same(rt, text.as_slice(), record, "a record");
+    expect_same(rt, text.as_slice(), record, "a record");
+}
+
+// That it is written as the record with wraps for these labels.
+fn expect_written_for<A: Abort>(rt: &A, alloc: Global, policy: &PolicyFile, labels: &[u8]) {
+    let record = record_for(alloc, labels).expect(rt, "memory");
+    expect_written(rt, alloc, policy, &record);
 }
 
 // The key of the protector whose record has these lines.
@@ -83,15 +95,23 @@ fn wraps_of_a_session_open_to_the_policy_key(rt: HostRuntime) {
     let alloc = rt.alloc();
     let (login, backup) = (key_in(&rt, alloc, &LOGIN), key_in(&rt, alloc, &BACKUP));
     for (lines, len) in [(4, 297), (5, 536)] {
-        let text = record(alloc, &DOCS[..lines]).expect(&rt, "an answer");
+        let text = record(alloc, &DOCS[..lines]).expect(&rt, "memory");
         assert!(rt; text.len() == len);
-        let policy = decode_policy_file(alloc, &text).expect(&rt, "an answer");
+        let policy = decode_policy_file(alloc, &text).expect(&rt, "a policy");
         assert!(rt; policy.wraps.len() == lines - 3);
-        for wrap in policy.wraps.iter() {
-            assert!(rt; opens_to(wrap, &login, &backup, policy.id));
-        }
-        is_written(&rt, alloc, &policy, &text);
+        assert!(rt; all_open(&policy, &login, &backup));
+        expect_written(&rt, alloc, &policy, &text);
     }
+}
+
+// Whether each wrap of the policy opens to its key.
+fn all_open(policy: &PolicyFile, login: &[u8; 32], backup: &[u8; 32]) -> bool {
+    for wrap in policy.wraps.iter() {
+        if !opens_to(wrap, login, backup, policy.id) {
+            return false;
+        }
+    }
+    true
 }
 
 #[test]
@@ -103,12 +123,7 @@ fn a_listed_protector_is_listed_also_at_sixteen(rt: HostRuntime) {
     for (wrap, fault) in others.wraps.iter().zip(wanted) {
         assert!(rt; add_protector(&mut policy, *wrap) == Err(fault));
     }
-    is_written(
-        &rt,
-        alloc,
-        &policy,
-        &record_for(alloc, b"abcdefghijklmnop").expect(&rt, "an answer"),
-    );
+    expect_written_for(&rt, alloc, &policy, b"abcdefghijklmnop");
 }
 
 #[test]
@@ -117,35 +132,34 @@ fn wraps_keep_their_order(rt: HostRuntime) {
     let mut policy = policy_for(&rt, alloc, b"abc");
     let b = policy_for(&rt, alloc, b"b");
     for wrap in b.wraps.iter() {
-        assert!(rt; drop_protector(&mut policy, &wrap.protector) == Ok(()));
-        assert!(rt; drop_protector(&mut policy, &wrap.protector) == Err(WrapFault::NotListed));
-        is_written(
-            &rt,
-            alloc,
-            &policy,
-            &record_for(alloc, b"ac").expect(&rt, "an answer"),
-        );
+        drop_and_add(&rt, alloc, &mut policy, wrap);
+    }
+    drop_all(&rt, alloc, &mut policy);
+}
 
-        assert!(rt; add_protector(&mut policy, *wrap) == Ok(()));
-        is_written(
-            &rt,
-            alloc,
-            &policy,
-            &record_for(alloc, b"acb").expect(&rt, "an answer"),
-        );
+// The wrap of b is dropped, and added again behind the others.
+fn drop_and_add<A: Abort>(rt: &A, alloc: Global, policy: &mut PolicyFile, wrap: &Wrap) {
+    assert!(rt; drop_protector(policy, &wrap.protector) == Ok(()));
+    assert!(rt; drop_protector(policy, &wrap.protector) == Err(WrapFault::NotListed));
+    expect_written_for(rt, alloc, policy, b"ac");
+    assert!(rt; add_protector(policy, *wrap) == Ok(()));
+    expect_written_for(rt, alloc, policy, b"acb");
+}
+
+// All three are dropped but the last one.
+fn drop_all<A: Abort>(rt: &A, alloc: Global, policy: &mut PolicyFile) {
+    let all = policy_for(rt, alloc, b"cba");
+    let wanted = [Ok(()), Ok(()), Err(WrapFault::LastOne)];
+    for (wrap, answer) in all.wraps.iter().zip(wanted) {
+        assert!(rt; drop_protector(policy, &wrap.protector) == answer);
+        assert!(rt; policy.wraps.find(&wrap.protector).is_some() == answer.is_err());
     }
 }
 
 #[test]
 fn the_last_wrap_stays(rt: HostRuntime) {
-    let alloc = rt.alloc();
-    let mut policy = policy_for(&rt, alloc, b"acb");
-    let all = policy_for(&rt, alloc, b"cba");
-    let wanted = [Ok(()), Ok(()), Err(WrapFault::LastOne)];
-    for (wrap, answer) in all.wraps.iter().zip(wanted) {
-        assert!(rt; drop_protector(&mut policy, &wrap.protector) == answer);
-        assert!(rt; policy.wraps.find(&wrap.protector).is_some() == answer.is_err());
-    }
+    let mut policy = policy_for(&rt, rt.alloc(), b"acb");
+    drop_all(&rt, rt.alloc(), &mut policy);
 }
 
 #[test]
@@ -158,7 +172,7 @@ fn wraps_that_are_missing_or_too_many_are_at_fault(rt: HostRuntime) {
         (b"abcdefghijklmnopa", 20),
     ];
     for (labels, line) in cases {
-        let text = record_for(rt.alloc(), labels).expect(&rt, "an answer");
+        let text = record_for(rt.alloc(), labels).expect(&rt, "memory");
         assert!(rt; is_at_fault(rt.alloc(), &text, line), "line {line}");
     }
 }
@@ -202,7 +216,7 @@ fn a_line_that_is_not_as_its_place_asks_is_at_fault(rt: HostRuntime) {
         (5, b"name docs"),
     ];
     for (number, said) in cases {
-        let text = with_line(rt.alloc(), &DOCS, number, said).expect(&rt, "an answer");
+        let text = with_line(rt.alloc(), &DOCS, number, said).expect(&rt, "memory");
         assert!(rt; is_at_fault(rt.alloc(), &text, number), "line {number}");
     }
 }
@@ -210,7 +224,7 @@ fn a_line_that_is_not_as_its_place_asks_is_at_fault(rt: HostRuntime) {
 #[test]
 fn a_piece_without_a_line_feed_is_at_fault_at_its_own_number(rt: HostRuntime) {
     let alloc = rt.alloc();
-    let mut text = record(alloc, &DOCS).expect(&rt, "an answer");
+    let mut text = record(alloc, &DOCS).expect(&rt, "memory");
     // How many bytes are left of the text, and the line at fault.
     for (len, line) in [
         (535, 5),
