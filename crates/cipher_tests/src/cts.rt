@@ -1,29 +1,32 @@
 //! CBC with ciphertext stealing against another CBC.
 
+use crate::counted::{counted, counted_by_sevens};
 use aes_core::Aes256;
 use cts_mode::{cts_decrypt, cts_encrypt};
+use std::alloc::{AllocError, Global};
 
 // The key counts from 0, the iv from 100, and byte i of the text is (7 i + 3) mod 256.
 fn counted_key() -> Aes256 {
-    let mut key = [0; 32];
-    for (i, byte) in key.iter_mut().enumerate() {
-        *byte = (i % 256) as u8;
-    }
-    Aes256::new(&key)
+    Aes256::new(&counted())
 }
 
-fn counted_iv() -> [u8; 16] {
-    [
-        100, 101, 102, 103, 104, 105, 106, 107, 108, 109, 110, 111, 112, 113, 114, 115,
-    ]
-}
+const IV: [u8; 16] = [
+    100, 101, 102, 103, 104, 105, 106, 107, 108, 109, 110, 111, 112, 113, 114, 115,
+];
 
 fn counted_text() -> [u8; 255] {
-    let mut text = [0; 255];
-    for (i, byte) in text.iter_mut().enumerate() {
-        *byte = ((i * 7 + 3) % 256) as u8;
+    counted_by_sevens()
+}
+
+// Whether the text's beginning is enciphered to these bytes, 16 to 255.
+fn is_enciphered_to(want: &[u8]) -> bool {
+    if want.len() < 16 || want.len() > 255 {
+        return false;
     }
-    text
+    let mut text = counted_text();
+    let part = &mut text[..want.len()];
+    cts_encrypt(&counted_key(), IV, part);
+    &*part == want
 }
 
 // Made by the AES-CBC of OpenSSL over the text filled with zeros, and a swap of the last two blocks
@@ -66,10 +69,7 @@ fn ciphertexts_are_those_of_another_cbc(rt: HostRuntime) {
           \x98\xa7\x9a\x2e\x10\xf4\x30\xfa\x3d\x7e\x4c\xfa\x8e\x77\xf6",
     ];
     for want in wanted {
-        assert!(rt; want.len() >= 16 && want.len() <= 255);
-        let mut text = counted_text();
-        cts_encrypt(&counted_key(), counted_iv(), &mut text[..want.len()]);
-        assert!(rt; &text[..want.len()] == want, "{} bytes", want.len());
+        assert!(rt; is_enciphered_to(want), "{} bytes", want.len());
     }
 }
 
@@ -80,36 +80,38 @@ fn the_last_two_blocks_are_swapped_at_every_length(rt: HostRuntime) {
     let first = b"\xc5\x20\xfa\x7e\x86\x7b\x82\xc5\xb6\xc0\x1f\x57\xec\x10\xa9\xe3";
     let second = b"\xf9\xc6\x17\x4e\x35\x36\x2b\x76\x29\x36\xc7\x70\x2d\x95\xbd\x24";
     let third = b"\x39\x54\xab\x62\x78\xe8\x0c\x7e\x7e\x10\x80\x9f\x37\xc4\xb7\x63";
-    let mut text = counted_text();
-    let (one, _) = text.split_at_mut(16);
-    cts_encrypt(&counted_key(), counted_iv(), one);
-    assert!(rt; &*one == first.as_slice());
+    let rows: [&[&[u8]]; 3] = [&[first], &[second, first], &[first, third, &second[..1]]];
+    for pieces in rows {
+        let want = joined(rt.alloc(), pieces).expect(&rt, "memory");
+        assert!(rt; is_enciphered_to(&want), "{} bytes", want.len());
+    }
+}
 
-    let mut text = counted_text();
-    let (two, _) = text.split_at_mut(32);
-    cts_encrypt(&counted_key(), counted_iv(), two);
-    let (front, back) = two.split_at(16);
-    assert!(rt; front == second.as_slice());
-    assert!(rt; back == first.as_slice());
-
-    let mut text = counted_text();
-    let (three, _) = text.split_at_mut(33);
-    cts_encrypt(&counted_key(), counted_iv(), three);
-    let (front, back) = three.split_at(16);
-    let (middle, left) = back.split_at(16);
-    assert!(rt; front == first.as_slice());
-    assert!(rt; middle == third.as_slice());
-    assert!(rt; left == &second[..1]);
+fn joined(alloc: Global, pieces: &[&[u8]]) -> Result<Vec<u8>, AllocError> {
+    let mut bytes = Vec::new(alloc);
+    for piece in pieces {
+        bytes.extend_from_slice(piece)?;
+    }
+    Ok(bytes)
 }
 
 #[test]
 fn every_length_goes_there_and_back(rt: HostRuntime) {
-    let key = counted_key();
+    let (key, plain) = (counted_key(), counted_text());
     for length in 16..=255 {
-        let mut text = counted_text();
-        cts_encrypt(&key, counted_iv(), &mut text[..length]);
-        assert!(rt; text != counted_text());
-        cts_decrypt(&key, counted_iv(), &mut text[..length]);
-        assert!(rt; text == counted_text(), "{length} bytes");
+        assert!(rt; goes_there_and_back(&key, &plain, length), "{length} bytes");
     }
+}
+
+// Whether so many bytes of the text, 16 to 255, are enciphered to others, and back.
+fn goes_there_and_back(key: &Aes256, plain: &[u8; 255], length: usize) -> bool {
+    if length < 16 || length > 255 {
+        return false;
+    }
+    let mut text = *plain;
+    let part = &mut text[..length];
+    cts_encrypt(key, IV, part);
+    let is_other = !plain.starts_with(part);
+    cts_decrypt(key, IV, part);
+    is_other && text == *plain
 }

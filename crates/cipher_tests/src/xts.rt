@@ -1,93 +1,63 @@
 //! XTS-AES-256 on the units of its standard.
 
+use crate::counted::counted;
 use xts_mode::XtsKey;
 
 // The key of IEEE 1619, annex B, vectors 10 to 14.
-fn standard_key() -> [u8; 64] {
-    [
-        0x27, 0x18, 0x28, 0x18, 0x28, 0x45, 0x90, 0x45, 0x23, 0x53, 0x60, 0x28, 0x74, 0x71, 0x35,
-        0x26, 0x62, 0x49, 0x77, 0x57, 0x24, 0x70, 0x93, 0x69, 0x99, 0x59, 0x57, 0x49, 0x66, 0x96,
-        0x76, 0x27, 0x31, 0x41, 0x59, 0x26, 0x53, 0x58, 0x97, 0x93, 0x23, 0x84, 0x62, 0x64, 0x33,
-        0x83, 0x27, 0x95, 0x02, 0x88, 0x41, 0x97, 0x16, 0x93, 0x99, 0x37, 0x51, 0x05, 0x82, 0x09,
-        0x74, 0x94, 0x45, 0x92,
-    ]
-}
+const STANDARD_KEY: [u8; 64] = *b"\x27\x18\x28\x18\x28\x45\x90\x45\x23\x53\x60\x28\x74\x71\x35\x26\
+      \x62\x49\x77\x57\x24\x70\x93\x69\x99\x59\x57\x49\x66\x96\x76\x27\
+      \x31\x41\x59\x26\x53\x58\x97\x93\x23\x84\x62\x64\x33\x83\x27\x95\
+      \x02\x88\x41\x97\x16\x93\x99\x37\x51\x05\x82\x09\x74\x94\x45\x92";
 
 // The keys, indexes and units of IEEE 1619, annex B, vectors 10 to 14: 512 bytes that count up, at five
 // indexes. The first and the last block of what they become, and the way back. The ciphertexts are those
 // that another implementation, Python's `cryptography`, makes of these.
 #[test]
 fn standard_units_encrypt_and_decrypt(rt: HostRuntime) {
-    let vectors: [(u64, [u8; 16], [u8; 16]); 5] = [
+    let vectors: [(u64, &[u8], &[u8]); 5] = [
         (
             0xff,
-            [
-                0x1c, 0x3b, 0x3a, 0x10, 0x2f, 0x77, 0x03, 0x86, 0xe4, 0x83, 0x6c, 0x99, 0xe3, 0x70,
-                0xcf, 0x9b,
-            ],
-            [
-                0xc4, 0xf3, 0x6f, 0xfd, 0xa9, 0xfc, 0xea, 0x70, 0xb9, 0xc6, 0xe6, 0x93, 0xe1, 0x48,
-                0xc1, 0x51,
-            ],
+            b"\x1c\x3b\x3a\x10\x2f\x77\x03\x86\xe4\x83\x6c\x99\xe3\x70\xcf\x9b",
+            b"\xc4\xf3\x6f\xfd\xa9\xfc\xea\x70\xb9\xc6\xe6\x93\xe1\x48\xc1\x51",
         ),
         (
             0xffff,
-            [
-                0x77, 0xa3, 0x12, 0x51, 0x61, 0x8a, 0x15, 0xe6, 0xb9, 0x2d, 0x1d, 0x66, 0xdf, 0xfe,
-                0x7b, 0x50,
-            ],
-            [
-                0xa4, 0xf9, 0xe2, 0x7b, 0x42, 0xaf, 0x81, 0x00, 0xcb, 0x9d, 0x59, 0xce, 0xf9, 0x64,
-                0x58, 0x03,
-            ],
+            b"\x77\xa3\x12\x51\x61\x8a\x15\xe6\xb9\x2d\x1d\x66\xdf\xfe\x7b\x50",
+            b"\xa4\xf9\xe2\x7b\x42\xaf\x81\x00\xcb\x9d\x59\xce\xf9\x64\x58\x03",
         ),
         (
             0xffffff,
-            [
-                0xe3, 0x87, 0xaa, 0xa5, 0x8b, 0xa4, 0x83, 0xaf, 0xa7, 0xe8, 0xeb, 0x46, 0x97, 0x78,
-                0x31, 0x7e,
-            ],
-            [
-                0x22, 0x63, 0xa1, 0xee, 0xf5, 0x2d, 0xd6, 0x88, 0x8c, 0x30, 0x9f, 0x5a, 0x7d, 0x71,
-                0x28, 0x26,
-            ],
+            b"\xe3\x87\xaa\xa5\x8b\xa4\x83\xaf\xa7\xe8\xeb\x46\x97\x78\x31\x7e",
+            b"\x22\x63\xa1\xee\xf5\x2d\xd6\x88\x8c\x30\x9f\x5a\x7d\x71\x28\x26",
         ),
         (
             0xffff_ffff,
-            [
-                0xbf, 0x53, 0xd2, 0xda, 0xde, 0x78, 0xe8, 0x22, 0xa4, 0xd9, 0x49, 0xa9, 0xbc, 0x67,
-                0x66, 0xb0,
-            ],
-            [
-                0x4c, 0x82, 0xf3, 0x35, 0xab, 0xb1, 0x52, 0xc4, 0xa9, 0x34, 0x11, 0x37, 0x3a, 0xaa,
-                0x82, 0x20,
-            ],
+            b"\xbf\x53\xd2\xda\xde\x78\xe8\x22\xa4\xd9\x49\xa9\xbc\x67\x66\xb0",
+            b"\x4c\x82\xf3\x35\xab\xb1\x52\xc4\xa9\x34\x11\x37\x3a\xaa\x82\x20",
         ),
         (
             0xff_ffff_ffff,
-            [
-                0x64, 0x49, 0x7e, 0x5a, 0x83, 0x1e, 0x4a, 0x93, 0x2c, 0x09, 0xbe, 0x3e, 0x53, 0x93,
-                0x37, 0x6d,
-            ],
-            [
-                0xd6, 0x09, 0xd2, 0x73, 0xad, 0x5b, 0x0d, 0x59, 0x63, 0x1c, 0x53, 0x1f, 0x6a, 0x0a,
-                0x57, 0xb9,
-            ],
+            b"\x64\x49\x7e\x5a\x83\x1e\x4a\x93\x2c\x09\xbe\x3e\x53\x93\x37\x6d",
+            b"\xd6\x09\xd2\x73\xad\x5b\x0d\x59\x63\x1c\x53\x1f\x6a\x0a\x57\xb9",
         ),
     ];
-    let mut plain = [0u8; 512];
-    for i in 0..512 {
-        plain[i] = (i % 256) as u8;
-    }
-    let xts = XtsKey::new(&standard_key());
+    let plain = counted::<512>();
+    let xts = XtsKey::new(&STANDARD_KEY);
     for (index, first, last) in vectors {
-        let mut unit = plain;
-        xts.encrypt_unit(index, &mut unit);
-        assert!(rt; unit[..16] == first[..], "first block at index {index}");
-        assert!(rt; unit[496..] == last[..], "last block at index {index}");
-        xts.decrypt_unit(index, &mut unit);
-        assert!(rt; unit == plain, "decrypted at index {index}");
+        assert!(rt;
+            is_made_so(&xts, &plain, index, (first, last)),
+            "index {index}"
+        );
     }
+}
+
+// Whether the unit is encrypted to one that begins and ends so, and back.
+fn is_made_so(xts: &XtsKey, plain: &[u8; 512], index: u64, (first, last): (&[u8], &[u8])) -> bool {
+    let mut unit = *plain;
+    xts.encrypt_unit(index, &mut unit);
+    let is_encrypted = unit.starts_with(first) && unit.ends_with(last);
+    xts.decrypt_unit(index, &mut unit);
+    is_encrypted && unit == *plain
 }
 
 // FNV-1a, 64 bits.
@@ -103,24 +73,29 @@ fn checksum(bytes: &[u8]) -> u64 {
 // and units that are its beginning, whose ciphertexts are the beginning of that one.
 #[test]
 fn units_of_every_length_encrypt_and_decrypt(rt: HostRuntime) {
-    let mut plain = [0u8; 4096];
-    for i in 0..4096 {
-        plain[i] = (i % 256) as u8;
-    }
-    let xts = XtsKey::new(&standard_key());
+    let plain = counted::<4096>();
+    let xts = XtsKey::new(&STANDARD_KEY);
     let mut whole = plain;
     xts.encrypt_unit(0xff, &mut whole);
     assert!(rt; checksum(&whole) == 0xc9337eef5f7a3a4e);
     for blocks in 1..256 {
-        let end = 16 * blocks;
-        let mut unit = plain;
-        xts.encrypt_unit(0xff, &mut unit[..end]);
-        assert!(rt; unit[..end] == whole[..end], "{blocks} blocks encrypted");
         assert!(rt;
-            unit[end..] == plain[end..],
-            "the rest after {blocks} blocks"
+            is_made_alone(&xts, blocks, &plain, &whole),
+            "{blocks} blocks"
         );
-        xts.decrypt_unit(0xff, &mut unit[..end]);
-        assert!(rt; unit == plain, "{blocks} blocks decrypted");
     }
+}
+
+// Whether so many blocks, at most 256, are encrypted to the beginning of the whole, and back, and the rest
+// stays as it is.
+fn is_made_alone(xts: &XtsKey, blocks: usize, plain: &[u8; 4096], whole: &[u8; 4096]) -> bool {
+    if blocks > 256 {
+        return false;
+    }
+    let mut unit = *plain;
+    let (front, back) = unit.split_at_mut(16 * blocks);
+    xts.encrypt_unit(0xff, front);
+    let is_encrypted = whole.starts_with(front) && plain.ends_with(back);
+    xts.decrypt_unit(0xff, front);
+    is_encrypted && unit == *plain
 }
