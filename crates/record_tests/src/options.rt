@@ -95,9 +95,18 @@ fn lines_of_version_2_are_at_fault_at_their_numbers(rt: HostRuntime) {
         let text = wrapped_behind(alloc, number, said).expect(&rt, "memory");
         assert!(rt; is_at_fault(alloc, &text, number), "line {number}");
     }
-    // No wrap at all, and no options in the place of the first wrap.
-    let bare = record(alloc, &WITH_OPTIONS).expect(&rt, "memory");
-    assert!(rt; is_at_fault(alloc, &bare, 5));
-    let without = with_line(alloc, &DOCS, 1, b"fsc-policy 2").expect(&rt, "memory");
-    assert!(rt; is_at_fault(alloc, &without, 4));
+    assert!(rt; asks_for_a_wrap(alloc) == Ok(true));
+    assert!(rt; asks_for_options(alloc) == Ok(true));
+}
+
+// Whether no wrap at all is at fault.
+fn asks_for_a_wrap(alloc: Global) -> Result<bool, AllocError> {
+    let text = record(alloc, &WITH_OPTIONS)?;
+    Ok(is_at_fault(alloc, &text, 5))
+}
+
+// Whether a wrap in the place of the options is at fault.
+fn asks_for_options(alloc: Global) -> Result<bool, AllocError> {
+    let text = with_line(alloc, &DOCS, 1, b"fsc-policy 2")?;
+    Ok(is_at_fault(alloc, &text, 4))
 }
