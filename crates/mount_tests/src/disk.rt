@@ -163,6 +163,10 @@ enum Step {
     Remove(u32),
     /// There is no node of this number.
     Gone(u32),
+    /// The node of this number gets a context of this byte.
+    Context(u32, u8),
+    /// There are so many nodes.
+    Nodes(usize),
     /// All files have so many blocks.
     Blocks(usize),
 }
@@ -197,6 +201,11 @@ fn goes_so<R: Abort>(rt: &R, tree: &mut DiskTree, alloc: Global, step: Step) -> 
             true
         }
         Step::Gone(number) => tree.node(number).is_none(),
+        Step::Context(number, byte) => {
+            tree.set_context(number, [byte; 40]);
+            has_context(tree, number, [byte; 40])
+        }
+        Step::Nodes(count) => tree.node_count() == count,
         Step::Blocks(total) => tree.block_total() == total,
     }
 }
@@ -207,7 +216,13 @@ fn go<R: Abort>(rt: &R, tree: &mut DiskTree, alloc: Global, steps: &[Step]) {
     }
 }
 
-const MAKE_MOVE_AND_DROP: [Step; 23] = [
+// Goes these steps on a new tree.
+fn go_on_a_tree<R: Abort>(rt: &R, alloc: Global, steps: &[Step]) {
+    let mut tree = DiskTree::new(alloc).expect(rt, "memory");
+    go(rt, &mut tree, alloc, steps);
+}
+
+const MAKE_MOVE_AND_DROP: [Step; 25] = [
     Step::Made(Change::Dir(1)),
     Step::Made(Change::Dir(2)),
     Step::Made(Change::Dir(3)),
@@ -231,15 +246,13 @@ const MAKE_MOVE_AND_DROP: [Step; 23] = [
     Step::IsNamed(3, false),
     Step::Remove(3),
     Step::Gone(3),
+    Step::Nodes(3),
+    Step::Context(1, 7),
 ];
 
 #[test]
 fn names_stand_in_the_order_in_which_they_were_made(rt: HostRuntime) {
-    let mut tree = DiskTree::new(rt.alloc()).expect(&rt, "memory");
-    go(&rt, &mut tree, rt.alloc(), &MAKE_MOVE_AND_DROP);
-    assert!(rt; tree.node_count() == 3);
-    tree.set_context(1, [7; 40]);
-    assert!(rt; has_context(&tree, 1, [7; 40]));
+    go_on_a_tree(&rt, rt.alloc(), &MAKE_MOVE_AND_DROP);
 }
 
 fn has_context(tree: &DiskTree, number: u32, context: [u8; 40]) -> bool {
@@ -276,8 +289,7 @@ const MAKE_TWO_OF_ONE_HASH: [Step; 9] = [
 #[test]
 fn names_of_one_hash_lead_each_to_its_node(rt: HostRuntime) {
     assert!(rt; hash_of(ONE) == hash_of(ANOTHER));
-    let mut tree = DiskTree::new(rt.alloc()).expect(&rt, "memory");
-    go(&rt, &mut tree, rt.alloc(), &MAKE_TWO_OF_ONE_HASH);
+    go_on_a_tree(&rt, rt.alloc(), &MAKE_TWO_OF_ONE_HASH);
 }
 
 const MAKE_TWO_AND_DROP_ONE: [Step; 11] = [
@@ -296,8 +308,7 @@ const MAKE_TWO_AND_DROP_ONE: [Step; 11] = [
 
 #[test]
 fn a_node_comes_and_goes_with_its_name(rt: HostRuntime) {
-    let mut tree = DiskTree::new(rt.alloc()).expect(&rt, "memory");
-    go(&rt, &mut tree, rt.alloc(), &MAKE_TWO_AND_DROP_ONE);
+    go_on_a_tree(&rt, rt.alloc(), &MAKE_TWO_AND_DROP_ONE);
 }
 
 #[test]
