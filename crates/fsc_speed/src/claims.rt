@@ -33,20 +33,25 @@ pub(crate) fn make_claims(
 ) -> Result<[u8; 32], AllocError> {
     let mut found = 0u32;
     for _ in 0..count {
-        let claims = claims_made(alloc, size)?;
-        found = found.wrapping_add(claims.count_of_id(&key(0)));
+        found = found.wrapping_add(claims_of_first(alloc, size)?);
     }
     Ok(Sha256::digest(&found.to_be_bytes()))
 }
 
-fn claims_made(alloc: Global, size: ClaimCount) -> Result<Claims, AllocError> {
+// Makes the claims, and tells how many of them the first key has.
+fn claims_of_first(alloc: Global, size: ClaimCount) -> Result<u32, AllocError> {
     let mut claims = Claims::new(alloc);
+    claim_all(&mut claims, size)?;
+    Ok(claims.count_of_id(&key(0)))
+}
+
+fn claim_all(claims: &mut Claims, size: ClaimCount) -> Result<(), AllocError> {
     for made in 0..size.claims {
         claims
             .claim(&key(made / USERS), made % USERS)
             .map_err(|_| AllocError)?;
     }
-    Ok(claims)
+    Ok(())
 }
 
 // Scattered as identifiers are.

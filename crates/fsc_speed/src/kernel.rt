@@ -5,6 +5,7 @@ use crate::stretching::{ONE_PASS, THREE_PASSES};
 use crate::trees::TreeSize;
 use crate::walks::Walk;
 use crate::{ciphers, claims, hashes, names, scripts, sealing, stretching, trees, turns, walks};
+use argon_kdf::{LaneStretch, PlainStretch};
 use measuring::Callers;
 use policy_ctx::Unit;
 use std::alloc::{AllocError, Global};
@@ -113,10 +114,15 @@ impl Kernel {
             Kernel::EncryptName => Ok(names::encrypt_names::<Brand>(Blank::new(1), count)),
             Kernel::NoKeyText => Ok(names::show_names(count)),
             Kernel::Blake2b => stretching::blake2b(alloc, stretching::message_len(), count),
-            Kernel::Argon2idOnePass => stretching::argon2id_tags(alloc, &ONE_PASS, count),
-            Kernel::Argon2idThreePasses => stretching::argon2id_tags(alloc, &THREE_PASSES, count),
+            Kernel::Argon2idOnePass => {
+                stretching::argon2id_tags(&PlainStretch, alloc, &ONE_PASS, count)
+            }
+            Kernel::Argon2idThreePasses => {
+                stretching::argon2id_tags(&PlainStretch, alloc, &THREE_PASSES, count)
+            }
             Kernel::Argon2idLanes => {
-                stretching::argon2id_tags_by_lanes(rt, alloc, &THREE_PASSES, count)
+                let lanes = LaneStretch { threads: rt };
+                stretching::argon2id_tags(&lanes, alloc, &THREE_PASSES, count)
             }
             Kernel::Turn(callers) => turns::add_sevens(rt, alloc, callers, count),
             Kernel::GetNodes(size) => trees::get_nodes(alloc, size, count),

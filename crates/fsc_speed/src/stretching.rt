@@ -6,11 +6,10 @@ ghost use Rattle.blake2_core.specs.Digest.{blake2b_digest};
 ghost use Rattle.argon_kdf.specs.CostLimits.{checked_costs};
 ghost use Rattle.argon_kdf.specs.Argon2id.{argon2id_tag};
 
-use argon_kdf::{Costs, Texts, argon2id, argon2id_lanes};
+use argon_kdf::{Costs, Stretch};
 use blake2_core::Blake2b;
 use sha2::{Digest, Sha256};
 use std::alloc::{AllocError, Global};
-use std::thread::Threads;
 
 const SALT: [u8; 16] = [0xa5; 16];
 
@@ -67,42 +66,23 @@ fn blake2b_of(start: &[u8; 64], message: &[u8]) -> [u8; 64]
     digest
 }
 
-/// Stretches the tag of the run before, again and again.
+/// Stretches the tag of the run before in this way, again and again.
 #[tactic(auto, using(crate::proofs::Repeating::iterate_more))]
-pub(crate) fn argon2id_tags(
+pub(crate) fn argon2id_tags<S: Stretch>(
+    stretches: &S,
     alloc: Global,
     costs: &Costs,
     count: u32,
 ) -> Result<[u8; 32], AllocError>
-    requires { checked_costs costs.now ≡ Ok tt }
+    requires ready { S.ready stretches.now }
+    requires costs { checked_costs costs.now ≡ Ok tt }
     ensures { IfOk result (λ digest. digest
         ≡ sha256 (iterate (λ tag. argon2id_tag costs.now tag SALT [] []) count (replicate 32 0))) }
 {
     let mut tag = [0; 32];
     for _ in 0..count {
         let password = tag;
-        argon2id(alloc, costs, Texts::unkeyed(&password, &SALT), &mut tag)?;
-    }
-    Ok(Sha256::digest(&tag))
-}
-
-/// The same, with the lanes of a slice at the same time.
-#[tactic(auto, using(crate::proofs::Repeating::iterate_more))]
-pub(crate) fn argon2id_tags_by_lanes<R: Threads + Sync>(
-    threads: &R,
-    alloc: Global,
-    costs: &Costs,
-    count: u32,
-) -> Result<[u8; 32], AllocError>
-    requires { checked_costs costs.now ≡ Ok tt }
-    ensures { IfOk result (λ digest. digest
-        ≡ sha256 (iterate (λ tag. argon2id_tag costs.now tag SALT [] []) count (replicate 32 0))) }
-{
-    let mut tag = [0; 32];
-    for _ in 0..count {
-        let password = tag;
-        let texts = Texts::unkeyed(&password, &SALT);
-        argon2id_lanes(threads, alloc, costs, texts, &mut tag)?;
+        stretches.stretch(alloc, costs, &password, &SALT, &mut tag)?;
     }
     Ok(Sha256::digest(&tag))
 }

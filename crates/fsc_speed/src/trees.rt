@@ -30,16 +30,25 @@ impl TreeSize {
 /// Looks up nodes of a tree by number.
 pub(crate) fn get_nodes(alloc: Global, size: TreeSize, count: u32) -> Result<[u8; 32], AllocError> {
     let mut tree = DiskTree::new(alloc)?;
+    add_dirs(alloc, &mut tree, size)?;
+    Ok(look_nodes_up(&tree, size, count))
+}
+
+fn add_dirs(alloc: Global, tree: &mut DiskTree, size: TreeSize) -> Result<(), AllocError> {
     for number in 1..size.items {
-        add_dir(alloc, &mut tree, number)?;
+        add_dir(alloc, tree, number)?;
     }
+    Ok(())
+}
+
+fn look_nodes_up(tree: &DiskTree, size: TreeSize, count: u32) -> [u8; 32] {
     let mut found = 0u32;
     for run in 0..count {
         if tree.node(size.place(run)).is_some() {
             found = found.wrapping_add(1);
         }
     }
-    Ok(Sha256::digest(&found.to_be_bytes()))
+    Sha256::digest(&found.to_be_bytes())
 }
 
 /// Looks up entries of a directory by stored name.
@@ -48,14 +57,19 @@ pub(crate) fn get_entries(
     size: TreeSize,
     count: u32,
 ) -> Result<[u8; 32], AllocError> {
-    let tree = full_dir(alloc, size)?;
+    let mut tree = DiskTree::new(alloc)?;
+    fill_dir(alloc, &mut tree, size)?;
+    Ok(look_entries_up(&tree, size, count))
+}
+
+fn look_entries_up(tree: &DiskTree, size: TreeSize, count: u32) -> [u8; 32] {
     let mut found = 0u32;
     for run in 0..count {
         if tree.entry(0, &stored_name(size.place(run))).is_some() {
             found = found.wrapping_add(1);
         }
     }
-    Ok(Sha256::digest(&found.to_be_bytes()))
+    Sha256::digest(&found.to_be_bytes())
 }
 
 /// Takes entries out of a directory and puts them back at its end.
@@ -64,14 +78,24 @@ pub(crate) fn put_entries(
     size: TreeSize,
     count: u32,
 ) -> Result<[u8; 32], AllocError> {
-    let mut tree = full_dir(alloc, size)?;
+    let mut tree = DiskTree::new(alloc)?;
+    fill_dir(alloc, &mut tree, size)?;
+    put_often(alloc, &mut tree, size, count)
+}
+
+fn put_often(
+    alloc: Global,
+    tree: &mut DiskTree,
+    size: TreeSize,
+    count: u32,
+) -> Result<[u8; 32], AllocError> {
     let mut found = 0u32;
     for run in 0..count {
         let name = stored_name(size.place(run));
         if tree.drop_entry(0, &name) {
             found = found.wrapping_add(1);
         }
-        put(alloc, &mut tree, &name)?;
+        put(alloc, tree, &name)?;
     }
     Ok(Sha256::digest(&found.to_be_bytes()))
 }
@@ -89,14 +113,13 @@ fn add_dir(alloc: Global, tree: &mut DiskTree, number: u32) -> Result<(), AllocE
     tree.add_node(number, node).map_err(|_| AllocError)
 }
 
-// A directory of so many entries.
-fn full_dir(alloc: Global, size: TreeSize) -> Result<DiskTree, AllocError> {
-    let mut tree = DiskTree::new(alloc)?;
-    add_dir(alloc, &mut tree, 1)?;
+// Puts so many entries into the root.
+fn fill_dir(alloc: Global, tree: &mut DiskTree, size: TreeSize) -> Result<(), AllocError> {
+    add_dir(alloc, tree, 1)?;
     for place in 0..size.items {
-        put(alloc, &mut tree, &stored_name(place))?;
+        put(alloc, tree, &stored_name(place))?;
     }
-    Ok(tree)
+    Ok(())
 }
 
 fn put(alloc: Global, tree: &mut DiskTree, name: &[u8]) -> Result<(), AllocError> {

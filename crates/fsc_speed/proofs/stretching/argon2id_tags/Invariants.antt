@@ -5,4 +5,4 @@ use Rattle.argon_kdf.specs.Argon2id.{argon2id_tag}
 use Rattle.fsc_speed.proofs.stretching.argon2id_tags.Given as goal
 
 abbrev pub invariant-loop : goal.invariant-loop
-invariant-loop l = l.tag ≡ iterate (λ tag. argon2id_tag l.costs tag (replicate 16 0xa5) [] []) l.counter (replicate 32 0)
+invariant-loop g l = l.tag ≡ iterate (λ tag. argon2id_tag l.costs tag (replicate 16 0xa5) [] []) l.counter (replicate 32 0)
