@@ -270,9 +270,15 @@ def has_free_proof(crate, function, texts):
 
 
 def header_of(function, lines):
-    """The lines that open the block in which a method stands."""
+    """The lines that open the block in which a method stands, and what is imported in it above the method."""
     first = next(it for it in range(function.first, -1, -1) if BLOCK.match(lines[it]))
-    return lines[first:1 + next(it for it in range(first, function.first) if lines[it].endswith("{"))]
+    last = next(it for it in range(first, function.first) if lines[it].endswith("{"))
+    found, inside = lines[first:last + 1], False
+    for line in lines[last + 1:function.first]:
+        inside = inside or bool(re.match(r"    (ghost )?use ", line))
+        found += [line] if inside else []
+        inside = inside and not line.endswith(";")
+    return found
 
 
 def with_copies(crate, edits, texts):
