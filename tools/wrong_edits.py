@@ -327,20 +327,18 @@ def in_rounds(crate, edits, texts, most):
     return rounds, alone
 
 
-def changes_nothing(crate, texts, taken):
-    """An edit that adds a comment to a function of the crate: to one of those that are taken, so that it goes into a copy and shows that
-    copies are proved as they are, or else to another; and where there is one, to one that names none that is taken, since what calls a
-    function that is refused is told as not proved."""
+def changes_nothing(texts, taken):
+    """An edit that adds a comment to a function of the crate, one that isn't taken and names none that is, where there is one: what
+    calls a function that is refused is told as not proved."""
     every = [it for it in every_function(dict(sorted(texts.items()))) if "test" not in it.file and place_of(it, texts)]
-    parts = {it: texts[it.file].split("\n")[it.first:it.last + 1] for it in every}
-    # a line of the body, since the head of a copy has another name
-    plain = lambda it: next((line for line in parts[it][it.body - it.first:-1] if line.endswith((";", "{", ",")) and "\n".join(parts[it]).count(line) == 1), None)
-    copied, others = [it for it in every if it in taken and plain(it) and has_free_proof(crate, it, texts)], [it for it in every if it not in taken]
-    names = {it.name for it in taken if it}
-    words = lambda it: re.findall(r"\w+", "\n".join(parts[it][it.body - it.first:-1]))
-    home = next((it for it in [*copied, *others] if names.isdisjoint(words(it))), (others or copied or every)[0])
-    line = plain(home) or next((it for it in parts[home] if FUNCTION.match(it)), parts[home][-1])
-    return Edit("(a comment)", ((home.file, line, f"{line} // as it was"),), home)
+    names, others = {it.name for it in taken if it}, [it for it in every if it not in taken]
+    words = lambda it: re.findall(r"\w+", "\n".join(texts[it.file].split("\n")[it.body:it.last]))
+    home = next((it for it in others if names.isdisjoint(words(it))), (others or every)[0])
+    line = texts[home.file].split("\n")[home.last]
+    if home.first == home.last:
+        return Edit("(a comment)", ((home.file, line, f"{line} // as it was"),), home)
+    head = next(it for it in texts[home.file].split("\n")[home.first:] if FUNCTION.match(it))
+    return Edit("(a comment)", ((home.file, head, f"{head} // as it was"),), home)
 
 
 def without_tests(texts):
