@@ -5,6 +5,7 @@ Used by `tools/edits`; nothing here knows of edits.
 import hashlib
 import os
 import re
+import resource
 import shutil
 import subprocess
 import tempfile
@@ -82,14 +83,28 @@ class Run:
 
     def __init__(self, kit, verb, words, folder):
         began = time.monotonic()
-        with tempfile.TemporaryFile("w+", errors="replace") as out:
-            ran = subprocess.Popen([f"{kit.top}/bin/rattle", verb, *words], cwd=folder, stdin=subprocess.DEVNULL, stdout=out, stderr=out)
-            _, status, used = os.wait4(ran.pid, 0)
-            ran.returncode = self.status = os.waitstatus_to_exitcode(status)
+        with tempfile.TemporaryDirectory(prefix="fsc-prover-") as room, tempfile.TemporaryFile("w+", errors="replace") as out:
+            words = [f"{kit.top}/bin/rattle", verb, *words, "--stage-times", f"{room}/stages"]
+            ran = subprocess.Popen(words, cwd=folder, stdin=subprocess.DEVNULL, stdout=out, stderr=out)
+            used = self.waited(ran, Path(room) / "stages" if verb == "check" else None)
             out.seek(0)
             self.said = out.read().split("\n")
         self.wall, self.work = time.monotonic() - began, used.ru_utime + used.ru_stime
         self.last = next((it for it in reversed(self.said) if it.strip()), "")
+
+    def waited(self, ran, stages):
+        """Waits for the prover, and gives what it used. Once a check's verdict stands, as the file of its stages tells, it may open no
+        further file: it would go over all once more, a fourth of its work, to print files in which the open goals are to be answered.
+        It tells in a note that it can't."""
+        pid = 0
+        while not pid:
+            time.sleep(0.05)
+            if stages and stages.is_file() and "\nstage lines " in stages.read_text(encoding="utf-8"):
+                resource.prlimit(ran.pid, resource.RLIMIT_NOFILE, (0, 0))
+                stages = None
+            pid, status, used = os.wait4(ran.pid, os.WNOHANG)
+        ran.returncode = self.status = os.waitstatus_to_exitcode(status)
+        return used
 
     def is_proved(self):
         return self.status == 0

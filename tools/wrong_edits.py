@@ -13,7 +13,7 @@ BLOCK = re.compile(r"(?:pub(?:\([a-z]+\))? )?(?:unsafe )?(impl|trait|macro_rules
 TESTS = re.compile(r"^#\[cfg\(test\)\]\n(?:pub(?:\(\w+\))? )?mod (\w+);\n", re.M)
 
 # What a check says of a goal of the code, and of a file of a proof.
-GOAL = re.compile(r"note: (src/\S+?):(\d+):\d+: .*\bnot proved\b")
+GOAL = re.compile(r"note: (src/\S+?):(\d+):\d+: .*(?:\bnot proved\b|`search` found no proof \(`invariant_of-)")
 PROOF = re.compile(r"(?:\./)?proofs/(\S+?):\d+:\d+: error\b(.*)")
 # What it says of a text of the code or of the definitions, which it refuses, or can't read: then no contract was tried.
 STATED = re.compile(r"(?:\./)?(?:src|specs)/\S+?:\d+:\d+: error: (`[^`]*`: )?(.*)")
