@@ -1,4 +1,4 @@
-// Blocks of 1,024 bytes, and the function that makes a block of two (RFC 9106, 3.5 and 3.6).
+//! Blocks of 1,024 bytes, and the function that makes a block of two (RFC 9106, 3.5 and 3.6).
 
 ghost use Rattle.std.specs.Prelude.{◌≡◌, ◌<◌};
 ghost use Rattle.argon_kdf.specs.Permutation.{mixed, permuted, product_sum};

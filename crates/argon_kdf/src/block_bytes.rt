@@ -1,4 +1,4 @@
-// Blocks from bytes, and their bytes.
+//! Blocks from bytes, and their bytes.
 
 ghost use Rattle.std.specs.Prelude.{◌≡◌};
 ghost use Rattle.byte_words.specs.Words.{bytes_of_words};

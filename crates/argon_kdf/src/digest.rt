@@ -1,5 +1,5 @@
-// The digests at both ends: H_0, the variable-length hash H', each lane's first two blocks, and the tag
-// (RFC 9106, 3.2 and 3.3).
+//! The digests at both ends: H_0, the variable-length hash H', each lane's first two blocks, and the tag
+//! (RFC 9106, 3.2 and 3.3).
 
 ghost use Rattle.std.specs.Prelude.{◌≡◌, ℕ, ◌+◌, ◌*◌, ◌^◌, ◌<◌, ◌≤◌, List, ◌++◌, length, take, drop};
 ghost use Rattle.blake2_core.specs.Words.{bytes_of_words};

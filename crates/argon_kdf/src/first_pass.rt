@@ -1,5 +1,5 @@
-// The first pass, in memory that grows: a slice at a time, in which the segments grow at the same time, one
-// thread a lane. So each thread touches the memory of its lane first, and writes no block twice.
+//! The first pass, in memory that grows: a slice at a time, in which the segments grow at the same time, one
+//! thread a lane. So each thread touches the memory of its lane first, and writes no block twice.
 
 ghost use Rattle.std.specs.Prelude.{◌≡◌, ℕ, ◌+◌, ◌*◌, ◌/◌, ◌<◌, ◌≤◌, All, IfOk, List, [], ◌∷◌, ◌++◌};
 ghost use Rattle.std.specs.Prelude.{length, slice_index_or, vec_capacity};

@@ -1,4 +1,4 @@
-// The later passes, with the segments of each slice made at the same time, one thread a lane.
+//! The later passes, with the segments of each slice made at the same time, one thread a lane.
 
 ghost use Rattle.std.specs.Prelude.{◌≡◌, ℕ, ◌+◌, ◌*◌, ◌<◌};
 ghost use Rattle.std.specs.Prelude.{All, List, length, slice_index_or};

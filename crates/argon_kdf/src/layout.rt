@@ -1,4 +1,4 @@
-// Where the blocks stand: lanes one after the other in one buffer, each of four segments.
+//! Where the blocks stand: lanes one after the other in one buffer, each of four segments.
 
 ghost use Rattle.std.specs.Prelude.{◌≡◌, ◌+◌, ◌*◌, ◌<◌, ◌≤◌, Ok};
 ghost use Rattle.argon_kdf.specs.CostLimits.{checked_costs};

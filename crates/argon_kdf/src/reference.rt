@@ -1,4 +1,4 @@
-// Which block is taken in beside the one before (RFC 9106, 3.4).
+//! Which block is taken in beside the one before (RFC 9106, 3.4).
 
 ghost use Rattle.std.specs.Prelude.{◌≡◌, ℕ, ◌+◌, ◌-◌, ◌*◌, ◌/◌, ◌%◌, ◌^◌, ◌<◌, ◌≤◌, slice_index};
 ghost use Rattle.argon_kdf.specs.Shapes.{column_of, columns, shape};

@@ -1,4 +1,4 @@
-// The compression function of BLAKE2b (RFC 7693, 3.1 and 3.2), one block of 128 bytes at a time.
+//! The compression function of BLAKE2b (RFC 7693, 3.1 and 3.2), one block of 128 bytes at a time.
 
 ghost use Rattle.std.specs.Prelude.{◌≡◌, ℕ, ◌+◌, ◌*◌, ◌/◌, ◌%◌, ◌^◌, ◌<◌, ◌≤◌};
 ghost use Rattle.std.specs.Prelude.{List, length, slice_index, if◌then◌else◌};

@@ -76,7 +76,7 @@ fn ciphertexts_are_those_of_another_cbc(rt: HostRuntime) {
 // CBC's own blocks of the same text: one block is its first; two are its second and its first; of
 // three, the second is cut and stands last.
 #[test]
-fn the_last_two_blocks_are_swapped_at_every_length(rt: HostRuntime) {
+fn the_last_two_of_one_to_three_blocks_are_swapped(rt: HostRuntime) {
     let first = b"\xc5\x20\xfa\x7e\x86\x7b\x82\xc5\xb6\xc0\x1f\x57\xec\x10\xa9\xe3";
     let second = b"\xf9\xc6\x17\x4e\x35\x36\x2b\x76\x29\x36\xc7\x70\x2d\x95\xbd\x24";
     let third = b"\x39\x54\xab\x62\x78\xe8\x0c\x7e\x7e\x10\x80\x9f\x37\xc4\xb7\x63";

@@ -1,5 +1,5 @@
 -- A file's contents as the blocks that are stored of it.
-use Rattle.std.specs.Prelude.{ℕ, ◌+◌, ◌*◌, List, [], length, map, take, Option, None, Some, slice_index_or}
+use Rattle.std.specs.Prelude.{ℕ, ◌+◌, ◌*◌, List, [], length, map, replicate, take, Option, None, Some, slice_index_or}
 use Rattle.std.specs.Int.{div_ceil}
 use Rattle.std.specs.List.{range_with_len}
 use Rattle.mount_limits.specs.declared.TheConstants.{BLOCK_SIZE}
@@ -14,6 +14,15 @@ pub record Seal : Type 0 where
   pub key : List ℕ
   pub start : ℕ
   pub unit : DataUnit
+
+-- what is left of it where it stands, once its key is overwritten with zeros
+abbrev pub wiped : Seal → Seal
+wiped seal = record { key = replicate 64 0; start = seal.start; unit = seal.unit }
+
+-- nothing, where there was none
+unfoldable pub wiped_seal : Option Seal → Option Seal
+wiped_seal None = None
+wiped_seal (Some seal) = Some (wiped seal)
 
 -- the index of the first unit of block j
 abbrev pub first_index : Seal → ℕ → ℕ

@@ -1,6 +1,6 @@
 //! One block of a file, stored and read.
-ghost use Rattle.std.specs.Prelude.{◌≡◌, ◌-◌, ◌<◌, ◌≤◌, ◌^◌, IfSome, length, replicate};
-ghost use Rattle.data_crypt.specs.Blocks.{first_index, read_block, stored_block};
+ghost use Rattle.std.specs.Prelude.{◌≡◌, ◌-◌, ◌<◌, ◌≤◌, ◌^◌, length, replicate};
+ghost use Rattle.data_crypt.specs.Blocks.{first_index, read_block, stored_block, wiped_seal};
 ghost use Rattle.data_crypt.specs.Ciphers.{cipher_seal, seal_by};
 ghost use Rattle.data_crypt.specs.Units.{unit_count};
 
@@ -58,8 +58,9 @@ pub fn read_block(cipher: &Option<FileCipher>, index: u32, block: &mut [u8])
 }
 
 /// Overwrites the round keys where they stand, where there are any. They are then those of 64 zeros.
+#[tactic(auto, unfolding(crate::specs::Blocks::wiped_seal))]
 pub fn wipe_cipher(cipher: &mut Option<FileCipher>)
-    ensures { IfSome cipher.new (λ cipher. cipher.key ≡ replicate 64 0) }
+    ensures { seal_by cipher.new ≡ wiped_seal (seal_by cipher.old) }
 {
     if let Some(cipher) = cipher {
         cipher.key.wipe();

@@ -1,7 +1,6 @@
 //! What the contents of a file are sealed with.
-ghost use Rattle.std.specs.Prelude.{◌≡◌, ◌%◌, ◌^◌, replicate};
+ghost use Rattle.std.specs.Prelude.{◌≡◌, ◌%◌, ◌^◌};
 
-use byte_words::wipe;
 use policy_ctx::Unit;
 
 /// A key for the contents of files: its 64 bytes, the index at which the units of a file start, and
@@ -15,13 +14,4 @@ pub struct ContentsKey {
     /// The size of a unit.
     pub unit: Unit,
     pub ghost apart: { start % 2 ^ 32 ≡ 0 },
-}
-
-impl ContentsKey {
-    /// Overwrites the bytes where they stand.
-    pub fn wipe(&mut self)
-        ensures bytes { self.new.bytes ≡ replicate 64 0 }
-    {
-        wipe(&mut self.bytes);
-    }
 }

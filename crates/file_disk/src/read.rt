@@ -1,6 +1,7 @@
 //! A part of a file's contents is read in two halves: stored blocks are copied, and then deciphered.
 ghost use Rattle.std.specs.Prelude.{◌≡◌, ◌+◌, ◌*◌, ◌/◌, ◌%◌, ◌<◌, ◌≤◌, ◌^◌};
-ghost use Rattle.std.specs.Prelude.{take, drop, length, replicate, IfOk, IfSome, OnOk};
+ghost use Rattle.std.specs.Prelude.{take, drop, length, IfOk, IfSome, OnOk};
+ghost use Rattle.data_crypt.specs.Blocks.{wiped_seal};
 ghost use Rattle.data_crypt.specs.Ciphers.{seal_by};
 ghost use Rattle.data_crypt.specs.Laws.{IsKeyOfBytes};
 ghost use Rattle.data_crypt.specs.Parts.{blocks_joined, content_of, opened_text};
@@ -37,7 +38,7 @@ pub fn begin_read(
     ensures text { IfOk result (λ lent. IfSome lent (IsCopied disk.now file)) }
     ensures key { IfOk result (λ lent. IfSome lent (λ read. lent_seal read.key ≡ seal_of key.old)) }
     ensures content { IfOk result (IsPart disk.now file (seal_of key.old) offset len) }
-    ensures wiped { IfSome key.new (λ key. key.bytes ≡ replicate 64 0) }
+    ensures wiped { seal_of key.new ≡ wiped_seal (seal_of key.old) }
 {
     let begun = copy_part(disk, alloc, file, key, offset, len);
     wipe_key(key);

@@ -1,9 +1,11 @@
-//! Keys and round keys are made, used and overwritten in one place.
-ghost use Rattle.std.specs.Prelude.{◌≡◌, IfSome, is_some, replicate};
+//! Room for round keys, which are made in it, and the overwriting of keys where they stand.
+ghost use Rattle.std.specs.Prelude.{◌≡◌, is_some};
+ghost use Rattle.data_crypt.specs.Blocks.{wiped, wiped_seal};
 ghost use Rattle.data_crypt.specs.Ciphers.{cipher_seal, seal_by};
 ghost use Rattle.file_disk.specs.Keys.{key_seal, lent_seal, seal_of};
 
 use crate::key::ContentsKey;
+use byte_words::wipe;
 use data_crypt::FileCipher;
 
 // Room for round keys, where there is a key.
@@ -59,9 +61,19 @@ pub(crate) fn fill_lent(cipher: &mut Option<FileCipher>, key: &Option<Box<Conten
     }
 }
 
+impl ContentsKey {
+    /// Overwrites the bytes where they stand.
+    pub fn wipe(&mut self)
+        ensures { key_seal self.new ≡ wiped (key_seal self.old) }
+    {
+        wipe(&mut self.bytes);
+    }
+}
+
 // Overwrites the bytes of the key, where there is one.
+#[tactic(auto, unfolding(data_crypt::specs::Blocks::wiped_seal))]
 pub(crate) fn wipe_key(key: &mut Option<ContentsKey>)
-    ensures { IfSome key.new (λ key. key.bytes ≡ replicate 64 0) }
+    ensures { seal_of key.new ≡ wiped_seal (seal_of key.old) }
 {
     if let Some(key) = key {
         key.wipe();
@@ -69,8 +81,9 @@ pub(crate) fn wipe_key(key: &mut Option<ContentsKey>)
 }
 
 // The same of a key that was lent, in its box.
+#[tactic(auto, unfolding(data_crypt::specs::Blocks::wiped_seal))]
 pub(crate) fn wipe_lent(key: &mut Option<Box<ContentsKey>>)
-    ensures { IfSome key.new (λ key. key.value.bytes ≡ replicate 64 0) }
+    ensures { lent_seal key.new ≡ wiped_seal (lent_seal key.old) }
 {
     if let Some(key) = key {
         key.wipe();

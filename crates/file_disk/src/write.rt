@@ -1,5 +1,6 @@
 //! A piece is written into a file's stored blocks.
-ghost use Rattle.std.specs.Prelude.{◌≡◌, ◌+◌, ◌/◌, ◌<◌, ◌≤◌, ◌^◌, length, min, replicate, IfErr, IfSome, IsOk, OnErr, OnOk};
+ghost use Rattle.std.specs.Prelude.{◌≡◌, ◌+◌, ◌/◌, ◌<◌, ◌≤◌, ◌^◌, length, min, IfErr, IsOk, OnErr, OnOk};
+ghost use Rattle.data_crypt.specs.Blocks.{wiped_seal};
 ghost use Rattle.data_crypt.specs.Ciphers.{seal_by};
 ghost use Rattle.disk_tree.specs.DiskTree.{IsFileAt, file_blocks};
 ghost use Rattle.file_disk.specs.Bodies.{ExceedsDisk, blocks_rewritten, covers_block, disk_written, end_block};
@@ -38,7 +39,7 @@ pub fn write_file(
         → result ≡ Err DiskFault.NoSpace }
     ensures no_space { IfErr result (λ fault. fault ≡ DiskFault.NoSpace
         → ExceedsDisk disk.old file offset bytes.now) }
-    ensures wiped { IfSome key.new (λ key. key.bytes ≡ replicate 64 0) }
+    ensures wiped { seal_of key.new ≡ wiped_seal (seal_of key.old) }
 {
     let written = write_under(disk, alloc, file, key, offset, bytes);
     wipe_key(key);

@@ -73,7 +73,7 @@ fn run_on_mount<G: Gate>(
     rotate(alloc, script, seed, gate, &PlainStretch, mount)
 }
 
-// The image of the mount that a run left, which is let go before the image is written.
+// The image of the mount that a run left, which is let go once its image is made.
 fn image_of(alloc: Global, told: Told, mount: Mount) -> Result<Bytes, AllocError>
     ensures { IfOk result (λ text. (seed : List ℕ) (script : List Section)
         → RanOnMount seed script told.entries.items told.notes.items mount.state
@@ -82,8 +82,8 @@ fn image_of(alloc: Global, told: Told, mount: Mount) -> Result<Bytes, AllocError
     image_left(alloc, &told, &mount)
 }
 
-// The same of a mount that stays. A run in which a call wanted memory has no image: what it would show depends on
-// where memory was wanting.
+// The same of a mount that stays. A run in which a call wanted memory has no image: what it would show
+// depends on where memory was wanting.
 fn image_left(alloc: Global, told: &Told, mount: &Mount) -> Result<Bytes, AllocError>
     ensures { IfOk result (λ text. (seed : List ℕ) (script : List Section)
         → RanOnMount seed script told.now.entries.items told.now.notes.items mount.now.state

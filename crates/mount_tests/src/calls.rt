@@ -42,6 +42,9 @@ fn paths_are_copied(rt: HostRuntime) {
     let part = Part::new(bytes_of(rt.alloc(), 1000).expect(&rt, "memory"));
     path.push(part).expect(&rt, "memory");
     let copy = path.copy(rt.alloc()).expect(&rt, "memory");
+    let copied = copy.part(0).expect(&rt, "a part");
+    let bytes = bytes_of(rt.alloc(), 1000).expect(&rt, "memory");
+    assert!(rt; copied.bytes() == bytes.as_slice());
     assert!(rt; copy.len() == 1);
     assert!(rt; copy.part(1).is_none());
 }

@@ -1,4 +1,4 @@
-// The limits of commands. Those that a mount has too are the mount's.
+//! The limits of commands. Those that a mount has too are the mount's.
 
 /// The callers of a script.
 pub const MOST_CALLERS: usize = 8;

@@ -79,7 +79,7 @@ fn drawn(
 }
 
 // That this is drawn for each row, whole and by 16 bytes.
-fn are_drawn<A: Abort>(rt: &A, alloc: Global, seed: &[u8; 32], rows: &[DrawRow]) {
+fn expect_drawn<A: Abort>(rt: &A, alloc: Global, seed: &[u8; 32], rows: &[DrawRow]) {
     for row in rows {
         let whole = drawn(alloc, seed, row, &mut [0; 64]).expect(rt, "an answer");
         assert!(rt; whole.as_str() == row.3);
@@ -90,12 +90,12 @@ fn are_drawn<A: Abort>(rt: &A, alloc: Global, seed: &[u8; 32], rows: &[DrawRow])
 
 #[test]
 fn draws_are_those_of_python(rt: HostRuntime) {
-    are_drawn(&rt, rt.alloc(), &[0; 32], &DRAWN_FROM_ZEROS);
+    expect_drawn(&rt, rt.alloc(), &[0; 32], &DRAWN_FROM_ZEROS);
     let mut counting = [0; 32];
     for i in 0..32 {
         counting[i] = i as u8;
     }
-    are_drawn(&rt, rt.alloc(), &counting, &DRAWN_FROM_COUNTING);
+    expect_drawn(&rt, rt.alloc(), &counting, &DRAWN_FROM_COUNTING);
 }
 
 // The path with stars, where these entries are told.

@@ -34,7 +34,7 @@ const TEXTS: [(u32, &str, &str); 3] = [
 ];
 
 // That the text begins so, and has this digest.
-fn is_generated<A: Abort>(rt: &A, alloc: Global, text: &[u8], seventh: &str, digest: &str) {
+fn expect_generated<A: Abort>(rt: &A, alloc: Global, text: &[u8], seventh: &str, digest: &str) {
     assert!(rt; line(text, 0) == b"caller 1000".as_slice());
     assert!(rt; line(text, 6) == seventh.as_bytes());
     let got = hex::encode(alloc, Sha256::digest(text).as_slice()).expect(rt, "memory");
@@ -45,6 +45,6 @@ fn is_generated<A: Abort>(rt: &A, alloc: Global, text: &[u8], seventh: &str, dig
 fn generated_texts_are_those_of_another_program(rt: HostRuntime) {
     for (number, seventh, digest) in &TEXTS {
         let text = generate(rt.alloc(), *number).expect(&rt, "an answer");
-        is_generated(&rt, rt.alloc(), text.as_slice(), seventh, digest);
+        expect_generated(&rt, rt.alloc(), text.as_slice(), seventh, digest);
     }
 }

@@ -29,27 +29,29 @@ fn failing_sink(alloc: Global, listed: u32) -> Result<MemSink, AllocError> {
     MemSink::new(alloc, TEXT.len(), 5, listed_call(alloc, listed)?)
 }
 
-// Writes the piece, once more where the first call fails.
-fn write_once<A: Abort>(rt: &A, sink: &mut MemSink, piece: &[u8]) {
-    let taken = match sink.write(piece) {
-        Ok(taken) => taken,
-        Err(_) => sink.write(piece).expect(rt, "an answer"),
+// Writes the piece, once more where the first call fails. Whether it failed.
+fn write_once<A: Abort>(rt: &A, sink: &mut MemSink, piece: &[u8]) -> bool {
+    let (taken, has_failed) = match sink.write(piece) {
+        Ok(taken) => (taken, false),
+        Err(_) => (sink.write(piece).expect(rt, "an answer"), true),
     };
     assert!(rt; taken == piece.len());
+    has_failed
 }
 
-// Copies what one call reads, which fails at the listed call alone.
-fn copy_once<A: Abort>(rt: &A, source: &mut MemSource, sink: &mut MemSink, is_listed: bool) {
+// Copies what one call reads, which fails where it is the listed one, and only there. Whether a write failed.
+fn copy_once<A: Abort>(
+    rt: &A,
+    source: &mut MemSource,
+    sink: &mut MemSink,
+    is_listed: bool,
+) -> bool {
     let mut piece = [0; 8];
-    let count = match source.read(&mut piece) {
-        Ok(count) => count,
-        Err(_) => {
-            assert!(rt; is_listed);
-            0
-        }
-    };
-    if count > 0 {
-        write_once(rt, sink, &piece[..count]);
+    let read = source.read(&mut piece);
+    assert!(rt; read.is_err() == is_listed);
+    match read {
+        Ok(count) => write_once(rt, sink, &piece[..count]),
+        Err(_) => false,
     }
 }
 
@@ -59,9 +61,11 @@ fn each_listed_call_fails_alone(rt: HostRuntime) {
     for listed in 0..4u32 {
         let mut source = failing_source(rt.alloc(), listed).expect(&rt, "memory");
         let mut sink = failing_sink(rt.alloc(), listed).expect(&rt, "memory");
+        let mut has_failed = false;
         for call in 0..5u32 {
-            copy_once(&rt, &mut source, &mut sink, call == listed);
+            has_failed |= copy_once(&rt, &mut source, &mut sink, call == listed);
         }
+        assert!(rt; has_failed);
         assert!(rt; sink.got() == TEXT.as_slice());
         assert!(rt; sink.write(b"!").is_err());
     }
@@ -115,7 +119,7 @@ impl RandomSource for Broken {
 }
 
 // That of these seeds no two are alike.
-fn no_two_are_alike<A: Abort>(rt: &A, given: &[[u8; 32]; 16]) {
+fn expect_no_two_alike<A: Abort>(rt: &A, given: &[[u8; 32]; 16]) {
     for i in 0..16 {
         for j in 0..i {
             assert!(rt; given[i] != given[j], "seeds {j} and {i}");
@@ -141,7 +145,7 @@ fn the_runtime_gives_other_bytes_each_time(rt: HostRuntime) {
     for i in 0..16 {
         given[i] = seeds.seed().expect(&rt, "an answer");
     }
-    no_two_are_alike(&rt, &given);
+    expect_no_two_alike(&rt, &given);
     no_byte_is_the_same(&rt, &given);
     assert!(rt; RuntimeSeed::new(&Broken).seed().is_err());
 }

@@ -91,7 +91,7 @@ fn rewritten(alloc: Global, text: &[u8]) -> Result<Bytes, AllocError> {
 }
 
 // That the script which this text spells is written as the wanted text.
-fn is_written<A: Abort>(rt: &A, alloc: Global, text: &str, wanted: &str) {
+fn expect_written<A: Abort>(rt: &A, alloc: Global, text: &str, wanted: &str) {
     let written = rewritten(alloc, text.as_bytes()).expect(rt, "an answer");
     same_bytes(rt, written.as_slice(), wanted.as_bytes(), text);
 }
@@ -124,8 +124,8 @@ const UNCOMMENTED: &str = "caller 1000\n\n\n\nadd-key 0a\ncaller 7\n\n\
 
 #[test]
 fn scripts_are_written_with_each_command_in_its_line(rt: HostRuntime) {
-    is_written(&rt, rt.alloc(), BARE, BARE);
-    is_written(&rt, rt.alloc(), COMMENTED, UNCOMMENTED);
+    expect_written(&rt, rt.alloc(), BARE, BARE);
+    expect_written(&rt, rt.alloc(), COMMENTED, UNCOMMENTED);
 }
 
 // Puts a command that adds a key of so many bytes.
@@ -141,7 +141,7 @@ fn keys_of_31_32_and_65_bytes_are_written(rt: HostRuntime) {
     for bytes in &[31, 32, 65] {
         push_add_key(&mut text, rt.alloc(), *bytes).expect(&rt, "memory");
     }
-    is_written(&rt, rt.alloc(), &text, &text);
+    expect_written(&rt, rt.alloc(), &text, &text);
 }
 
 // One command of each name, with all words that it may have.
@@ -181,7 +181,7 @@ const EACH_COMMAND: &str = "caller 1000\n\
 
 #[test]
 fn each_command_is_written_as_it_was(rt: HostRuntime) {
-    is_written(&rt, rt.alloc(), EACH_COMMAND, EACH_COMMAND);
+    expect_written(&rt, rt.alloc(), EACH_COMMAND, EACH_COMMAND);
 }
 
 // A line, and how it is written.
@@ -212,7 +212,7 @@ fn words_are_written_in_one_way(rt: HostRuntime) {
     for (line, want) in &LINES {
         let text = of_caller_7(rt.alloc(), line).expect(&rt, "memory");
         let wanted = of_caller_7(rt.alloc(), want).expect(&rt, "memory");
-        is_written(&rt, rt.alloc(), &text, &wanted);
+        expect_written(&rt, rt.alloc(), &text, &wanted);
     }
 }
 
@@ -230,5 +230,5 @@ fn digits_of_secrets_are_written_in_lower_case(rt: HostRuntime) {
     let wanted = SECRETS
         .replace(rt.alloc(), "A5", "a5")
         .expect(&rt, "memory");
-    is_written(&rt, rt.alloc(), SECRETS, &wanted);
+    expect_written(&rt, rt.alloc(), SECRETS, &wanted);
 }

@@ -88,7 +88,7 @@ const PARTS: [PathRow; 25] = [
 ];
 
 // That each of these paths is shown so.
-fn are_shown<A: Abort>(rt: &A, alloc: Global, rows: &[PathRow]) {
+fn expect_shown<A: Abort>(rt: &A, alloc: Global, rows: &[PathRow]) {
     for (text, want) in rows {
         let shown = path_shown(alloc, text.as_bytes()).expect(rt, "an answer");
         same(rt, shown.as_str(), want, text);
@@ -97,12 +97,12 @@ fn are_shown<A: Abort>(rt: &A, alloc: Global, rows: &[PathRow]) {
 
 #[test]
 fn stars_are_stars_as_they_stand(rt: HostRuntime) {
-    are_shown(&rt, rt.alloc(), &STARS);
+    expect_shown(&rt, rt.alloc(), &STARS);
 }
 
 #[test]
 fn parts_are_checked_after_decoding(rt: HostRuntime) {
-    are_shown(&rt, rt.alloc(), &PARTS);
+    expect_shown(&rt, rt.alloc(), &PARTS);
 }
 
 // How many parts the path has that is made of so many pieces `/a`, if there is such a path.

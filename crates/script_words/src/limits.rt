@@ -1,4 +1,4 @@
-// The limits of words. Those that a mount has too are the mount's.
+//! The limits of words. Those that a mount has too are the mount's.
 
 // The parts of a path.
 pub(crate) const MOST_PARTS: usize = mount_limits::MOST_PARTS;
