@@ -31,11 +31,15 @@ pub(crate) fn make_and_take_dirs(alloc: Global, names: NameCount) -> Result<Work
     let before = encrypted_top(alloc, names - 1)?;
     let mut run = Vec::new(alloc);
     for number in names..names + RUN_NAMES {
-        run.push(mkdir(numbered_path(alloc, number)?))?;
-        let path = numbered_path(alloc, number)?;
-        run.push(call(Op::Rmdir { path }))?;
+        make_and_take_dir(alloc, &mut run, number)?;
     }
     Ok(Work { before, run })
+}
+
+fn make_and_take_dir(alloc: Global, run: &mut Vec<Call>, number: u32) -> Result<(), AllocError> {
+    run.push(mkdir(numbered_path(alloc, number)?))?;
+    let path = numbered_path(alloc, number)?;
+    Ok(run.push(call(Op::Rmdir { path }))?)
 }
 
 /// Makes each file, and takes it away.
@@ -44,11 +48,15 @@ pub(crate) fn make_and_take_files(alloc: Global, names: NameCount) -> Result<Wor
     let before = encrypted_top(alloc, names - 1)?;
     let mut run = Vec::new(alloc);
     for number in names..names + RUN_NAMES {
-        run.push(create(numbered_path(alloc, number)?))?;
-        let path = numbered_path(alloc, number)?;
-        run.push(call(Op::Unlink { path }))?;
+        make_and_take_file(alloc, &mut run, number)?;
     }
     Ok(Work { before, run })
+}
+
+fn make_and_take_file(alloc: Global, run: &mut Vec<Call>, number: u32) -> Result<(), AllocError> {
+    run.push(create(numbered_path(alloc, number)?))?;
+    let path = numbered_path(alloc, number)?;
+    Ok(run.push(call(Op::Unlink { path }))?)
 }
 
 /// Tells what each name leads to.
@@ -112,24 +120,21 @@ fn rename(alloc: Global, old: u32, new: u32) -> Result<Call, AllocError> {
 pub(crate) fn tell_names(alloc: Global, before: Vec<Call>) -> Result<Work, AllocError> {
     let path = top_path(alloc)?;
     let start = PAGE_START;
-    let mut run = Vec::new(alloc);
-    run.push(call(Op::List { path, start }))?;
+    let run = only(alloc, call(Op::List { path, start }))?;
     Ok(Work { before, run })
 }
 
 /// Reads a block of a file.
 pub(crate) fn read_block(alloc: Global) -> Result<Work, AllocError> {
     let before = written_file(alloc)?;
-    let mut run = Vec::new(alloc);
-    run.push(read(0))?;
+    let run = only(alloc, read(0))?;
     Ok(Work { before, run })
 }
 
 /// Writes so many bytes into the first block of a file, from an offset on.
 pub(crate) fn write_bytes(alloc: Global, offset: u32, len: usize) -> Result<Work, AllocError> {
     let before = written_file(alloc)?;
-    let mut run = Vec::new(alloc);
-    run.push(write(alloc, offset, len)?)?;
+    let run = only(alloc, write(alloc, offset, len)?)?;
     Ok(Work { before, run })
 }
 
@@ -144,11 +149,8 @@ fn written_file(alloc: Global) -> Result<Vec<Call>, AllocError> {
 /// Tells the status of the key, while 4,096 files are open that need it.
 pub(crate) fn tell_status(alloc: Global) -> Result<Work, AllocError> {
     let mut before = encrypted_top(alloc, MOST)?;
-    for number in 0..MOST {
-        before.push(open(alloc, number)?)?;
-    }
-    let mut run = Vec::new(alloc);
-    run.push(call(Op::KeyStatus { id: id_of_key() }))?;
+    open_each(alloc, &mut before, MOST)?;
+    let run = only(alloc, call(Op::KeyStatus { id: id_of_key() }))?;
     Ok(Work { before, run })
 }
 
@@ -176,4 +178,19 @@ fn fill(alloc: Global, calls: &mut Vec<Call>, files: u32) -> Result<(), AllocErr
         calls.push(create(numbered_path(alloc, number)?))?;
     }
     Ok(())
+}
+
+// Adds the calls that open so many files.
+fn open_each(alloc: Global, calls: &mut Vec<Call>, files: u32) -> Result<(), AllocError> {
+    for number in 0..files {
+        calls.push(open(alloc, number)?)?;
+    }
+    Ok(())
+}
+
+// The calls of a run that makes one.
+fn only(alloc: Global, call: Call) -> Result<Vec<Call>, AllocError> {
+    let mut calls = Vec::new(alloc);
+    calls.push(call)?;
+    Ok(calls)
 }
