@@ -2,11 +2,15 @@
 #![tactic(auto)]
 
 #[cfg(test)]
+mod counting;
+#[cfg(test)]
 mod draws;
 #[cfg(test)]
 mod endings;
 #[cfg(test)]
 mod generated;
+#[cfg(test)]
+mod in_threads;
 #[cfg(test)]
 mod kinds;
 #[cfg(test)]
@@ -15,6 +19,8 @@ mod linked;
 mod linked_commands;
 #[cfg(test)]
 mod linked_wanting;
+#[cfg(test)]
+mod meeting;
 #[cfg(test)]
 mod outside;
 #[cfg(test)]

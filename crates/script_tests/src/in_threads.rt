@@ -1,3 +1,5 @@
+//! Runs of the tool in threads, over a machine that answers the calls of a mount without one.
+
 use crate::counting::Counting;
 use crate::meeting::MeetingGate;
 use fsc_outside::{CallList, FixedSeed, Gate, MemSink, MemSource, OpenGate};
