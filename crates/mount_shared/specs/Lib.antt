@@ -1,3 +1,4 @@
+pub mod DropsCaches
 pub mod Groups
 pub mod Lends
 pub mod Made

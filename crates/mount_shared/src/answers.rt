@@ -4,6 +4,7 @@ ghost use Rattle.std.specs.Prelude.{◌≡◌, ◌<◌};
 ghost use Rattle.call_history.specs.Entries.{entry};
 ghost use Rattle.mount_files.specs.Lent.{reply_of};
 ghost use Rattle.mount_model.specs.Fits.{Fits};
+ghost use Rattle.mount_shared.specs.DropsCaches.{DropsCaches};
 ghost use Rattle.mount_shared.specs.Lends.{LendsBlocks};
 ghost use Rattle.mount_shared.specs.Made.{IsMade};
 ghost use Rattle.mount_shared.specs.TellsOfKeys.{AbsentIsGone, BusyIsOpen};
@@ -35,6 +36,7 @@ pub(crate) fn answer<L: Ledger>(
     ensures made { IsMade state.old (entry caller call.now (reply_of result)) state.new }
     ensures absent { AbsentIsGone state.new call.now.op (reply_of result) }
     ensures busy { BusyIsOpen state.new call.now.op (reply_of result) }
+    ensures drops { DropsCaches state.old state.new call.now.op }
     ensures lends { LendsBlocks state.old caller call.now.op result }
     ensures closes { ClosesOwn state.old caller call.now.op (reply_of result) }
     ensures records { TellsRecords state.old call.now.op (reply_of result) }

@@ -2,6 +2,7 @@
 
 ghost use Rattle.std.specs.Prelude.{ℕ, IsTrue};
 ghost use Rattle.call_history.specs.Entries.{entry};
+ghost use Rattle.mount_shared.specs.DropsCaches.{DropsCaches};
 ghost use Rattle.mount_shared.specs.Groups.{is_on_keys};
 ghost use Rattle.mount_shared.specs.Made.{IsMade};
 ghost use Rattle.mount_shared.specs.TellsOfKeys.{AbsentIsGone, BusyIsOpen};
@@ -17,6 +18,7 @@ pub(crate) fn reply_on_keys(alloc: Global, state: &mut MountState, call: &Call) 
     ensures made { (caller : ℕ) → IsMade state.old (entry caller call.now result) state.new }
     ensures absent { AbsentIsGone state.new call.now.op result }
     ensures busy { BusyIsOpen state.new call.now.op result }
+    ensures drops { DropsCaches state.old state.new call.now.op }
 {
     match &call.op {
         Op::AddKey { raw } => add_key(alloc, state, call.uid, raw),

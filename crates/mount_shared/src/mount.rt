@@ -12,6 +12,7 @@ ghost use Rattle.mount_model.specs.Step.{takes_memory};
 ghost use Rattle.mount_state.specs.Given.{IsRefusedAsDue};
 ghost use Rattle.mount_state.specs.SameButCaches.{SameButCaches};
 ghost use Rattle.mount_state.specs.StandsFor.{StandsFor};
+ghost use Rattle.mount_shared.specs.DropsCaches.{DropsCaches};
 ghost use Rattle.mount_shared.specs.Lends.{LendsBlocks};
 ghost use Rattle.mount_shared.specs.Made.{IsMade};
 ghost use Rattle.mount_shared.specs.StandsAfter.{StandsAfter};
@@ -49,14 +50,16 @@ impl Mount {
     /// once the turn is given back.
     ///
     /// Whatever raw keys were added: after a refusal all but cached keys and names is as before, removing keys,
-    /// a status, closing and dropping caches never want memory, a close is refused exactly where the caller has
-    /// no such handle, and of records it is told what they are. Where the state stands for a mount whose answer
-    /// is a refusal, the reply is that one, also where there is no memory.
+    /// a status, closing and dropping caches never want memory, DropCaches takes every cached name and just
+    /// those cached keys whose node has no handle, a close is refused exactly where the caller has no such
+    /// handle, and of records it is told what they are. Where the state stands for a mount whose answer is a
+    /// refusal, the reply is that one, also where there is no memory.
     pub fn answer(&mut self, caller: u32, call: &Call) -> Lent
         requires { Fits call.now }
         ensures made { IsMade self.old.state (entry caller call.now (reply_of result)) self.new.state }
         ensures absent { AbsentIsGone self.new.state call.now.op (reply_of result) }
         ensures busy { BusyIsOpen self.new.state call.now.op (reply_of result) }
+        ensures drops { DropsCaches self.old.state self.new.state call.now.op }
         ensures lends { LendsBlocks self.old.state caller call.now.op result }
         ensures closes { ClosesOwn self.old.state caller call.now.op (reply_of result) }
         ensures records { TellsRecords self.old.state call.now.op (reply_of result) }
@@ -93,6 +96,7 @@ impl Machine for Mount {
         ensures made { IsMade self.old.state (entry who call.now (reply_of result)) self.new.state }
         ensures absent { AbsentIsGone self.new.state call.now.op (reply_of result) }
         ensures busy { BusyIsOpen self.new.state call.now.op (reply_of result) }
+        ensures drops { DropsCaches self.old.state self.new.state call.now.op }
         ensures lends { LendsBlocks self.old.state who call.now.op result }
         ensures closes { ClosesOwn self.old.state who call.now.op (reply_of result) }
         ensures records { TellsRecords self.old.state call.now.op (reply_of result) }
