@@ -1,7 +1,7 @@
 //! Reads a line of a log. A first reading takes each word for what stands there in the line of an entry; the
 //! line is an entry's just where that, written, is the line again.
 
-ghost use Rattle.std.specs.Prelude.{◌≡◌, ◌↔◌, ◌-◌, ◌<◌, ◌^◌, IfOk, IsTrue, length, take};
+ghost use Rattle.std.specs.Prelude.{◌≡◌, ◌↔◌, ◌-◌, ◌<◌, ◌^◌, IfOk, IfSome, IsTrue, Some, length, take};
 ghost use Rattle.mount_model.specs.Fits.{Fits};
 ghost use Rattle.reply_text.specs.Log.{entry_text};
 ghost use Rattle.entry_reader.specs.Fields.{Makes};
@@ -27,11 +27,12 @@ pub struct LogEntry {
 }
 
 /// Reads a line, with its line feed. `None` exactly where it is the line of no entry at a place below 2^64
-/// whose call a mount may be asked, whatever the reply: so an entry has one line only. `AllocError` may come on
-/// any line.
+/// whose call a mount may be asked, whatever the reply: so an entry has one line only. What no line shows of a
+/// call is filled with zeros. `AllocError` may come on any line.
 pub fn read_entry(alloc: Global, line: &[u8]) -> Result<Option<LogEntry>, AllocError>
     ensures exact { IfOk result (λ read. TellsLine line.now read) }
     ensures reads_back { IfOk result (λ read. ReadsBack line.now read) }
+    ensures filled { IfOk result (λ read. IfSome read (λ entry. guess_of line.now ≡ Some entry)) }
 {
     match guess(alloc, line)? {
         Some(read) => {

@@ -68,9 +68,9 @@ impl<'a> Runner<'a> {
 
     /// Runs the next command on the caller's port, which makes at most four calls, and stretches its
     /// passphrases in the way that is handed in; false where none is left. The one error is want of memory:
-    /// the calls made by then are those with which the command's steps begin, and the runner is spent. A step
-    /// of a spent runner answers that error, and makes no call. Behind each command `scrub_stack` overwrites what
-    /// it left on the stack.
+    /// the calls made by then are those with which the command's steps begin, and the runner is spent, of the
+    /// same caller and section. A step of a spent runner answers that error, and makes no call. Behind each
+    /// command `scrub_stack` overwrites what it left on the stack.
     pub fn step<P: MountPort, S: Stretch>(
         &mut self,
         alloc: Global,
@@ -85,6 +85,7 @@ impl<'a> Runner<'a> {
         ensures stepped { IfOk result (λ more. Stepped (P.came port.old) port.new
             (P.calls_left port.new) (P.calls_left port.old) seed.now more self.old self.new) }
         ensures caller { P.who port.new ≡ P.who port.old }
+        ensures own { (self.new.caller ≡ self.old.caller) × (self.new.section ≡ self.old.section) }
         ensures unspent { OnOk result (IsFalse self.new.spent) }
         ensures failed { OnErr result (Begun (P.came port.old) port.new MOST_CALLS
             (next_steps seed.now self.old)) }

@@ -1,6 +1,6 @@
 //! A pass to a shared mount: what its calls may be, how it is cut in two, and how the sharing ends.
 
-ghost use Rattle.std.specs.Prelude.{◌≡◌, ℕ, ◌<◌, ◌≤◌, ◌++◌, length, IfOk, IfSome, IfNone};
+ghost use Rattle.std.specs.Prelude.{◌≡◌, ℕ, ◌<◌, ◌≤◌, ◌++◌, length, IfOk, IfSome, IfNone, OnErr};
 ghost use Rattle.call_history.specs.declared.TheConstants.{MOST_PLACES};
 ghost use Rattle.call_history.specs.Entries.{by, entries_by};
 ghost use Rattle.turn_lock.specs.Passes.{merged_entries};
@@ -31,7 +31,7 @@ pub fn calls_needed(sections: &[Section], most: u64) -> Option<u64>
 
 /// Cuts the pass in two, with the sections, of whose commands each makes so many calls at most: the pass keeps the
 /// numbers and the calls of the first sections, and the other gets those of the others. The one error is want of
-/// memory.
+/// memory, after which the pass is as it was.
 pub fn cut<M: MountMachine>(
     shared: &Shared<M>,
     pass: &mut Pass<M>,
@@ -42,7 +42,8 @@ pub fn cut<M: MountMachine>(
     requires can_run { CanRun most shared.now pass.old (first.now ++ others.now) }
     requires some_first { 0 < length first.now }
     requires some_others { 0 < length others.now }
-    ensures { IfOk result (λ upper. AreHalves most shared.now pass.old pass.new upper first.now others.now) }
+    ensures halves { IfOk result (λ upper. AreHalves most shared.now pass.old pass.new upper first.now others.now) }
+    ensures kept { OnErr result (pass.new ≡ pass.old) }
 {
     let Some(calls) = calls_needed(others, most) else {
         return Err(AllocError);
