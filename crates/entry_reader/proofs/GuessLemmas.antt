@@ -1,5 +1,5 @@
 -- The line of an entry is read as what the entry tells.
-use Rattle.std.proofs.Common.{◌≡◌, ℕ, ◌-◌, ◌<◌, ◌≤◌, ◌^◌, List, [], ◌∷◌, ◌++◌, length, take, codes, Option, Some, None, refl, ap, ap₂, sym, ◌∙◌, subst, append_assoc, arith}
+use Rattle.std.proofs.Common.{◌≡◌, ℕ, IfSome, ◌-◌, ◌<◌, ◌≤◌, ◌^◌, List, [], ◌∷◌, ◌++◌, length, take, codes, Option, Some, None, refl, ap, ap₂, sym, ◌∙◌, subst, append_assoc, arith}
 use Rattle.std.specs.List.{All}
 use Rattle.std.proofs.lemmas.List.Elements.{All-nil, All-cons, All-append}
 use Rattle.text_words.specs.Numbers.{decimal_of}
@@ -167,3 +167,8 @@ kept_back line read (Some x) guessed keeps =
     let right = subst (IsLineOf line) (sym keeps.0) keeps.1 in
     λ place e small is same. lines_tell x.place place x.entry e right.place small right.entry.in_range is.in_range (sym right.text ∙ same)
 kept_back line read None guessed keeps = λ place e small is same. absurd (keeps (never_left line read place e small is same guessed))
+
+pub kept_filled : (line : List ℕ) (read : LogEntry) (kept : Option LogEntry) → guess_of line ≡ Some read → Keeps line read kept
+    → IfSome kept (λ entry. guess_of line ≡ Some entry)
+kept_filled line read (Some x) guessed keeps = guessed ∙ ap Some (sym keeps.0)
+kept_filled line read None guessed keeps = tt
