@@ -1,6 +1,7 @@
 -- What a file holds, and what a read that has begun gives.
-use Rattle.std.specs.Prelude.{◌≡◌, ℕ, ◌+◌, ◌*◌, ◌/◌, List, [], length, Option}
-use Rattle.std.specs.Prelude.{None, Some, option_map, nat_le, if◌then◌else◌}
+use Rattle.std.specs.Prelude.{◌≡◌, ℕ, ◌<◌, ◌+◌, ◌-◌, ◌*◌, ◌/◌, List, [], length, Option}
+use Rattle.std.specs.Prelude.{None, Some, option_map, min, nat_le, if◌then◌else◌}
+use Rattle.std.specs.Int.{div_ceil}
 use Rattle.mount_limits.specs.declared.TheConstants.{BLOCK_SIZE}
 use Rattle.byte_words.specs.Bytes.{AreBytes}
 use Rattle.byte_words.specs.Contents.{bytes_from}
@@ -28,9 +29,19 @@ whole_size disk file =
     if nat_le (file_size disk file) (BLOCK_SIZE * length (file_blocks disk file))
     then file_size disk file else 0
 
+-- how many bytes a part has, which ends with the file
+abbrev pub part_len : Disk → ℕ → ℕ → ℕ → ℕ
+part_len disk file offset len = min len (whole_size disk file - offset)
+
 -- the content begins at this byte of the file
 abbrev pub IsAt : ℕ → LentRead → Type 0
 IsAt offset read = BLOCK_SIZE * read.block + read.skip ≡ offset
+
+-- there is content; it begins in the first block, and no block stands behind the one in which it ends
+pub record IsOfPart (read : LentRead) : Type 0 where
+  pub some : 0 < read.len
+  pub begins : read.skip < BLOCK_SIZE
+  pub ends : length read.text.items ≡ BLOCK_SIZE * div_ceil (read.skip + read.len) BLOCK_SIZE
 
 -- the text is the stored blocks that it begins and ends with
 abbrev pub IsCopied : Disk → ℕ → LentRead → Type 0

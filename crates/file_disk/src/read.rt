@@ -1,13 +1,13 @@
 //! A part of a file's contents is read in two halves: stored blocks are copied, and then deciphered.
 ghost use Rattle.std.specs.Prelude.{◌≡◌, ◌+◌, ◌*◌, ◌/◌, ◌%◌, ◌<◌, ◌≤◌, ◌^◌};
-ghost use Rattle.std.specs.Prelude.{take, drop, length, IfOk, IfSome, OnOk};
+ghost use Rattle.std.specs.Prelude.{take, drop, length, IfOk, IfSome, IsSome, OnOk};
 ghost use Rattle.data_crypt.specs.Blocks.{wiped_seal};
 ghost use Rattle.data_crypt.specs.Ciphers.{seal_by};
 ghost use Rattle.data_crypt.specs.Laws.{IsKeyOfBytes};
 ghost use Rattle.data_crypt.specs.Parts.{blocks_joined, content_of, opened_text};
 ghost use Rattle.disk_tree.specs.DiskTree.{file_blocks, file_size};
 ghost use Rattle.file_disk.specs.Keys.{lent_seal, seal_of};
-ghost use Rattle.file_disk.specs.Lent.{IsAt, IsCopied, IsPart, whole_size};
+ghost use Rattle.file_disk.specs.Lent.{IsAt, IsCopied, IsOfPart, IsPart, part_len, whole_size};
 
 use crate::key::ContentsKey;
 use crate::lent::LentRead;
@@ -18,11 +18,12 @@ use disk_tree::DiskTree;
 use mount_limits::MOST_READ_BYTES;
 use std::alloc::{AllocError, Global};
 
-/// Copies the stored blocks of the part that is asked for, and the key that they are sealed with;
-/// `None` where the part is empty, which takes no memory. It deciphers nothing. The key that is handed in
-/// is overwritten.
+/// Copies the stored blocks in which the part that is asked for lies, and no others, with the key that they
+/// are sealed with; `None` where the part is empty, and only there, which takes no memory. It deciphers
+/// nothing. The key that is handed in is overwritten.
 ///
-/// `len` is at most 4,096. The part ends with the file.
+/// `len` is at most 4,096. The part ends with the file. A file that has no block for some of its bytes is
+/// read as an empty one.
 pub fn begin_read(
     disk: &DiskTree,
     alloc: Global,
@@ -34,7 +35,10 @@ pub fn begin_read(
     requires { len ≤ MOST_READ_BYTES }
     ensures past { whole_size disk.now file ≤ offset → result ≡ Ok None }
     ensures none { len ≡ 0 → result ≡ Ok None }
+    ensures some { offset < whole_size disk.now file → 0 < len → IfOk result (λ lent. IsSome lent) }
+    ensures size { IfOk result (λ lent. IfSome lent (λ read. read.len ≡ part_len disk.now file offset len)) }
     ensures place { IfOk result (λ lent. IfSome lent (IsAt offset)) }
+    ensures only { IfOk result (λ lent. IfSome lent IsOfPart) }
     ensures text { IfOk result (λ lent. IfSome lent (IsCopied disk.now file)) }
     ensures key { IfOk result (λ lent. IfSome lent (λ read. lent_seal read.key ≡ seal_of key.old)) }
     ensures content { IfOk result (IsPart disk.now file (seal_of key.old) offset len) }
@@ -57,7 +61,10 @@ fn copy_part(
     requires { len ≤ MOST_READ_BYTES }
     ensures past { whole_size disk.now file ≤ offset → result ≡ Ok None }
     ensures none { len ≡ 0 → result ≡ Ok None }
+    ensures some { offset < whole_size disk.now file → 0 < len → IfOk result (λ lent. IsSome lent) }
+    ensures size { IfOk result (λ lent. IfSome lent (λ read. read.len ≡ part_len disk.now file offset len)) }
     ensures place { IfOk result (λ lent. IfSome lent (IsAt offset)) }
+    ensures only { IfOk result (λ lent. IfSome lent IsOfPart) }
     ensures text { IfOk result (λ lent. IfSome lent (IsCopied disk.now file)) }
     ensures key { IfOk result (λ lent. IfSome lent (λ read. lent_seal read.key ≡ seal_of key.now)) }
     ensures content { IfOk result (IsPart disk.now file (seal_of key.now) offset len) }

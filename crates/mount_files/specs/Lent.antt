@@ -1,7 +1,7 @@
 -- What a read lends out of the turn, and the reply that it comes to.
 use Rattle.std.specs.Prelude.{◌≡◌, ℕ, Bool, true, false, [], Option, Some, None}
 use Rattle.file_disk.specs.Keys.{lent_seal}
-use Rattle.file_disk.specs.Lent.{IsAt, IsCopied, lent_content}
+use Rattle.file_disk.specs.Lent.{IsAt, IsCopied, IsOfPart, lent_content}
 use Rattle.file_disk.specs.declared.lent.LentRead.{LentRead}
 use Rattle.mount_model.specs.declared.reply.Reply.{Reply}
 use Rattle.mount_model.specs.declared.reply.Reply.TheVariants.{Content, Refused}
@@ -26,11 +26,12 @@ tells_nothing (Refused refusal) = true
 tells_nothing (Content []) = true
 tells_nothing other = false
 
--- what is lent of a file is the stored bytes of some of its blocks, from the one on in which the content
--- begins, and what these are sealed with
+-- what is lent of a file is the stored bytes of the blocks in which some content lies, from the one on in
+-- which it begins, and of no others, and what these are sealed with
 pub record IsLentOf (s : MountState) (file offset : ℕ) (read : LentRead) : Type 0 where
   pub place : IsAt offset read
   pub text : IsCopied s.disk file read
+  pub part : IsOfPart read
   pub key : IsSealOf s file (lent_seal read.key)
 
 -- a reply that is ready tells nothing of the file; all else is lent of it
