@@ -1,7 +1,7 @@
 -- What a read lends out of the turn, and the reply that it comes to.
 use Rattle.std.specs.Prelude.{◌≡◌, ℕ, Bool, true, false, [], Option, Some, None}
 use Rattle.file_disk.specs.Keys.{lent_seal}
-use Rattle.file_disk.specs.Lent.{IsAt, IsCopied, IsOfPart, lent_content}
+use Rattle.file_disk.specs.Lent.{IsAt, IsCopied, IsOfPart, lent_content, part_len}
 use Rattle.file_disk.specs.declared.lent.LentRead.{LentRead}
 use Rattle.mount_model.specs.declared.reply.Reply.{Reply}
 use Rattle.mount_model.specs.declared.reply.Reply.TheVariants.{Content, Refused}
@@ -26,24 +26,25 @@ tells_nothing (Refused refusal) = true
 tells_nothing (Content []) = true
 tells_nothing other = false
 
--- what is lent of a file is the stored bytes of the blocks in which some content lies, from the one on in
--- which it begins, and of no others, and what these are sealed with
-pub record IsLentOf (s : MountState) (file offset : ℕ) (read : LentRead) : Type 0 where
+-- what is lent of a file is the stored bytes of the blocks in which the part lies that was asked for, from
+-- the one on in which it begins, and of no others, and what these are sealed with
+pub record IsLentOf (s : MountState) (file offset len : ℕ) (read : LentRead) : Type 0 where
   pub place : IsAt offset read
+  pub size : read.len ≡ part_len s.disk file offset len
   pub text : IsCopied s.disk file read
   pub part : IsOfPart read
   pub key : IsSealOf s file (lent_seal read.key)
 
 -- a reply that is ready tells nothing of the file; all else is lent of it
-abbrev pub IsLentOn : MountState → ℕ → ℕ → Lent → Type 0
-IsLentOn s file offset (Ready reply) = tells_nothing reply ≡ true
-IsLentOn s file offset (Read read) = IsLentOf s file offset read
+abbrev pub IsLentOn : MountState → ℕ → ℕ → ℕ → Lent → Type 0
+IsLentOn s file offset len (Ready reply) = tells_nothing reply ≡ true
+IsLentOn s file offset len (Read read) = IsLentOf s file offset len read
 
 -- so it is for the file on which a handle is; without one nothing is lent
-abbrev pub IsLent : MountState → Option ℕ → ℕ → Lent → Type 0
-IsLent s None offset (Ready reply) = tells_nothing reply ≡ true
-IsLent s None offset (Read read) = ⊥
-IsLent s (Some file) offset lent = IsLentOn s file offset lent
+abbrev pub IsLent : MountState → Option ℕ → ℕ → ℕ → Lent → Type 0
+IsLent s None offset len (Ready reply) = tells_nothing reply ≡ true
+IsLent s None offset len (Read read) = ⊥
+IsLent s (Some file) offset len lent = IsLentOn s file offset len lent
 
 -- in whatever mount the state stands for and has the file open, it is told what is read of the file
 abbrev pub IsReadAs : MountState → ℕ → ℕ → ℕ → Reply → Type 0

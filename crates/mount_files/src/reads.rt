@@ -36,7 +36,7 @@ pub fn read_begin(
         → IsToldOrNoMemory (answer_to_read m caller handle offset len).reply (reply_of result) }
     ensures due { (m : PlainMount) → StandsFor state.now m
         → IsRefusedAsDue (answer_to_read m caller handle offset len) (reply_of result) }
-    ensures lent { IsLent state.now (node_of state.now.handles.live caller handle) offset result }
+    ensures lent { IsLent state.now (node_of state.now.handles.live caller handle) offset len result }
 {
     match open_file(state, caller, handle) {
         Ok(_) if len as usize > MOST_READ_BYTES => Lent::Ready(Reply::Refused(Refusal::TooBig)),
@@ -49,7 +49,7 @@ pub fn read_begin(
 fn lend(alloc: Global, state: &MountState, file: u32, offset: u32, len: u32) -> Lent
     requires few { len ≤ MOST_READ_BYTES }
     ensures read { IsReadAs state.now file offset len (reply_of result) }
-    ensures lent { IsLentOn state.now file offset result }
+    ensures lent { IsLentOn state.now file offset len result }
 {
     let mut key = match key_of(state, file) {
         Ok(key) => key,

@@ -7,7 +7,8 @@ use Rattle.mount_state.specs.declared.state.MountState.{MountState}
 use Rattle.mount_files.specs.Lent.{IsLent}
 use Rattle.mount_files.specs.declared.lent.Lent.{Lent}
 
--- it is stored bytes of the file on which the caller's handle is, and what these are sealed with
+-- it is the stored bytes of the blocks in which the part lies that was asked for, of the file on which the
+-- caller's handle is, and what these are sealed with
 abbrev pub LendsBlocks : MountState → ℕ → Op → Lent → Type 0
-LendsBlocks s caller (Read handle offset len) lent = IsLent s (node_of s.handles.live caller handle) offset lent
+LendsBlocks s caller (Read handle offset len) lent = IsLent s (node_of s.handles.live caller handle) offset len lent
 LendsBlocks s caller op lent = ⊤
