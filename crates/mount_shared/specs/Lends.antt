@@ -10,5 +10,6 @@ use Rattle.mount_files.specs.declared.lent.Lent.{Lent}
 -- it is the stored bytes of the blocks in which the part lies that was asked for, of the file on which the
 -- caller's handle is, and what these are sealed with
 abbrev pub LendsBlocks : MountState → ℕ → Op → Lent → Type 0
-LendsBlocks s caller (Read handle offset len) lent = IsLent s (node_of s.handles.live caller handle) offset len lent
+LendsBlocks s caller (Read handle offset len) lent =
+    IsLent s (node_of s.handles.live caller handle) offset len lent
 LendsBlocks s caller op lent = ⊤
