@@ -132,4 +132,26 @@ def faulty_certificates(tally):
     tally.wants("a script without commands has an empty log", (status, log) == (0, b"") and checked(b"caller 0\n" * 8, log) == (0, b"", None))
 
 
-CHECKS = (examples_certified, one_key, two_callers, threads_certified, faulty_certificates)
+def told_faults(tally):
+    """Behind the number of a line at fault stands why it is; of one behind the script's last, that --- parts it from a log."""
+    script = b"caller 1000\ncreate /a\n"
+    parting = b"a line --- stands between the script and its log"
+    not_ended = b"is not ended by a line feed; end the last line by a line feed"
+    is_none = b'line 2: "mkdri" is no command; fsc --help lists the commands'
+    bad = b"caller 1000\nmkdri /a\n"
+    no_room = b"line 2: there was no room to tell why it is at fault; try the script alone, or where more memory is free"
+    for what, given, line, told in (
+            ("no input", b"", 1, parting), ("a script alone", script, 3, parting), ("an empty line behind a script", script + b"\n", 4, parting),
+            ("a last line that isn't ended", script[:-1], 2, b'line 2: "create" ' + not_ended),
+            ("a parting line that isn't ended", script + b"---", 3, b'line 3: "---" ' + not_ended),
+            ("a caller's line that isn't ended", b"caller 1000", 1, b'line 1: "caller" ' + not_ended),
+            ("a parting line with a space", script + b"--- \n", 3, b'line 3: "---" is no command; fsc --help lists the commands'),
+            ("a bad line alone", bad, 2, is_none), ("a bad line with a log", bad + b"---\n0 0 1000 create /a = ok\n", 2, is_none),
+            ("a bad line with as long a log as is kept", bad + b"---\n" + b"\n" * (MOST_PART + 1 - len(bad) - 4), 2, is_none),
+            ("a bad line with a log of a byte more", bad + b"---\n" + b"\n" * (MOST_PART + 2 - len(bad) - 4), 2, no_room),
+            ("a bad line with a long log", bad + b"---\n" + b"\n" * 2 * MOST_PART, 2, no_room)):
+        status, got, said = run(CHECK, given)
+        tally.wants(f"{what} is told", (status, got, said) == (BAD_LINE, b"", b"fsc: bad line %d\nfsc: " % line + told + b"\n"), repr(said))
+
+
+CHECKS = (examples_certified, one_key, two_callers, threads_certified, faulty_certificates, told_faults)

@@ -1,12 +1,18 @@
 """Allocations that fail, keys in a core of the program, and wipes in its machine code."""
+import shutil
 import subprocess
+import tempfile
 
-from checks.running import PROGRAM, SERIAL, THREADED, TOP, run
+from checks.failing import Failing
+from checks.running import PROGRAM, SERIAL, THREADED, TOP, run, run_at_terminal
 from checks.want_of_memory import Judge, Wrong
 
 # A script with its session commands, one of names and contents, and one of eight callers.
 SCRIPTS = ("examples/failed-unlock.fsc", "examples/locked-directory.fsc", "examples/rows/eight_users_share_one_key.fsc")
 NO_TOOL = 77
+NO_MEMORY, CLEARED = 8, b"\r\x1b[K"
+TWO_CALLS = b"caller 0\nmkdir /a\nlist /\n"
+BAD = b"caller 0\nmkdri /a\n"
 
 
 def failing_allocations(tally):
@@ -18,6 +24,41 @@ def failing_allocations(tally):
         return
     told = tool.stdout.decode()
     tally.wants("each run whose allocation fails ends as it should", tool.returncode == 0, told)
+
+
+def shown_commands(tally):
+    """On a terminal nothing stands in front of the status of a run that found no memory, also in a command."""
+    if shutil.which("cc") is None:
+        return
+    with tempfile.TemporaryDirectory() as room:
+        failing = Failing(PROGRAM, room)
+        asked, in_commands = failing.run(SERIAL, TWO_CALLS, 0, 0)[3], 0
+        for number in range(1, asked + 1):
+            status, _, shown, *_ = failing.run(SERIAL, TWO_CALLS, number, number, run_at_terminal)
+            if status == NO_MEMORY:
+                parts = shown.split(CLEARED)
+                in_commands += parts[-2:-1] in ([b"fsc: line 2: mkdir"], [b"fsc: line 3: list"])
+                tally.wants(f"the status stands alone where allocation {number} fails", parts[-1].startswith(b"fsc: no memory\r\n"), repr(shown))
+        tally.wants("commands find no memory", in_commands > 0)
+
+
+def bad_lines_without_memory(tally):
+    """Where there is no memory to keep a text or to look at its line, the line's number is told, and what to do."""
+    if shutil.which("cc") is None:
+        return
+    known = b'"mkdri" is no command; fsc --help lists the commands'
+    no_room = b"there was no room to tell why it is at fault; try the script alone, or where more memory is free"
+    with tempfile.TemporaryDirectory() as room:
+        failing = Failing(PROGRAM, room)
+        for words in (SERIAL, ["dump", *SERIAL[2:]], ["check", *SERIAL[2:]]):
+            reasons = set()
+            # number 0 is of none
+            for number in range(failing.run(words, BAD, 0, 0)[3] + 1):
+                status, _, told, *_ = failing.run(words, BAD, number, number)
+                if status != NO_MEMORY:
+                    reasons.add(told)
+            wanted = {b"fsc: bad line 2\nfsc: line 2: " + it + b"\n" for it in (known, no_room)}
+            tally.wants(f"{words[0]} tells of a line in two ways", reasons == wanted, repr(reasons))
 
 
 def judged_logs(tally):
@@ -66,4 +107,4 @@ def wipes_in_code(tally):
     tally.wants("the machine code overwrites what the sources promise", tool.returncode == 0, tool.stdout.decode())
 
 
-CHECKS = (failing_allocations, judged_logs, keys_in_core, wipes_in_code)
+CHECKS = (failing_allocations, shown_commands, bad_lines_without_memory, judged_logs, keys_in_core, wipes_in_code)

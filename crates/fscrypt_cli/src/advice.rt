@@ -19,14 +19,63 @@ pub(crate) struct WordFault {
 
 const NO_WORDS: &str = "give a form: fsc replay < SCRIPT runs a script; fsc --help lists the forms";
 
+// What is told of words that a form with a seed doesn't take.
+#[derive(Clone, Copy)]
+struct SeedForm {
+    // Of a word in the place of its options, or where they are missing.
+    options: &'static str,
+    // Of --serial behind the seed.
+    serial: &'static str,
+    // Of a word there that is no option, as a file's name.
+    file: &'static str,
+}
+
+const REPLAY: SeedForm = SeedForm {
+    options: "replay has the options --serial and --seed HEX64, in this order",
+    serial: SERIAL_FIRST,
+    file: SCRIPT_BY_INPUT,
+};
+
+const LINKED: SeedForm = SeedForm {
+    options: OPTIONS_OF_LINKED,
+    serial: SERIAL_FIRST,
+    file: "the script comes from standard input: fsc replay-linked --seed HEX64 < FILE",
+};
+
+const LINKED_IN_TURNS: SeedForm = SeedForm {
+    options: OPTIONS_OF_LINKED,
+    serial: ONE_SERIAL,
+    file: "the script comes from standard input: fsc replay-linked --serial --seed HEX64 < FILE",
+};
+
+const DUMP: SeedForm = SeedForm {
+    options: DUMP_TAKES,
+    serial: DUMP_TAKES,
+    file: "the script comes from standard input: fsc dump --seed HEX64 < FILE",
+};
+
+const CHECK: SeedForm = SeedForm {
+    options: CHECK_TAKES,
+    serial: CHECK_TAKES,
+    file: "the script and its log come from standard input: fsc check --seed HEX64 < FILE",
+};
+
+const DUMP_TAKES: &str = "dump takes a seed alone: fsc dump --seed HEX64";
+
+const CHECK_TAKES: &str = "check takes a seed alone: fsc check --seed HEX64";
+
+const OPTIONS_OF_LINKED: &str =
+    "replay-linked takes a seed: fsc replay-linked --seed HEX64, or with --serial before it";
+
+const SERIAL_FIRST: &str = "--serial stands before --seed";
+
+const ONE_SERIAL: &str = "one --serial is enough";
+
 const SCRIPT_BY_INPUT: &str = "the script comes from standard input: fsc replay < FILE";
 
 const SEED_DIGITS: &str = "a seed is 64 hexadecimal digits";
 
 const DIGITS_OF_HALF_A_SEED: usize = 32;
-
-const LINKED: &str =
-    "replay-linked takes a seed: fsc replay-linked --seed HEX64, or with --serial before it";
 
 const NUMBER_OF_GEN: &str = "gen takes a number from 0 to 4294967295, without leading zeros";
 
@@ -52,7 +101,7 @@ pub(crate) fn tell_of_closed(rt: &HostRuntime) {
 }
 
 /// Tells on standard error that the words of the command line are no form: the first at fault by its number,
-/// the word itself unless it may be a seed, and what to do.
+/// the word itself unless it may be a seed or there is no memory for it, and what to do.
 pub(crate) fn advise_words(rt: &HostRuntime, words: &Vec<String>) {
     let _ = eprintln!(rt; "{}", Status::Usage);
     let Some(fault) = fault_of(words.as_slice()) else {
@@ -64,13 +113,13 @@ pub(crate) fn advise_words(rt: &HostRuntime, words: &Vec<String>) {
         return;
     }
     let number = fault.place + 1;
-    if may_be_seed(words.as_slice(), fault.place) {
-        let _ = eprintln!(rt; "fsc: word {number}: {remedy}");
-        return;
+    if !may_be_seed(words.as_slice(), fault.place) {
+        if let Ok(word) = shown(rt.alloc(), words[fault.place].as_bytes()) {
+            let _ = eprintln!(rt; "fsc: word {number}, \"{word}\": {remedy}");
+            return;
+        }
     }
-    if let Ok(word) = shown(rt.alloc(), words[fault.place].as_bytes()) {
-        let _ = eprintln!(rt; "fsc: word {number}, \"{word}\": {remedy}");
-    }
+    let _ = eprintln!(rt; "fsc: word {number}: {remedy}");
 }
 
 // Whether the word may be a seed, or have one in it: it stands behind `--seed`, begins with `--seed=`, or has
@@ -94,12 +143,8 @@ fn fault_of(words: &[String]) -> Option<WordFault> {
         "replay" => fault_of_replay(behind),
         "replay-linked" => fault_of_linked(behind),
         "gen" => fault_of_gen(behind),
-        "dump" => fault_of_seed(behind, 1, "dump takes a seed alone: fsc dump --seed HEX64"),
-        "check" => fault_of_seed(
-            behind,
-            1,
-            "check takes a seed alone: fsc check --seed HEX64",
-        ),
+        "dump" => fault_of_seed(behind, 1, &DUMP),
+        "check" => fault_of_seed(behind, 1, &CHECK),
         "inspect" => fault_of_inspect(behind),
         "--help" | "--version" if behind.is_empty() => None,
         "--help" | "--version" => at(1, "nothing stands behind --help and --version"),
@@ -153,7 +198,7 @@ fn fault_of_replay(words: &[String]) -> Option<WordFault> {
             if behind.is_empty() {
                 return None;
             }
-            at(place + 2, remedy_behind_seed(behind))
+            at(place + 2, remedy_behind_seed(behind, &REPLAY))
         }
         [word, ..] => at(place, remedy_of_option(word.as_str())),
     }
@@ -171,19 +216,19 @@ fn remedy_of_seed(word: &str) -> &'static str {
 }
 
 // What to do about a word behind the seed.
-fn remedy_behind_seed(words: &[String]) -> &'static str {
+fn remedy_behind_seed(words: &[String], form: &SeedForm) -> &'static str {
     match words {
-        [first, ..] if first.as_str() == "--serial" => "--serial stands before --seed",
+        [first, ..] if first.as_str() == "--serial" => form.serial,
         [first, ..] if first.as_str() == "--seed" => "one seed is enough",
         [first, ..] if first.starts_with("-") => "nothing stands behind the seed",
-        _ => SCRIPT_BY_INPUT,
+        _ => form.file,
     }
 }
 
 // What to do about a word in the place of an option.
 fn remedy_of_option(word: &str) -> &'static str {
     if word == "--serial" {
-        return "one --serial is enough";
+        return ONE_SERIAL;
     }
     if word == "--summary" {
         return "--summary stands behind gen NUMBER";
@@ -192,7 +237,7 @@ fn remedy_of_option(word: &str) -> &'static str {
         return "the seed is a word of its own: --seed HEX64";
     }
     if word.starts_with("-") {
-        return "replay has the options --serial and --seed HEX64, in this order";
+        return REPLAY.options;
     }
     SCRIPT_BY_INPUT
 }
@@ -200,22 +245,26 @@ fn remedy_of_option(word: &str) -> &'static str {
 // The first word at fault behind `replay-linked`.
 fn fault_of_linked(words: &[String]) -> Option<WordFault> {
     match words {
-        [option, behind @ ..] if option.as_str() == "--serial" => fault_of_seed(behind, 2, LINKED),
-        _ => fault_of_seed(words, 1, LINKED),
+        [option, behind @ ..] if option.as_str() == "--serial" => fault_of_seed(
+            behind,
+            2,
+            &LINKED_IN_TURNS,
+        ),
+        _ => fault_of_seed(words, 1, &LINKED),
     }
 }
 
-// The first word at fault of those from this place on, which are a seed alone.
-fn fault_of_seed(words: &[String], place: usize, alone: &'static str) -> Option<WordFault>
+// The first word at fault of those from this place on, which are a seed alone of this form.
+fn fault_of_seed(words: &[String], place: usize, form: &SeedForm) -> Option<WordFault>
     requires { place ≤ 2 }
 {
     match words {
-        [] => at(place, alone),
-        [option, ..] if option.as_str() != "--seed" => at(place, alone),
+        [] => at(place, form.options),
+        [option, ..] if option.as_str() != "--seed" => at(place, form.options),
         [_] => at(place + 1, "64 hexadecimal digits stand behind --seed"),
         [_, seed, ..] if !is_seed(seed.as_str()) => at(place + 1, remedy_of_seed(seed.as_str())),
         [_, _] => None,
-        [_, _, behind @ ..] => at(place + 2, remedy_behind_seed(behind)),
+        [_, _, behind @ ..] => at(place + 2, remedy_behind_seed(behind, form)),
     }
 }
 

@@ -13,20 +13,52 @@ const MOST_NUMBERED_BYTES: usize = 4_294_967_295;
 
 const LISTED: &str = "fsc --help lists the commands";
 
-/// Tells on standard error of the first line at fault of an input.
-pub(crate) fn show_line(rt: &HostRuntime, input: &[u8]) {
-    if input.len() > MOST_NUMBERED_BYTES {
+// It is told of a long log behind a script too, so it says both remedies.
+const NO_ROOM: &str =
+    "there was no room to tell why it is at fault; try the script alone, or where more memory is free";
+
+// What is told of a line at fault.
+#[derive(Drop)]
+struct ToldLine {
+    word: String,
+    fault: LineFault,
+    remedy: &'static str,
+}
+
+/// Tells on standard error of the first line at fault of a text, which is the one of this number. Of a text that
+/// wasn't kept, or where there is no memory to look at it, the number alone is known.
+pub(crate) fn show_line(rt: &HostRuntime, text: Option<&[u8]>, line: u32) {
+    let told = match text {
+        Some(text) => told_line(rt.alloc(), text),
+        None => None,
+    };
+    let Some(told) = told else {
+        let _ = eprintln!(rt; "fsc: line {line}: {NO_ROOM}");
         return;
+    };
+    let word = told.word.as_str();
+    let fault = told.fault;
+    let remedy = told.remedy;
+    let _ = eprintln!(rt; "fsc: line {line}: \"{word}\" {fault}; {remedy}");
+}
+
+// What is told of the first line at fault of a text; none where there is no memory to find it.
+fn told_line(alloc: Global, text: &[u8]) -> Option<ToldLine> {
+    if text.len() > MOST_NUMBERED_BYTES {
+        return None;
     }
-    if let Ok(Some(found)) = line_fault(rt.alloc(), input) {
-        let text = line_at(input, found.line);
-        if let Ok(word) = shown(rt.alloc(), text) {
-            let line = found.line;
-            let fault = found.fault;
-            let remedy = remedy(text, found.fault);
-            let _ = eprintln!(rt; "fsc: line {line}: \"{word}\" {fault}; {remedy}");
-        }
-    }
+    let Ok(Some(found)) = line_fault(alloc, text) else {
+        return None;
+    };
+    let line = line_at(text, found.line);
+    let Ok(word) = shown(alloc, line) else {
+        return None;
+    };
+    Some(ToldLine {
+        word,
+        fault: found.fault,
+        remedy: remedy(line, found.fault),
+    })
 }
 
 // The line of this number, which counts from 1.

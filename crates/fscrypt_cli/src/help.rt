@@ -6,6 +6,7 @@ use crate::commands::GROUPS;
 use fsc_tool::Status;
 use script_faults::is_usable;
 use std::alloc::{AllocError, Global};
+use text_words::line_count;
 
 /// The version of the product, and the kit that it is proved with.
 pub(crate) const VERSION: &str = "\
@@ -111,18 +112,18 @@ fn push_group(text: &mut String, title: &str, lines: &[&str]) -> Result<(), Allo
     Ok(())
 }
 
-/// Tells on standard error what to do about a status of a form. The input is what the source gave, which may be
-/// nothing.
-pub(crate) fn advise(rt: &HostRuntime, asked: Asked, status: Status, input: &[u8]) {
+/// Tells on standard error what to do about a status of a form. The text is what the source gave; none where it
+/// wasn't kept.
+pub(crate) fn advise(rt: &HostRuntime, asked: Asked, status: Status, text: Option<&[u8]>) {
     let advice = match status {
         Status::Done => return,
         Status::Refused { .. } =>
             "no run has a log that goes on so: places count from 0, a line each",
         Status::BadLine { .. } if asked == Asked::Listing =>
             "docs/FORMATS.md tells of the lines of an image, under Images",
-        Status::BadLine { line } if asked == Asked::Verdict && is_behind(input, line) =>
+        Status::BadLine { line } if asked == Asked::Verdict && is_behind(text, line) =>
             "a line --- stands between the script and its log",
-        Status::BadLine { .. } => return show_line(rt, input),
+        Status::BadLine { line } => return show_line(rt, text, line),
         Status::Usage => "a word of the command line is no text",
         Status::ReadFault => return tell_of_input(rt, asked),
         Status::WriteFault => return tell_of_output(rt, asked),
@@ -136,9 +137,13 @@ pub(crate) fn advise(rt: &HostRuntime, asked: Asked, status: Status, input: &[u8
     let _ = eprintln!(rt; "fsc: {advice}");
 }
 
-// Whether the line of this number stands behind the text's last one.
-fn is_behind(text: &[u8], line: u32) -> bool {
-    text.iter().filter(|byte| **byte == b'\n').count() < line as usize
+// Whether the line of this number stands behind the text's last one, where the text is known. A last piece counts as
+// a line, as where the text was read.
+fn is_behind(text: Option<&[u8]>, line: u32) -> bool {
+    match text {
+        Some(text) => line_count(text) < line as usize,
+        None => false,
+    }
 }
 
 // What to do where standard input failed.

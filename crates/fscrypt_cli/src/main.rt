@@ -24,12 +24,12 @@ use mount_shared::Mount;
 use std::env;
 use std::io::{ErrorKind, IsTerminal};
 use std::process::ExitCode;
-use telling::TellingGate;
+use telling::{TellingGate, clear_command};
 
 fn main(rt: HostRuntime) -> ExitCode {
     let mut words = match words_of(&rt) {
         Ok(words) => words,
-        Err(status) => return end(rt, Asked::Other, status, &[]),
+        Err(status) => return end(rt, Asked::Other, status, None),
     };
     if words.len() == 1 {
         match words[0].as_str() {
@@ -40,7 +40,7 @@ fn main(rt: HostRuntime) -> ExitCode {
     }
     let asked = Asked::of(words.as_slice());
     let (Ok(even), Ok(odd)) = (Mount::new(rt.alloc()), Mount::new(rt.alloc())) else {
-        return end(rt, Asked::Other, Status::NoMemory, &[]);
+        return end(rt, Asked::Other, Status::NoMemory, None);
     };
     tell_of_waiting(&rt, &words, asked);
     let is_terminal = rt.stderr().is_terminal();
@@ -65,9 +65,9 @@ fn main(rt: HostRuntime) -> ExitCode {
 // The same as `end` for a run, whose input is shown where a line of it is at fault, and overwritten then.
 fn end_run(rt: HostRuntime, asked: Asked, status: Status, kept: KeptText) -> ExitCode {
     let Some(mut text) = kept.into_text() else {
-        return end(rt, asked, status, &[]);
+        return end(rt, asked, status, None);
     };
-    let code = end(rt, asked, status, text.as_slice());
+    let code = end(rt, asked, status, Some(text.as_slice()));
     wipe(text.as_mut_slice());
     code
 }
@@ -89,7 +89,7 @@ fn words_of(rt: &HostRuntime) -> Result<Vec<String>, Status> {
 fn tell_help(rt: HostRuntime) -> ExitCode {
     match help_text(rt.alloc()) {
         Ok(text) => tell(rt, text.as_str()),
-        Err(_) => end(rt, Asked::Other, Status::NoMemory, &[]),
+        Err(_) => end(rt, Asked::Other, Status::NoMemory, None),
     }
 }
 
@@ -100,17 +100,21 @@ fn tell(rt: HostRuntime, text: &str) -> ExitCode {
         return ExitCode::from(Status::Done.number());
     }
     if !sink.is_closed() {
-        return end(rt, Asked::Other, Status::WriteFault, &[]);
+        return end(rt, Asked::Other, Status::WriteFault, None);
     }
     tell_of_closed(&rt);
     ExitCode::from(Status::WriteFault.number())
 }
 
-// Prints the status and what to do on standard error, unless the run is done, and ends with its number.
-fn end(rt: HostRuntime, asked: Asked, status: Status, input: &[u8]) -> ExitCode {
+// Prints the status and what to do on standard error, unless the run is done, and ends with its number. The text is
+// what came in; none where it wasn't kept.
+fn end(rt: HostRuntime, asked: Asked, status: Status, text: Option<&[u8]>) -> ExitCode {
+    if status == Status::NoMemory {
+        clear_command(&rt);
+    }
     if status != Status::Done {
         let _ = eprintln!(rt; "{status}");
-        advise(&rt, asked, status, input);
+        advise(&rt, asked, status, text);
     }
     ExitCode::from(status.number())
 }

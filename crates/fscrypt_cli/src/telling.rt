@@ -3,14 +3,22 @@
 use crate::kept::KeptText;
 use crate::lines::CommandLine;
 use fsc_outside::Gate;
+use std::io::IsTerminal;
 
 // Goes back to the start of the line, and clears it.
 const CLEARED: &str = "\r\x1b[K";
 
+/// Clears what stands of a command that found no memory: its gate isn't called behind it.
+pub(crate) fn clear_command(rt: &HostRuntime) {
+    if rt.stderr().is_terminal() {
+        let _ = eprint!(rt; "{CLEARED}");
+    }
+}
+
 /// Lets go of the text that came in when the first command begins: no line is at fault from then on. Tells on
 /// standard error which line of the script runs, where that is a terminal; of a script that did not come in, and
 /// where there was no memory to find the lines, the caller and its command's number. Nothing is left of it behind a
-/// command.
+/// command that found memory.
 #[derive(Drop)]
 pub(crate) struct TellingGate<'a> {
     rt: &'a HostRuntime,
