@@ -1,6 +1,6 @@
 //! A caller of `disk_tree`.
 
-ghost use Rattle.std.specs.Prelude.{◌≡◌, None, IfSome};
+ghost use Rattle.std.specs.Prelude.{◌≡◌, None, is_some, IfSome};
 ghost use Rattle.number_map.specs.Numbered as map;
 ghost use Rattle.disk_tree.specs.DiskTree.{children, dropped};
 ghost use Rattle.disk_tree.specs.Entries.{number_under};
@@ -10,6 +10,7 @@ use disk_tree::DiskTree;
 /// Takes the name out of the directory, and the node that it led to off the disk. Whether there was
 /// such a name.
 pub fn erase(disk: &mut DiskTree, dir: u32, name: &[u8]) -> bool
+    ensures told { result ≡ is_some (number_under name.now (children disk.old dir)) }
     ensures gone { IfSome (number_under name.now (children disk.old dir))
         (λ number. disk.new ≡ map.remove (dropped disk.old dir name.now number) number) }
     ensures kept { number_under name.now (children disk.old dir) ≡ None → disk.new ≡ disk.old }

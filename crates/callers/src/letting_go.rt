@@ -1,14 +1,18 @@
 //! A caller of `key_ring`.
 
-ghost use Rattle.std.specs.Prelude.{◌≡◌, None, IfSome};
-ghost use Rattle.user_claims.specs.Claims.{without_claim, count_of_id};
+ghost use Rattle.std.specs.Prelude.{◌≡◌, None, is_some, IfSome};
+ghost use Rattle.user_claims.specs.Claims.{has_claim, without_claim, count_of_id};
+ghost use Rattle.key_ring.specs.Holding.{secrets_left};
 
 use key_ring::{KeyId, KeyRing};
 
 /// How many users still claim the key once this one has let it go; none where it had no claim.
 pub fn let_go(ring: &mut KeyRing, id: &KeyId, uid: u32) -> Option<u32>
+    ensures held { is_some result ≡ has_claim ring.old.claims id.now uid }
     ensures claims { IfSome result (λ _. ring.new.claims ≡ without_claim ring.old.claims id.now uid) }
     ensures left { IfSome result (λ left. left ≡ count_of_id ring.new.claims id.now) }
+    ensures secrets { IfSome result (λ _.
+        ring.new.secrets ≡ secrets_left ring.old.secrets ring.new.claims id.now) }
     ensures kept { result ≡ None → ring.new ≡ ring.old }
 {
     if !ring.claims().has(id, uid) {

@@ -1,7 +1,13 @@
 //! A caller of `mount_shared` that has a mount of its own.
 
-ghost use Rattle.std.specs.Prelude.{IfSome};
+ghost use Rattle.std.specs.Prelude.{◌≡◌, IfSome};
+ghost use Rattle.call_history.specs.Entries.{entry};
+ghost use Rattle.fsc_keys.specs.Keys.{key_id_of};
+ghost use Rattle.user_claims.specs.Claims.{no_claims, with_claim, without_claim};
 ghost use Rattle.mount_model.specs.declared.call.Op.TheVariants.{KeyStatus};
+ghost use Rattle.mount_model.specs.declared.reply.Reply.TheVariants.{Done, Opened};
+ghost use Rattle.mount_model.specs.ClaimHistory.{claims_left};
+ghost use Rattle.mount_model.specs.ClaimReplies.{TellsBy};
 ghost use Rattle.mount_shared.specs.TellsOfKeys.{AbsentIsGone};
 
 use mount_model::{Bytes, Call, KeyId, Op, Part, Path, Reply};
@@ -21,6 +27,9 @@ pub struct Locked {
 /// Writes a file into an encrypted directory of a new mount, gives the key up, and asks for its status. None
 /// where there is no memory, or a reply isn't the one that is wanted.
 pub fn write_and_lock(alloc: Global, raw: &[u8], nonces: &[[u8; 16]; 3]) -> Option<Locked>
+    ensures id { IfSome result (λ locked. locked.id ≡ key_id_of raw.now) }
+    ensures claims { IfSome result (λ locked. locked.mount.state.ring.claims ≡ no_claims) }
+    ensures told { IfSome result (λ locked. TellsBy no_claims 1000 (KeyStatus locked.id) locked.told) }
     ensures gone { IfSome result (λ locked. AbsentIsGone locked.mount.state (KeyStatus locked.id) locked.told) }
 {
     let mut mount = Mount::new(alloc).ok()?;
@@ -35,6 +44,10 @@ fn write_in(
     raw: &[u8],
     nonces: &[[u8; 16]; 3],
 ) -> Option<(KeyId, Reply)>
+    ensures id { IfSome result (λ r. r.0 ≡ key_id_of raw.now) }
+    ensures claims { IfSome result (λ r. mount.new.state.ring.claims
+        ≡ without_claim (with_claim mount.old.state.ring.claims r.0 1000) r.0 1000) }
+    ensures told { IfSome result (λ r. TellsBy mount.new.state.ring.claims 1000 (KeyStatus r.0) r.1) }
     ensures absent { IfSome result (λ r. AbsentIsGone mount.new.state (KeyStatus r.0) r.1) }
 {
     let id = fill(alloc, mount, raw, nonces)?;
@@ -43,7 +56,11 @@ fn write_in(
 }
 
 // Adds the key, makes the directory and the file under it, and tells the key's identifier.
-fn fill(alloc: Global, mount: &mut Mount, raw: &[u8], nonces: &[[u8; 16]; 3]) -> Option<KeyId> {
+fn fill(alloc: Global, mount: &mut Mount, raw: &[u8], nonces: &[[u8; 16]; 3]) -> Option<KeyId>
+    ensures id { IfSome result (λ id. id ≡ key_id_of raw.now) }
+    ensures claims { IfSome result (λ id. mount.new.state.ring.claims
+        ≡ with_claim mount.old.state.ring.claims id 1000) }
+{
     let id = add(mount, bytes(alloc, raw)?)?;
     let dir = below(alloc, Path::root(alloc), b"e")?;
     encrypt(alloc, mount, id, &dir, nonces)?;
@@ -53,6 +70,9 @@ fn fill(alloc: Global, mount: &mut Mount, raw: &[u8], nonces: &[[u8; 16]; 3]) ->
 
 // Gives the key up, and asks for its status.
 fn lock(mount: &mut Mount, id: KeyId) -> Option<Reply>
+    ensures claims { IfSome result (λ _. mount.new.state.ring.claims
+        ≡ without_claim mount.old.state.ring.claims id 1000) }
+    ensures told { IfSome result (λ reply. TellsBy mount.new.state.ring.claims 1000 (KeyStatus id) reply) }
     ensures absent { IfSome result (λ reply. AbsentIsGone mount.new.state (KeyStatus id) reply) }
 {
     let Reply::Removed { .. } = ask(mount, Op::RemoveKey { id })? else {
@@ -62,7 +82,11 @@ fn lock(mount: &mut Mount, id: KeyId) -> Option<Reply>
 }
 
 // Adds the key, and tells its identifier.
-fn add(mount: &mut Mount, raw: Bytes) -> Option<KeyId> {
+fn add(mount: &mut Mount, raw: Bytes) -> Option<KeyId>
+    ensures id { IfSome result (λ id. id ≡ key_id_of raw) }
+    ensures claims { IfSome result (λ id. mount.new.state.ring.claims
+        ≡ with_claim mount.old.state.ring.claims id 1000) }
+{
     match ask(mount, Op::AddKey { raw })? {
         Reply::Added(id) => Some(id),
         _ => None,
@@ -76,7 +100,9 @@ fn encrypt(
     id: KeyId,
     dir: &Path,
     nonces: &[[u8; 16]; 3],
-) -> Option<()> {
+) -> Option<()>
+    ensures claims { IfSome result (λ _. mount.new.state.ring.claims ≡ mount.old.state.ring.claims) }
+{
     let (path, nonce) = (dir.copy(alloc).ok()?, nonces[0]);
     done(ask(mount, Op::Mkdir { path, nonce })?)?;
     let (path, nonce) = (dir.copy(alloc).ok()?, nonces[1]);
@@ -90,7 +116,9 @@ fn encrypt(
 }
 
 // Makes the file and writes it, through a handle that is closed again.
-fn write(alloc: Global, mount: &mut Mount, file: &Path, nonce: [u8; 16]) -> Option<()> {
+fn write(alloc: Global, mount: &mut Mount, file: &Path, nonce: [u8; 16]) -> Option<()>
+    ensures claims { IfSome result (λ _. mount.new.state.ring.claims ≡ mount.old.state.ring.claims) }
+{
     let path = file.copy(alloc).ok()?;
     done(ask(mount, Op::Create { path, nonce })?)?;
     let path = file.copy(alloc).ok()?;
@@ -117,6 +145,9 @@ fn policy_of(id: KeyId) -> Policy {
 
 // What the mount replies to user 1000; none where it may not be asked.
 fn ask(mount: &mut Mount, op: Op) -> Option<Reply>
+    ensures claims { IfSome result (λ reply. mount.new.state.ring.claims ≡ claims_left
+        mount.old.state.ring.claims (entry 0 (record { uid = 1000; op = op }) reply)) }
+    ensures told { IfSome result (λ reply. TellsBy mount.old.state.ring.claims 1000 op reply) }
     ensures absent { IfSome result (λ reply. AbsentIsGone mount.new.state op reply) }
 {
     let call = Call { uid: 1000, op };
@@ -128,7 +159,9 @@ fn ask(mount: &mut Mount, op: Op) -> Option<Reply>
 }
 
 // That it is done.
-fn done(reply: Reply) -> Option<()> {
+fn done(reply: Reply) -> Option<()>
+    ensures { IfSome result (λ _. reply ≡ Done) }
+{
     match reply {
         Reply::Done => Some(()),
         _ => None,
@@ -136,7 +169,9 @@ fn done(reply: Reply) -> Option<()> {
 }
 
 // The handle, where one was opened.
-fn opened(reply: Reply) -> Option<u32> {
+fn opened(reply: Reply) -> Option<u32>
+    ensures { IfSome result (λ handle. reply ≡ Opened handle) }
+{
     match reply {
         Reply::Opened(handle) => Some(handle),
         _ => None,
@@ -144,12 +179,11 @@ fn opened(reply: Reply) -> Option<u32> {
 }
 
 // The bytes in memory of their own.
-fn bytes(alloc: Global, of: &[u8]) -> Option<Bytes> {
-    let mut copy = Bytes::new(alloc);
-    for byte in of {
-        copy.push(*byte).ok()?;
-    }
-    Some(copy)
+fn bytes(alloc: Global, of: &[u8]) -> Option<Bytes>
+    ensures { IfSome result (λ copy. copy ≡ of.now) }
+{
+    let copy = Vec::from_slice(alloc, of).ok()?;
+    Some(Bytes::from_vec(copy))
 }
 
 // The path with a part more.

@@ -1,6 +1,9 @@
 //! A caller of `name_crypt`.
 
-ghost use Rattle.std.specs.Prelude.{◌≡◌, ◌+◌, ◌≤◌, IfOk};
+ghost use Rattle.std.specs.Prelude.{◌≡◌, ◌+◌, ◌<◌, ◌≤◌, ◌↔◌, ◌⊎◌, length, Contains};
+ghost use Rattle.std.specs.Prelude.{IsOk, IfOk, IsErrOf};
+ghost use Rattle.name_crypt.specs.declared.limits.TheConstants.{MOST_NAME_BYTES};
+ghost use Rattle.name_crypt.specs.Plain.{IsPlain};
 ghost use Rattle.name_crypt.specs.StoredName.{stored_name};
 ghost use Rattle.name_crypt.specs.NoKeyText.{nokey_text_of};
 
@@ -16,6 +19,11 @@ pub fn shown<L: Ledger>(
     steps: &mut Steps<L>,
 ) -> Result<NoKeyText, PlainFault>
     ensures value { IfOk result (λ text. text ≡ nokey_text_of (stored_name key.now 0 pad name.now)) }
+    ensures plain { IsOk result ↔ IsPlain name.now }
+    ensures length { IsErrOf result PlainFault.Length
+        ↔ ((length name.now ≡ 0) ⊎ (MOST_NAME_BYTES < length name.now)) }
+    ensures nul { IsErrOf result PlainFault.Nul ↔ ((1 ≤ length name.now)
+        × (length name.now ≤ MOST_NAME_BYTES) × Contains name.now 0) }
     ensures ticks { steps.new ≤ steps.old + 1 }
 {
     let name = Plain::read(name)?;
