@@ -1,6 +1,9 @@
 //! A caller of `fsc_outside`.
 
-ghost use Rattle.std.specs.Prelude.{◌≡◌, OnOk};
+ghost use Rattle.std.specs.Prelude.{◌≡◌, ℕ, List, Err, OnOk, IsErrOf};
+ghost use Rattle.fsc_outside.specs.Input.{GaveWhole, IsWithin, EndsReading};
+ghost use Rattle.fsc_outside.specs.Whole.{GotWhole, GotPart};
+ghost use Rattle.callers.specs.declared.copying.TheConstants.{PAGE};
 
 use fsc_outside::{InputFault, InputLimits, Sink, Source, read_all, write_all};
 use std::alloc::Global;
@@ -20,12 +23,23 @@ pub enum CopyFault {
     Write,
 }
 
-/// At most a page of text goes from the source to the sink, once it was read to its end.
+/// At most a page of text goes from the source to the sink, whole, once it was read to its end. Where reading
+/// fails, as `read_all` does, the sink stays as it was; where writing fails, the sink got less than the text.
 pub fn copy<S: Source, K: Sink>(
     alloc: Global,
     source: &mut S,
     sink: &mut K,
 ) -> Result<(), CopyFault>
+    ensures whole { OnOk result ((text : List ℕ) × IsWithin PAGE text
+        × GaveWhole (S.state source.old) (S.state source.new) text
+        × GotWhole (K.state sink.old) (K.state sink.new) text) }
+    ensures unread { (fault : InputFault) → IsErrOf result (CopyFault.Read fault) → sink.new ≡ sink.old }
+    ensures read { (fault : InputFault) → IsErrOf result (CopyFault.Read fault)
+        → EndsReading PAGE (λ calls. S.came source.old calls source.new) (S.state source.old)
+        (S.state source.new) (Err fault) }
+    ensures written { IsErrOf result CopyFault.Write → (text : List ℕ) × IsWithin PAGE text
+        × GaveWhole (S.state source.old) (S.state source.new) text
+        × GotPart (K.state sink.old) (K.state sink.new) text }
     ensures quiet { OnOk result ((K.state sink.new).faults ≡ (K.state sink.old).faults) }
 {
     let text = match read_all(alloc, source, PAGE) {

@@ -6,7 +6,8 @@ ghost use Rattle.key_ring.specs.Holding.{secrets_left};
 
 use key_ring::{KeyId, KeyRing};
 
-/// How many users still claim the key once this one has let it go; none where it had no claim.
+/// How many users still claim the key once this one has let it go, and with the last claim the secret goes;
+/// none exactly where it had no claim.
 pub fn let_go(ring: &mut KeyRing, id: &KeyId, uid: u32) -> Option<u32>
     ensures held { is_some result ≡ has_claim ring.old.claims id.now uid }
     ensures claims { IfSome result (λ _. ring.new.claims ≡ without_claim ring.old.claims id.now uid) }

@@ -24,13 +24,13 @@ pub struct Locked {
     pub told: Reply,
 }
 
-/// Writes a file into an encrypted directory of a new mount, gives the key up, and asks for its status. None
-/// where there is no memory, or a reply isn't the one that is wanted.
+/// Writes a file into an encrypted directory of a new mount, gives the key up, so that no claim is left, and
+/// asks for its status. None where there is no memory, or a reply isn't the one that is wanted.
 pub fn write_and_lock(alloc: Global, raw: &[u8], nonces: &[[u8; 16]; 3]) -> Option<Locked>
-    ensures id { IfSome result (λ locked. locked.id ≡ key_id_of raw.now) }
-    ensures claims { IfSome result (λ locked. locked.mount.state.ring.claims ≡ no_claims) }
-    ensures told { IfSome result (λ locked. TellsBy no_claims 1000 (KeyStatus locked.id) locked.told) }
-    ensures gone { IfSome result (λ locked. AbsentIsGone locked.mount.state (KeyStatus locked.id) locked.told) }
+    ensures id { IfSome result (λ l. l.id ≡ key_id_of raw.now) }
+    ensures claims { IfSome result (λ l. l.mount.state.ring.claims ≡ no_claims) }
+    ensures told { IfSome result (λ l. TellsBy no_claims 1000 (KeyStatus l.id) l.told) }
+    ensures gone { IfSome result (λ l. AbsentIsGone l.mount.state (KeyStatus l.id) l.told) }
 {
     let mut mount = Mount::new(alloc).ok()?;
     let (id, told) = write_in(alloc, &mut mount, raw, nonces)?;

@@ -11,7 +11,8 @@ use name_crypt::{NameCipher, NoKeyText, Plain, PlainFault, Steps, nokey_text};
 use policy_ctx::Pad;
 use std::sync::ledger::Ledger;
 
-/// How a directory shows the name while its key isn't there. Refused as `Plain::read` is.
+/// How a directory shows the name while its key isn't there. Refused exactly where `Plain::read` is, and as
+/// that is.
 pub fn shown<L: Ledger>(
     key: &[u8; 32],
     pad: Pad,

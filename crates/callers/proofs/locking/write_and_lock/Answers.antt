@@ -18,7 +18,7 @@ returns-clause-told c =
     let id = c.in_ok-id.id in
     let began : c.in_ok-mount.mount.state.ring.claims ≡ no_claims = search rules in
     subst (λ (claims : ClaimSet). TellsBy claims 1000 (KeyStatus id) c.in_ok-id.told)
-        (c.in_ok-id.ensures.claims
-        ∙ ap (λ (claims : ClaimSet). without_claim (with_claim claims id 1000) id 1000) began
-        ∙ without-with_claim no_claims id 1000 (has_claim-none id 1000))
-        c.in_ok-id.ensures.told
+    (c.in_ok-id.ensures.claims
+    ∙ ap (λ (claims : ClaimSet). without_claim (with_claim claims id 1000) id 1000) began
+    ∙ without-with_claim no_claims id 1000 (has_claim-none id 1000))
+    c.in_ok-id.ensures.told
