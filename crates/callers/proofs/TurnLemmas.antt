@@ -1,5 +1,5 @@
 -- Of two calls that a pass makes, the second has the later place.
-use Rattle.std.proofs.Common.{◌≡◌, ℕ, ◌+◌, ◌<◌, [], ◌∷◌, ◌++◌, length, ap, sym, ◌∙◌, length-append, arith}
+use Rattle.std.proofs.Common.{◌≡◌, ℕ, ◌+◌, ◌<◌, [], ◌∷◌, length, ap, sym, ◌∙◌, length-append, arith}
 use Rattle.call_history.specs.declared.entry.Entry.{Entry}
 use Rattle.turn_lock.specs.Passes.{PassView, IsMadeAt}
 

@@ -1,4 +1,4 @@
-use Rattle.std.proofs.Common.{rules, ◌≡◌, subst, sym}
+use Rattle.std.proofs.Common.{rules, subst, sym}
 use Rattle.call_history.specs.Entries.{entry}
 use Rattle.turn_lock.specs.Passes.{PassView, IsMadeAt}
 use Rattle.callers.proofs.TurnLemmas.{places_rise}
