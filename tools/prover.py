@@ -2,6 +2,7 @@
 
 Used by `tools/edits`; nothing here knows of edits.
 """
+import contextlib
 import hashlib
 import os
 import re
@@ -100,7 +101,8 @@ class Run:
         while not pid:
             time.sleep(0.05)
             if stages and stages.is_file() and "\nstage lines " in stages.read_text(encoding="utf-8"):
-                resource.prlimit(ran.pid, resource.RLIMIT_NOFILE, (0, 0))
+                with contextlib.suppress(ProcessLookupError):
+                    resource.prlimit(ran.pid, resource.RLIMIT_NOFILE, (0, 0))
                 stages = None
             pid, status, used = os.wait4(ran.pid, os.WNOHANG)
         ran.returncode = self.status = os.waitstatus_to_exitcode(status)
