@@ -1,4 +1,5 @@
-//! The kernels by name.
+//! The kernels whose work a digest tells, by name.
+use crate::callers::Callers;
 use crate::claims::ClaimCount;
 use crate::lengths::{TextLength, UnitLength};
 use crate::stretching::{ONE_PASS, THREE_PASSES};
@@ -6,7 +7,6 @@ use crate::trees::TreeSize;
 use crate::walks::Walk;
 use crate::{ciphers, claims, hashes, names, scripts, sealing, stretching, trees, turns, walks};
 use argon_kdf::{LaneStretch, PlainStretch};
-use measuring::Callers;
 use policy_ctx::Unit;
 use std::alloc::{AllocError, Global};
 use std::marker::Brand;

@@ -1,13 +1,17 @@
-//! Measures: the words `NAME COUNT` run the kernel of that name so many times over fixed bytes, and
-//! print the name, the count and a SHA-256 of what came out, so that no work can be left out.
+//! Measures: the words `NAME COUNT` run the kernel of that name so many times. A kernel over fixed bytes
+//! prints the name, the count and a SHA-256 of what came out, so that no work can be left out; a kernel of a
+//! mount's calls prints the name, the count and how many calls were refused.
 #![tactic(auto)]
 
+mod callers;
 mod ciphers;
 mod claims;
 mod hashes;
 mod kernel;
 mod lengths;
+mod mount;
 mod names;
+mod scattering;
 mod scripts;
 mod sealing;
 mod stretching;
@@ -16,17 +20,23 @@ mod turns;
 mod walks;
 
 use kernel::Kernel;
+use mount::MountKernel;
 use std::process::ExitCode;
 use std::{env, io};
 
 const USAGE: &str = "\
-fsc_speed NAME COUNT; names: \
+fsc_speed NAME COUNT; names of kernels with a digest: \
     aes-block, aes-block-back, xts-LENGTH and xts-back-LENGTH (whole blocks up to 65536 \
     bytes), cts-LENGTH (16 to 65536 bytes), hkdf-64, sha512-192, file-key, mode-key, \
     encrypt-name-32, nokey-255, blake2b-64m, argon2id-1-65536-1, argon2id-3-65536-4, \
     argon2id-lanes-3-65536-4, turn-1, turn-2, turn-4, node-get-NODES (to 65536), \
     entry-get-ENTRIES, entry-put-ENTRIES (to 4096), seal-512, seal-4096, claims-CLAIMS (to 38400), \
-    read-script, entry-line, walk-3-plain, walk-3-keyed, walk-3-locked";
+    read-script, entry-line, walk-3-plain, walk-3-keyed, walk-3-locked; \
+names of kernels of a mount: \
+    mkdir, unlink, stat-warm, stat-round, stat-cold, rename, list-plain, list-encrypted, \
+    mkdir-NAMES, unlink-NAMES, stat-NAMES (to 4096), read-4096, write-4096, write-1, open-close, \
+    status-4096, status-anew, shared-status-1, shared-status-2, shared-status-4, \
+    shared-read-1, shared-read-2, shared-read-4";
 
 fn main(rt: HostRuntime) -> io::Result<ExitCode> {
     let mut words = env::args(&rt)?.skip(1);
@@ -34,12 +44,20 @@ fn main(rt: HostRuntime) -> io::Result<ExitCode> {
         eprintln!(rt; "{USAGE}")?;
         return Ok(ExitCode::from(2));
     };
-    let (Some(kernel), Ok(count)) = (Kernel::named(name.as_str()), count.parse::<u32>()) else {
+    let Ok(count) = count.parse::<u32>() else {
         eprintln!(rt; "{USAGE}")?;
         return Ok(ExitCode::from(2));
     };
-    let digest = kernel.run(&rt, rt.alloc(), count)?;
-    let digest = hex::encode(rt.alloc(), &digest)?;
-    println!(rt; "{name} {count} {digest}")?;
+    if let Some(kernel) = Kernel::named(name.as_str()) {
+        let digest = kernel.run(&rt, rt.alloc(), count)?;
+        let digest = hex::encode(rt.alloc(), &digest)?;
+        println!(rt; "{name} {count} {digest}")?;
+    } else if let Some(kernel) = MountKernel::named(name.as_str()) {
+        let refused = kernel.run(&rt, rt.alloc(), count)?;
+        println!(rt; "{name} {count} {refused}")?;
+    } else {
+        eprintln!(rt; "{USAGE}")?;
+        return Ok(ExitCode::from(2));
+    }
     Ok(ExitCode::SUCCESS)
 }

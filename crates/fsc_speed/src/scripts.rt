@@ -1,8 +1,8 @@
 //! The kernels of scripts and logs. They hash how much was read or told, and no contract says how much
 //! that is.
+use crate::scattering::scattered;
 use call_history::Entry;
 use item_list::Bytes;
-use measuring::scattered;
 use mount_model::{Call, NameList, Op, Path, Reply};
 use reply_text::entry_line;
 use script_lang::read_script;

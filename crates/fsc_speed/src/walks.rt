@@ -2,9 +2,9 @@
 //! is.
 ghost use Rattle.std.specs.Prelude.{◌≡◌, ◌<◌};
 
+use crate::scattering::scattered;
 use disk_tree::{Body, DiskTree};
 use item_list::Bytes;
-use measuring::scattered;
 use mount_keys::{add_key, remove_key};
 use mount_model::{Part, Path, Reply};
 use mount_names::{create, mkdir, set_policy};

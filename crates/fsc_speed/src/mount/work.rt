@@ -1,8 +1,8 @@
 //! What each kernel asks of a mount that one thread calls.
-use crate::calls::{
+use crate::mount::calls::{
     add_key, call, create, id_of_key, mkdir, numbered_path, open, read, set_policy, top_path, write,
 };
-use crate::counts::{FEW, NameCount};
+use crate::mount::counts::{FEW, NameCount};
 use mount_model::{Call, Op};
 use std::alloc::{AllocError, Global};
 

@@ -3,10 +3,10 @@ ghost use Rattle.std.specs.Prelude.{◌≡◌};
 ghost use Rattle.std.specs.Thread.{IsSync};
 ghost use Rattle.mount_model.specs.Fits.{Fits};
 
-use crate::asking::is_refused;
-use crate::calls::{call, id_of_key, open, read};
-use crate::work::{read_block, tell_status};
-use measuring::Callers;
+use crate::callers::Callers;
+use crate::mount::asking::is_refused;
+use crate::mount::calls::{call, id_of_key, open, read};
+use crate::mount::work::{read_block, tell_status};
 use mount_model::{Call, Op, Refusal, Reply};
 use mount_shared::Mount;
 use std::alloc::{AllocError, Global};

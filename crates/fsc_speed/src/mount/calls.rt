@@ -2,9 +2,9 @@
 ghost use Rattle.std.specs.Prelude.{◌≡◌};
 ghost use Rattle.mount_model.specs.Fits.{Fits};
 
+use crate::scattering::scattered;
 use fsc_keys::{RawKey, key_id};
 use item_list::Bytes;
-use measuring::scattered;
 use mount_model::{Call, KeyId, Op, Part, Path};
 use std::alloc::{AllocError, Global};
 use text_words::push_lower_hex;

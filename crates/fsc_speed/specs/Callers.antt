@@ -1,7 +1,7 @@
 -- How many threads call.
 use Rattle.std.specs.Prelude.{ℕ}
-use Rattle.measuring.specs.declared.Callers.{Callers}
-use Rattle.measuring.specs.declared.Callers.TheVariants.{One, Two, Four}
+use Rattle.fsc_speed.specs.declared.callers.Callers.{Callers}
+use Rattle.fsc_speed.specs.declared.callers.Callers.TheVariants.{One, Two, Four}
 
 abbrev pub number_of : Callers → ℕ
 number_of One = 1

@@ -1,5 +1,5 @@
 use Rattle.std.proofs.Common.{◌+◌, ◌-◌, ◌*◌}
-use Rattle.mount_speed.proofs.turns.+ask_all+fn-ask_all-join+arg2+fn-ask_all-join+arg3.Given as goal
+use Rattle.fsc_speed.proofs.mount.turns.+ask_all+fn-ask_all-join+arg2+fn-ask_all-join+arg3.Given as goal
 
 -- twice the caller numbers that are left to run, and one more for a thread that runs them
 abbrev pub decreases-join+arg2 : goal.decreases-join+arg2

@@ -2,8 +2,8 @@
 ghost use Rattle.std.specs.Prelude.{All};
 ghost use Rattle.mount_model.specs.Fits.{Fits};
 
-use crate::calls::{call, id_of_key, open};
-use crate::work::{Work, encrypted_top, tell_status};
+use crate::mount::calls::{call, id_of_key, open};
+use crate::mount::work::{Work, encrypted_top, tell_status};
 use mount_model::{Call, Op, Reply};
 use mount_shared::Mount;
 use std::alloc::{AllocError, Global};

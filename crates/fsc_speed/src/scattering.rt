@@ -1,0 +1,13 @@
+//! Bytes that scatter as enciphered names do.
+ghost use Rattle.std.specs.Prelude.{◌≡◌, ◌++◌, ◌*◌, ◌^◌, ◌%◌, replicate};
+ghost use Rattle.byte_words.specs.Numbers.{big_endian_bytes};
+
+/// 16 bytes that differ from those of each other number: four of the number times an odd one, and twelve
+/// alike.
+pub(crate) fn scattered(number: u32) -> [u8; 16]
+    ensures { result ≡ big_endian_bytes 4 ((number * 2246822519) % 2 ^ 32) ++ replicate 12 0x61 }
+{
+    let mut bytes = [0x61; 16];
+    bytes[..4].copy_from_slice(&number.wrapping_mul(2246822519).to_be_bytes());
+    bytes
+}
