@@ -8,6 +8,7 @@ import os
 import re
 import resource
 import shutil
+import signal
 import subprocess
 import tempfile
 import time
@@ -80,14 +81,19 @@ class Kit:
 
 
 class Run:
-    """What a run of the prover in a crate's folder said, and what it took."""
+    """What a run of the prover in a crate's folder said, and what it took. It may give way to all others on this machine."""
 
-    def __init__(self, kit, verb, words, folder):
+    running = set()
+
+    def __init__(self, kit, verb, words, folder, gives_way=False):
         began = time.monotonic()
         with tempfile.TemporaryDirectory(prefix="fsc-prover-") as room, tempfile.TemporaryFile("w+", errors="replace") as out:
             words = [f"{kit.top}/bin/rattle", verb, *words, "--stage-times", f"{room}/stages"]
+            words = ["nice", "-n", "19", *words] if gives_way else words
             ran = subprocess.Popen(words, cwd=folder, stdin=subprocess.DEVNULL, stdout=out, stderr=out)
+            Run.running.add(ran)
             used = self.waited(ran, Path(room) / "stages" if verb == "check" else None)
+            Run.running.discard(ran)
             out.seek(0)
             self.said = out.read().split("\n")
         self.wall, self.work = time.monotonic() - began, used.ru_utime + used.ru_stime
@@ -107,6 +113,13 @@ class Run:
             pid, status, used = os.wait4(ran.pid, os.WNOHANG)
         ran.returncode = self.status = os.waitstatus_to_exitcode(status)
         return used
+
+    @staticmethod
+    def end_all():
+        """Kills the provers that run, so that nothing is known of what they check."""
+        for ran in [*Run.running]:
+            with contextlib.suppress(ProcessLookupError):
+                os.kill(ran.pid, signal.SIGKILL)
 
     def is_proved(self):
         return self.status == 0
@@ -133,7 +146,7 @@ class Libraries:
 
     def __init__(self, kit, top, crates, sums, room):
         self.kit, self.top, self.crates, self.sums, self.room = kit, top, crates, sums, room
-        self.times, self.lies_there = {}, False
+        self.times, self.lies_there, self.folder_of = {}, False, None
 
     def choose(self, needed):
         """Takes all of these from the checkout, or none, since a library's statements fit those that it was built over."""
@@ -152,6 +165,8 @@ class Libraries:
         return self.times[name]
 
     def folder(self, name):
+        if self.folder_of:
+            return self.folder_of(name)
         return self.top / "crates" / name / "out" / "rlib" if self.lies_there else self.room / self.sums[name]
 
     def stands(self, name):

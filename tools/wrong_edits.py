@@ -9,6 +9,11 @@ PARTS = ("src", "specs", "proofs")
 FUNCTION = re.compile(r"( *)(?:pub(?:\([a-z]+\))? )?(?:const |unsafe )*fn (\w+)")
 BLOCK = re.compile(r"(?:pub(?:\([a-z]+\))? )?(?:unsafe )?(impl|trait|macro_rules|mod)\b(.*)")
 
+# What a function needs to ensure that is refused at what a call, a slice, a type or a loop of its body asks for.
+NOTHING = "nothing"
+# A clause of a contract, by its kind and its name.
+CLAUSE = re.compile(r"(requires|ensures|ghost)\b(\*?)(?: (\w+))? ?[{:]")
+
 # A module that only a check of the tests reads.
 TESTS = re.compile(r"^#\[cfg\(test\)\]\n(?:pub(?:\(\w+\))? )?mod (\w+);\n", re.M)
 
@@ -19,7 +24,7 @@ PROOF = re.compile(r"(?:\./)?proofs/(\S+?):\d+:\d+: error\b(.*)")
 STATED = re.compile(r"(?:\./)?(?:src|specs)/\S+?:\d+:\d+: error: (`[^`]*`: )?(.*)")
 UNREAD = re.compile(r"is not in scope|has no field|is no name|operand is missing|expected the end|cannot continue")
 # A proof that only cites what the edit took away says little of the contract, and what stands on such a proof nothing at all.
-BY_A_NAME = re.compile(r"has no field|is not in scope|has no `|was not admitted|which was rejected, w\w+ not checked")
+BY_A_NAME = re.compile(r"has no field|record `[^`]*` \(nearest|is not in scope|has no `|was not admitted|which was rejected, w\w+ not checked")
 
 
 class BadEdit(Exception):
@@ -57,11 +62,13 @@ class Function:
 @dataclass(frozen=True)
 class Edit:
     """A wrong edit: its name, its replacements (file, old text, new text), the one function whose body it changes, if that is all,
-    and else the functions that are told to be refused by it, if any, by their paths below the crate."""
+    and else the functions that are told to be refused by it, if any, by their paths below the crate; and the one clause that its
+    function needs to ensure for a refusal, if that is told, or NOTHING."""
     name: str
     pairs: tuple
     function: Function = None
     refused: tuple = ()
+    ensures: str = ""
 
 
 def type_of(header):
@@ -139,7 +146,7 @@ def pairs_of(text):
                 raise BadEdit("a line 'new:' stands before its 'file:' or 'old:'")
             found.append((file, old, re.sub(r"\A ", "", line[4:])))
             old = None
-        elif line.strip() and not line.startswith("refused: "):
+        elif line.strip() and not line.startswith(("refused: ", "ensures: ")):
             raise BadEdit(f"a line is of no kind: {line}")
     if old is not None:
         raise BadEdit(f"a line 'new:' is missing behind: {old}")
@@ -179,7 +186,20 @@ def read_edit(name, text, texts):
     lacking = [it for it in told if it not in [place_of(function, texts) for function in every_function(texts)]]
     if lacking:
         raise BadEdit(f"there is no plain function {lacking[0]} to be refused")
-    return Edit(name, pairs, homes.pop() if len(homes) == 1 else None, told)
+    home, clause = homes.pop() if len(homes) == 1 else None, "".join(line[9:].strip() for line in text.split("\n") if line.startswith("ensures: "))
+    if clause and not (home and clause in (NOTHING, *[it for _, it in ensured(home, texts[home.file].split("\n"))])):
+        raise BadEdit(f"its function ensures no clause {clause}")
+    return Edit(name, pairs, home, told, clause)
+
+
+def ensured(function, lines):
+    """The clauses that a function ensures, each by its lines, from 0, and its name, or an empty one."""
+    head = next(it for it in range(function.first, function.body) if FUNCTION.match(lines[it]))
+    indent = FUNCTION.match(lines[head])[1] + "    "
+    starts = [(at, CLAUSE.match(lines[at][len(indent):])) for at in range(head + 1, function.body) if lines[at].startswith(indent)]
+    starts = [(at, it) for at, it in starts if it]
+    ends = [*[at for at, _ in starts][1:], function.body - 1]
+    return [(range(at, end), it[3] or "") for (at, it), end in zip(starts, ends) if it[1] == "ensures" and not it[2]]
 
 
 def applied(edits, texts):
@@ -218,31 +238,6 @@ def place_of(function, texts):
     return "::".join([*module_of(homes[0]), function.of_type, function.name]) if len(homes) == 1 else None
 
 
-# What names another function's proof.
-NAMED = r"\bRattle\.{crate}\.proofs\.([\w.]+)\.(?:Answers|Invariants|Proof)\b"
-HOLE = "use Rattle.{crate}.proofs.{path}.Statement.{{statement}}\n\npub {name}_spec : {{M : Type 1}} → statement M\n{name}_spec = ?\n"
-
-
-def holed(crate, texts, untouched, taken, kept=()):
-    """The texts with a hole for the proof of each function of the untouched crate that isn't taken, where its place is sure.
-    Whatever stands on such a function has its contract, as ever, and its own proof costs nothing. One whose proof another
-    proof names keeps it, and so does one that is proved together with others, and those whose folders are told."""
-    made, kept = dict(texts), set(kept)
-    for file, text in untouched.items():
-        if file.startswith("proofs/"):
-            kept.update("proofs/" + it.replace(".", "/") for it in re.findall(NAMED.format(crate=crate), text))
-            ring = re.match(r"(proofs/(?:\w+/)*)\+(\S+?)/", file)
-            kept.update(ring[1] + it for it in re.split(r"[+-]", ring[2])) if ring else None
-    for function in every_function(untouched):
-        place = None if function in taken else place_of(function, untouched)
-        if place and "proofs/" + place.replace("::", "/") not in kept:
-            folder = "proofs/" + place.replace("::", "/")
-            for part in ("Answers", "Invariants", "Proof"):
-                made.pop(f"{folder}/{part}.antt", None)
-            made[f"{folder}/Proof.antt"] = HOLE.format(crate=crate, path=place.replace("::", "."), name=function.name)
-    return made
-
-
 def reserved(said):
     """The folders of proofs that a check names as none for a file, since the functions there are proved with others."""
     return {it[1] for it in map(re.compile(r"\./(proofs/\S+)/Proof\.antt: error\[reserved-name\]").match, said) if it}
@@ -251,94 +246,6 @@ def reserved(said):
 def is_checked(said, crate, place):
     """Whether a check came to the end of this function's proof and refused nothing in it."""
     return any(re.match(rf"fn {crate}::{re.escape(place)}: (proved|no holes|depends on a hole)\b", it) for it in said)
-
-
-def has_free_proof(crate, function, texts):
-    """Whether a copy of the function under another name has the same proof, but for the name: its place is sure and that of no module,
-    it has lines of its own and doesn't call itself, it is proved with no other and has no closure with a proof of its own, and no file
-    outside of its proof's folder cites what is in it."""
-    place = place_of(function, texts)
-    if not place or function.first == function.last:
-        return False
-    lines = texts[function.file].split("\n")[function.body:function.last]
-    calls = re.compile(rf"\b{function.name}\b")
-    path = place.replace("::", "/")
-    cited = re.compile(rf"\bproofs(?:\.|::){re.escape(place).replace('::', '(?:[.]|::)')}\b")
-    others = [it for file, it in texts.items() if not file.startswith(f"proofs/{path}/")]
-    shared = [file for file in texts if re.search(rf"/fn/{function.name}/|/\+[^/]*\b{function.name}\b", file)]
-    return not any(map(calls.search, lines)) and not any(map(cited.search, others)) and not shared and f"src/{path}.rt" not in texts
-
-
-def header_of(function, lines):
-    """The lines that open the block in which a method stands, and what is imported in it above the method."""
-    first = next(it for it in range(function.first, -1, -1) if BLOCK.match(lines[it]))
-    last = next(it for it in range(first, function.first) if lines[it].endswith("{"))
-    found, inside = lines[first:last + 1], False
-    for line in lines[last + 1:function.first]:
-        inside = inside or bool(re.match(r"    (ghost )?use ", line))
-        found += [line] if inside else []
-        inside = inside and not line.endswith(";")
-    return found
-
-
-def with_copies(crate, edits, texts):
-    """The texts with copies, at the ends of their files, of the functions that several of these edits are of, and the edits each in
-    a function of its own: a copy has another name and the proof of the first, which it doesn't hide and that doesn't hide it."""
-    texts, made, taken = dict(texts), [], []
-    for edit in edits:
-        home = edit.function
-        if home not in taken:
-            taken.append(home)
-            made.append(edit)
-            continue
-        place, lines = place_of(home, texts), texts[home.file].rstrip("\n").split("\n")
-        name = f"{home.name}_as_{len(made) + 1}"
-        opens, closes = (header_of(home, lines), ["}"]) if home.of_type else ([], [])
-        part = lines[home.first:home.last + 1]
-        head = next(at for at, it in enumerate(part) if FUNCTION.match(it))
-        part[head] = re.sub(rf"\bfn {home.name}\b", f"fn {name}", part[head], count=1)
-        first = len(lines) + 1 + len(opens)
-        moved = lambda line: line + first - home.first
-        taken.append(Function(home.file, home.of_type, name, first, moved(home.body), moved(home.last), home.is_plain))
-        made.append(Edit(edit.name, edit.pairs, taken[-1], edit.refused))
-        own, folder = f"Rattle.{crate}.proofs.{place.replace('::', '.')}.", f"proofs/{place.replace('::', '/')}/"
-        for file in [it for it in texts if it.startswith(folder)]:
-            text = texts[file].replace(own, f"{own[:-len(home.name) - 1]}{name}.")
-            texts[f"{folder[:-len(home.name) - 1]}{name}/{file[len(folder):]}"] = text
-        texts[home.file] = "\n".join([*lines, "", *opens, *part, *closes, ""])
-    return texts, made
-
-
-def in_rounds(crate, edits, texts, most):
-    """The edits in as few rounds as there can be of at most this many, each of a function of its own or of a copy of it; and those
-    that go alone. Functions whose place isn't sure come first, so that few rounds have one: such a round goes over the whole crate."""
-    of_function, alone = {}, [it for it in edits if not it.function]
-    for edit in edits:
-        if edit.function:
-            of_function.setdefault(edit.function, []).append(edit)
-    single = {it: made for it, made in of_function.items() if not has_free_proof(crate, it, texts)}
-    number = max([-(-sum(map(len, of_function.values())) // most), *map(len, single.values())], default=0)
-    rounds = [[] for _ in range(number)]
-    for function in sorted(single, key=lambda it: (place_of(it, texts) is not None, -len(single[it]))):
-        for edit, made in zip(single[function], sorted(rounds, key=len)):
-            made.append(edit)
-    for edit in (it for function, made in of_function.items() if function not in single for it in made):
-        min(rounds, key=len).append(edit)
-    return rounds, alone
-
-
-def changes_nothing(texts, taken):
-    """An edit that adds a comment to a function of the crate, one that isn't taken and names none that is, where there is one: what
-    calls a function that is refused is told as not proved."""
-    every = [it for it in every_function(dict(sorted(texts.items()))) if "test" not in it.file and place_of(it, texts)]
-    names, others = {it.name for it in taken if it}, [it for it in every if it not in taken]
-    words = lambda it: re.findall(r"\w+", "\n".join(texts[it.file].split("\n")[it.body:it.last]))
-    home = next((it for it in others if names.isdisjoint(words(it))), (others or every)[0])
-    line = texts[home.file].split("\n")[home.last]
-    if home.first == home.last:
-        return Edit("(a comment)", ((home.file, line, f"{line} // as it was"),), home)
-    head = next(it for it in texts[home.file].split("\n")[home.first:] if FUNCTION.match(it))
-    return Edit("(a comment)", ((home.file, head, f"{head} // as it was"),), home)
 
 
 def without_tests(texts):
@@ -377,6 +284,14 @@ def told_inside(said, homes):
 def told(said):
     """Each line that refuses something."""
     return [it for it in said if GOAL.match(it) or PROOF.match(it) or STATED.match(it) and not is_unread(it)]
+
+
+def clause_of(line):
+    """The clause that a line refuses, an empty one where the function ensures but one, and NOTHING where it is no clause's goal."""
+    goal = re.search(r"\(`([\w-]+)`\)" if GOAL.match(line) else r": error: `([\w-]+)`: ", line)
+    if not goal or not re.match(r"(returns|ends)\b", goal[1]):
+        return NOTHING if goal else ""
+    return re.search(r"(?:-clause-(\w+))?$", goal[1])[1] or ""
 
 
 def is_strong(line):

@@ -30,12 +30,16 @@ fn add<W: Wait>(
 #[test]
 fn allowance_wears_out_after_three_calls(rt: HostRuntime) -> Result<(), Fail> {
     let (shared, mut pass) = Shared::start(rt.alloc(), Sum::new(), 1, 3)?;
-    assert_eq!(rt; add(&rt, &shared, &mut pass, 5), Ok((0, 5)));
-    assert_eq!(rt; add(&rt, &shared, &mut pass, 700), Ok((1, 705)));
-    assert_eq!(rt; add(&rt, &shared, &mut pass, 999), Ok((2, 1704)));
-    assert_eq!(rt; add(&rt, &shared, &mut pass, 1), Err(3));
-    assert_eq!(rt; pass.left(), 0);
-    assert_eq!(rt; shared.close(pass).total, 1704);
+    let told = [
+        add(&rt, &shared, &mut pass, 5),
+        add(&rt, &shared, &mut pass, 700),
+        add(&rt, &shared, &mut pass, 999),
+        add(&rt, &shared, &mut pass, 1),
+    ];
+    let left = pass.left();
+    let total = shared.close(pass).total;
+    assert_eq!(rt; told, [Ok((0, 5)), Ok((1, 705)), Ok((2, 1704)), Err(3)]);
+    assert_eq!(rt; (left, total), (0, 1704));
     Ok(())
 }
 
@@ -43,17 +47,20 @@ fn allowance_wears_out_after_three_calls(rt: HostRuntime) -> Result<(), Fail> {
 fn split_gives_all_calls_away(rt: HostRuntime) -> Result<(), Fail> {
     let (shared, mut first) = Shared::start(rt.alloc(), Sum::new(), 2, 3)?;
     let mut second = shared.split(&mut first, 1, 3)?;
-    assert_eq!(rt;
-        (first.who(), first.high(), second.who(), second.high()),
-        (0, 1, 1, 2)
-    );
-    assert_eq!(rt; add(&rt, &shared, &mut first, 5), Err(0));
-    assert_eq!(rt; add(&rt, &shared, &mut second, 5), Ok((0, 5)));
-    assert_eq!(rt; add(&rt, &shared, &mut second, 6), Ok((1, 11)));
-    assert_eq!(rt; add(&rt, &shared, &mut second, 7), Ok((2, 18)));
-    assert_eq!(rt; add(&rt, &shared, &mut second, 8), Err(3));
+    let callers = (first.who(), first.high(), second.who(), second.high());
+    let of_first = add(&rt, &shared, &mut first, 5);
+    let of_second = [
+        add(&rt, &shared, &mut second, 5),
+        add(&rt, &shared, &mut second, 6),
+        add(&rt, &shared, &mut second, 7),
+        add(&rt, &shared, &mut second, 8),
+    ];
     shared.join(&mut first, second);
-    assert_eq!(rt; shared.close(first).total, 18);
+    let total = shared.close(first).total;
+    assert_eq!(rt; callers, (0, 1, 1, 2));
+    assert_eq!(rt; of_first, Err(0));
+    assert_eq!(rt; of_second, [Ok((0, 5)), Ok((1, 11)), Ok((2, 18)), Err(3)]);
+    assert_eq!(rt; total, 18);
     Ok(())
 }
 
