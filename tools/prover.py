@@ -88,7 +88,7 @@ class Run:
     def __init__(self, kit, verb, words, folder, gives_way=False):
         began = time.monotonic()
         with tempfile.TemporaryDirectory(prefix="fsc-prover-") as room, tempfile.TemporaryFile("w+", errors="replace") as out:
-            words = [f"{kit.top}/bin/rattle", verb, *words, "--stage-times", f"{room}/stages"]
+            words = [f"{kit.top}/bin/rattle", verb, *words, *(["--stage-times", f"{room}/stages"] if verb == "check" else [])]
             words = ["nice", "-n", "19", *words] if gives_way else words
             ran = subprocess.Popen(words, cwd=folder, stdin=subprocess.DEVNULL, stdout=out, stderr=out)
             Run.running.add(ran)
