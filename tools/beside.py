@@ -13,8 +13,8 @@ from pathlib import Path
 # How `rt ci` tells of a crate that it proved, or proved earlier; and how the gate tells how `rt ci` ended.
 PROVED = re.compile(r"^rt: (\w+) (?:proved$|is kept: )", re.M)
 ENDED = re.compile(r"^gate: rt ci (passed|failed)$", re.M)
-# How long the processors are looked at, in seconds, and the part of one that must have been idle.
-LOOK, IDLE = 2.0, 0.7
+# How long the processors are looked at, in seconds, and the part of one that must have been idle; and how often the file is read.
+LOOK, IDLE, OFTEN = 2.0, 0.7, 0.5
 # What must be free of the memory, in bytes, for a check to begin beside the proofs.
 MEMORY = 5_000_000_000
 
@@ -40,22 +40,30 @@ class Beside:
 
     def told(self):
         """The crates that `rt ci` has told of as proved since the last call, or None where it has failed, or what began this run is gone."""
+        if os.getppid() != self.parent or not self.file.is_file():
+            return self.fail()
         with open(self.file, "rb") as it:
             it.seek(self.seen)
             whole, end, _ = it.read().rpartition(b"\n")
         self.seen += len(whole + end)
         lines = whole.decode(errors="replace")
         ended = ENDED.search(lines)
-        self.has_failed = bool(ended) and ended[1] == "failed" or os.getppid() != self.parent
-        if ended or self.has_failed:
+        if ended and ended[1] == "failed":
+            return self.fail()
+        if ended:
             self.end.set()
-        return None if self.has_failed else PROVED.findall(lines)
+        return PROVED.findall(lines)
+
+    def fail(self):
+        """Notes that all is over."""
+        self.has_failed = True
+        self.end.set()
 
     def take(self, name):
         """Takes a crate's library, by links where these can be made: when `rt ci` ends it puts back what lay there before."""
         made = self.top / "crates" / name / "out" / "rlib" / f"{name}.rlib"
         if made.is_dir():
-            shutil.copytree(made, self.room / name / f"{name}.rlib", copy_function=link_or_copy)
+            shutil.copytree(made, self.room / name / f"{name}.rlib", copy_function=link_or_copy, dirs_exist_ok=True)
 
     def folder(self, name):
         """Where a crate's library lies for this run."""
@@ -73,5 +81,7 @@ class Beside:
 def link_or_copy(one, other):
     try:
         os.link(one, other)
+    except FileExistsError:
+        pass
     except OSError:
         shutil.copy2(one, other)

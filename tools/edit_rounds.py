@@ -10,6 +10,8 @@ from wrong_edits import BLOCK, FUNCTION, NOTHING, Edit, Function, ensured, every
 
 # What names another function's proof.
 NAMED = r"\bRattle\.{crate}\.proofs\.([\w.]+)\.(?:Answers|Invariants|Proof)\b"
+# An answer for a goal of the function's end.
+ANSWER = re.compile(r"pub ((?:returns|ends)\b[\w-]*)\s*:")
 HOLE = "use Rattle.{crate}.proofs.{path}.Statement.{{statement}}\n\npub {name}_spec : {{M : Type 1}} → statement M\n{name}_spec = ?\n"
 
 
@@ -44,7 +46,7 @@ def needs_no_body(function, lines):
     """Whether a function's body may be left out where its proof is: no type is told by it, and nothing is computed with it when it
     is compiled."""
     head = " ".join(lines[function.first:function.body])
-    return function.body < function.last and not re.search(r"-> .*\bimpl\b|\bconst fn\b", head)
+    return function.body < function.last and not re.search(r"-> .*\bimpl\b|\bconst (?:unsafe )?fn\b", head)
 
 
 def has_free_proof(crate, function, texts):
@@ -80,9 +82,13 @@ def is_reduced(crate, edit, texts):
     that, and the copy has a proof of its own, which is no whole text."""
     if not edit.ensures or not has_free_proof(crate, edit.function, texts):
         return False
-    told = ensured(edit.function, texts[edit.function.file].split("\n"))
+    lines = texts[edit.function.file].split("\n")
     folder = f"proofs/{place_of(edit.function, texts).replace('::', '/')}/"
-    return len(told) > (edit.ensures != NOTHING) and f"{folder}Proof.antt" not in texts
+    # one answer for all clauses, which are one assertion
+    is_starred = any(re.match(r" *ensures\*", it) for it in lines[edit.function.first:edit.function.body])
+    answered = [ANSWER.match(it) for it in texts.get(f"{folder}Answers.antt", "").split("\n")]
+    is_whole = edit.ensures != NOTHING and any(it and not re.search(r"-clause-\w+$", it[1]) for it in answered)
+    return len(ensured(edit.function, lines)) > (edit.ensures != NOTHING) and not is_starred and not is_whole and f"{folder}Proof.antt" not in texts
 
 
 def answers(text, clause):
@@ -90,7 +96,7 @@ def answers(text, clause):
     clause's goals by the names that the goals of a function with one clause have."""
     mine = re.compile(rf"\b((?:returns|ends)[\w-]*)-clause-{clause}\b(?!-)")
     parts = re.split(r"\n{2,}", text.strip("\n"))
-    is_other = lambda part: re.match(r"(?:--.*\n)*pub (?:returns|ends)\b[\w-]* : goal\.", part) and not mine.search(part.split(" :")[0])
+    is_other = lambda part: any(ANSWER.match(it) and not mine.search(it.split(":")[0]) for it in part.split("\n"))
     return "\n\n".join(mine.sub(r"\1", it) for it in parts if not is_other(it)) + "\n"
 
 
@@ -111,7 +117,10 @@ def with_copies(crate, edits, texts):
         name = f"{home.name}_as_{len(made) + 1}"
         opens, closes = (header_of(home, lines), ["}"]) if home.of_type else ([], [])
         left_out = [it for clause, called in ensured(home, lines) if is_less and called != edit.ensures for it in clause]
-        part = [lines[it] for it in range(home.first, home.last + 1) if it not in left_out]
+        # a clause that stands alone has no name, so that the fact itself is the goal
+        named = [clause[0] for clause, called in ensured(home, lines) if is_less and called == edit.ensures]
+        part = [re.sub(r"\bensures \w+", "ensures", lines[it], count=1) if it in named else lines[it]
+                for it in range(home.first, home.last + 1) if it not in left_out]
         head = next(at for at, it in enumerate(part) if FUNCTION.match(it))
         part[head] = re.sub(rf"\bfn {home.name}\b", f"fn {name}", part[head], count=1)
         first = len(lines) + 1 + len(opens)
@@ -149,9 +158,11 @@ def in_rounds(crate, edits, texts, most):
 
 def changes_nothing(crate, edits, texts):
     """An edit that adds a comment to a function of the crate. Where one of these edits is tried in a copy that ensures less the
-    comment is, too; else it is in a function that has no edit and names none that has, where there is one: what calls a function
+    comment is, too, in the one that has most answers; else it is in a function that has no edit and names none that has, where there is one: what calls a function
     that is refused is told as not proved."""
-    for edit in (it for it in edits if is_reduced(crate, it, texts)):
+    own = lambda it: texts.get(f"proofs/{place_of(it.function, texts).replace('::', '/')}/Answers.antt", "")
+    number = lambda it: len(re.findall(rf"^pub (?:returns|ends)[\w-]*-clause-{it.ensures}\b", own(it), re.M))
+    for edit in sorted((it for it in edits if is_reduced(crate, it, texts)), key=number, reverse=True):
         part = texts[edit.function.file].split("\n")[edit.function.first:edit.function.last + 1]
         body = part[edit.function.body - edit.function.first:-1]
         line = next((it for it in body if it.endswith((";", "{")) and "\n".join(part).count(it) == 1), None)

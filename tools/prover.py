@@ -83,7 +83,7 @@ class Kit:
 class Run:
     """What a run of the prover in a crate's folder said, and what it took. It may give way to all others on this machine."""
 
-    running = set()
+    running, are_ended = set(), False
 
     def __init__(self, kit, verb, words, folder, gives_way=False):
         began = time.monotonic()
@@ -92,6 +92,8 @@ class Run:
             words = ["nice", "-n", "19", *words] if gives_way else words
             ran = subprocess.Popen(words, cwd=folder, stdin=subprocess.DEVNULL, stdout=out, stderr=out)
             Run.running.add(ran)
+            if Run.are_ended:
+                Run.end_all()
             used = self.waited(ran, Path(room) / "stages" if verb == "check" else None)
             Run.running.discard(ran)
             out.seek(0)
@@ -116,7 +118,8 @@ class Run:
 
     @staticmethod
     def end_all():
-        """Kills the provers that run, so that nothing is known of what they check."""
+        """Kills the provers that run, and those that begin later, so that nothing is known of what they check."""
+        Run.are_ended = True
         for ran in [*Run.running]:
             with contextlib.suppress(ProcessLookupError):
                 os.kill(ran.pid, signal.SIGKILL)

@@ -24,7 +24,7 @@ PROOF = re.compile(r"(?:\./)?proofs/(\S+?):\d+:\d+: error\b(.*)")
 STATED = re.compile(r"(?:\./)?(?:src|specs)/\S+?:\d+:\d+: error: (`[^`]*`: )?(.*)")
 UNREAD = re.compile(r"is not in scope|has no field|is no name|operand is missing|expected the end|cannot continue")
 # A proof that only cites what the edit took away says little of the contract, and what stands on such a proof nothing at all.
-BY_A_NAME = re.compile(r"has no field|record `[^`]*` \(nearest|is not in scope|has no `|was not admitted|which was rejected, w\w+ not checked")
+BY_A_NAME = re.compile(r"has no field|record `[^`]*`(?: \(nearest|$)|is not in scope|has no `|was not admitted|which was rejected, w\w+ not checked")
 
 
 class BadEdit(Exception):
