@@ -158,11 +158,13 @@ def in_rounds(crate, edits, texts, most):
 
 def changes_nothing(crate, edits, texts):
     """An edit that adds a comment to a function of the crate. Where one of these edits is tried in a copy that ensures less the
-    comment is, too, in the one that has most answers; else it is in a function that has no edit and names none that has, where there is one: what calls a function
+    comment is, too, in one that calls no function which is refused, of these in the one that has most answers; else it is in a function that has no edit and names none that has, where there is one: what calls a function
     that is refused is told as not proved."""
     own = lambda it: texts.get(f"proofs/{place_of(it.function, texts).replace('::', '/')}/Answers.antt", "")
     number = lambda it: len(re.findall(rf"^pub (?:returns|ends)[\w-]*-clause-{it.ensures}\b", own(it), re.M))
-    for edit in sorted((it for it in edits if is_reduced(crate, it, texts)), key=number, reverse=True):
+    words = lambda it: re.findall(r"\w+", "\n".join(texts[it.file].split("\n")[it.body:it.last]))
+    refused = {it.function.name for it in edits if it.function and not is_reduced(crate, it, texts)}
+    for edit in sorted((it for it in edits if is_reduced(crate, it, texts)), key=lambda it: (not refused.isdisjoint(words(it.function)), -number(it))):
         part = texts[edit.function.file].split("\n")[edit.function.first:edit.function.last + 1]
         body = part[edit.function.body - edit.function.first:-1]
         line = next((it for it in body if it.endswith((";", "{")) and "\n".join(part).count(it) == 1), None)
@@ -171,7 +173,6 @@ def changes_nothing(crate, edits, texts):
     every = [it for it in every_function(dict(sorted(texts.items()))) if "test" not in it.file and place_of(it, texts)]
     taken = [it.function for it in edits]
     names, others = {it.name for it in taken if it}, [it for it in every if it not in taken]
-    words = lambda it: re.findall(r"\w+", "\n".join(texts[it.file].split("\n")[it.body:it.last]))
     home = next((it for it in others if names.isdisjoint(words(it))), (others or every)[0])
     line = texts[home.file].split("\n")[home.last]
     if home.first == home.last:
