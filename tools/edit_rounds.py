@@ -51,10 +51,10 @@ def needs_no_body(function, lines):
 
 def has_free_proof(crate, function, texts):
     """Whether a copy of the function under another name has the same proof, but for the name: its place is sure and that of no module,
-    it has lines of its own and doesn't call itself, it is proved with no other and has no closure with a proof of its own, and no file
-    outside of its proof's folder cites what is in it."""
+    it is no trait's, it has lines of its own and doesn't call itself, it is proved with no other and has no closure with a proof of its
+    own, and no file outside of its proof's folder cites what is in it."""
     place = place_of(function, texts)
-    if not place or function.first == function.last:
+    if not place or function.of_impl or function.first == function.last:
         return False
     lines = texts[function.file].split("\n")[function.body:function.last]
     calls = re.compile(rf"\b{function.name}\b")
@@ -170,7 +170,7 @@ def changes_nothing(crate, edits, texts):
         line = next((it for it in body if it.endswith((";", "{")) and "\n".join(part).count(it) == 1), None)
         if line:
             return Edit("(a comment)", ((edit.function.file, line, f"{line} // as it was"),), edit.function, (), edit.ensures)
-    every = [it for it in every_function(dict(sorted(texts.items()))) if "test" not in it.file and place_of(it, texts)]
+    every = [it for it in every_function(dict(sorted(texts.items()))) if "test" not in it.file and it.is_plain and place_of(it, texts)]
     taken = [it.function for it in edits]
     names, others = {it.name for it in taken if it}, [it for it in every if it not in taken]
     home = next((it for it in others if names.isdisjoint(words(it))), (others or every)[0])

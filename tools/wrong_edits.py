@@ -34,7 +34,8 @@ class BadEdit(Exception):
 @dataclass(frozen=True)
 class Function:
     """A function of a file: the type whose method it is, if any, and its lines with the attributes above it, the first of the body among them, from 0.
-    It is plain where its own name and its type's tell where its proof lies: no method of a trait, of some of a type's instances or of a ring."""
+    It is plain where its own name and its type's tell where its proof lies: no method of a trait, of some of a type's instances or of a ring.
+    A trait's method has the name of its impl besides, as folders of proofs have it, where that is sure."""
     file: str
     of_type: str
     name: str
@@ -42,6 +43,7 @@ class Function:
     body: int
     last: int
     is_plain: bool = True
+    of_impl: str = ""
 
     def has_line(self, file, number):
         return file == self.file and self.first <= number <= self.last
@@ -80,12 +82,33 @@ def type_of(header):
     return next((it for it in words if it not in ("mut", "dyn")), "")
 
 
+def own_of(params):
+    """What an impl's own parameters, matched in its header, are called, and a lifetime that has no name."""
+    return ["'_", *(re.findall(r"(?:^|,)\s*(?:const )?('?\w+)", re.sub(r"<[^<>]*>", "", params[1])) if params else [])]
+
+
 def is_whole(header):
     """Whether an impl's header is for all of a type, and for no trait."""
     params = re.match(r"<((?:[^<>]|<[^<>]*>)*)>", header)
-    own = re.findall(r"(?:^|,)\s*(?:const )?('?\w+)", re.sub(r"<[^<>]*>", "", params[1])) if params else []
+    own = own_of(params)
     told = re.search(r"\w<((?:[^<>]|<[^<>]*>)*)>\s*(where\b.*|\{.*)?$", header[params.end() if params else 0:])
     return " for " not in header and all(it.strip() in own for it in told[1].split(",")) if told else " for " not in header
+
+
+def impl_name(header):
+    """The name that an impl for a trait, or for one instance of a type, has in the folders of proofs: the words of its type, of its trait
+    and of the trait's arguments, without its own parameters, or the type and its argument. It is empty where it has another, or where
+    that isn't sure."""
+    params = re.match(r"<((?:[^<>]|<[^<>]*>)*)>", header)
+    bare = header[params.end() if params else 0:]
+    one = re.fullmatch(r" (\w+)<(\w+)> \{", bare)
+    if one:
+        return "" if params or one[2].isdigit() else f"{one[1]}+{one[2]}"
+    told = re.fullmatch(r" ([\w:<>, ']+) for ([\w:<>, ']+) \{", bare)
+    both = f"{told[2]} {told[1]}" if told else ""
+    words = [it for it in re.findall(r"'?\w+", re.sub(r"\w+::", "", both)) if it not in own_of(params) and it[0] != "'"]
+    is_sure = not any(it[0].isdigit() for it in words) and not any(f"{it}::" in both for it in own_of(params))
+    return "".join(words) if is_sure else ""
 
 
 def extent(lines, first, indent):
@@ -108,12 +131,15 @@ def extent(lines, first, indent):
 
 def functions(file, text):
     """The functions of a file as `rt fmt` lays it out, those of traits and macros aside, which reach further than their own proof."""
-    lines, found, kind, of_type, behind, plain = text.split("\n"), [], "", "", -1, True
+    lines, found, kind, of_type, behind, plain, of_impl = text.split("\n"), [], "", "", -1, True, ""
+    impls = [impl_name(it[2]) for it in map(BLOCK.match, lines) if it and it[1] == "impl"]
     for at, line in enumerate(lines):
         block = BLOCK.match(line)
         if block:
             kind, of_type = block[1], type_of(block[2]) if block[1] == "impl" else ""
-            plain = kind == "impl" and is_whole(block[2])
+            plain, of_impl = kind == "impl" and is_whole(block[2]), impl_name(block[2]) if block[1] == "impl" else ""
+            # what else has that name has another in the folders
+            of_impl = "" if impls.count(of_impl) > 1 or re.search(rf"\b{of_impl}\b", text) else of_impl
         head = FUNCTION.match(line)
         if not head or at <= behind or kind in ("trait", "macro_rules") and head[1]:
             continue
@@ -123,8 +149,9 @@ def functions(file, text):
             while lines[first - 1].startswith(f"{head[1]}#["):
                 first -= 1
             sure = plain if head[1] else head[2] != "main"
-            sure = sure and not any("#[cycle" in it for it in lines[first:at])
-            found.append(Function(file, of_type if head[1] else "", head[2], first, *lies, sure))
+            is_in_ring = any("#[cycle" in it for it in lines[first:at])
+            own_impl = of_impl if head[1] and not is_in_ring else ""
+            found.append(Function(file, of_type if head[1] else "", head[2], first, *lies, sure and not is_in_ring, own_impl))
             behind = lies[1]
     return found
 
@@ -227,15 +254,15 @@ def module_of(file):
 
 
 def place_of(function, texts):
-    """The path of a plain function below its crate, as a check names it and as its proof lies, or None where that isn't sure: a
-    method is in the module of its type."""
-    if not function.is_plain:
+    """The path of a function below its crate, as a check names it and as its proof lies, or None where that isn't sure: a method is
+    in the module of its type, and a trait's in that of its impl."""
+    if not function.is_plain and not function.of_impl:
         return None
-    if not function.of_type:
-        return "::".join([*module_of(function.file), function.name])
+    if not function.of_type or function.of_impl and "+" not in function.of_impl:
+        return "::".join([*module_of(function.file), *filter(None, [function.of_impl]), function.name])
     stands = re.compile(rf"^(?:pub(?:\(\w+\))? )?(?:struct|enum|union) {function.of_type}\b", re.M)
     homes = [file for file, text in texts.items() if file.startswith("src/") and stands.search(text)]
-    return "::".join([*module_of(homes[0]), function.of_type, function.name]) if len(homes) == 1 else None
+    return "::".join([*module_of(homes[0]), function.of_impl or function.of_type, function.name]) if len(homes) == 1 else None
 
 
 def reserved(said):
