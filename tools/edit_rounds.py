@@ -57,7 +57,8 @@ def has_free_proof(crate, function, texts):
     if not place or function.of_impl or function.first == function.last:
         return False
     lines = texts[function.file].split("\n")[function.body:function.last]
-    calls = re.compile(rf"\b{function.name}\b")
+    # (what calls itself has a folder that begins with a plus, too)
+    calls = re.compile(rf"\b(?:self\.|Self::|{function.of_type}::){function.name} *(?:\(|::<)" if function.of_type else rf"(?<![.:\w]){function.name}\b *(?:\(|::<)")
     path = place.replace("::", "/")
     cited = re.compile(rf"\bproofs(?:\.|::){re.escape(place).replace('::', '(?:[.]|::)')}\b")
     others = [it for file, it in texts.items() if not file.startswith(f"proofs/{path}/")]
