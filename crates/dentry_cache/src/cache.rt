@@ -15,10 +15,19 @@ use std::num::NonZeroUsize;
 
 /// Names with the nodes that they lead to, at most `MOST_CACHED_NAMES`, the most recently used first; and how
 /// often a name was not kept, for want of memory.
-#[derive(Drop)]
 pub struct NameCache {
     pairs: LruCache<NameKey, u32>,
     refused: u64,
+}
+
+// Written, and not derived, so that a crate that lets one go needn't prove how that is done.
+impl Drop for NameCache {
+    fn drop(self) {
+        let NameCache {
+            pairs: _,
+            refused: _,
+        } = self;
+    }
 }
 
 impl Model for NameCache {

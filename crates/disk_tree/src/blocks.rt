@@ -9,9 +9,15 @@ use std::alloc::{AllocError, Global};
 use std::marker::Model;
 
 /// A block of 4,096 bytes. In contracts it is the list of its bytes.
-#[derive(Drop)]
 pub struct Block {
     bytes: Vec<u8>,
+}
+
+// Written, and not derived, so that a crate that lets one go needn't prove how that is done.
+impl Drop for Block {
+    fn drop(self) {
+        let Block { bytes: _ } = self;
+    }
 }
 
 impl Model for Block {
@@ -54,9 +60,15 @@ impl Block {
 }
 
 /// The blocks of a file, in order. In contracts it is the list of the blocks.
-#[derive(Drop)]
 pub struct BlockList {
     items: Vec<Block>,
+}
+
+// Written, and not derived, so that a crate that lets one go needn't prove how that is done.
+impl Drop for BlockList {
+    fn drop(self) {
+        let BlockList { items: _ } = self;
+    }
 }
 
 impl Model for BlockList {

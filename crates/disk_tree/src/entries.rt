@@ -19,7 +19,6 @@ use std::marker::Model;
 /// new entry makes the index grow, and moves all of it. The hash has a fixed seed, so whoever picks the
 /// names can make them collide, and then a search goes over those that do. From the first two on that
 /// have one name, or one hash of 64 bits, it goes over all, at most the 4,096 entries of a directory.
-#[derive(Drop)]
 pub struct DirEntries {
     order: Order,
     index: HeldIndex,
@@ -28,6 +27,18 @@ pub struct DirEntries {
     // Whether a name, or the hash of one, stood twice. From then on the index is let be, and the entries
     // are searched.
     doubled: bool,
+}
+
+// Written, and not derived, so that a crate that lets one go needn't prove how that is done.
+impl Drop for DirEntries {
+    fn drop(self) {
+        let DirEntries {
+            order: _,
+            index: _,
+            next: _,
+            doubled: _,
+        } = self;
+    }
 }
 
 impl Model for DirEntries {

@@ -26,12 +26,22 @@ use std::marker::Model;
 /// A node is found, and a master key's users are told, in a time that grows with the logarithm of how many
 /// there are. An eviction goes over all nodes with a key, and so does `users_of` once there was no memory
 /// for its counts.
-#[derive(Drop)]
 pub struct InodeCache {
     keys: Keys,
     pins: BTreeMap<u32, u32>,
     // How many nodes with pins have a key of each master key.
     users: Users,
+}
+
+// Written, and not derived, so that a crate that lets one go needn't prove how that is done.
+impl Drop for InodeCache {
+    fn drop(self) {
+        let InodeCache {
+            keys: _,
+            pins: _,
+            users: _,
+        } = self;
+    }
 }
 
 impl Model for InodeCache {

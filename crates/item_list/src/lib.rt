@@ -14,9 +14,15 @@ use std::slice;
 pub type Bytes = Items<u8>;
 
 /// A list, which grows and shrinks at its end. In clauses it is the list of its items.
-#[derive(Drop)]
 pub struct Items<T: Drop> {
     items: Vec<T>,
+}
+
+// Written, and not derived, so that a crate that lets one go needn't prove how that is done.
+impl<T: Drop> Drop for Items<T> {
+    fn drop(self) {
+        let Items { items: _ } = self;
+    }
 }
 
 impl<T: Drop> Model for Items<T> {
@@ -46,7 +52,8 @@ impl<T: Drop> Items<T> {
     pub fn into_vec(self) -> Vec<T>
         ensures { result.items ≡ self }
     {
-        self.items
+        let Items { items } = self;
+        items
     }
 
     /// Puts the item behind the others. After want of memory the list is as before.

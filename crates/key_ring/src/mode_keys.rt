@@ -20,10 +20,19 @@ type Kept = BTreeMap<KeyId, Box<ModeKey>>;
 /// where it has users, and is overwritten when it goes.
 ///
 /// Every call takes a time that grows with the logarithm of how many there are.
-#[derive(Drop)]
 pub struct ModeKeys {
     contents: Kept,
     names: Kept,
+}
+
+// Written, and not derived, so that a crate that lets one go needn't prove how that is done.
+impl Drop for ModeKeys {
+    fn drop(self) {
+        let ModeKeys {
+            contents: _,
+            names: _,
+        } = self;
+    }
 }
 
 impl Model for ModeKeys {

@@ -18,10 +18,19 @@ use user_claims::{ClaimFault, Claims};
 /// Master keys by identifier, seen as the claims on them and the secret of each that has a claim.
 ///
 /// Every call but `clear` takes a time that grows with the logarithm of how many there are.
-#[derive(Drop)]
 pub struct KeyRing {
     claims: Claims,
     secrets: Secrets,
+}
+
+// Written, and not derived, so that a crate that lets one go needn't prove how that is done.
+impl Drop for KeyRing {
+    fn drop(self) {
+        let KeyRing {
+            claims: _,
+            secrets: _,
+        } = self;
+    }
 }
 
 impl Model for KeyRing {

@@ -33,10 +33,19 @@ struct Record {
 /// The records of a mount. In clauses it is the list of (name, (version, bytes)).
 ///
 /// A record is found in a time that grows with the logarithm of their number.
-#[derive(Drop)]
 pub struct MetaFiles {
     records: Vec<Record>,
     index: Index,
+}
+
+// Written, and not derived, so that a crate that lets one go needn't prove how that is done.
+impl Drop for MetaFiles {
+    fn drop(self) {
+        let MetaFiles {
+            records: _,
+            index: _,
+        } = self;
+    }
 }
 
 impl Model for MetaFiles {

@@ -12,9 +12,15 @@ use std::marker::Model;
 
 /// One part of a path: a name, or in a directory whose key is absent the text of a name. In
 /// clauses it is its bytes.
-#[derive(Drop)]
 pub struct Part {
     bytes: Bytes,
+}
+
+// Written, and not derived, so that a crate that lets one go needn't prove how that is done.
+impl Drop for Part {
+    fn drop(self) {
+        let Part { bytes: _ } = self;
+    }
 }
 
 impl Model for Part {
@@ -61,9 +67,15 @@ impl Part {
 
 /// A path from the root of the mount: its parts in order, none for the root itself. In clauses
 /// it is the list of their bytes.
-#[derive(Drop)]
 pub struct Path {
     parts: Items<Part>,
+}
+
+// Written, and not derived, so that a crate that lets one go needn't prove how that is done.
+impl Drop for Path {
+    fn drop(self) {
+        let Path { parts: _ } = self;
+    }
 }
 
 impl Model for Path {

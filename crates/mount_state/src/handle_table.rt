@@ -16,12 +16,22 @@ use std::marker::Model;
 /// ever opened. A number is never given again.
 ///
 /// A handle's node is found in a time that grows with the logarithm of how many are open.
-#[derive(Drop)]
 pub struct HandleTable {
     live: Vec<Handle>,
     // The node of each, by its caller and number.
     index: BTreeMap<(u32, u32), u32>,
     opened: BTreeMap<u32, u32>,
+}
+
+// Written, and not derived, so that a crate that lets one go needn't prove how that is done.
+impl Drop for HandleTable {
+    fn drop(self) {
+        let HandleTable {
+            live: _,
+            index: _,
+            opened: _,
+        } = self;
+    }
 }
 
 impl Model for HandleTable {

@@ -14,7 +14,6 @@ use meta_files::MetaFiles;
 /// All that a mount holds: what lies on the disk, claims with their secrets, records, cached keys with
 /// pins, open handles, mode keys, and cached names. No value of it exists that holds more of a master key, or
 /// more plain names under it, than it may.
-#[derive(Drop)]
 pub struct MountState {
     /// The stored nodes.
     pub disk: DiskTree,
@@ -35,4 +34,20 @@ pub struct MountState {
     pub ghost forgets: { Forgets disk ring.claims inodes modes handles.live },
     pub ghost remembers: { NamesForget disk ring.claims names handles.live },
     pub ghost safe: { IsSafe disk next_node handles.live },
+}
+
+// Written, and not derived, so that a crate that lets one go needn't prove how that is done.
+impl Drop for MountState {
+    fn drop(self) {
+        let MountState {
+            disk: _,
+            next_node: _,
+            ring: _,
+            meta: _,
+            inodes: _,
+            handles: _,
+            modes: _,
+            names: _,
+        } = self;
+    }
 }

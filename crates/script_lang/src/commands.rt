@@ -8,11 +8,20 @@ use item_list::Items;
 pub type Script = Items<Section>;
 
 /// One caller, and what it asks for, in order.
-#[derive(Drop)]
 pub struct Section {
     /// The user for whom the caller calls.
     pub uid: u32,
     pub commands: CommandList,
+}
+
+// Written, and not derived, so that a crate that lets one go needn't prove how that is done.
+impl Drop for Section {
+    fn drop(self) {
+        let Section {
+            uid: _,
+            commands: _,
+        } = self;
+    }
 }
 
 /// Commands, in order.
