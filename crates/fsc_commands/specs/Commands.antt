@@ -27,6 +27,36 @@ abbrev pub MayWantMemory : Option Op → Type 0
 MayWantMemory None = ⊥
 MayWantMemory (Some asked) = IsTrue (carries_bytes asked)
 
+-- a single call that carries bytes, and no path
+abbrev pub CarriesBytes : Verb → Type 0
+CarriesBytes (verb.AddKey raw) = ⊤
+CarriesBytes (verb.Write handle offset bytes) = ⊤
+CarriesBytes (verb.Fill handle offset len byte) = ⊤
+CarriesBytes (verb.MetaGet name) = ⊤
+CarriesBytes (verb.MetaPut name expected bytes) = ⊤
+CarriesBytes other = ⊥
+
+-- one that carries a path and a nonce of its own
+abbrev pub DrawsNonce : Verb → Type 0
+DrawsNonce (verb.SetPolicy path key settings) = ⊤
+DrawsNonce (verb.SetPolicyBytes path policy) = ⊤
+DrawsNonce (verb.Mkdir path) = ⊤
+DrawsNonce (verb.Create path) = ⊤
+DrawsNonce (verb.Symlink path target) = ⊤
+DrawsNonce other = ⊥
+
+-- one that carries a path, and no nonce
+abbrev pub NamesPath : Verb → Type 0
+NamesPath (verb.GetPolicy path) = ⊤
+NamesPath (verb.ReadLink path) = ⊤
+NamesPath (verb.Unlink path) = ⊤
+NamesPath (verb.Rmdir path) = ⊤
+NamesPath (verb.Rename old_path new_path) = ⊤
+NamesPath (verb.List path start) = ⊤
+NamesPath (verb.Stat path) = ⊤
+NamesPath (verb.Open path) = ⊤
+NamesPath other = ⊥
+
 -- the steps of a single call, which has no outcome, and those of a session's work
 abbrev pub task_steps : ℕ → ℕ → Task → CommandSteps
 task_steps caller uid (Single asked) = asking caller uid asked (λ reply. Done None)

@@ -1,9 +1,10 @@
 //! What the commands of a script ask for that are a single call.
 
-ghost use Rattle.std.specs.Prelude.{◌≡◌, IfOk, OnErr};
+ghost use Rattle.std.specs.Prelude.{◌≡◌, ℕ, List, Some, IfOk, OnErr};
+ghost use Rattle.mount_model.specs.Fits.{OpFits};
 ghost use Rattle.script_lang.specs.Asked.{IsAskable};
 ghost use Rattle.fsc_commands.specs.Commands as spec;
-ghost use Rattle.fsc_commands.specs.Commands.{AnyFits, MayWantMemory};
+ghost use Rattle.fsc_commands.specs.Commands.{AnyFits, MayWantMemory, CarriesBytes, DrawsNonce, NamesPath};
 ghost use Rattle.fsc_commands.specs.Steps.{names_in};
 
 use crate::EntryList;
@@ -32,65 +33,10 @@ pub(crate) fn plain_op(
         (spec.plain_op seed.now turn.caller turn.uid turn.number (names_in told.now) verb.now)) }
 {
     match verb {
-        Verb::AddKey(raw) => Ok(Some(Op::AddKey {
-            raw: raw.copy(alloc)?,
-        })),
         Verb::RemoveKey(key) => Ok(Some(Op::RemoveKey { id: id_meant(key) })),
         Verb::RemoveKeyAll(key) => Ok(Some(Op::RemoveKeyAll { id: id_meant(key) })),
         Verb::KeyStatus(key) => Ok(Some(Op::KeyStatus { id: id_meant(key) })),
-        Verb::SetPolicy {
-            path,
-            key,
-            settings,
-        } => Ok(Some(Op::SetPolicy {
-            path: path_meant(alloc, told, path)?,
-            policy: encode_policy(&policy_said(id_meant(key), *settings)),
-            nonce: nonce_drawn(seed, turn),
-        })),
-        Verb::SetPolicyBytes { path, policy } => Ok(Some(Op::SetPolicy {
-            path: path_meant(alloc, told, path)?,
-            policy: *policy,
-            nonce: nonce_drawn(seed, turn),
-        })),
-        Verb::GetPolicy(path) => Ok(Some(Op::GetPolicy {
-            path: path_meant(alloc, told, path)?,
-        })),
-        Verb::Mkdir(path) => Ok(Some(Op::Mkdir {
-            path: path_meant(alloc, told, path)?,
-            nonce: nonce_drawn(seed, turn),
-        })),
-        Verb::Create(path) => Ok(Some(Op::Create {
-            path: path_meant(alloc, told, path)?,
-            nonce: nonce_drawn(seed, turn),
-        })),
-        Verb::Symlink { path, target } => Ok(Some(Op::Symlink {
-            path: path_meant(alloc, told, path)?,
-            target: target.copy(alloc)?,
-            nonce: nonce_drawn(seed, turn),
-        })),
-        Verb::ReadLink(path) => Ok(Some(Op::ReadLink {
-            path: path_meant(alloc, told, path)?,
-        })),
-        Verb::Unlink(path) => Ok(Some(Op::Unlink {
-            path: path_meant(alloc, told, path)?,
-        })),
-        Verb::Rmdir(path) => Ok(Some(Op::Rmdir {
-            path: path_meant(alloc, told, path)?,
-        })),
-        Verb::Rename { old_path, new_path } => Ok(Some(Op::Rename {
-            old_path: path_meant(alloc, told, old_path)?,
-            new_path: path_meant(alloc, told, new_path)?,
-        })),
-        Verb::List { path, start } => Ok(Some(Op::List {
-            path: path_meant(alloc, told, path)?,
-            start: number_said(*start),
-        })),
-        Verb::Stat(path) => Ok(Some(Op::Stat {
-            path: path_meant(alloc, told, path)?,
-        })),
-        Verb::Open(path) => Ok(Some(Op::OpenNode {
-            path: path_meant(alloc, told, path)?,
-        })),
+        Verb::DropCaches => Ok(Some(Op::DropCaches)),
         Verb::Close(handle) => Ok(Some(Op::Close { handle: *handle })),
         Verb::Read {
             handle,
@@ -101,48 +47,158 @@ pub(crate) fn plain_op(
             offset: *offset,
             len: *len,
         })),
+        Verb::AddKey(_)
+        | Verb::Write { .. }
+        | Verb::Fill { .. }
+        | Verb::MetaGet(_)
+        | Verb::MetaPut { .. } => Ok(Some(bytes_op(alloc, verb)?)),
+        Verb::SetPolicy { .. }
+        | Verb::SetPolicyBytes { .. }
+        | Verb::Mkdir(_)
+        | Verb::Create(_)
+        | Verb::Symlink { .. } => Ok(Some(nonce_op(alloc, seed, turn, told, verb)?)),
+        Verb::GetPolicy(_)
+        | Verb::ReadLink(_)
+        | Verb::Unlink(_)
+        | Verb::Rmdir(_)
+        | Verb::Rename { .. }
+        | Verb::List { .. }
+        | Verb::Stat(_)
+        | Verb::Open(_) => Ok(Some(path_op(alloc, told, verb)?)),
+        // (a session's work)
+        _ => Ok(None),
+    }
+}
+
+// What carries bytes, and no path.
+fn bytes_op(alloc: Global, verb: &Verb) -> Result<Op, AllocError>
+    requires asked { IsAskable verb.now }
+    requires bytes { CarriesBytes verb.now }
+    ensures value { IfOk result (λ op. (seed : List ℕ) (caller uid number : ℕ) (names : List (List ℕ))
+        → spec.plain_op seed caller uid number names verb.now ≡ Some op) }
+    ensures fits { IfOk result OpFits }
+{
+    match verb {
+        Verb::AddKey(raw) => Ok(Op::AddKey {
+            raw: raw.copy(alloc)?,
+        }),
         Verb::Write {
             handle,
             offset,
             bytes,
-        } => Ok(Some(Op::Write {
+        } => Ok(Op::Write {
             handle: *handle,
             offset: *offset,
             bytes: bytes.copy(alloc)?,
-        })),
+        }),
         Verb::Fill {
             handle,
             offset,
             len,
             byte,
-        } => Ok(Some(Op::Write {
+        } => Ok(Op::Write {
             handle: *handle,
             offset: *offset,
             bytes: filled(alloc, *len, *byte)?,
-        })),
-        Verb::DropCaches => Ok(Some(Op::DropCaches)),
-        Verb::MetaGet(record) => Ok(Some(Op::MetaLoad {
+        }),
+        Verb::MetaGet(record) => Ok(Op::MetaLoad {
             name: record_name(alloc, record)?,
-        })),
+        }),
         Verb::MetaPut {
             record,
             expected,
             bytes,
-        } => Ok(Some(Op::MetaStore {
+        } => Ok(Op::MetaStore {
             name: record_name(alloc, record)?,
             expected: *expected,
             bytes: bytes.copy(alloc)?,
-        })),
-        Verb::Protector { .. }
-        | Verb::ProtectorChange { .. }
-        | Verb::ProtectorLink(_)
-        | Verb::PolicyNew { .. }
-        | Verb::PolicyAdd { .. }
-        | Verb::PolicyDrop { .. }
-        | Verb::Unlock { .. }
-        | Verb::Lock(_)
-        | Verb::Status(_)
-        | Verb::Encrypt { .. }
-        | Verb::Migrate(_) => Ok(None),
+        }),
+        _ => unreachable!(),
+    }
+}
+
+// What carries a path and a nonce of its own.
+fn nonce_op(
+    alloc: Global,
+    seed: &[u8; 32],
+    turn: Turn,
+    told: &EntryList,
+    verb: &Verb,
+) -> Result<Op, AllocError>
+    requires asked { IsAskable verb.now }
+    requires nonce { DrawsNonce verb.now }
+    ensures value { IfOk result (λ op. spec.plain_op seed.now turn.caller turn.uid turn.number
+        (names_in told.now) verb.now ≡ Some op) }
+    ensures fits { IfOk result OpFits }
+{
+    let nonce = nonce_drawn(seed, turn);
+    match verb {
+        Verb::SetPolicy {
+            path,
+            key,
+            settings,
+        } => Ok(Op::SetPolicy {
+            path: path_meant(alloc, told, path)?,
+            policy: encode_policy(&policy_said(id_meant(key), *settings)),
+            nonce,
+        }),
+        Verb::SetPolicyBytes { path, policy } => Ok(Op::SetPolicy {
+            path: path_meant(alloc, told, path)?,
+            policy: *policy,
+            nonce,
+        }),
+        Verb::Mkdir(path) => Ok(Op::Mkdir {
+            path: path_meant(alloc, told, path)?,
+            nonce,
+        }),
+        Verb::Create(path) => Ok(Op::Create {
+            path: path_meant(alloc, told, path)?,
+            nonce,
+        }),
+        Verb::Symlink { path, target } => Ok(Op::Symlink {
+            path: path_meant(alloc, told, path)?,
+            target: target.copy(alloc)?,
+            nonce,
+        }),
+        _ => unreachable!(),
+    }
+}
+
+// What carries a path, and no nonce.
+fn path_op(alloc: Global, told: &EntryList, verb: &Verb) -> Result<Op, AllocError>
+    requires asked { IsAskable verb.now }
+    requires path { NamesPath verb.now }
+    ensures value { IfOk result (λ op. (seed : List ℕ) (caller uid number : ℕ)
+        → spec.plain_op seed caller uid number (names_in told.now) verb.now ≡ Some op) }
+    ensures fits { IfOk result OpFits }
+{
+    match verb {
+        Verb::GetPolicy(path) => Ok(Op::GetPolicy {
+            path: path_meant(alloc, told, path)?,
+        }),
+        Verb::ReadLink(path) => Ok(Op::ReadLink {
+            path: path_meant(alloc, told, path)?,
+        }),
+        Verb::Unlink(path) => Ok(Op::Unlink {
+            path: path_meant(alloc, told, path)?,
+        }),
+        Verb::Rmdir(path) => Ok(Op::Rmdir {
+            path: path_meant(alloc, told, path)?,
+        }),
+        Verb::Rename { old_path, new_path } => Ok(Op::Rename {
+            old_path: path_meant(alloc, told, old_path)?,
+            new_path: path_meant(alloc, told, new_path)?,
+        }),
+        Verb::List { path, start } => Ok(Op::List {
+            path: path_meant(alloc, told, path)?,
+            start: number_said(*start),
+        }),
+        Verb::Stat(path) => Ok(Op::Stat {
+            path: path_meant(alloc, told, path)?,
+        }),
+        Verb::Open(path) => Ok(Op::OpenNode {
+            path: path_meant(alloc, told, path)?,
+        }),
+        _ => unreachable!(),
     }
 }

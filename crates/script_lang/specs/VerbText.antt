@@ -1,5 +1,5 @@
 -- The words in which a command is written: its name, and the others behind it.
-use Rattle.std.specs.Prelude.{ℕ, List, [], ◌∷◌, ◌++◌, Option, Some, None}
+use Rattle.std.specs.Prelude.{ℕ, ⊤, List, [], ◌∷◌, ◌++◌, Option, Some, None}
 use Rattle.std.specs.List.{flat_map}
 use Rattle.hex.specs.Hex.{encode_lower}
 use Rattle.text_words.specs.Numbers.{decimal_of}
@@ -79,6 +79,34 @@ verb_words (verb.Lock policy) = policy ∷ []
 verb_words (verb.Status policy) = policy ∷ []
 verb_words (verb.Encrypt path policy settings) = path_text path ∷ policy ∷ words_of_said_settings settings
 verb_words (verb.Migrate policy) = policy ∷ []
+
+-- a command with a path, and further words behind it
+abbrev pub BeginsWithPath : Verb → Type 0
+BeginsWithPath (verb.SetPolicy path key settings) = ⊤
+BeginsWithPath (verb.SetPolicyBytes path policy) = ⊤
+BeginsWithPath (verb.Symlink path target) = ⊤
+BeginsWithPath (verb.Rename old_path new_path) = ⊤
+BeginsWithPath (verb.List path start) = ⊤
+BeginsWithPath (verb.Encrypt path policy settings) = ⊤
+BeginsWithPath other = ⊥
+
+-- one with several numbers, or with a record and a number
+abbrev pub HasNumbers : Verb → Type 0
+HasNumbers (verb.Read handle offset len) = ⊤
+HasNumbers (verb.Write handle offset bytes) = ⊤
+HasNumbers (verb.Fill handle offset len byte) = ⊤
+HasNumbers (verb.MetaPut name expected bytes) = ⊤
+HasNumbers other = ⊥
+
+-- one with a label, and further words behind it
+abbrev pub BeginsWithLabel : Verb → Type 0
+BeginsWithLabel (verb.Protector protector secret) = ⊤
+BeginsWithLabel (verb.ProtectorChange protector secret new) = ⊤
+BeginsWithLabel (verb.PolicyNew policy protector secret options) = ⊤
+BeginsWithLabel (verb.PolicyAdd policy protector secret added added_secret) = ⊤
+BeginsWithLabel (verb.PolicyDrop policy protector) = ⊤
+BeginsWithLabel (verb.Unlock policy protector secret) = ⊤
+BeginsWithLabel other = ⊥
 
 -- a space before each word
 abbrev pub spaced : List (List ℕ) → List ℕ

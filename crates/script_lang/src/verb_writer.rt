@@ -2,6 +2,7 @@
 
 ghost use Rattle.std.specs.Prelude.{◌≡◌, ◌++◌, OnOk};
 ghost use Rattle.script_lang.specs.VerbText.{verb_text, verb_words, behind};
+ghost use Rattle.script_lang.specs.VerbText.{BeginsWithPath, BeginsWithLabel, HasNumbers};
 
 use crate::settings_writer::{
     push_said_number, push_said_options, push_said_settings, push_settings,
@@ -28,9 +29,48 @@ fn write_words(alloc: Global, text: &mut Vec<u8>, verb: &Verb) -> Result<(), All
 {
     match verb {
         Verb::AddKey(bytes) => push_hex(text, bytes.as_slice()),
-        Verb::RemoveKey(key) => push_key(text, key),
-        Verb::RemoveKeyAll(key) => push_key(text, key),
-        Verb::KeyStatus(key) => push_key(text, key),
+        Verb::RemoveKey(key) | Verb::RemoveKeyAll(key) | Verb::KeyStatus(key) => {
+            push_key(text, key)
+        }
+        Verb::GetPolicy(path)
+        | Verb::Mkdir(path)
+        | Verb::Create(path)
+        | Verb::ReadLink(path)
+        | Verb::Unlink(path)
+        | Verb::Rmdir(path)
+        | Verb::Stat(path)
+        | Verb::Open(path) => push_path(alloc, text, path),
+        Verb::Close(handle) => push_number(text, *handle),
+        Verb::DropCaches => Ok(()),
+        Verb::MetaGet(record) => push_record(text, record),
+        Verb::ProtectorLink(label)
+        | Verb::Lock(label)
+        | Verb::Status(label)
+        | Verb::Migrate(label) => push_label(text, label),
+        Verb::SetPolicy { .. }
+        | Verb::SetPolicyBytes { .. }
+        | Verb::Symlink { .. }
+        | Verb::Rename { .. }
+        | Verb::List { .. }
+        | Verb::Encrypt { .. } => write_behind_path(alloc, text, verb),
+        Verb::Read { .. } | Verb::Write { .. } | Verb::Fill { .. } | Verb::MetaPut { .. } => {
+            write_numbers(text, verb)
+        }
+        Verb::Protector { .. }
+        | Verb::ProtectorChange { .. }
+        | Verb::PolicyNew { .. }
+        | Verb::PolicyAdd { .. }
+        | Verb::PolicyDrop { .. }
+        | Verb::Unlock { .. } => write_labels(alloc, text, verb),
+    }
+}
+
+// Writes a path, and further words.
+fn write_behind_path(alloc: Global, text: &mut Vec<u8>, verb: &Verb) -> Result<(), AllocError>
+    requires { BeginsWithPath verb.now }
+    ensures { OnOk result (text.new.items ≡ behind text.old.items (verb_words verb.now)) }
+{
+    match verb {
         Verb::SetPolicy {
             path,
             key,
@@ -44,16 +84,10 @@ fn write_words(alloc: Global, text: &mut Vec<u8>, verb: &Verb) -> Result<(), All
             push_path(alloc, text, path)?;
             push_hex(text, policy)
         }
-        Verb::GetPolicy(path) => push_path(alloc, text, path),
-        Verb::Mkdir(path) => push_path(alloc, text, path),
-        Verb::Create(path) => push_path(alloc, text, path),
         Verb::Symlink { path, target } => {
             push_path(alloc, text, path)?;
             push_word(alloc, text, target.as_slice())
         }
-        Verb::ReadLink(path) => push_path(alloc, text, path),
-        Verb::Unlink(path) => push_path(alloc, text, path),
-        Verb::Rmdir(path) => push_path(alloc, text, path),
         Verb::Rename { old_path, new_path } => {
             push_path(alloc, text, old_path)?;
             push_path(alloc, text, new_path)
@@ -62,9 +96,25 @@ fn write_words(alloc: Global, text: &mut Vec<u8>, verb: &Verb) -> Result<(), All
             push_path(alloc, text, path)?;
             push_said_number(text, *start)
         }
-        Verb::Stat(path) => push_path(alloc, text, path),
-        Verb::Open(path) => push_path(alloc, text, path),
-        Verb::Close(handle) => push_number(text, *handle),
+        Verb::Encrypt {
+            path,
+            policy,
+            settings,
+        } => {
+            push_path(alloc, text, path)?;
+            push_label(text, policy)?;
+            push_said_settings(text, settings)
+        }
+        _ => unreachable!(),
+    }
+}
+
+// Writes several numbers, and what stands before or behind them.
+fn write_numbers(text: &mut Vec<u8>, verb: &Verb) -> Result<(), AllocError>
+    requires { HasNumbers verb.now }
+    ensures { OnOk result (text.new.items ≡ behind text.old.items (verb_words verb.now)) }
+{
+    match verb {
         Verb::Read {
             handle,
             offset,
@@ -94,8 +144,6 @@ fn write_words(alloc: Global, text: &mut Vec<u8>, verb: &Verb) -> Result<(), All
             push_number(text, *len)?;
             push_number(text, u32::from(*byte))
         }
-        Verb::DropCaches => Ok(()),
-        Verb::MetaGet(record) => push_record(text, record),
         Verb::MetaPut {
             record,
             expected,
@@ -105,6 +153,16 @@ fn write_words(alloc: Global, text: &mut Vec<u8>, verb: &Verb) -> Result<(), All
             push_number(text, *expected)?;
             push_hex_or_none(text, bytes.as_slice())
         }
+        _ => unreachable!(),
+    }
+}
+
+// Writes a label, and further words.
+fn write_labels(alloc: Global, text: &mut Vec<u8>, verb: &Verb) -> Result<(), AllocError>
+    requires { BeginsWithLabel verb.now }
+    ensures { OnOk result (text.new.items ≡ behind text.old.items (verb_words verb.now)) }
+{
+    match verb {
         Verb::Protector { protector, secret } => {
             push_label(text, protector)?;
             push_new_secret(alloc, text, secret)
@@ -118,7 +176,6 @@ fn write_words(alloc: Global, text: &mut Vec<u8>, verb: &Verb) -> Result<(), All
             push_secret(alloc, text, secret)?;
             push_new_secret(alloc, text, new_secret)
         }
-        Verb::ProtectorLink(protector) => push_label(text, protector),
         Verb::PolicyNew {
             policy,
             protector,
@@ -156,17 +213,6 @@ fn write_words(alloc: Global, text: &mut Vec<u8>, verb: &Verb) -> Result<(), All
             push_label(text, protector)?;
             push_secret(alloc, text, secret)
         }
-        Verb::Lock(policy) => push_label(text, policy),
-        Verb::Status(policy) => push_label(text, policy),
-        Verb::Encrypt {
-            path,
-            policy,
-            settings,
-        } => {
-            push_path(alloc, text, path)?;
-            push_label(text, policy)?;
-            push_said_settings(text, settings)
-        }
-        Verb::Migrate(policy) => push_label(text, policy),
+        _ => unreachable!(),
     }
 }
