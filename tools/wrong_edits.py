@@ -138,9 +138,13 @@ def functions(file, text):
         if block:
             kind, of_type = block[1], type_of(block[2]) if block[1] == "impl" else ""
             plain, of_impl = kind == "impl" and is_whole(block[2]), impl_name(block[2]) if block[1] == "impl" else ""
-            # one that has the name of what the code names, as of a trait, has a word more
             of_impl = "" if impls.count(of_impl) > 1 else of_impl
-            of_impl += "Impl" if of_impl and re.search(rf"^[^/\n]*\b{of_impl}\b", text, re.M) else ""
+            if of_impl.endswith("Drop"):
+                # (a type's own way to be dropped has the type's name)
+                of_impl = of_impl.removesuffix("Drop")
+            elif of_impl and re.search(rf"^[^/\n]*\b{of_impl}\b", text, re.M):
+                # one that has the name of what the code names, as of a trait, has a word more
+                of_impl += "Impl"
         head = FUNCTION.match(line)
         if not head or at <= behind or kind in ("trait", "macro_rules") and head[1]:
             continue
