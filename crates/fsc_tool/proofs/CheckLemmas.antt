@@ -19,12 +19,11 @@ use Rattle.fsc_tool.specs.declared.form.ToolForm.TheVariants.{Check}
 use Rattle.fsc_tool.specs.Checking.{EndsChecking, IsChecking, IsVerdict, SaysOfInput, certificate_limits}
 use Rattle.fsc_tool.specs.Ends.{EndsEarly}
 use Rattle.fsc_tool.specs.Faults.{input_status}
-use Rattle.fsc_tool.specs.Forms.{form_of, without_threads}
 use Rattle.fsc_tool.specs.Limits.{input_limits, IsLong}
 use Rattle.fsc_tool.specs.Outside.{Outside}
 use Rattle.fsc_tool.specs.Parted.{certificate_read, script_part}
 use Rattle.fsc_tool.specs.Replay.{IsOrNoMemory, Told}
-use Rattle.fsc_tool.specs.Tool.{IsRunIn, IsSerialToolRun, IsToolRun}
+use Rattle.fsc_tool.specs.Tool.{IsRunIn}
 use Rattle.fsc_tool.proofs.TopLemmas.{gave_told, told_part}
 
 not_long : (Came : List ReadCall → Type 0) (old new : SourceState) (input bytes : List ℕ) → old.left ≡ Some input
@@ -160,20 +159,11 @@ module _ (seed : List ℕ) (Came : List ReadCall → Type 0) (a b : Outside) whe
   read_ends input WriteFault read so = absurd so
   read_ends input SeedFault read so = absurd so
 
-  never_usage : (status : Status) → EndsChecking seed Came a b status → status ≡ Usage → ⊥
+  pub never_usage : (status : Status) → EndsChecking seed Came a b status → status ≡ Usage → ⊥
   never_usage status h is = subst (λ (s : Status). EndsChecking seed Came a b s) is h
 
-  -- ---- the forms
+  -- ---- the form
 
-  module _ (lawful : History → Type 0) (words : List (List ℕ)) (status : Status) (run : IsChecking seed Came a b status) where
-    pub tool_checks : form_of words ≡ Some (Check seed) → IsToolRun lawful Came words a b status
-    tool_checks is = record {
-      run = subst (λ (form : Option ToolForm). IsRunIn lawful Came form a b status) (sym is) run;
-      usage = (λ usage. absurd (never_usage status run.ends usage), λ none. let no = sym is ∙ none in absurd (cc no));
-    }
-
-    pub serial_tool_checks : without_threads (form_of words) ≡ Some (Check seed) → IsSerialToolRun lawful Came words a b status
-    serial_tool_checks is = record {
-      run = subst (λ (form : Option ToolForm). IsRunIn lawful Came form a b status) (sym is) run;
-      usage = (λ usage. absurd (never_usage status run.ends usage), λ none. let no = sym is ∙ none in absurd (cc no));
-    }
+  pub checks : (lawful : History → Type 0) (form : ToolForm) (status : Status) → IsChecking seed Came a b status
+      → form ≡ Check seed → IsRunIn lawful Came (Some form) a b status
+  checks lawful form status run is = subst (λ (asked : ToolForm). IsRunIn lawful Came (Some asked) a b status) (sym is) run

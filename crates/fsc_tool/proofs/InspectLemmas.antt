@@ -20,8 +20,7 @@ use Rattle.fsc_tool.specs.declared.status.Status.TheVariants.{Done, Usage, BadLi
 use Rattle.mount_model.specs.History.{History}
 use Rattle.fsc_tool.specs.declared.form.ToolForm.{ToolForm}
 use Rattle.fsc_tool.specs.declared.form.ToolForm.TheVariants.{Inspect}
-use Rattle.fsc_tool.specs.Forms.{form_of, without_threads}
-use Rattle.fsc_tool.specs.Tool.{IsRunIn, IsSerialToolRun, IsToolRun}
+use Rattle.fsc_tool.specs.Tool.{IsRunIn}
 use Rattle.fsc_tool.specs.Faults.{input_status, image_status}
 use Rattle.image_lines.proofs.ImageLaws.{images_are_texts}
 use Rattle.image_lines.specs.Places.{IsReadFault}
@@ -163,20 +162,11 @@ module _ (raw : Option (List ℕ)) (Came : List ReadCall → Type 0) (a b : Outs
   listed_ends text SeedFault right h still = absurd h
   listed_ends text TooLong right h still = absurd h
 
-  never_usage : (status : Status) → EndsInspection raw Came a b status → status ≡ Usage → ⊥
+  pub never_usage : (status : Status) → EndsInspection raw Came a b status → status ≡ Usage → ⊥
   never_usage status h is = subst (λ (s : Status). EndsInspection raw Came a b s) is h
 
-  -- ---- the forms
+  -- ---- the form
 
-  module _ (lawful : History → Type 0) (words : List (List ℕ)) (status : Status) (run : IsInspection raw Came a b status) where
-    pub tool_inspects : form_of words ≡ Some (Inspect raw) → IsToolRun lawful Came words a b status
-    tool_inspects is = record {
-      run = subst (λ (form : Option ToolForm). IsRunIn lawful Came form a b status) (sym is) run;
-      usage = (λ usage. absurd (never_usage status run.ends usage), λ none. let no = sym is ∙ none in absurd (cc no));
-    }
-
-    pub serial_tool_inspects : without_threads (form_of words) ≡ Some (Inspect raw) → IsSerialToolRun lawful Came words a b status
-    serial_tool_inspects is = record {
-      run = subst (λ (form : Option ToolForm). IsRunIn lawful Came form a b status) (sym is) run;
-      usage = (λ usage. absurd (never_usage status run.ends usage), λ none. let no = sym is ∙ none in absurd (cc no));
-    }
+  pub inspects : (lawful : History → Type 0) (form : ToolForm) (status : Status) → IsInspection raw Came a b status
+      → form ≡ Inspect raw → IsRunIn lawful Came (Some form) a b status
+  inspects lawful form status run is = subst (λ (asked : ToolForm). IsRunIn lawful Came (Some asked) a b status) (sym is) run

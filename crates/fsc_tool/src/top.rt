@@ -1,14 +1,15 @@
 //! The tool's calls: one that starts threads, and one that waits for nobody.
 
-ghost use Rattle.std.specs.Prelude.{◌≡◌, List, [], map, string_bytes};
+ghost use Rattle.std.specs.Prelude.{◌≡◌, ◌≢◌, List, [], Some, map, string_bytes};
 ghost use Rattle.std.specs.Option.{option_map_or};
 ghost use Rattle.fsc_outside.specs.Reads.{ReadCall};
-ghost use Rattle.fsc_tool.specs.Forms.{form_of};
+ghost use Rattle.fsc_tool.specs.Forms.{form_of, without_threads};
 ghost use Rattle.fsc_tool.specs.LogOfRun.{IsLogOfRun};
 ghost use Rattle.fsc_tool.specs.Outside.{outside};
 ghost use Rattle.fsc_tool.specs.Replay.{IsReplay};
 ghost use Rattle.script_runs.specs.Runs.{IsLawfulRun, IsSerialRun};
-ghost use Rattle.fsc_tool.specs.Tool.{IsSerialToolRun, IsToolRun};
+ghost use Rattle.fsc_tool.specs.Tool.{IsRunIn, IsSerialToolRun, IsToolRun};
+ghost use Rattle.fsc_tool.specs.declared.status.Status.TheVariants.{Usage};
 
 use crate::checking::run_checking;
 use crate::dump::run_dumping;
@@ -84,40 +85,17 @@ pub fn tool<
         None => Status::Usage,
         Some(
             ToolForm::Replay {
-                way: Way::InTurn,
-                seeding,
-            },
-        ) => replay_in_rotation(alloc, seeding, streams, gate, mounts.even),
-        Some(
-            ToolForm::Replay {
                 way: Way::InThreads,
                 seeding,
             },
         ) => replay_in_threads(rt, alloc, seeding, streams, gate, mounts.even),
-        Some(ToolForm::Generate(number)) => run_generating(alloc, *number, &mut streams.sink),
-        Some(ToolForm::Summarise(number)) => {
-            run_summarising(alloc, *number, &mut streams.sink, gate, mounts.even)
-        }
-        Some(ToolForm::Dump(seed)) => run_dumping(alloc, seed, streams, gate),
-        Some(ToolForm::Inspect(raw)) => run_inspecting(
-            alloc,
-            raw,
-            &mut streams.source,
-            &mut streams.sink,
-        ),
-        Some(ToolForm::Check(seed)) => run_checking(alloc, seed, &mut streams.source),
-        Some(
-            ToolForm::ReplayLinked {
-                way: Way::InTurn,
-                seed,
-            },
-        ) => run_linked(alloc, seed, streams, gate, mounts),
         Some(
             ToolForm::ReplayLinked {
                 way: Way::InThreads,
                 seed,
             },
         ) => run_linked_apart(rt, alloc, seed, streams, gate, mounts),
+        Some(form) => run_in_turns(alloc, form, streams, gate, mounts),
     }
 }
 
@@ -150,24 +128,46 @@ pub fn tool_serial<S: Source, K: Sink, E: SeedSource, M: MountMachine>(
     leave_threads(&mut form);
     match &mut form {
         None => Status::Usage,
-        Some(ToolForm::Replay { way: _, seeding }) => {
-            replay_in_rotation(alloc, seeding, streams, &OpenGate, mounts.even)
+        Some(form) => run_in_turns(alloc, form, streams, &OpenGate, mounts),
+    }
+}
+
+// Does what a form asks for that starts no thread.
+fn run_in_turns<S: Source, K: Sink, E: SeedSource, G: Gate, M: MountMachine>(
+    alloc: Global,
+    form: &mut ToolForm,
+    streams: &mut Streams<S, K, E>,
+    gate: &G,
+    mounts: Mounts<M>,
+) -> Status
+    requires leads_even { M.leads [] mounts.even }
+    requires leads_odd { M.leads [] mounts.odd }
+    requires in_turns { without_threads (Some form.old) ≡ Some form.old }
+    ensures run { let before = outside (S.state streams.old.source) (K.state streams.old.sink)
+        (E.state streams.old.seeds) in
+        let after = outside (S.state streams.new.source) (K.state streams.new.sink)
+        (E.state streams.new.seeds) in
+        let came = λ (calls : List ReadCall). S.came streams.old.source calls streams.new.source in
+        IsRunIn M.lawful came (Some form.old) before after result }
+    ensures form { result ≢ Usage }
+{
+    match form {
+        ToolForm::Replay { way: _, seeding } => {
+            replay_in_rotation(alloc, seeding, streams, gate, mounts.even)
         }
-        Some(ToolForm::Generate(number)) => run_generating(alloc, *number, &mut streams.sink),
-        Some(ToolForm::Summarise(number)) => {
-            run_summarising(alloc, *number, &mut streams.sink, &OpenGate, mounts.even)
+        ToolForm::Generate(number) => run_generating(alloc, *number, &mut streams.sink),
+        ToolForm::Summarise(number) => {
+            run_summarising(alloc, *number, &mut streams.sink, gate, mounts.even)
         }
-        Some(ToolForm::Dump(seed)) => run_dumping(alloc, seed, streams, &OpenGate),
-        Some(ToolForm::Inspect(raw)) => run_inspecting(
+        ToolForm::Dump(seed) => run_dumping(alloc, seed, streams, gate),
+        ToolForm::Inspect(raw) => run_inspecting(
             alloc,
             raw,
             &mut streams.source,
             &mut streams.sink,
         ),
-        Some(ToolForm::Check(seed)) => run_checking(alloc, seed, &mut streams.source),
-        Some(ToolForm::ReplayLinked { way: _, seed }) => run_linked(
-            alloc, seed, streams, &OpenGate, mounts,
-        ),
+        ToolForm::Check(seed) => run_checking(alloc, seed, &mut streams.source),
+        ToolForm::ReplayLinked { way: _, seed } => run_linked(alloc, seed, streams, gate, mounts),
     }
 }
 
