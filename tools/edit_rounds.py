@@ -159,13 +159,15 @@ def in_rounds(crate, edits, texts, most):
 
 def changes_nothing(crate, edits, texts):
     """An edit that adds a comment to a function of the crate. Where one of these edits is tried in a copy that ensures less the
-    comment is, too, in one that calls no function which is refused, of these in the one that has most answers; else it is in a function that has no edit and names none that has, where there is one: what calls a function
-    that is refused is told as not proved."""
+    comment is, too, in one that calls no function which is refused, of these in the shortest that has an answer for its clause;
+    else it is in a function that has no edit and names none that has, where there is one: what calls a function that is refused
+    is told as not proved."""
     own = lambda it: texts.get(f"proofs/{place_of(it.function, texts).replace('::', '/')}/Answers.antt", "")
-    number = lambda it: len(re.findall(rf"^pub (?:returns|ends)[\w-]*-clause-{it.ensures}\b", own(it), re.M))
+    is_answered = lambda it: bool(re.search(rf"^pub (?:returns|ends)[\w-]*-clause-{it.ensures}\b", own(it), re.M))
+    length = lambda it: it.function.last - it.function.body
     words = lambda it: re.findall(r"\w+", "\n".join(texts[it.file].split("\n")[it.body:it.last]))
     refused = {it.function.name for it in edits if it.function and not is_reduced(crate, it, texts)}
-    for edit in sorted((it for it in edits if is_reduced(crate, it, texts)), key=lambda it: (not refused.isdisjoint(words(it.function)), -number(it))):
+    for edit in sorted((it for it in edits if is_reduced(crate, it, texts)), key=lambda it: (not refused.isdisjoint(words(it.function)), not is_answered(it), length(it))):
         part = texts[edit.function.file].split("\n")[edit.function.first:edit.function.last + 1]
         body = part[edit.function.body - edit.function.first:-1]
         line = next((it for it in body if it.endswith((";", "{")) and "\n".join(part).count(it) == 1), None)
