@@ -1,11 +1,13 @@
 //! What the callers of a run on two mounts were told.
 
 ghost use Rattle.std.specs.Prelude.{◌≡◌, ◌++◌, IfOk, OnOk};
+ghost use Rattle.mount_links.specs.LinkCalls.{load_shown};
+ghost use Rattle.mount_links.specs.Linked.{far_parts, own_parts};
 ghost use Rattle.script_runs.specs.Callers.{noted_by, shown_by};
 ghost use Rattle.linked_turns.specs.Callers.{even_shown, odd_shown, runners_of};
 
 use crate::runners::LinkedRunner;
-use mount_links::split;
+use mount_links::{LinkStep, ShownList, split};
 use reply_text::Note;
 use script_runs::PlacedVec;
 use std::alloc::{AllocError, Global};
@@ -45,11 +47,26 @@ fn put_told(alloc: Global, told: &mut LinkedTold, caller: LinkedRunner) -> Resul
     let ran = caller.runner.ran();
     told.notes.append(&mut ran.notes.into_vec())?;
     if is_even {
-        told.even.append(&mut ran.entries.into_vec())?;
+        told.even.append(&mut ran.entries.into_vec())
     } else {
-        let both = split(alloc, ran.entries, caller.steps)?;
-        told.odd.append(&mut both.own.into_vec())?;
-        told.even.append(&mut both.far.into_vec())?;
+        put_both(alloc, told, ran.entries, caller.steps)
     }
-    Ok(())
+}
+
+// Puts what is shown of the calls of a caller on both mounts behind that.
+fn put_both(
+    alloc: Global,
+    told: &mut LinkedTold,
+    entries: ShownList,
+    steps: Vec<LinkStep>,
+) -> Result<(), AllocError>
+    ensures even { OnOk result (told.new.even.items ≡ told.old.even.items
+        ++ far_parts steps.items entries) }
+    ensures odd { OnOk result (told.new.odd.items ≡ told.old.odd.items
+        ++ own_parts load_shown steps.items entries) }
+    ensures notes { told.new.notes ≡ told.old.notes }
+{
+    let both = split(alloc, entries, steps)?;
+    told.odd.append(&mut both.own.into_vec())?;
+    told.even.append(&mut both.far.into_vec())
 }
