@@ -1,5 +1,5 @@
 -- What a command of a caller makes of the mounts.
-use Rattle.std.proofs.Common.{◌≡◌, ℕ, ◌≤◌, Bool, true, false, List, [], ◌∷◌, ◌++◌, length, refl, ap, sym, ◌∙◌, subst, ⊎_elim, arith, append-nil}
+use Rattle.std.proofs.Common.{◌≡◌, ℕ, ◌≤◌, Bool, true, false, List, [], ◌∷◌, ◌++◌, length, refl, ap, sym, ◌∙◌, subst, Result, Ok, Err, IfOk, OnOk, ⊎_elim, arith, append-nil}
 use Rattle.std.proofs.lemmas.Bool.{cases_eq}
 use Rattle.call_history.specs.Entries.{by}
 use Rattle.call_history.proofs.Placing.{by-cons_own, by-cons_other}
@@ -158,3 +158,9 @@ module _ {M : Type 0} (leads : History → M → Type 0) where
         kept = kept ∙ ap (λ (l : List LinkStep). old.steps.items ++ l) came.kept;
         parts = subst (λ b. HasParts b came.steps stepped.made (far_parts came.steps stepped.made) (own_parts load_call came.steps stepped.made)) (sym is_odd) (came.are_steps, refl, refl);
       }
+
+-- ---- what follows of a call's clauses, where it had memory
+
+pub ok_then : {T E A : Type 0} {P Q R : T → Type 0} (r : Result T E) → IfOk r P → IfOk r Q → OnOk r A → ((x : T) → P x → Q x → A → R x) → IfOk r R
+ok_then (Ok x) p q a then = then x p q a
+ok_then (Err e) p q a then = tt

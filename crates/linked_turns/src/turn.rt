@@ -1,7 +1,10 @@
 //! A caller's turn.
 
-ghost use Rattle.std.specs.Prelude.{◌≡◌, true, false, IfOk};
+ghost use Rattle.std.specs.Prelude.{◌≡◌, ◌*◌, [], ◌++◌, true, false, IfOk, OnOk};
+ghost use Rattle.fsc_commands.specs.declared.TheConstants.{MOST_CALLS};
 ghost use Rattle.fsc_session.specs.Asking.{AsksRightly};
+ghost use Rattle.mount_links.specs.LinkCalls.{link_view};
+ghost use Rattle.mount_shared.specs.SerialCalls.{serial_view};
 ghost use Rattle.script_runs.specs.Turns.{at};
 ghost use Rattle.linked_turns.specs.Turns.{TurnMade};
 ghost use Rattle.linked_turns.specs.Parts.{is_even};
@@ -12,8 +15,8 @@ use argon_kdf::Stretch;
 use call_history::MOST_PLACES;
 use fsc_commands::MOST_CALLS;
 use fsc_outside::Gate;
-use mount_links::LinkPort;
-use mount_shared::MountMachine;
+use mount_links::{LinkPort, LinkStep};
+use mount_shared::{MountMachine, SerialPort};
 use std::alloc::{AllocError, Global};
 
 // The caller's next command, if it has one, on ports of its own and between the gate's two calls.
@@ -105,18 +108,45 @@ fn step_on_both<S: Stretch, M: MountMachine>(
         (at mounts.even.machine mounts.even.places) (at mounts.odd.machine mounts.odd.places) caller.old
         (at after.even.machine after.even.places) (at after.odd.machine after.odd.places) caller.new) }
 {
+    let mut port = link_port(alloc, mounts, caller.runner.caller())?;
+    caller.runner.step(alloc, &mut port, stretches, seed)?;
+    mounts_back(port, &mut caller.steps)
+}
+
+// The port of a caller with an odd number, on both mounts. Where they have too few places left for its calls, it
+// is as where there is no memory.
+fn link_port<M: MountMachine>(
+    alloc: Global,
+    mounts: SerialMounts<M>,
+    caller: u32,
+) -> Result<LinkPort<SerialPort<M>, SerialPort<M>>, AllocError>
+    ensures { IfOk result (λ port. port ≡ link_view
+        (serial_view mounts.odd.machine mounts.odd.places caller (2 * MOST_CALLS))
+        (serial_view mounts.even.machine mounts.even.places caller MOST_CALLS) MOST_CALLS []) }
+{
     if mounts.even.places > MOST_PLACES - MOST_CALLS
         || mounts.odd.places > MOST_PLACES - 2 * MOST_CALLS
     {
         return Err(AllocError);
     }
-    let number = caller.runner.caller();
-    let own = mounts.odd.port(number, 2 * MOST_CALLS);
-    let far = mounts.even.port(number, MOST_CALLS);
-    let mut port = LinkPort::new(alloc, own, far, MOST_CALLS)?;
-    caller.runner.step(alloc, &mut port, stretches, seed)?;
-    let (own, far, mut steps) = port.back();
-    caller.steps.append(&mut steps)?;
+    let own = mounts.odd.port(caller, 2 * MOST_CALLS);
+    let far = mounts.even.port(caller, MOST_CALLS);
+    LinkPort::new(alloc, own, far, MOST_CALLS)
+}
+
+// The mounts of such a port. What became of each call that was made on it comes behind these steps.
+fn mounts_back<M: MountMachine>(
+    port: LinkPort<SerialPort<M>, SerialPort<M>>,
+    steps: &mut Vec<LinkStep>,
+) -> Result<SerialMounts<M>, AllocError>
+    ensures even { IfOk result (λ mounts. (mounts.even.machine ≡ port.far.machine)
+        × (mounts.even.places ≡ port.far.places)) }
+    ensures odd { IfOk result (λ mounts. (mounts.odd.machine ≡ port.own.machine)
+        × (mounts.odd.places ≡ port.own.places)) }
+    ensures steps { OnOk result (steps.new.items ≡ steps.old.items ++ port.steps) }
+{
+    let (own, far, mut made) = port.back();
+    steps.append(&mut made)?;
     Ok(SerialMounts {
         even: far.back(),
         odd: own.back(),
