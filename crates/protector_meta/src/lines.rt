@@ -3,7 +3,7 @@
 ghost use Rattle.std.specs.Prelude.{◌≡◌, ◌∷◌, [], ◌++◌, OnOk};
 ghost use Rattle.byte_words.specs.Bytes.{AreBytes};
 ghost use Rattle.hex.specs.Hex.{encode_lower};
-ghost use Rattle.protector_meta.specs.Reading.{Gives, line_at};
+ghost use Rattle.protector_meta.specs.Reading.{Gives, line_at, value_at};
 ghost use Rattle.protector_meta.specs.LineValues as spec;
 
 use crate::fault::MetaFault;
@@ -36,6 +36,21 @@ pub(crate) fn digits_line_value<const N: usize>(line: &[u8], word: &[u8]) -> Opt
     ensures { result ≡ spec.digits_line_value word.now N line.now }
 {
     lower_hex_bytes(behind(line, word)?)
+}
+
+// The bytes that digits spell behind the word on the first line, and the text behind the line. Else
+// the line of this number is at fault.
+pub(crate) fn read_digits<'a, const N: usize>(
+    text: &'a [u8],
+    word: &[u8],
+    number: u32,
+) -> Result<([u8; N], &'a [u8]), MetaFault>
+    ensures { Gives (λ x. (x.0, x.1.now)) result
+        (value_at (spec.digits_line_value word.now N) number text.now) }
+{
+    let (line, rest) = ended_line(text, number)?;
+    let bytes = digits_line_value(line, word).ok_or(MetaFault::Bad { line: number })?;
+    Ok((bytes, rest))
 }
 
 // Writes a line at the end of the text: a word, and what stands behind it.

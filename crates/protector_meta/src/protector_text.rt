@@ -3,7 +3,7 @@
 ghost use Rattle.std.specs.Prelude.{◌≡◌, ◌≢◌, ◌++◌, ◌∷◌, [], IfOk, IfErr, OnOk, Ok, codes, ℕ};
 ghost use Rattle.text_words.specs.Numbers.{decimal_of};
 ghost use Rattle.protector_meta.specs.ProtectorLines as spec;
-ghost use Rattle.protector_meta.specs.ProtectorReading.{protector_read};
+ghost use Rattle.protector_meta.specs.ProtectorReading.{behind_descriptor, behind_name, protector_read};
 ghost use Rattle.protector_meta.specs.ProtectorText.{IsKind, IsProtector, IsProtectorRecord};
 ghost use Rattle.protector_meta.specs.ProtectorText.{kind_text, protector_text, stretching_text};
 ghost use Rattle.protector_meta.specs.RecordLines.{IsFirstBad, TellsFirstBad};
@@ -11,10 +11,11 @@ ghost use Rattle.protector_meta.specs.Stretching.{IsStretching};
 
 use crate::descriptor::Descriptor;
 use crate::fault::MetaFault;
-use crate::lines::{digits_line_value, ended_line, name_line_value, push_digits_line, push_line};
+use crate::lines::{ended_line, name_line_value, push_digits_line, push_line, read_digits};
 use crate::protector::{Protector, ProtectorKind, Stretching};
 use argon_kdf::Costs;
 use item_list::Bytes;
+use short_bytes::Label;
 use std::alloc::{AllocError, Global};
 use text_words::{
     behind, decimal_value, lower_hex_bytes, nth_word, push_decimal, push_lower_hex, word_count,
@@ -151,16 +152,33 @@ fn read_protector(text: &[u8]) -> Result<Protector, MetaFault>
     head_value(line).ok_or(MetaFault::Bad { line: 1 })?;
     let (line, rest) = ended_line(rest, 2)?;
     let name = name_line_value(line).ok_or(MetaFault::Bad { line: 2 })?;
-    let (line, rest) = ended_line(rest, 3)?;
+    read_behind_name(name, rest)
+}
+
+// The protector of this name, and of the lines behind the line that tells it.
+fn read_behind_name(name: Label, text: &[u8]) -> Result<Protector, MetaFault>
+    ensures { result ≡ behind_name name text.now }
+{
+    let (line, rest) = ended_line(text, 3)?;
     let kind = kind_line_value(line).ok_or(MetaFault::Bad { line: 3 })?;
     let (line, rest) = ended_line(rest, 4)?;
     let descriptor = descriptor_line_value(line).ok_or(MetaFault::Bad { line: 4 })?;
-    let (line, rest) = ended_line(rest, 5)?;
-    let iv = digits_line_value(line, b"iv ").ok_or(MetaFault::Bad { line: 5 })?;
-    let (line, rest) = ended_line(rest, 6)?;
-    let key = digits_line_value(line, b"key ").ok_or(MetaFault::Bad { line: 6 })?;
-    let (line, rest) = ended_line(rest, 7)?;
-    let tag = digits_line_value(line, b"tag ").ok_or(MetaFault::Bad { line: 7 })?;
+    read_wrapping(name, kind, descriptor, rest)
+}
+
+// The protector of what the lines before told, and of the last three, which tell how its secret is
+// wrapped.
+fn read_wrapping(
+    name: Label,
+    kind: ProtectorKind,
+    descriptor: Descriptor,
+    text: &[u8],
+) -> Result<Protector, MetaFault>
+    ensures { result ≡ behind_descriptor name kind descriptor text.now }
+{
+    let (iv, rest) = read_digits(text, b"iv ", 5)?;
+    let (key, rest) = read_digits(rest, b"key ", 6)?;
+    let (tag, rest) = read_digits(rest, b"tag ", 7)?;
     if !rest.is_empty() {
         return Err(MetaFault::Bad { line: 8 });
     }
