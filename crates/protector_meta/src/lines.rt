@@ -32,7 +32,7 @@ pub(crate) fn name_line_value(line: &[u8]) -> Option<Label>
 }
 
 // The bytes that digits spell behind a word with which the line begins.
-pub(crate) fn digits_line_value<const N: usize>(line: &[u8], word: &[u8]) -> Option<[u8; N]>
+fn digits_line_value<const N: usize>(line: &[u8], word: &[u8]) -> Option<[u8; N]>
     ensures { result ≡ spec.digits_line_value word.now N line.now }
 {
     lower_hex_bytes(behind(line, word)?)

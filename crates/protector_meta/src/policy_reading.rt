@@ -2,7 +2,6 @@
 
 ghost use Rattle.std.specs.Prelude.{◌≡◌, ◌≢◌, ◌<◌, ◌^◌, ◌+◌, ◌++◌, ◌∷◌, ◌⊎◌, [], Err, IfErr};
 ghost use Rattle.std.specs.Prelude.{IfOk, MatchOption, None, Ok, OnOk, Some, length, ℕ};
-ghost use Rattle.std.specs.Option.{option_map};
 ghost use Rattle.text_words.specs.Lines.{pieces_of};
 ghost use Rattle.text_words.specs.Words.{words_of};
 ghost use Rattle.protector_meta.specs.declared.fault.MetaFault.TheVariants.{Bad, NoMemory};
@@ -11,11 +10,11 @@ ghost use Rattle.protector_meta.specs.declared.policy_file.PolicyFile.{PolicyFil
 ghost use Rattle.protector_meta.specs.RecordLines.{IsFirstBad, TellsFirstBad};
 ghost use Rattle.protector_meta.specs.PolicyText.{IsPolicyFile, IsPolicyRecord, policy_text};
 ghost use Rattle.protector_meta.specs.PolicyLines as spec;
-ghost use Rattle.protector_meta.specs.PolicyLines.{id_value, next_wrap, wrap_of_words, wrap_value};
-ghost use Rattle.protector_meta.specs.PolicyReading.{GivesInMemory, policy_read, wraps_from};
+ghost use Rattle.protector_meta.specs.PolicyLines.{next_wrap, wrap_of_words, wrap_value};
+ghost use Rattle.protector_meta.specs.PolicyReading.{GivesInMemory, behind_id, policy_read, wraps_from};
 
 use crate::fault::MetaFault;
-use crate::lines::{digits_line_value, ended_line, name_line_value};
+use crate::lines::{ended_line, name_line_value, read_digits};
 use crate::policy_file::{Options, PolicyFile};
 use crate::policy_text::{HEAD, HEAD_WITH_OPTIONS};
 use crate::wraps::{Wrap, WrapFault, WrapList};
@@ -56,10 +55,23 @@ fn read_policy(alloc: Global, text: &[u8]) -> Result<PolicyFile, MetaFault>
     let has_options = head_value(line).ok_or(MetaFault::Bad { line: 1 })?;
     let (line, rest) = ended_line(rest, 2)?;
     let name = name_line_value(line).ok_or(MetaFault::Bad { line: 2 })?;
-    let (line, rest) = ended_line(rest, 3)?;
-    let id = read_id(line).ok_or(MetaFault::Bad { line: 3 })?;
+    let (id, rest) = read_digits(rest, b"id ", 3)?;
+    read_behind_id(alloc, has_options, name, KeyId(id), rest)
+}
+
+// The policy of what the first three lines told, and of those behind them: the options, where they
+// have a line, and the wraps.
+fn read_behind_id(
+    alloc: Global,
+    has_options: bool,
+    name: Label,
+    id: KeyId,
+    text: &[u8],
+) -> Result<PolicyFile, MetaFault>
+    ensures { GivesInMemory (λ p. p) result (behind_id has_options name id.0 text.now) }
+{
     if !has_options {
-        let wraps = read_wraps(alloc, rest, FOURTH_LINE)?;
+        let wraps = read_wraps(alloc, text, FOURTH_LINE)?;
         return Ok(PolicyFile {
             name,
             id,
@@ -67,7 +79,7 @@ fn read_policy(alloc: Global, text: &[u8]) -> Result<PolicyFile, MetaFault>
             wraps,
         });
     }
-    let (line, rest) = ended_line(rest, FOURTH_LINE)?;
+    let (line, rest) = ended_line(text, FOURTH_LINE)?;
     let options = options_value(line).ok_or(MetaFault::Bad { line: FOURTH_LINE })?;
     let wraps = read_wraps(alloc, rest, FOURTH_LINE + 1)?;
     Ok(PolicyFile {
@@ -110,12 +122,6 @@ fn options_of_words(text: &[u8]) -> Option<Options>
         pad: Pad::of_size(size)?,
         unit: Unit::of_log2(log)?,
     })
-}
-
-fn read_id(line: &[u8]) -> Option<KeyId>
-    ensures { option_map (λ id. id.0) result ≡ id_value line.now }
-{
-    digits_line_value(line, b"id ").map(KeyId)
 }
 
 // The wraps of the last lines, of which there is at least one. The first has this number.
