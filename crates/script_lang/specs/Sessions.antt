@@ -1,4 +1,5 @@
 -- The session commands: behind each name, the words that it takes.
+use Rattle.std.specs.Prelude.{ℕ, List}
 use Rattle.short_bytes.specs.Label.{label_of}
 use Rattle.script_words.specs.Secrets.{secret_of, new_secret_of}
 use Rattle.script_words.specs.Path.{path_of}
@@ -32,6 +33,14 @@ abbrev pub policy_add : Form Verb
 policy_add = do
   policy ← word label_of
   protector ← word label_of
+  secret ← word secret_of
+  added ← word label_of
+  added_secret ← word secret_of
+  says (verb.PolicyAdd policy protector secret added added_secret)
+
+-- the same behind its policy and its protector
+abbrev pub policy_added : List ℕ → List ℕ → Form Verb
+policy_added policy protector = do
   secret ← word secret_of
   added ← word label_of
   added_secret ← word secret_of

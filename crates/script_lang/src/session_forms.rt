@@ -5,6 +5,7 @@ ghost use Rattle.script_lang.specs.Sessions as forms;
 
 use crate::verb::Verb;
 use crate::words::{Unread, Words};
+use short_bytes::Label;
 use std::alloc::Global;
 
 pub(crate) fn protector(alloc: Global, words: &mut Words<'_>) -> Result<Verb, Unread>
@@ -40,9 +41,23 @@ pub(crate) fn policy_new(alloc: Global, words: &mut Words<'_>) -> Result<Verb, U
 pub(crate) fn policy_add(alloc: Global, words: &mut Words<'_>) -> Result<Verb, Unread>
     ensures { Takes result (forms.policy_add words.old) words.new }
 {
+    let policy = words.label()?;
+    let protector = words.label()?;
+    policy_added(alloc, policy, protector, words)
+}
+
+// The same, whose policy and protector are read.
+fn policy_added(
+    alloc: Global,
+    policy: Label,
+    protector: Label,
+    words: &mut Words<'_>,
+) -> Result<Verb, Unread>
+    ensures { Takes result (forms.policy_added policy protector words.old) words.new }
+{
     Ok(Verb::PolicyAdd {
-        policy: words.label()?,
-        protector: words.label()?,
+        policy,
+        protector,
         secret: words.secret(alloc)?,
         added: words.label()?,
         added_secret: words.secret(alloc)?,

@@ -1,8 +1,10 @@
 //! The table of commands: the words behind each name, taken in order.
 
 ghost use Rattle.std.specs.Prelude.{◌≡◌, IfOk};
-ghost use Rattle.script_lang.specs.Forms.{Takes};
+ghost use Rattle.script_lang.specs.Forms.{Takes, if_read};
 ghost use Rattle.script_lang.specs.Commands.{form_of, verb_of, command_named};
+ghost use Rattle.script_lang.specs.Commands.{TakesKey, TakesPath, TakesLabel};
+ghost use Rattle.script_lang.specs.Commands.{TakesCallWords, TakesSessionWords};
 
 use crate::file_forms::{
     fill, list, meta_put, read, rename, set_policy, set_policy_bytes, symlink, write,
@@ -39,10 +41,17 @@ fn read_command(
     ensures { IfOk result (λ verb. verb ≡ command_named name words.old) }
 {
     match take_form(alloc, name, words) {
-        Ok(verb) if words.is_empty() => Ok(Some(verb)),
-        Ok(_) | Err(Unread::OutsideGrammar) => Ok(None),
+        Ok(verb) => Ok(if_none_left(verb, words)),
+        Err(Unread::OutsideGrammar) => Ok(None),
         Err(Unread::NoMemory) => Err(AllocError),
     }
+}
+
+// The command, if it has taken all words.
+fn if_none_left(verb: Verb, words: &Words<'_>) -> Option<Verb>
+    ensures { result ≡ if_read (verb, words.now) }
+{
+    if words.is_empty() { Some(verb) } else { None }
 }
 
 // What the words that a command takes say together.
@@ -51,39 +60,127 @@ fn take_form(alloc: Global, name: CommandName, words: &mut Words<'_>) -> Result<
 {
     match name {
         CommandName::AddKey => Ok(Verb::AddKey(words.added_bytes(alloc)?)),
-        CommandName::RemoveKey => Ok(Verb::RemoveKey(words.key()?)),
-        CommandName::RemoveKeyAll => Ok(Verb::RemoveKeyAll(words.key()?)),
-        CommandName::KeyStatus => Ok(Verb::KeyStatus(words.key()?)),
+        CommandName::RemoveKey | CommandName::RemoveKeyAll | CommandName::KeyStatus => {
+            take_key(name, words)
+        }
+        CommandName::GetPolicy
+        | CommandName::Mkdir
+        | CommandName::Create
+        | CommandName::ReadLink
+        | CommandName::Unlink
+        | CommandName::Rmdir
+        | CommandName::Stat
+        | CommandName::Open => take_path(alloc, name, words),
+        CommandName::Close => Ok(Verb::Close(words.number()?)),
+        CommandName::DropCaches => Ok(Verb::DropCaches),
+        CommandName::MetaGet => Ok(Verb::MetaGet(words.record()?)),
+        CommandName::ProtectorLink
+        | CommandName::Lock
+        | CommandName::Status
+        | CommandName::Migrate => take_label(name, words),
+        CommandName::SetPolicy
+        | CommandName::SetPolicyBytes
+        | CommandName::Symlink
+        | CommandName::Rename
+        | CommandName::List
+        | CommandName::Read
+        | CommandName::Write
+        | CommandName::Fill
+        | CommandName::MetaPut => take_call_words(alloc, name, words),
+        CommandName::Protector
+        | CommandName::ProtectorChange
+        | CommandName::PolicyNew
+        | CommandName::PolicyAdd
+        | CommandName::PolicyDrop
+        | CommandName::Unlock
+        | CommandName::Encrypt => take_session_words(alloc, name, words),
+    }
+}
+
+// A key, and nothing else.
+fn take_key(name: CommandName, words: &mut Words<'_>) -> Result<Verb, Unread>
+    requires { TakesKey name }
+    ensures { Takes result (form_of name words.old) words.new }
+{
+    let key = words.key()?;
+    match name {
+        CommandName::RemoveKey => Ok(Verb::RemoveKey(key)),
+        CommandName::RemoveKeyAll => Ok(Verb::RemoveKeyAll(key)),
+        CommandName::KeyStatus => Ok(Verb::KeyStatus(key)),
+        _ => unreachable!(),
+    }
+}
+
+// A path, and nothing else.
+fn take_path(alloc: Global, name: CommandName, words: &mut Words<'_>) -> Result<Verb, Unread>
+    requires { TakesPath name }
+    ensures { Takes result (form_of name words.old) words.new }
+{
+    let path = words.path(alloc)?;
+    match name {
+        CommandName::GetPolicy => Ok(Verb::GetPolicy(path)),
+        CommandName::Mkdir => Ok(Verb::Mkdir(path)),
+        CommandName::Create => Ok(Verb::Create(path)),
+        CommandName::ReadLink => Ok(Verb::ReadLink(path)),
+        CommandName::Unlink => Ok(Verb::Unlink(path)),
+        CommandName::Rmdir => Ok(Verb::Rmdir(path)),
+        CommandName::Stat => Ok(Verb::Stat(path)),
+        CommandName::Open => Ok(Verb::Open(path)),
+        _ => unreachable!(),
+    }
+}
+
+// A label, and nothing else.
+fn take_label(name: CommandName, words: &mut Words<'_>) -> Result<Verb, Unread>
+    requires { TakesLabel name }
+    ensures { Takes result (form_of name words.old) words.new }
+{
+    let label = words.label()?;
+    match name {
+        CommandName::ProtectorLink => Ok(Verb::ProtectorLink(label)),
+        CommandName::Lock => Ok(Verb::Lock(label)),
+        CommandName::Status => Ok(Verb::Status(label)),
+        CommandName::Migrate => Ok(Verb::Migrate(label)),
+        _ => unreachable!(),
+    }
+}
+
+// Several words, which say one call.
+fn take_call_words(alloc: Global, name: CommandName, words: &mut Words<'_>) -> Result<Verb, Unread>
+    requires { TakesCallWords name }
+    ensures { Takes result (form_of name words.old) words.new }
+{
+    match name {
         CommandName::SetPolicy => set_policy(alloc, words),
         CommandName::SetPolicyBytes => set_policy_bytes(alloc, words),
-        CommandName::GetPolicy => Ok(Verb::GetPolicy(words.path(alloc)?)),
-        CommandName::Mkdir => Ok(Verb::Mkdir(words.path(alloc)?)),
-        CommandName::Create => Ok(Verb::Create(words.path(alloc)?)),
         CommandName::Symlink => symlink(alloc, words),
-        CommandName::ReadLink => Ok(Verb::ReadLink(words.path(alloc)?)),
-        CommandName::Unlink => Ok(Verb::Unlink(words.path(alloc)?)),
-        CommandName::Rmdir => Ok(Verb::Rmdir(words.path(alloc)?)),
         CommandName::Rename => rename(alloc, words),
         CommandName::List => list(alloc, words),
-        CommandName::Stat => Ok(Verb::Stat(words.path(alloc)?)),
-        CommandName::Open => Ok(Verb::Open(words.path(alloc)?)),
-        CommandName::Close => Ok(Verb::Close(words.number()?)),
         CommandName::Read => read(words),
         CommandName::Write => write(alloc, words),
         CommandName::Fill => fill(words),
-        CommandName::DropCaches => Ok(Verb::DropCaches),
-        CommandName::MetaGet => Ok(Verb::MetaGet(words.record()?)),
         CommandName::MetaPut => meta_put(alloc, words),
+        _ => unreachable!(),
+    }
+}
+
+// Several words, which say the work of a session.
+fn take_session_words(
+    alloc: Global,
+    name: CommandName,
+    words: &mut Words<'_>,
+) -> Result<Verb, Unread>
+    requires { TakesSessionWords name }
+    ensures { Takes result (form_of name words.old) words.new }
+{
+    match name {
         CommandName::Protector => protector(alloc, words),
         CommandName::ProtectorChange => protector_change(alloc, words),
-        CommandName::ProtectorLink => Ok(Verb::ProtectorLink(words.label()?)),
         CommandName::PolicyNew => policy_new(alloc, words),
         CommandName::PolicyAdd => policy_add(alloc, words),
         CommandName::PolicyDrop => policy_drop(words),
         CommandName::Unlock => unlock(alloc, words),
-        CommandName::Lock => Ok(Verb::Lock(words.label()?)),
-        CommandName::Status => Ok(Verb::Status(words.label()?)),
         CommandName::Encrypt => encrypt(alloc, words),
-        CommandName::Migrate => Ok(Verb::Migrate(words.label()?)),
+        _ => unreachable!(),
     }
 }
