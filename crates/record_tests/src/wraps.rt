@@ -152,7 +152,11 @@ fn drop_all<A: Abort>(rt: &A, alloc: Global, policy: &mut PolicyFile) {
     let all = policy_for(rt, alloc, b"cba");
     for wrap in all.wraps.iter() {
         let is_last = policy.wraps.len() == 1;
-        let wanted = if is_last { Err(WrapFault::LastOne) } else { Ok(()) };
+        let wanted = if is_last {
+            Err(WrapFault::LastOne)
+        } else {
+            Ok(())
+        };
         assert!(rt; drop_protector(policy, &wrap.protector) == wanted);
         assert!(rt; policy.wraps.find(&wrap.protector).is_some() == is_last);
     }
