@@ -29,22 +29,19 @@ policy_new = do
   options ← optional options
   says (verb.PolicyNew policy protector secret options)
 
-abbrev pub policy_add : Form Verb
-policy_add = do
-  policy ← word label_of
-  protector ← word label_of
-  secret ← word secret_of
-  added ← word label_of
-  added_secret ← word secret_of
-  says (verb.PolicyAdd policy protector secret added added_secret)
-
--- the same behind its policy and its protector
+-- what stands behind the policy and its protector
 abbrev pub policy_added : List ℕ → List ℕ → Form Verb
 policy_added policy protector = do
   secret ← word secret_of
   added ← word label_of
   added_secret ← word secret_of
   says (verb.PolicyAdd policy protector secret added added_secret)
+
+abbrev pub policy_add : Form Verb
+policy_add = do
+  policy ← word label_of
+  protector ← word label_of
+  policy_added policy protector
 
 abbrev pub policy_drop : Form Verb
 policy_drop = do
