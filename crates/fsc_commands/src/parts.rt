@@ -94,8 +94,7 @@ impl<'a, S> Work<'a, S> {
             uid: self.turn.uid,
             op,
         };
-        let placed = ask(self.alloc, caller.port, self.turn, &mut call)?;
-        Ok(placed)
+        ask(self.alloc, caller.port, self.turn, &mut call)
     }
 
     // Makes the last call of a session's work, which ends as the reply to it tells.
