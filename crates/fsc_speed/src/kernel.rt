@@ -43,38 +43,55 @@ pub(crate) enum Kernel {
     Walk(Walk),
 }
 
+/// The kernels whose names tell no length.
+const FIXED: [(&str, Kernel); 16] = [
+    ("aes-block", Kernel::AesBlock),
+    ("aes-block-back", Kernel::AesBlockBack),
+    ("hkdf-64", Kernel::Hkdf64),
+    ("sha512-192", Kernel::Sha512Of192),
+    ("file-key", Kernel::FileKey),
+    ("mode-key", Kernel::ModeKey),
+    ("encrypt-name-32", Kernel::EncryptName),
+    ("nokey-255", Kernel::NoKeyText),
+    ("blake2b-64m", Kernel::Blake2b),
+    ("argon2id-1-65536-1", Kernel::Argon2idOnePass),
+    ("argon2id-3-65536-4", Kernel::Argon2idThreePasses),
+    ("argon2id-lanes-3-65536-4", Kernel::Argon2idLanes),
+    ("seal-512", Kernel::Seal(Unit::U512)),
+    ("seal-4096", Kernel::Seal(Unit::U4096)),
+    ("read-script", Kernel::ReadScript),
+    ("entry-line", Kernel::EntryLine),
+];
+
 impl Kernel {
     /// The kernel of this name, such as `aes-block`, `cts-255` or `turn-2`.
     pub(crate) fn named(name: &str) -> Option<Kernel> {
+        for (fixed, kernel) in &FIXED {
+            if *fixed == name {
+                return Some(*kernel);
+            }
+        }
+        Kernel::sized(name)
+    }
+
+    // The kernel whose name tells a length, a number or a kind behind its family.
+    fn sized(name: &str) -> Option<Kernel> {
         match name.split_once('-')? {
-            ("aes", "block") => Some(Kernel::AesBlock),
-            ("aes", "block-back") => Some(Kernel::AesBlockBack),
             ("xts", length) => Kernel::of_units(length),
             ("cts", length) => Some(Kernel::Cts(TextLength::read(length)?)),
-            ("hkdf", "64") => Some(Kernel::Hkdf64),
-            ("sha512", "192") => Some(Kernel::Sha512Of192),
-            ("file", "key") => Some(Kernel::FileKey),
-            ("mode", "key") => Some(Kernel::ModeKey),
-            ("seal", "512") => Some(Kernel::Seal(Unit::U512)),
-            ("seal", "4096") => Some(Kernel::Seal(Unit::U4096)),
             ("claims", claims) => Some(Kernel::MakeClaims(ClaimCount::read(claims)?)),
-            ("encrypt", "name-32") => Some(Kernel::EncryptName),
-            ("nokey", "255") => Some(Kernel::NoKeyText),
-            ("blake2b", "64m") => Some(Kernel::Blake2b),
-            ("argon2id", "1-65536-1") => Some(Kernel::Argon2idOnePass),
-            ("argon2id", "3-65536-4") => Some(Kernel::Argon2idThreePasses),
-            ("argon2id", "lanes-3-65536-4") => Some(Kernel::Argon2idLanes),
             ("turn", callers) => Some(Kernel::Turn(Callers::read(callers)?)),
-            ("node", size) => Some(Kernel::GetNodes(TreeSize::read(
-                size.strip_prefix("get-")?,
-                65536,
-            )?)),
-            ("read", "script") => Some(Kernel::ReadScript),
-            ("entry", "line") => Some(Kernel::EntryLine),
-            ("walk", walk) => Some(Kernel::Walk(Walk::named(walk)?)),
+            ("node", call) => Kernel::of_nodes(call),
             ("entry", call) => Kernel::of_entries(call),
+            ("walk", walk) => Some(Kernel::Walk(Walk::named(walk)?)),
             _ => None,
         }
+    }
+
+    // How many nodes a tree has, of which one is asked for.
+    fn of_nodes(call: &str) -> Option<Kernel> {
+        let size = call.strip_prefix("get-")?;
+        Some(Kernel::GetNodes(TreeSize::read(size, 65536)?))
     }
 
     // A unit's length, with `back-` before it where the unit is deciphered.

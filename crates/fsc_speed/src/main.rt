@@ -21,7 +21,10 @@ mod walks;
 
 use kernel::Kernel;
 use mount::MountKernel;
+use std::alloc::{AllocError, Global};
 use std::process::ExitCode;
+use std::sync::Wait;
+use std::thread::Threads;
 use std::{env, io};
 
 const USAGE: &str = "\
@@ -44,20 +47,35 @@ fn main(rt: HostRuntime) -> io::Result<ExitCode> {
         eprintln!(rt; "{USAGE}")?;
         return Ok(ExitCode::from(2));
     };
-    let Ok(count) = count.parse::<u32>() else {
-        eprintln!(rt; "{USAGE}")?;
-        return Ok(ExitCode::from(2));
-    };
-    if let Some(kernel) = Kernel::named(name.as_str()) {
-        let digest = kernel.run(&rt, rt.alloc(), count)?;
-        let digest = hex::encode(rt.alloc(), &digest)?;
-        println!(rt; "{name} {count} {digest}")?;
-    } else if let Some(kernel) = MountKernel::named(name.as_str()) {
-        let refused = kernel.run(&rt, rt.alloc(), count)?;
-        println!(rt; "{name} {count} {refused}")?;
-    } else {
-        eprintln!(rt; "{USAGE}")?;
-        return Ok(ExitCode::from(2));
+    match measured(&rt, rt.alloc(), name.as_str(), count.as_str())? {
+        Some(line) => println!(rt; "{line}")?,
+        None => {
+            eprintln!(rt; "{USAGE}")?;
+            return Ok(ExitCode::from(2));
+        }
     }
     Ok(ExitCode::SUCCESS)
+}
+
+// Runs the kernel of this name so many times, and tells so in a line; none where there is no such kernel or number.
+fn measured<R: Threads + Wait + Sync>(
+    rt: &R,
+    alloc: Global,
+    name: &str,
+    count: &str,
+) -> Result<Option<String>, AllocError> {
+    let Ok(count) = count.parse::<u32>() else {
+        return Ok(None);
+    };
+    if let Some(kernel) = Kernel::named(name) {
+        let digest = hex::encode(alloc, &kernel.run(rt, alloc, count)?)?;
+        return Ok(Some(format!(in alloc; "{name} {count} {digest}")?));
+    }
+    match MountKernel::named(name) {
+        Some(kernel) => {
+            let refused = kernel.run(rt, alloc, count)?;
+            Ok(Some(format!(in alloc; "{name} {count} {refused}")?))
+        }
+        None => Ok(None),
+    }
 }

@@ -29,11 +29,7 @@ pub(crate) fn open_and_close(alloc: Global, count: u32) -> Result<u64, AllocErro
     asked.ask_often(encrypted_top(alloc, 1)?.as_slice(), 1);
     let open = open(alloc, 0)?;
     if open.fits() {
-        for _ in 0..count {
-            if let Reply::Opened(handle) = asked.ask(&open) {
-                asked.ask(&call(Op::Close { handle }));
-            }
-        }
+        asked.open_often(&open, count);
     }
     Ok(asked.refused)
 }
@@ -81,6 +77,17 @@ impl Asked {
     {
         for call in calls {
             self.ask(call);
+        }
+    }
+
+    // Opens so many times, and closes what was opened.
+    fn open_often(&mut self, open: &Call, count: u32)
+        requires { Fits open.now }
+    {
+        for _ in 0..count {
+            if let Reply::Opened(handle) = self.ask(open) {
+                self.ask(&call(Op::Close { handle }));
+            }
         }
     }
 

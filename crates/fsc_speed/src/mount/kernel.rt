@@ -35,26 +35,33 @@ pub(crate) enum MountKernel {
     Shared(Subject, Callers),
 }
 
+/// The kernels whose names tell no number.
+const FIXED: [(&str, MountKernel); 14] = [
+    ("mkdir", MountKernel::Mkdir(FEW)),
+    ("unlink", MountKernel::Unlink(FEW)),
+    ("stat-warm", MountKernel::Stat(FEW)),
+    ("stat-round", MountKernel::StatRound),
+    ("stat-cold", MountKernel::StatCold),
+    ("rename", MountKernel::Rename),
+    ("list-plain", MountKernel::ListPlain),
+    ("list-encrypted", MountKernel::ListEncrypted),
+    ("read-4096", MountKernel::Read),
+    ("write-4096", MountKernel::Write),
+    ("write-1", MountKernel::WriteOne),
+    ("open-close", MountKernel::OpenClose),
+    ("status-4096", MountKernel::Status),
+    ("status-anew", MountKernel::StatusAnew),
+];
+
 impl MountKernel {
     /// The kernel of this name, such as `mkdir`, `stat-4096` or `shared-read-2`.
     pub(crate) fn named(name: &str) -> Option<MountKernel> {
-        match name {
-            "mkdir" => Some(MountKernel::Mkdir(FEW)),
-            "unlink" => Some(MountKernel::Unlink(FEW)),
-            "stat-warm" => Some(MountKernel::Stat(FEW)),
-            "stat-round" => Some(MountKernel::StatRound),
-            "stat-cold" => Some(MountKernel::StatCold),
-            "rename" => Some(MountKernel::Rename),
-            "list-plain" => Some(MountKernel::ListPlain),
-            "list-encrypted" => Some(MountKernel::ListEncrypted),
-            "read-4096" => Some(MountKernel::Read),
-            "write-4096" => Some(MountKernel::Write),
-            "write-1" => Some(MountKernel::WriteOne),
-            "open-close" => Some(MountKernel::OpenClose),
-            "status-4096" => Some(MountKernel::Status),
-            "status-anew" => Some(MountKernel::StatusAnew),
-            _ => MountKernel::numbered(name),
+        for (fixed, kernel) in &FIXED {
+            if *fixed == name {
+                return Some(*kernel);
+            }
         }
+        MountKernel::numbered(name)
     }
 
     // The kernel whose name ends with how many names or callers there are.
