@@ -95,7 +95,7 @@ fn names_are_those_of_linux(rt: HostRuntime) {
 }
 
 // That the stored name is listed so without its key.
-fn expect_nokey<A: Abort>(rt: &A, stored: &StoredName, listed: &str) {
+pub(crate) fn expect_nokey<A: Abort>(rt: &A, stored: &StoredName, listed: &str) {
     expect_same(rt, nokey_text(stored).bytes(), listed.as_bytes(), listed);
     assert!(rt; nokey_matches(listed.as_bytes(), stored));
 }
@@ -134,7 +134,7 @@ fn targets_under_a_mode_key_are_those_of_linux(rt: HostRuntime) {
 #[test]
 fn policies_that_linux_took_decode(rt: HostRuntime) {
     let id = key_id(&raw_key(&rt, rt.alloc()));
-    for known in POLICIES {
+    for &known in &POLICIES {
         let bytes = hex::decode(rt.alloc(), known).expect(&rt, "digits");
         let policy = decode_policy(&bytes).expect(&rt, "a policy");
         assert!(rt; policy.id == id, "{known}");

@@ -23,7 +23,7 @@ pub struct TargetOfLinux {
     pub stored: &'static str,
 }
 
-pub const NAMES: [StoredByLinux; 11] = [
+pub static NAMES: [StoredByLinux; 11] = [
     StoredByLinux {
         nonce: "69f0e507a4c0bf3a2cc0a43351e5f193",
         pad: Pad::P4,
@@ -104,7 +104,7 @@ pub const NAMES: [StoredByLinux; 11] = [
 ];
 
 /// At padding 32.
-pub const TARGETS: [TargetOfLinux; 2] = [
+pub static TARGETS: [TargetOfLinux; 2] = [
     TargetOfLinux {
         nonce: "daf4fd3de275013a6b51f2d1551821c2",
         plain: "78",

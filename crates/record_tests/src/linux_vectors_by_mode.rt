@@ -21,7 +21,7 @@ pub struct TargetByMode {
     pub stored: &'static str,
 }
 
-pub const NAMES_BY_MODE: [StoredByMode; 9] = [
+pub static NAMES_BY_MODE: [StoredByMode; 9] = [
     StoredByMode {
         directory: 31,
         pad: Pad::P32,
@@ -87,7 +87,7 @@ pub const NAMES_BY_MODE: [StoredByMode; 9] = [
     },
 ];
 
-pub const TARGETS_BY_MODE: [TargetByMode; 3] = [
+pub static TARGETS_BY_MODE: [TargetByMode; 3] = [
     TargetByMode {
         link: 49,
         pad: Pad::P32,
@@ -109,7 +109,7 @@ pub const TARGETS_BY_MODE: [TargetByMode; 3] = [
 ];
 
 /// The bytes of policies that the kernel took.
-pub const POLICIES: [&str; 8] = [
+pub static POLICIES: [&str; 8] = [
     "02010403090000008699c2c53707405da5aba5ae4d8583c0",
     "020104030a0000008699c2c53707405da5aba5ae4d8583c0",
     "020104030b0000008699c2c53707405da5aba5ae4d8583c0",

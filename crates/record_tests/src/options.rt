@@ -3,11 +3,14 @@ ghost use Rattle.std.specs.Prelude.{◌≤◌};
 
 use crate::protectors::{push_lines, record, with_line};
 use crate::wraps::{DOCS, expect_written, is_at_fault, policy_for, push_wrap};
-use protector_meta::{Options, Pad, Unit, add_protector, decode_policy_file, drop_protector};
+use protector_meta::{
+    Options, Pad, PolicyFile, Unit, Wrap, add_protector, decode_policy_file, drop_protector,
+};
 use std::alloc::{AllocError, Global};
+use std::process::Abort;
 
 /// The lines before the wraps of the same policy with options, in a record of version 2.
-const WITH_OPTIONS: [&[u8]; 4] = [
+static WITH_OPTIONS: [&[u8]; 4] = [
     b"fsc-policy 2",
     b"name docs",
     b"id 8a25df4cd4f408b30828b727c5177ce5",
@@ -31,6 +34,12 @@ fn wrapped_behind(alloc: Global, number: u32, said: &[u8]) -> Result<Vec<u8>, Al
     Ok(text)
 }
 
+// That the policy is written as the record with these lines; else the test fails.
+fn expect_lines<A: Abort>(rt: &A, alloc: Global, policy: &PolicyFile, lines: &[&[u8]]) {
+    let record = record(alloc, lines).expect(rt, "memory");
+    expect_written(rt, alloc, policy, &record);
+}
+
 #[test]
 fn options_stand_in_records_of_version_2(rt: HostRuntime) {
     let alloc = rt.alloc();
@@ -45,8 +54,7 @@ fn options_stand_in_records_of_version_2(rt: HostRuntime) {
         assert!(rt; policy.options == Some(options));
         expect_written(&rt, alloc, &policy, &text);
         policy.options = None;
-        let text = record(alloc, &DOCS[..lines]).expect(&rt, "memory");
-        expect_written(&rt, alloc, &policy, &text);
+        expect_lines(&rt, alloc, &policy, &DOCS[..lines]);
     }
 }
 
@@ -69,29 +77,36 @@ fn options_outlast_a_change_of_protectors(rt: HostRuntime) {
     let mut policy = decode_policy_file(alloc, &text).expect(&rt, "memory");
     let others = policy_for(&rt, alloc, b"a");
     for wrap in others.wraps.iter() {
-        assert!(rt; add_protector(&mut policy, *wrap) == Ok(()));
-        assert!(rt; drop_protector(&mut policy, &wrap.protector) == Ok(()));
+        add_and_drop(&rt, &mut policy, wrap);
     }
     expect_written(&rt, alloc, &policy, &text);
 }
 
+// The wrap is added behind the others, and dropped again.
+fn add_and_drop<A: Abort>(rt: &A, policy: &mut PolicyFile, wrap: &Wrap) {
+    assert!(rt; add_protector(policy, *wrap) == Ok(()));
+    assert!(rt; drop_protector(policy, &wrap.protector) == Ok(()));
+}
+
+/// Lines that are at fault in the place of this number, in a record of version 2.
+static FAULTS: [(u32, &[u8]); 11] = [
+    (1, b"fsc-policy 02"),
+    (3, b"options 32 0"),
+    (4, b"options 32 8"),
+    (4, b"options 32 13"),
+    (4, b"options 31 0"),
+    (4, b"options 032 0"),
+    (4, b"options 32 00"),
+    (4, b"options 32"),
+    (4, b"options 32 0 "),
+    (4, b"options 32  0"),
+    (4, b"name docs"),
+];
+
 #[test]
 fn lines_of_version_2_are_at_fault_at_their_numbers(rt: HostRuntime) {
     let alloc = rt.alloc();
-    let cases: [(u32, &[u8]); 11] = [
-        (1, b"fsc-policy 02"),
-        (3, b"options 32 0"),
-        (4, b"options 32 8"),
-        (4, b"options 32 13"),
-        (4, b"options 31 0"),
-        (4, b"options 032 0"),
-        (4, b"options 32 00"),
-        (4, b"options 32"),
-        (4, b"options 32 0 "),
-        (4, b"options 32  0"),
-        (4, b"name docs"),
-    ];
-    for (number, said) in cases {
+    for &(number, said) in &FAULTS {
         let text = wrapped_behind(alloc, number, said).expect(&rt, "memory");
         assert!(rt; is_at_fault(alloc, &text, number), "line {number}");
     }

@@ -10,7 +10,7 @@ use std::alloc::{AllocError, Global};
 use std::process::Abort;
 
 /// A protector of the passphrase `correct horse`, made outside.
-pub(crate) const LOGIN: [&[u8]; 7] = [
+pub(crate) static LOGIN: [&[u8]; 7] = [
     b"fsc-protector 1",
     b"name login",
     b"kind pass 1 64 1 57ef597275f46ccf69b328c1718006d0",
@@ -21,7 +21,7 @@ pub(crate) const LOGIN: [&[u8]; 7] = [
 ];
 
 /// A protector of the secret of 32 bytes 0x11, made outside.
-pub(crate) const BACKUP: [&[u8]; 7] = [
+pub(crate) static BACKUP: [&[u8]; 7] = [
     b"fsc-protector 1",
     b"name backup",
     b"kind raw",
@@ -93,6 +93,12 @@ fn is_at_fault(text: &[u8], at: u32) -> bool {
     matches!(decode_protector(text), Err(MetaFault::Bad { line }) if line == at)
 }
 
+// That the protector is written as this record; else the test fails.
+fn expect_written<A: Abort>(rt: &A, alloc: Global, protector: &Protector, record: &[u8]) {
+    let text = encode_protector(alloc, protector).expect(rt, "memory");
+    expect_same(rt, text.as_slice(), record, "a record");
+}
+
 #[test]
 fn records_of_a_session_open_to_the_keys_of_their_descriptors(rt: HostRuntime) {
     for (lines, len) in [(&LOGIN, 279), (&BACKUP, 239)] {
@@ -101,8 +107,7 @@ fn records_of_a_session_open_to_the_keys_of_their_descriptors(rt: HostRuntime) {
         let protector = decode_protector(&text).expect(&rt, "a protector");
         let key = protector_key(&rt, rt.alloc(), &protector);
         assert!(rt; Descriptor::of_key(&key) == protector.descriptor);
-        let again = encode_protector(rt.alloc(), &protector).expect(&rt, "memory");
-        expect_same(&rt, again.as_slice(), text.as_slice(), "a record");
+        expect_written(&rt, rt.alloc(), &protector, &text);
     }
 }
 
@@ -125,34 +130,36 @@ fn a_missing_line_is_at_fault_at_its_number(rt: HostRuntime) {
     }
 }
 
+/// Lines that are at fault in the place of this number in the record BACKUP.
+static BACKUP_FAULTS: [(u32, &[u8]); 20] = [
+    (1, b""),
+    (1, b"fsc-protector 2"),
+    (1, b"fsc-policy 1"),
+    (2, b"name "),
+    (2, b"name Backup"),
+    (2, b"name  backup"),
+    (2, b"name abcdefghijabcdefghijabcdefghijabc"),
+    (3, b"kind raw "),
+    (3, b"kind pass 1 64 1 57ef597275f46ccf69b328c1718006d"),
+    (3, b"kind pass 01 64 1 57ef597275f46ccf69b328c1718006d0"),
+    (3, b"kind pass 17 64 1 57ef597275f46ccf69b328c1718006d0"),
+    (3, b"kind pass 1 7 1 57ef597275f46ccf69b328c1718006d0"),
+    (3, b"kind pass 1 64 9 57ef597275f46ccf69b328c1718006d0"),
+    (3, b"kind pass 1 64 57ef597275f46ccf69b328c1718006d0"),
+    (4, b"descriptor 357130F6173b452d"),
+    (4, b"descriptor 357130f6173b452"),
+    (5, b"iv 01FBd7215e026502dfe23ba171216232"),
+    (5, b"iv\t01fbd7215e026502dfe23ba171216232"),
+    (6, b"iv 01fbd7215e026502dfe23ba171216232"),
+    (
+        7,
+        b"tag 82b771a983b19289aff4ef3019617f4efa41fbdb2111e08e2648b5836c2a8722\r",
+    ),
+];
+
 #[test]
 fn a_line_that_is_not_as_its_place_asks_is_at_fault(rt: HostRuntime) {
-    let cases: [(u32, &[u8]); 20] = [
-        (1, b""),
-        (1, b"fsc-protector 2"),
-        (1, b"fsc-policy 1"),
-        (2, b"name "),
-        (2, b"name Backup"),
-        (2, b"name  backup"),
-        (2, b"name abcdefghijabcdefghijabcdefghijabc"),
-        (3, b"kind raw "),
-        (3, b"kind pass 1 64 1 57ef597275f46ccf69b328c1718006d"),
-        (3, b"kind pass 01 64 1 57ef597275f46ccf69b328c1718006d0"),
-        (3, b"kind pass 17 64 1 57ef597275f46ccf69b328c1718006d0"),
-        (3, b"kind pass 1 7 1 57ef597275f46ccf69b328c1718006d0"),
-        (3, b"kind pass 1 64 9 57ef597275f46ccf69b328c1718006d0"),
-        (3, b"kind pass 1 64 57ef597275f46ccf69b328c1718006d0"),
-        (4, b"descriptor 357130F6173b452d"),
-        (4, b"descriptor 357130f6173b452"),
-        (5, b"iv 01FBd7215e026502dfe23ba171216232"),
-        (5, b"iv\t01fbd7215e026502dfe23ba171216232"),
-        (6, b"iv 01fbd7215e026502dfe23ba171216232"),
-        (
-            7,
-            b"tag 82b771a983b19289aff4ef3019617f4efa41fbdb2111e08e2648b5836c2a8722\r",
-        ),
-    ];
-    for (number, said) in cases {
+    for &(number, said) in &BACKUP_FAULTS {
         let text = with_line(rt.alloc(), &BACKUP, number, said).expect(&rt, "memory");
         assert!(rt; is_at_fault(&text, number), "line {number}");
     }

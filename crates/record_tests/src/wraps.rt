@@ -12,7 +12,7 @@ use std::alloc::{AllocError, Global};
 use std::process::Abort;
 
 /// A policy of the protectors LOGIN and BACKUP, made outside.
-pub(crate) const DOCS: [&[u8]; 5] = [
+pub(crate) static DOCS: [&[u8]; 5] = [
     b"fsc-policy 1",
     b"name docs",
     b"id 8a25df4cd4f408b30828b727c5177ce5",
@@ -98,8 +98,7 @@ fn wraps_of_a_session_open_to_the_policy_key(rt: HostRuntime) {
         let text = record(alloc, &DOCS[..lines]).expect(&rt, "memory");
         assert!(rt; text.len() == len);
         let policy = decode_policy_file(alloc, &text).expect(&rt, "a policy");
-        assert!(rt; policy.wraps.len() == lines - 3);
-        assert!(rt; all_open(&policy, &login, &backup));
+        assert!(rt; policy.wraps.len() == lines - 3 && all_open(&policy, &login, &backup));
         expect_written(&rt, alloc, &policy, &text);
     }
 }
@@ -183,45 +182,47 @@ fn wraps_that_are_missing_or_too_many_are_at_fault(rt: HostRuntime) {
     }
 }
 
+/// Lines that are at fault in the place of this number in the record DOCS.
+static DOCS_FAULTS: [(u32, &[u8]); 16] = [
+    (1, b""),
+    (1, b"fsc-policy 3"),
+    (1, b"fsc-protector 1"),
+    (2, b"name "),
+    (2, b"name Docs"),
+    (2, b"id 8a25df4cd4f408b30828b727c5177ce5"),
+    (3, b"id 8A25df4cd4f408b30828b727c5177ce5"),
+    (3, b"id 8a25df4cd4f408b30828b727c5177ce"),
+    (3, b"id 8a25df4cd4f408b30828b727c5177ce5 "),
+    (4, b""),
+    (4, b"options 32 0"),
+    (4, b"wrap login 3453e2154c9546fb81b5f4e3fa894441"),
+    (
+        4,
+        b"wrap  3453e2154c9546fb81b5f4e3fa894441 \
+          6992de0806f04dcc84e29326769d995e1c57a0c2589b41636113d6b546c3c7e8\
+          81ea3ae9399f11f36b16015dec87a26f0392c991986d56208fa7a96dd4ec0f68 \
+          4fe2e562a639cd9b163183f29b2e333eac10776ac9f9dbe64bde76724252ce6a",
+    ),
+    (
+        4,
+        b"wrap login 3453E2154c9546fb81b5f4e3fa894441 \
+          6992de0806f04dcc84e29326769d995e1c57a0c2589b41636113d6b546c3c7e8\
+          81ea3ae9399f11f36b16015dec87a26f0392c991986d56208fa7a96dd4ec0f68 \
+          4fe2e562a639cd9b163183f29b2e333eac10776ac9f9dbe64bde76724252ce6a",
+    ),
+    (
+        4,
+        b"wrap login 3453e2154c9546fb81b5f4e3fa894441 \
+          4fe2e562a639cd9b163183f29b2e333eac10776ac9f9dbe64bde76724252ce6a \
+          6992de0806f04dcc84e29326769d995e1c57a0c2589b41636113d6b546c3c7e8\
+          81ea3ae9399f11f36b16015dec87a26f0392c991986d56208fa7a96dd4ec0f68",
+    ),
+    (5, b"name docs"),
+];
+
 #[test]
 fn a_line_that_is_not_as_its_place_asks_is_at_fault(rt: HostRuntime) {
-    let cases: [(u32, &[u8]); 16] = [
-        (1, b""),
-        (1, b"fsc-policy 3"),
-        (1, b"fsc-protector 1"),
-        (2, b"name "),
-        (2, b"name Docs"),
-        (2, b"id 8a25df4cd4f408b30828b727c5177ce5"),
-        (3, b"id 8A25df4cd4f408b30828b727c5177ce5"),
-        (3, b"id 8a25df4cd4f408b30828b727c5177ce"),
-        (3, b"id 8a25df4cd4f408b30828b727c5177ce5 "),
-        (4, b""),
-        (4, b"options 32 0"),
-        (4, b"wrap login 3453e2154c9546fb81b5f4e3fa894441"),
-        (
-            4,
-            b"wrap  3453e2154c9546fb81b5f4e3fa894441 \
-              6992de0806f04dcc84e29326769d995e1c57a0c2589b41636113d6b546c3c7e8\
-              81ea3ae9399f11f36b16015dec87a26f0392c991986d56208fa7a96dd4ec0f68 \
-              4fe2e562a639cd9b163183f29b2e333eac10776ac9f9dbe64bde76724252ce6a",
-        ),
-        (
-            4,
-            b"wrap login 3453E2154c9546fb81b5f4e3fa894441 \
-              6992de0806f04dcc84e29326769d995e1c57a0c2589b41636113d6b546c3c7e8\
-              81ea3ae9399f11f36b16015dec87a26f0392c991986d56208fa7a96dd4ec0f68 \
-              4fe2e562a639cd9b163183f29b2e333eac10776ac9f9dbe64bde76724252ce6a",
-        ),
-        (
-            4,
-            b"wrap login 3453e2154c9546fb81b5f4e3fa894441 \
-              4fe2e562a639cd9b163183f29b2e333eac10776ac9f9dbe64bde76724252ce6a \
-              6992de0806f04dcc84e29326769d995e1c57a0c2589b41636113d6b546c3c7e8\
-              81ea3ae9399f11f36b16015dec87a26f0392c991986d56208fa7a96dd4ec0f68",
-        ),
-        (5, b"name docs"),
-    ];
-    for (number, said) in cases {
+    for &(number, said) in &DOCS_FAULTS {
         let text = with_line(rt.alloc(), &DOCS, number, said).expect(&rt, "memory");
         assert!(rt; is_at_fault(rt.alloc(), &text, number), "line {number}");
     }

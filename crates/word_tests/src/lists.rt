@@ -5,6 +5,7 @@ use key_counts::{count_of, one_less, one_more};
 use number_map::NumberMap;
 use std::alloc::{AllocError, Global};
 use std::collections::BTreeMap;
+use std::process::Abort;
 
 /// A list of owned things, so that the calls run at a type that isn't `Copy`.
 fn three_words(alloc: Global) -> Result<Items<Bytes>, AllocError> {
@@ -47,22 +48,25 @@ fn each_call_answers_once_with_ample_memory(rt: HostRuntime) {
     for (number, value) in [(7, 70u32), (3, 30), (5, 50), (3, 31)] {
         map.set(number, value).expect(&rt, "memory");
     }
-    assert!(rt; map.len() == 3);
-    assert!(rt; map.get(3) == Some(&31));
-    assert!(rt; map.get(4) == None);
-    match map.get_mut(5) {
-        Some(value) => *value = 51,
-        None => panic!(rt; "5 has a value"),
-    }
-    assert!(rt; map.get_mut(6).is_none());
+    look_up(&rt, &mut map);
     assert!(rt; map.remove(7) == Some(70));
     assert!(rt; map.remove(7) == None);
     map.set(9, 90).expect(&rt, "memory");
-    let mut left = map.iter();
-    for wanted in [(3, 31), (5, 51), (9, 90)] {
-        assert!(rt; left.next().map(|(number, value)| (number, *value)) == Some(wanted));
-    }
-    assert!(rt; left.next().is_none());
+    expect_left(&rt, &map);
+}
+
+// Looks up numbers with a value and without, and gives 5 another value.
+fn look_up<A: Abort>(rt: &A, map: &mut NumberMap<u32>) {
+    assert!(rt; map.len() == 3);
+    assert!(rt; map.get(3).copied() == Some(31));
+    assert!(rt; map.get(4).is_none());
+    *map.get_mut(5).expect(rt, "5 has a value") = 51;
+    assert!(rt; map.get_mut(6).is_none());
+}
+
+// That the map has these entries, by rising number.
+fn expect_left<A: Abort>(rt: &A, map: &NumberMap<u32>) {
+    assert!(rt; map.iter().eq([(3, &31), (5, &51), (9, &90)]));
 }
 
 #[test]

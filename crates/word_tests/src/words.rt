@@ -2,6 +2,7 @@
 
 use byte_words::{read_word, write_words, xor_into};
 use short_bytes::{Filled, Label};
+use std::alloc::AllocError;
 use std::hash::{DefaultHasher, Hash, Hasher};
 use text_words::{hex_bytes, lower_hex_bytes, push_decimal, push_lower_hex};
 
@@ -45,26 +46,34 @@ fn bytes_are_compared_and_hashed_as_they_are_seen(rt: HostRuntime) {
 
 #[test]
 fn labels_have_characters_and_bounds(rt: HostRuntime) {
-    assert!(rt;
-        Label::read(b"login-2_b").is_some_and(|label| label.bytes() == b"login-2_b".as_slice())
-    );
+    let label = Label::read(b"login-2_b").expect(&rt, "a label");
+    assert!(rt; label.bytes() == b"login-2_b".as_slice());
     let letters = [b'z'; 33];
-    assert!(rt; Label::read(&letters[..32]).is_some());
-    assert!(rt; Label::read(&letters).is_none());
-    assert!(rt; Label::read(b"").is_none());
-    assert!(rt; Label::read(b"Login").is_none());
-    assert!(rt; Label::read(b"a.b").is_none());
+    for (bytes, is_label) in [
+        (&letters[..32], true),
+        (&letters, false),
+        (b"", false),
+        (b"Login", false),
+        (b"a.b", false),
+    ] {
+        assert!(rt; Label::read(bytes).is_some() == is_label);
+    }
+}
+
+/// Puts numbers with a space behind each, and then bytes in hex, behind the text.
+fn push_digits(text: &mut Vec<u8>) -> Result<(), AllocError> {
+    push_decimal(text, 0)?;
+    text.push(b' ')?;
+    push_decimal(text, u64::MAX)?;
+    text.push(b' ')?;
+    push_lower_hex(text, &[0, 0x0f, 0xa5, 0xff])?;
+    push_lower_hex(text, &[])
 }
 
 #[test]
 fn digits_stand_behind_the_text(rt: HostRuntime) {
     let mut text = Vec::from_slice(rt.alloc(), b"users=").expect(&rt, "memory");
-    push_decimal(&mut text, 0).expect(&rt, "memory");
-    text.push(b' ').expect(&rt, "memory");
-    push_decimal(&mut text, u64::MAX).expect(&rt, "memory");
-    text.push(b' ').expect(&rt, "memory");
-    push_lower_hex(&mut text, &[0, 0x0f, 0xa5, 0xff]).expect(&rt, "memory");
-    push_lower_hex(&mut text, &[]).expect(&rt, "memory");
+    push_digits(&mut text).expect(&rt, "memory");
     assert!(rt; text.as_slice() == b"users=0 18446744073709551615 000fa5ff".as_slice());
 }
 
