@@ -53,7 +53,7 @@ pub(crate) enum Turn {
     Dropped,
 }
 
-const LOOK_ONE_UP: [Turn; 11] = [
+static LOOK_ONE_UP: [Turn; 11] = [
     Turn::Done(Ask::Create, b"f"),
     Turn::Cached(b"f", None),
     Turn::Leads(b"f", Some(2)),
@@ -68,7 +68,7 @@ const LOOK_ONE_UP: [Turn; 11] = [
 ];
 
 // A name that moves or goes is forgotten at once, and the new one is cached once it is looked up.
-const MOVE_AND_REMOVE: [Turn; 11] = [
+static MOVE_AND_REMOVE: [Turn; 11] = [
     Turn::Done(Ask::Create, b"f"),
     Turn::Leads(b"f", Some(2)),
     Turn::Renamed(b"f", b"g"),
@@ -83,7 +83,7 @@ const MOVE_AND_REMOVE: [Turn; 11] = [
 ];
 
 // So it is with a directory.
-const MAKE_AND_REMOVE: [Turn; 5] = [
+static MAKE_AND_REMOVE: [Turn; 5] = [
     Turn::Done(Ask::Mkdir, b"d"),
     Turn::Leads(b"d", Some(2)),
     Turn::Cached(b"d", Some(2)),

@@ -36,17 +36,19 @@ fn keys_of_1_to_128_bytes_may_be_asked_for(rt: HostRuntime) {
     }
 }
 
+// The copy of a path of one name of 1,000 letters.
+fn copy_of_a_path(alloc: Global) -> Result<Path, AllocError> {
+    let mut path = Path::root(alloc);
+    path.push(Part::new(bytes_of(alloc, 1000)?))?;
+    path.copy(alloc)
+}
+
 #[test]
 fn paths_are_copied(rt: HostRuntime) {
-    let mut path = Path::root(rt.alloc());
-    let part = Part::new(bytes_of(rt.alloc(), 1000).expect(&rt, "memory"));
-    path.push(part).expect(&rt, "memory");
-    let copy = path.copy(rt.alloc()).expect(&rt, "memory");
+    let copy = copy_of_a_path(rt.alloc()).expect(&rt, "memory");
+    assert!(rt; copy.len() == 1 && copy.part(1).is_none());
     let copied = copy.part(0).expect(&rt, "a part");
-    let bytes = bytes_of(rt.alloc(), 1000).expect(&rt, "memory");
-    assert!(rt; copied.bytes() == bytes.as_slice());
-    assert!(rt; copy.len() == 1);
-    assert!(rt; copy.part(1).is_none());
+    assert!(rt; copied.bytes() == [b'a'; 1000].as_slice());
 }
 
 #[test]

@@ -9,6 +9,60 @@ fn key(number: u8) -> KeyId {
     KeyId([number; 16])
 }
 
+/// What is asked of claims, by the number of a key and a user, and what is to be answered. Users are counted from a
+/// first one.
+#[derive(Clone, Copy)]
+enum Ask {
+    /// The user claims the key.
+    Claim(u8, u32, Result<(), ClaimFault>),
+    /// The claim is given up, if there was one.
+    GiveUp(u8, u32, bool),
+    /// All claims on the key are given up.
+    Clear(u8),
+    /// The user has a claim on the key, or none.
+    Has(u8, u32, bool),
+    /// The user has so many claims.
+    OfUser(u32, u32),
+    /// There are so many claims on the key.
+    OnKey(u8, u32),
+}
+
+fn is_answered(claims: &mut Claims, first: u32, ask: Ask) -> bool {
+    match ask {
+        Ask::Claim(number, user, wanted) => {
+            claims.claim(&key(number), first.wrapping_add(user)) == wanted
+        }
+        Ask::GiveUp(number, user, had) => {
+            claims.unclaim(&key(number), first.wrapping_add(user)) == had
+        }
+        Ask::Clear(number) => {
+            claims.clear(&key(number));
+            true
+        }
+        Ask::Has(number, user, has) => { claims.has(&key(number), first.wrapping_add(user)) == has }
+        Ask::OfUser(user, count) => claims.count_of_uid(first.wrapping_add(user)) == count,
+        Ask::OnKey(number, count) => claims.count_of_id(&key(number)) == count,
+    }
+}
+
+fn ask_each<A: Abort>(rt: &A, claims: &mut Claims, first: u32, asks: &[Ask]) {
+    for (place, ask) in asks.iter().enumerate() {
+        assert!(rt; is_answered(claims, first, *ask), "question {place}");
+    }
+}
+
+// Of a user with 64 claims, and of the next user.
+static ASKS_OF_ONE_MORE: [Ask; 8] = [
+    Ask::Claim(64, 0, Err(ClaimFault::Quota)),
+    Ask::Claim(0, 0, Ok(())),
+    Ask::OfUser(0, 64),
+    Ask::Claim(64, 1, Ok(())),
+    Ask::GiveUp(9, 0, true),
+    Ask::GiveUp(9, 0, false),
+    Ask::Claim(64, 0, Ok(())),
+    Ask::OnKey(64, 2),
+];
+
 #[test]
 fn a_user_has_at_most_64_claims(rt: HostRuntime) {
     for uid in [7, 0] {
@@ -16,35 +70,30 @@ fn a_user_has_at_most_64_claims(rt: HostRuntime) {
         for number in 0..64 {
             assert!(rt; claims.claim(&key(number), uid) == Ok(()));
         }
-        assert!(rt; claims.claim(&key(64), uid) == Err(ClaimFault::Quota));
-        assert!(rt; claims.claim(&key(0), uid) == Ok(()));
-        assert!(rt; claims.count_of_uid(uid) == 64);
-        assert!(rt; claims.claim(&key(64), uid + 1) == Ok(()));
-
-        assert!(rt; claims.unclaim(&key(9), uid));
-        assert!(rt; !claims.unclaim(&key(9), uid));
-        assert!(rt; claims.claim(&key(64), uid) == Ok(()));
-        assert!(rt; claims.count_of_id(&key(64)) == 2);
+        ask_each(&rt, &mut claims, uid, &ASKS_OF_ONE_MORE);
     }
 }
+
+static ASKS_OF_EACH_USER: [Ask; 13] = [
+    Ask::Claim(1, 1000, Ok(())),
+    Ask::Claim(1, 1001, Ok(())),
+    Ask::Claim(2, 1000, Ok(())),
+    Ask::GiveUp(1, 1000, true),
+    Ask::Has(1, 1000, false),
+    Ask::Has(1, 1001, true),
+    Ask::Has(2, 1000, true),
+    Ask::Claim(1, 0, Ok(())),
+    Ask::Clear(1),
+    Ask::OnKey(1, 0),
+    Ask::OfUser(1000, 1),
+    Ask::OfUser(0, 0),
+    Ask::OfUser(1001, 0),
+];
 
 #[test]
 fn each_user_claims_for_itself(rt: HostRuntime) {
     let mut claims = Claims::new(rt.alloc());
-    for (number, uid) in [(1, 1000), (1, 1001), (2, 1000)] {
-        assert!(rt; claims.claim(&key(number), uid) == Ok(()));
-    }
-    assert!(rt; claims.unclaim(&key(1), 1000));
-    for (number, uid, has) in [(1, 1000, false), (1, 1001, true), (2, 1000, true)] {
-        assert!(rt; claims.has(&key(number), uid) == has);
-    }
-
-    assert!(rt; claims.claim(&key(1), 0) == Ok(()));
-    claims.clear(&key(1));
-    assert!(rt; claims.count_of_id(&key(1)) == 0);
-    for (uid, count) in [(1000, 1), (0, 0), (1001, 0)] {
-        assert!(rt; claims.count_of_uid(uid) == count);
-    }
+    ask_each(&rt, &mut claims, 0, &ASKS_OF_EACH_USER);
 }
 
 // Whether the ring has this secret under the identifier.
@@ -78,19 +127,16 @@ fn add_for_two<A: Abort>(rt: &A, alloc: Global, ring: &mut KeyRing, raw: &RawKey
 }
 
 fn give_up<A: Abort>(rt: &A, ring: &mut KeyRing, id: &KeyId) {
-    assert!(rt; ring.claims().has(id, 1000));
-    assert!(rt; ring.take_claim(id, 1000) == 1);
+    assert!(rt; ring.claims().has(id, 1000) && ring.take_claim(id, 1000) == 1);
     assert!(rt; has_secret(ring, id, &[1; 32]));
-    assert!(rt; ring.claims().has(id, 1001));
-    assert!(rt; ring.take_claim(id, 1001) == 0);
+    assert!(rt; ring.claims().has(id, 1001) && ring.take_claim(id, 1001) == 0);
     assert!(rt; ring.secret_of(id).is_none());
 }
 
 fn clear<A: Abort>(rt: &A, ring: &mut KeyRing, other: &KeyId) {
     assert!(rt; has_secret(ring, other, &[2; 64]));
     ring.clear(other);
-    assert!(rt; ring.secret_of(other).is_none());
-    assert!(rt; !ring.claims().has(other, 1000));
+    assert!(rt; ring.secret_of(other).is_none() && !ring.claims().has(other, 1000));
 }
 
 fn is_names_key(key: Option<&FileKey>, wanted: &[u8; 32]) -> bool {

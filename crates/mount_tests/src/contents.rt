@@ -1,8 +1,8 @@
 //! Files in blocks, as Linux stores them.
 ghost use Rattle.std.specs.Prelude.{◌≡◌, ◌%◌, ◌^◌};
 
-use crate::disk::add_file;
-use file_disk::{ContentsKey, DiskTree, Unit, begin_read, finish_read, write_file};
+use crate::disk_steps::file;
+use file_disk::{ContentsKey, DiskTree, LentRead, Unit, begin_read, finish_read, write_file};
 use sha2::{Digest, Sha256};
 use std::alloc::{AllocError, Global};
 use std::process::Abort;
@@ -75,8 +75,7 @@ fn write<R: Abort>(
     offset: u32,
     bytes: &[u8],
 ) {
-    assert!(rt; disk.is_file(1));
-    assert!(rt; offset <= 500_000 && bytes.len() <= 500_000);
+    assert!(rt; disk.is_file(1) && offset <= 500_000 && bytes.len() <= 500_000);
     let mut key = key_of(key);
     let written = write_file(disk, alloc, 1, &mut key, offset, bytes);
     assert!(rt; written == Ok(()), "a piece at {offset}");
@@ -104,7 +103,7 @@ fn write_in_pieces<R: Abort>(rt: &R, disk: &mut DiskTree, alloc: Global, key: Op
 // A disk with that file alone.
 fn written_in_pieces<R: Abort>(rt: &R, alloc: Global, key: Option<KeyText>) -> DiskTree {
     let mut disk = DiskTree::new(alloc).expect(rt, "memory");
-    assert!(rt; add_file(rt, &mut disk, alloc, 1).is_ok());
+    assert!(rt; disk.node(1).is_none() && disk.add_node(1, file(alloc)) == Ok(()));
     write_in_pieces(rt, &mut disk, alloc, key);
     disk
 }
@@ -120,21 +119,28 @@ fn a_file_written_in_pieces_is_stored_as_linux_stores_it(rt: HostRuntime) {
 
 // That the file has three blocks, of which the first two have these digests.
 fn expect_blocks<R: Abort>(rt: &R, disk: &DiskTree, alloc: Global, blocks: [&str; 2]) {
-    assert!(rt; disk.file_size(1) == 9192);
-    assert!(rt; disk.block_count(1) == 3);
+    assert!(rt; disk.file_size(1) == 9192 && disk.block_count(1) == 3);
     for (index, sha256) in [(0, blocks[0]), (1, blocks[1])] {
-        let digits = digest_of(disk, alloc, index).expect(rt, "memory");
-        assert!(rt; digits.as_str() == sha256);
+        assert!(rt;
+            has_digest(disk, alloc, index, sha256) == Ok(true),
+            "block {index}"
+        );
     }
 }
 
-// The digits of a block's digest; of no block, where the file hasn't this one.
-fn digest_of(disk: &DiskTree, alloc: Global, index: u32) -> Result<String, AllocError> {
+// Whether the file has this block, and the block this digest.
+fn has_digest(
+    disk: &DiskTree,
+    alloc: Global,
+    index: u32,
+    sha256: &str,
+) -> Result<bool, AllocError> {
     if index as usize >= disk.block_count(1) {
-        return Ok(String::new(alloc));
+        return Ok(false);
     }
     let digest = Sha256::digest(disk.block(1, index));
-    hex::encode(alloc, digest.as_slice())
+    let digits = hex::encode(alloc, digest.as_slice())?;
+    Ok(digits.as_str() == sha256)
 }
 
 #[test]
@@ -142,7 +148,6 @@ fn a_read_gives_what_was_written(rt: HostRuntime) {
     for key in [Some(OWN), Some(MODE), None] {
         let disk = written_in_pieces(&rt, rt.alloc(), key);
         read_in_parts(&rt, &disk, rt.alloc(), key);
-        read_nothing(&rt, &disk, rt.alloc(), key);
     }
 }
 
@@ -155,32 +160,32 @@ fn read_in_parts<R: Abort>(rt: &R, disk: &DiskTree, alloc: Global, key: Option<K
         (9000, 4096, 9192),
     ] {
         let wanted = contents.get(offset as usize..end).expect(rt, "a part");
-        read(rt, disk, alloc, key, (offset, len), wanted);
+        read(rt, disk, alloc, key, (offset, len), Some(wanted));
     }
+    // at the file's end, and where no byte is asked for
+    read(rt, disk, alloc, key, (9192, 1), None);
+    read(rt, disk, alloc, key, (0, 0), None);
 }
 
-// That a read of so many bytes from there on gives these.
+// That a read of so many bytes from there on gives these, or finds none.
 fn read<R: Abort>(
     rt: &R,
     disk: &DiskTree,
     alloc: Global,
     key: Option<KeyText>,
     (offset, len): (u32, u32),
-    wanted: &[u8],
+    wanted: Option<&[u8]>,
 ) {
     assert!(rt; len <= 4096);
     let mut key = key_of(key);
-    match begin_read(disk, alloc, 1, &mut key, offset, len).expect(rt, "memory") {
-        Some(lent) => assert!(rt; finish_read(lent).as_slice() == wanted),
-        None => panic!(rt; "the file has bytes there"),
-    }
+    let lent = begin_read(disk, alloc, 1, &mut key, offset, len).expect(rt, "memory");
+    assert!(rt; is_read(lent, wanted), "{len} bytes at {offset}");
 }
 
-// At the file's end, and where no byte is asked for.
-fn read_nothing<R: Abort>(rt: &R, disk: &DiskTree, alloc: Global, key: Option<KeyText>) {
-    let mut key = key_of(key);
-    for (offset, len) in [(9192, 1), (0, 0)] {
-        let part = begin_read(disk, alloc, 1, &mut key, offset, len).expect(rt, "memory");
-        assert!(rt; part.is_none());
+fn is_read(lent: Option<LentRead>, wanted: Option<&[u8]>) -> bool {
+    match (lent, wanted) {
+        (Some(lent), Some(wanted)) => finish_read(lent).as_slice() == wanted,
+        (None, None) => true,
+        _ => false,
     }
 }

@@ -12,6 +12,8 @@ mod contents;
 #[cfg(test)]
 mod disk;
 #[cfg(test)]
+mod disk_steps;
+#[cfg(test)]
 mod encrypted_dir;
 #[cfg(test)]
 mod handles;

@@ -12,43 +12,95 @@ fn has_key(cache: &InodeCache, node: u32, number: u8) -> bool {
     matches!(cache.key_of(node), Some(FileKey::Names(bytes)) if *bytes == [number; 32])
 }
 
+const FIRST: KeyId = KeyId([1; 16]);
+
+const SECOND: KeyId = KeyId([2; 16]);
+
+/// A step of a test: what is done to a cache, or seen of it.
+#[derive(Clone, Copy)]
+enum Step {
+    /// The node keeps the names key of this number, under the identifier.
+    Keep(u32, KeyId, u8),
+    /// The node's only pin goes.
+    Unpin(u32),
+    /// The node's key is dropped.
+    Drop(u32),
+    /// Nodes without pins lose their keys under the identifier.
+    Evict(KeyId),
+    /// Nodes without pins lose their keys.
+    EvictAll,
+    /// The node has the names key of this number.
+    Keyed(u32, u8),
+    /// The node has no key.
+    Bare(u32),
+}
+
+fn goes_so(cache: &mut InodeCache, alloc: Global, step: Step) -> bool {
+    match step {
+        Step::Keep(node, id, number) => { cache.keep(alloc, node, id, names_key(number)) == Ok(()) }
+        Step::Unpin(node) => unpinned(cache, node),
+        Step::Drop(node) => {
+            cache.drop_key(node);
+            true
+        }
+        Step::Evict(id) => {
+            cache.evict_unpinned(&id);
+            true
+        }
+        Step::EvictAll => {
+            cache.evict_all_unpinned();
+            true
+        }
+        Step::Keyed(node, number) => has_key(cache, node, number),
+        Step::Bare(node) => cache.key_of(node).is_none(),
+    }
+}
+
+// Whether the node had one pin, and has none without it.
+fn unpinned(cache: &mut InodeCache, node: u32) -> bool {
+    if cache.pins(node) != 1 {
+        return false;
+    }
+    cache.unpin(node);
+    cache.pins(node) == 0
+}
+
+// Node 7 has a key and a pin, and the other nodes have none yet.
+static KEEP_EVICT_AND_DROP: [Step; 14] = [
+    Step::Keep(8, FIRST, 8),
+    Step::Keep(9, SECOND, 9),
+    Step::Evict(FIRST),
+    Step::Keyed(7, 7),
+    Step::Keyed(9, 9),
+    Step::Bare(8),
+    Step::Keep(9, SECOND, 10),
+    Step::Keyed(9, 10),
+    Step::Unpin(7),
+    Step::Keyed(7, 7),
+    Step::Drop(7),
+    Step::Bare(7),
+    Step::EvictAll,
+    Step::Bare(9),
+];
+
 #[test]
 fn a_key_stays_until_it_is_evicted_without_pins(rt: HostRuntime) {
-    let alloc = rt.alloc();
-    let (first, second) = (KeyId([1; 16]), KeyId([2; 16]));
-    let mut cache = InodeCache::new(alloc);
-    pin_one(&rt, alloc, &mut cache, first);
-    for (node, id) in [(8, first), (9, second)] {
-        let kept = cache.keep(alloc, node, id, names_key(node as u8));
-        assert!(rt; kept == Ok(()));
+    let mut cache = InodeCache::new(rt.alloc());
+    pin_one(&rt, rt.alloc(), &mut cache);
+    for (place, step) in KEEP_EVICT_AND_DROP.iter().enumerate() {
+        assert!(rt; goes_so(&mut cache, rt.alloc(), *step), "step {place}");
     }
-    cache.evict_unpinned(&first);
-    assert!(rt; has_key(&cache, 7, 7) && has_key(&cache, 9, 9));
-    assert!(rt; cache.key_of(8).is_none());
-    assert!(rt; cache.keep(alloc, 9, second, names_key(10)) == Ok(()));
-    unpin_and_drop(&rt, &mut cache);
 }
 
 // Node 7 has a key and a pin.
-fn pin_one<A: Abort>(rt: &A, alloc: Global, cache: &mut InodeCache, id: KeyId) {
+fn pin_one<A: Abort>(rt: &A, alloc: Global, cache: &mut InodeCache) {
     if cache.pins(7) == 0 {
         let key = NodeKey {
-            id,
+            id: FIRST,
             key: names_key(7),
         };
         cache.pin(alloc, 7, Some(key)).expect(rt, "memory");
     }
-}
-
-fn unpin_and_drop<A: Abort>(rt: &A, cache: &mut InodeCache) {
-    assert!(rt; has_key(cache, 9, 10));
-    assert!(rt; cache.pins(7) == 1);
-    cache.unpin(7);
-    assert!(rt; cache.pins(7) == 0 && has_key(cache, 7, 7));
-    cache.drop_key(7);
-    assert!(rt; cache.key_of(7).is_none());
-    cache.evict_all_unpinned();
-    assert!(rt; cache.key_of(9).is_none());
 }
 
 // Whether the node's cipher makes this block of one of zeros.

@@ -8,46 +8,59 @@ use mount_records::{Bytes, MountState, Reply, meta_load, meta_store};
 use std::alloc::{AllocError, Global};
 use std::process::Abort;
 
+/// The name of a record that is stored, the version that it is to have by then, the length of its text, and what is
+/// told.
+type Store = (&'static [u8], u32, usize, Result<u32, StoreFault>);
+
+fn store_each<A: Abort>(rt: &A, alloc: Global, files: &mut MetaFiles, stores: &[Store]) {
+    for (name, version, length, wanted) in stores {
+        let text = Vec::from_elem(alloc, b'x', *length).expect(rt, "memory");
+        let stored = files.store(alloc, name, *version, &text);
+        assert!(rt; stored == *wanted, "{length} bytes at version {version}");
+    }
+}
+
+static STORES_BY_VERSION: [Store; 6] = [
+    // a new record, one that changed meanwhile, the next version
+    (b"a", 0, 0, Ok(1)),
+    (b"a", 0, 3, Err(StoreFault::Changed { version: 1 })),
+    (b"a", 1, 3, Ok(2)),
+    (b"b", 1, 3, Err(StoreFault::Changed { version: 0 })),
+    // the longest record, and one byte more, which comes before a wrong version
+    (b"b", 0, 8_192, Ok(1)),
+    (b"b", 0, 8_193, Err(StoreFault::TooBig)),
+];
+
 #[test]
 fn records_are_stored_by_their_version(rt: HostRuntime) {
-    let alloc = rt.alloc();
-    let mut files = MetaFiles::new(alloc);
-    let stores = [
-        // a new record, one that changed meanwhile, the next version
-        (b"a", 0, 0, Ok(1)),
-        (b"a", 0, 3, Err(StoreFault::Changed { version: 1 })),
-        (b"a", 1, 3, Ok(2)),
-        (b"b", 1, 3, Err(StoreFault::Changed { version: 0 })),
-        // the longest record, and one byte more, which comes before a wrong version
-        (b"b", 0, 8_192, Ok(1)),
-        (b"b", 0, 8_193, Err(StoreFault::TooBig)),
-    ];
-    for (name, expected, length, wanted) in stores {
-        let text = Vec::from_elem(alloc, b'x', length).expect(&rt, "an answer");
-        let stored = files.store(alloc, name, expected, &text);
-        assert!(rt; stored == wanted, "{length} bytes at version {expected}");
-    }
-    let a = files.load(alloc, b"a").expect(&rt, "an answer");
+    let mut files = MetaFiles::new(rt.alloc());
+    store_each(&rt, rt.alloc(), &mut files, &STORES_BY_VERSION);
+    load_one(&rt, rt.alloc(), &files);
+}
+
+fn load_one<A: Abort>(rt: &A, alloc: Global, files: &MetaFiles) {
+    let a = files.load(alloc, b"a").expect(rt, "an answer");
     assert!(rt;
         a.is_some_and(|(version, bytes)| version == 2 && bytes.as_slice() == b"xxx".as_slice())
     );
-    assert!(rt; files.load(alloc, b"c").expect(&rt, "an answer").is_none());
+    assert!(rt; files.load(alloc, b"c").expect(rt, "an answer").is_none());
 }
+
+// One record more, also at a wrong version, and the eighth one anew.
+static STORES_BESIDE_1024: [Store; 3] = [
+    (b"one more", 0, 0, Err(StoreFault::NoSpace)),
+    (b"one more", 1, 0, Err(StoreFault::Changed { version: 0 })),
+    (&[7, 0, 0, 0], 1, 4, Ok(2)),
+];
 
 #[test]
 fn there_are_at_most_1024_records(rt: HostRuntime) {
-    let alloc = rt.alloc();
-    let mut files = MetaFiles::new(alloc);
+    let mut files = MetaFiles::new(rt.alloc());
     for number in 0..1_024u32 {
-        let stored = files.store(alloc, &number.to_le_bytes(), 0, b"");
+        let stored = files.store(rt.alloc(), &number.to_le_bytes(), 0, b"");
         assert!(rt; stored == Ok(1));
     }
-    let one_more = files.store(alloc, b"one more", 0, b"");
-    assert!(rt; one_more == Err(StoreFault::NoSpace));
-    let wrong_version = files.store(alloc, b"one more", 1, b"");
-    assert!(rt; wrong_version == Err(StoreFault::Changed { version: 0 }));
-    let again = files.store(alloc, &7u32.to_le_bytes(), 1, b"anew");
-    assert!(rt; again == Ok(2));
+    store_each(&rt, rt.alloc(), &mut files, &STORES_BESIDE_1024);
 }
 
 fn bytes_of(alloc: Global, bytes: &[u8]) -> Result<Bytes, AllocError> {
