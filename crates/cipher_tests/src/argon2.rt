@@ -1,5 +1,6 @@
 //! Argon2id against its RFC and another implementation, and its lanes at once.
 
+use crate::compared::same_bytes;
 use argon_kdf::{
     CostFault, Costs, LaneStretch, PlainStretch, Stretch, Texts, argon2id, argon2id_lanes,
 };
@@ -26,10 +27,10 @@ fn argon2id_example(rt: HostRuntime) {
     };
     let mut tag = [0; 32];
     argon2id(rt.alloc(), &costs, texts, &mut tag).expect(&rt, "an answer");
-    assert!(rt; tag == want);
+    same_bytes(&rt, &tag, &want);
     let mut by_lanes = [0; 32];
     argon2id_lanes(&rt, rt.alloc(), &costs, texts, &mut by_lanes).expect(&rt, "an answer");
-    assert!(rt; by_lanes == want);
+    same_bytes(&rt, &by_lanes, &want);
 }
 
 // What no contract says is that the threads run to their end.
@@ -70,7 +71,7 @@ fn segments_of_more_than_128_columns(rt: HostRuntime) {
     let mut tag = [0; 32];
     let texts = Texts::unkeyed(b"password", b"somesaltsomesalt");
     argon2id(rt.alloc(), &LONG_SEGMENTS, texts, &mut tag).expect(&rt, "an answer");
-    assert!(rt; tag == LONG_SEGMENTS_TAG);
+    same_bytes(&rt, &tag, &LONG_SEGMENTS_TAG);
 }
 
 fn stretched_by<S: Stretch>(stretch: &S, alloc: Global) -> Result<[u8; 32], AllocError>
@@ -89,13 +90,10 @@ fn stretched_by<S: Stretch>(stretch: &S, alloc: Global) -> Result<[u8; 32], Allo
 
 #[test]
 fn stretches_with_and_without_threads(rt: HostRuntime) {
-    assert!(rt;
-        stretched_by(&PlainStretch, rt.alloc()).expect(&rt, "an answer") == LONG_SEGMENTS_TAG
-    );
-    assert!(rt;
-        stretched_by(&LaneStretch { threads: &rt }, rt.alloc()).expect(&rt, "an answer")
-            == LONG_SEGMENTS_TAG
-    );
+    let plain = stretched_by(&PlainStretch, rt.alloc()).expect(&rt, "an answer");
+    same_bytes(&rt, &plain, &LONG_SEGMENTS_TAG);
+    let by_lanes = stretched_by(&LaneStretch { threads: &rt }, rt.alloc());
+    same_bytes(&rt, &by_lanes.expect(&rt, "an answer"), &LONG_SEGMENTS_TAG);
 }
 
 #[test]

@@ -1,6 +1,7 @@
 //! BLAKE2b against its RFC and another implementation.
-ghost use Rattle.std.specs.Prelude.{◌≤◌};
+ghost use Rattle.std.specs.Prelude.{◌≤◌, length};
 
+use crate::compared::same_bytes;
 use blake2_core::Blake2b;
 
 // The digest of one piece, in the first `size` bytes.
@@ -25,11 +26,25 @@ fn blake2b_abc(rt: HostRuntime) {
         0x33, 0xcc, 0x95, 0x18, 0xd3, 0x8a, 0xa8, 0xdb, 0xf1, 0x92, 0x5a, 0xb9, 0x23, 0x86, 0xed,
         0xd4, 0x00, 0x99, 0x23,
     ];
-    assert!(rt; digest_of(b"abc", 64).as_slice() == want.as_slice());
+    same_bytes(&rt, &digest_of(b"abc", 64), &want);
 }
 
-// The self-test of RFC 7693, appendix E, over its digests without a key. Python's hashlib gives the
-// RFC's own value for the whole test, and this one for the digests without a key.
+// Fills at most 1,024 bytes with the input of the self-test of RFC 7693, appendix E.
+fn fill_as_the_self_test(input: &mut [u8])
+    requires { length input.old ≤ 1024 }
+{
+    let mut a = 0xdead_4badu32.wrapping_mul(input.len() as u32);
+    let mut b = 1u32;
+    for byte in input.iter_mut() {
+        let next = a.wrapping_add(b);
+        a = b;
+        b = next;
+        *byte = (next >> 24) as u8;
+    }
+}
+
+// That self-test, over its digests without a key. Python's hashlib gives the RFC's own value for the whole
+// test, and this one for the digests without a key.
 #[test]
 fn digests_of_the_self_test(rt: HostRuntime) {
     let want: [u8; 32] = [
@@ -41,20 +56,13 @@ fn digests_of_the_self_test(rt: HostRuntime) {
     for size in [20usize, 32, 48, 64] {
         for len in [0usize, 3, 128, 129, 255, 1024] {
             let mut input = [0; 1024];
-            let mut a = 0xdead_4badu32.wrapping_mul(len as u32);
-            let mut b = 1u32;
-            for byte in input[..len].iter_mut() {
-                let next = a.wrapping_add(b);
-                a = b;
-                b = next;
-                *byte = (next >> 24) as u8;
-            }
+            fill_as_the_self_test(&mut input[..len]);
             all.update(&digest_of(&input[..len], size)[..size]);
         }
     }
     let mut out = [0; 32];
     all.finish(&mut out);
-    assert!(rt; out == want);
+    same_bytes(&rt, &out, &want);
 }
 
 // One message in pieces of 1 to 300 bytes, by hashlib.
@@ -77,5 +85,5 @@ fn pieces_of_each_length_make_one_message(rt: HostRuntime) {
     }
     let mut out = [0; 64];
     hasher.finish(&mut out);
-    assert!(rt; out.as_slice() == want.as_slice());
+    same_bytes(&rt, &out, &want);
 }

@@ -13,6 +13,8 @@ mod block_vectors;
 #[cfg(test)]
 mod blocks;
 #[cfg(test)]
+mod compared;
+#[cfg(test)]
 mod counted;
 #[cfg(test)]
 mod cts;
