@@ -2,6 +2,7 @@
 
 ghost use Rattle.std.specs.Prelude.{◌≤◌, length};
 
+use crate::texts::expect_same;
 use call_history::Entry;
 use fsc_commands::{EntryList, path_meant};
 use item_list::Bytes;
@@ -81,8 +82,7 @@ fn drawn(
 // That this is drawn for each row, whole and by 16 bytes.
 fn expect_drawn<A: Abort>(rt: &A, alloc: Global, seed: &[u8; 32], rows: &[DrawRow]) {
     for row in rows {
-        let whole = drawn(alloc, seed, row, &mut [0; 64]).expect(rt, "an answer");
-        assert!(rt; whole.as_str() == row.3);
+        expect_same(rt, drawn(alloc, seed, row, &mut [0; 64]), row.3, "64 bytes");
         let nonce = drawn(alloc, seed, row, &mut [0; 16]).expect(rt, "an answer");
         assert!(rt; row.3.starts_with(nonce.as_str()));
     }

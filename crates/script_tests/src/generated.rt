@@ -1,6 +1,6 @@
 //! Generated texts against those of another program.
 
-use crate::texts::same;
+use crate::texts::expect_same;
 use load_gen::generate;
 use sha2::{Digest, Sha256};
 use std::alloc::Global;
@@ -37,8 +37,8 @@ const TEXTS: [(u32, &str, &str); 3] = [
 fn expect_generated<A: Abort>(rt: &A, alloc: Global, text: &[u8], seventh: &str, digest: &str) {
     assert!(rt; line(text, 0) == b"caller 1000".as_slice());
     assert!(rt; line(text, 6) == seventh.as_bytes());
-    let got = hex::encode(alloc, Sha256::digest(text).as_slice()).expect(rt, "memory");
-    same(rt, got.as_str(), digest, seventh);
+    let got = hex::encode(alloc, Sha256::digest(text).as_slice());
+    expect_same(rt, got, digest, seventh);
 }
 
 #[test]

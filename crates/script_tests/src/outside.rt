@@ -55,19 +55,24 @@ fn copy_once<A: Abort>(
     }
 }
 
+// That of these the listed call fails and no other, and that the text arrives.
+fn expect_copied<A: Abort>(rt: &A, source: &mut MemSource, sink: &mut MemSink, listed: u32) {
+    let mut has_failed = false;
+    for call in 0..5u32 {
+        has_failed |= copy_once(rt, source, sink, call == listed);
+    }
+    assert!(rt; has_failed);
+    assert!(rt; sink.got() == TEXT.as_slice());
+    assert!(rt; sink.write(b"!").is_err());
+}
+
 // Each call that the lists name fails and no other, and what comes before and after arrives.
 #[test]
 fn each_listed_call_fails_alone(rt: HostRuntime) {
     for listed in 0..4u32 {
         let mut source = failing_source(rt.alloc(), listed).expect(&rt, "memory");
         let mut sink = failing_sink(rt.alloc(), listed).expect(&rt, "memory");
-        let mut has_failed = false;
-        for call in 0..5u32 {
-            has_failed |= copy_once(&rt, &mut source, &mut sink, call == listed);
-        }
-        assert!(rt; has_failed);
-        assert!(rt; sink.got() == TEXT.as_slice());
-        assert!(rt; sink.write(b"!").is_err());
+        expect_copied(&rt, &mut source, &mut sink, listed);
     }
 }
 
@@ -172,16 +177,22 @@ fn gives(alloc: Global, source: &mut SteadySource, wanted: &Result<&str, InputFa
     }
 }
 
+// That the source of the row's text gives what the row tells.
+fn expect_input<A: Abort>(rt: &A, alloc: Global, source: &mut SteadySource, row: &InputRow) {
+    let (text, wanted, left) = row;
+    assert!(rt; gives(alloc, source, wanted), "of {text:?}");
+    assert!(rt;
+        count_read(rt, source, &mut [0; 8]) == *left,
+        "behind {text:?}"
+    );
+}
+
 // A text at a limit is read, and one line or byte more is too long. Nothing behind the first byte that
 // is too many is read.
 #[test]
 fn inputs_are_read_within_their_limits(rt: HostRuntime) {
-    for (text, wanted, left) in &INPUTS {
-        let mut source = steady_source(rt.alloc(), text.as_bytes()).expect(&rt, "memory");
-        assert!(rt; gives(rt.alloc(), &mut source, wanted), "of {text:?}");
-        assert!(rt;
-            count_read(&rt, &mut source, &mut [0; 8]) == *left,
-            "behind {text:?}"
-        );
+    for row in &INPUTS {
+        let mut source = steady_source(rt.alloc(), row.0.as_bytes()).expect(&rt, "memory");
+        expect_input(&rt, rt.alloc(), &mut source, row);
     }
 }

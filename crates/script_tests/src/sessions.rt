@@ -46,31 +46,42 @@ fn ended(alloc: Global, verb: &Verb, replies: Vec<Reply>) -> Result<Option<Outco
     )
 }
 
-// Whether it ends so where this is the reply to its first call.
-fn ends_by(alloc: Global, verb: &Verb, reply: Reply, wanted: Outcome) -> bool
-    requires { IsAskable verb.now }
-{
-    match vec![in alloc; reply] {
-        Ok(replies) => ends_so(alloc, verb, replies, wanted),
-        Err(_) => false,
-    }
-}
-
-// Whether it ends so where its first call gives the record, and its second call this reply.
-fn ends_behind(alloc: Global, verb: &Verb, reply: Reply, wanted: Outcome) -> bool
-    requires { IsAskable verb.now }
-{
-    match held_before(alloc, reply) {
-        Ok(replies) => ends_so(alloc, verb, replies, wanted),
-        Err(_) => false,
-    }
-}
-
-// Whether it ends so where these are the replies, the first one last.
+// Whether the command ends so where these are the replies, the first one last.
 fn ends_so(alloc: Global, verb: &Verb, replies: Vec<Reply>, wanted: Outcome) -> bool
     requires { IsAskable verb.now }
 {
     matches!(ended(alloc, verb, replies), Ok(Some(outcome)) if outcome == wanted)
+}
+
+// Whether a lock ends so where memory sufficed for these replies.
+fn lock_ends(
+    alloc: Global,
+    label: Label,
+    replies: Result<Vec<Reply>, AllocError>,
+    wanted: Outcome,
+) -> bool {
+    match replies {
+        Ok(replies) => ends_so(alloc, &Verb::Lock(label), replies, wanted),
+        Err(_) => false,
+    }
+}
+
+// Whether a migration ends so where memory sufficed for these replies.
+fn migration_ends(
+    alloc: Global,
+    label: Label,
+    replies: Result<Vec<Reply>, AllocError>,
+    wanted: Outcome,
+) -> bool {
+    match replies {
+        Ok(replies) => ends_so(alloc, &Verb::Migrate(label), replies, wanted),
+        Err(_) => false,
+    }
+}
+
+// This reply alone.
+fn alone(alloc: Global, reply: Reply) -> Result<Vec<Reply>, AllocError> {
+    Ok(vec![in alloc; reply]?)
 }
 
 // The record as a reply, and this reply behind it.
@@ -86,25 +97,29 @@ fn label<A: Abort>(rt: &A) -> Label {
 
 #[test]
 fn a_lock_ends_by_its_first_reply(rt: HostRuntime) {
-    let (alloc, lock) = (rt.alloc(), Verb::Lock(label(&rt)));
-    let (wanting, refused) = (Refusal::NoMemory, Refusal::NotFound);
-    assert!(rt; ends_by(alloc, &lock, Reply::Refused(wanting), Outcome::NoMemory));
-    assert!(rt; ends_by(alloc, &lock, Reply::Refused(refused), Outcome::Refused));
-    assert!(rt; ends_by(alloc, &lock, Reply::Done, Outcome::OddReply));
+    let (alloc, docs) = (rt.alloc(), label(&rt));
+    let wanting = alone(alloc, Reply::Refused(Refusal::NoMemory));
+    assert!(rt; lock_ends(alloc, docs, wanting, Outcome::NoMemory));
+    let refused = alone(alloc, Reply::Refused(Refusal::NotFound));
+    assert!(rt; lock_ends(alloc, docs, refused, Outcome::Refused));
+    let odd = alone(alloc, Reply::Done);
+    assert!(rt; lock_ends(alloc, docs, odd, Outcome::OddReply));
 }
 
 #[test]
 fn a_lock_ends_by_its_second_reply(rt: HostRuntime) {
-    let (alloc, lock) = (rt.alloc(), Verb::Lock(label(&rt)));
-    let wanting = Reply::Refused(Refusal::NoMemory);
-    assert!(rt; ends_behind(alloc, &lock, wanting, Outcome::NoMemory));
-    assert!(rt; ends_behind(alloc, &lock, Reply::Done, Outcome::OddReply));
+    let (alloc, docs) = (rt.alloc(), label(&rt));
+    let wanting = held_before(alloc, Reply::Refused(Refusal::NoMemory));
+    assert!(rt; lock_ends(alloc, docs, wanting, Outcome::NoMemory));
+    let odd = held_before(alloc, Reply::Done);
+    assert!(rt; lock_ends(alloc, docs, odd, Outcome::OddReply));
 }
 
 #[test]
 fn a_migration_ends_by_its_store(rt: HostRuntime) {
-    let (alloc, migrate) = (rt.alloc(), Verb::Migrate(label(&rt)));
-    assert!(rt; ends_behind(alloc, &migrate, Reply::Stored(2), Outcome::Done));
-    let changed = Reply::Refused(Refusal::Changed { version: 2 });
-    assert!(rt; ends_behind(alloc, &migrate, changed, Outcome::Conflict));
+    let (alloc, docs) = (rt.alloc(), label(&rt));
+    let stored = held_before(alloc, Reply::Stored(2));
+    assert!(rt; migration_ends(alloc, docs, stored, Outcome::Done));
+    let changed = held_before(alloc, Reply::Refused(Refusal::Changed { version: 2 }));
+    assert!(rt; migration_ends(alloc, docs, changed, Outcome::Conflict));
 }

@@ -14,10 +14,20 @@ pub(crate) fn repeated(alloc: Global, text: &str, times: usize) -> Result<String
 
 // That the text is the one that is wanted; else the test fails, and tells what the text is about.
 pub(crate) fn same<A: Abort>(rt: &A, got: &str, wanted: &str, about: &str) {
-    assert_eq!(rt; got, wanted, "{about}");
+    assert!(rt; got == wanted, "{about}: {got:?} in place of {wanted:?}");
+}
+
+// That memory sufficed for the text, and that it is the one that is wanted.
+pub(crate) fn expect_same<A: Abort>(
+    rt: &A,
+    made: Result<String, AllocError>,
+    wanted: &str,
+    about: &str,
+) {
+    same(rt, made.expect(rt, "memory").as_str(), wanted, about);
 }
 
 // That the bytes are those that are wanted.
 pub(crate) fn same_bytes<A: Abort>(rt: &A, got: &[u8], wanted: &[u8], about: &str) {
-    assert_eq!(rt; got, wanted, "{about}");
+    assert!(rt; got == wanted, "{about}: {got:?} in place of {wanted:?}");
 }

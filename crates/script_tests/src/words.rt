@@ -1,6 +1,6 @@
 //! Words, targets, parts and paths at the edges of the grammar, through the readers and the writers.
 
-use crate::texts::{repeated, same};
+use crate::texts::{expect_same, repeated};
 use item_list::Bytes;
 use script_words::{
     ScriptPart, read_part, read_path, read_target, read_word, write_path, write_word,
@@ -8,12 +8,11 @@ use script_words::{
 use std::alloc::{AllocError, Global};
 use std::process::Abort;
 
-// Puts a `/` and the part behind it: a given part as its digits, a star as its number.
-fn push_part(shown: &mut String, alloc: Global, part: &ScriptPart) -> Result<(), AllocError> {
-    shown.push('/')?;
+// A given part as its digits, a star as its number.
+fn part_shown(alloc: Global, part: &ScriptPart) -> Result<String, AllocError> {
     match part {
-        ScriptPart::Given(bytes) => shown.push_str(&hex::encode(alloc, bytes.as_slice())?),
-        ScriptPart::Star(number) => shown.push_str(&format!(in alloc; "star {number}")?),
+        ScriptPart::Given(bytes) => hex::encode(alloc, bytes.as_slice()),
+        ScriptPart::Star(number) => format!(in alloc; "star {number}"),
     }
 }
 
@@ -21,7 +20,8 @@ fn push_part(shown: &mut String, alloc: Global, part: &ScriptPart) -> Result<(),
 fn parts_shown(alloc: Global, parts: &[ScriptPart]) -> Result<String, AllocError> {
     let mut shown = String::new(alloc);
     for part in parts {
-        push_part(&mut shown, alloc, part)?;
+        shown.push('/')?;
+        shown.push_str(&part_shown(alloc, part)?)?;
     }
     Ok(shown)
 }
@@ -90,8 +90,7 @@ const PARTS: [PathRow; 25] = [
 // That each of these paths is shown so.
 fn expect_shown<A: Abort>(rt: &A, alloc: Global, rows: &[PathRow]) {
     for (text, want) in rows {
-        let shown = path_shown(alloc, text.as_bytes()).expect(rt, "an answer");
-        same(rt, shown.as_str(), want, text);
+        expect_same(rt, path_shown(alloc, text.as_bytes()), want, text);
     }
 }
 
@@ -151,10 +150,8 @@ fn target_read(alloc: Global, text: &[u8]) -> Result<String, AllocError> {
 #[test]
 fn words_have_graphic_characters_and_whole_escapes(rt: HostRuntime) {
     for (text, word, target) in &WORDS {
-        let read = word_read(rt.alloc(), text).expect(&rt, "an answer");
-        same(&rt, read.as_str(), word, "a word");
-        let read = target_read(rt.alloc(), text).expect(&rt, "an answer");
-        same(&rt, read.as_str(), target, "a target");
+        expect_same(&rt, word_read(rt.alloc(), text), word, "a word");
+        expect_same(&rt, target_read(rt.alloc(), text), target, "a target");
     }
 }
 
@@ -170,17 +167,25 @@ fn is_part(alloc: Global, piece: &str, pieces: usize) -> Result<bool, AllocError
     Ok(read_part(alloc, text.as_bytes())?.is_some())
 }
 
+// A piece, how many of it there are, and how many bytes the word has that they spell, if they spell one.
+const LENGTHS: [(&str, usize, Option<usize>); 4] = [
+    ("a", 1000, Some(1000)),
+    ("a", 1001, None),
+    ("%61", 1000, Some(1000)),
+    ("%61", 1001, None),
+];
+
 #[test]
 fn words_have_at_most_1000_bytes(rt: HostRuntime) {
+    for (piece, pieces, wanted) in &LENGTHS {
+        let length = length_read(rt.alloc(), piece, *pieces).expect(&rt, "memory");
+        assert!(rt; length == *wanted, "{pieces} of {piece}");
+    }
+}
+
+#[test]
+fn parts_have_at_most_1000_bytes(rt: HostRuntime) {
     for piece in &["a", "%61"] {
-        assert!(rt;
-            matches!(length_read(rt.alloc(), piece, 1000), Ok(Some(1000))),
-            "{piece}"
-        );
-        assert!(rt;
-            matches!(length_read(rt.alloc(), piece, 1001), Ok(None)),
-            "{piece}"
-        );
         assert!(rt;
             matches!(is_part(rt.alloc(), piece, 1001), Ok(false)),
             "{piece}"
@@ -200,15 +205,20 @@ const QUOTED: [&str; 8] = [
     "%E0%E1%E2%E3%E4%E5%E6%E7%E8%E9%EA%EB%EC%ED%EE%EF%F0%F1%F2%F3%F4%F5%F6%F7%F8%F9%FA%FB%FC%FD%FE%FF",
 ];
 
+// The 32 bytes that count up from this one.
+fn counted_from(first: u8) -> [u8; 32] {
+    let mut bytes = [first; 32];
+    for i in 0..32 {
+        bytes[i] = first.wrapping_add(i as u8);
+    }
+    bytes
+}
+
 #[test]
 fn words_are_written_as_url_quoting_writes_them(rt: HostRuntime) {
-    let mut bytes = [0; 256];
-    for i in 0..256 {
-        bytes[i] = i as u8;
-    }
-    for (row, want) in bytes.chunks(32).zip(&QUOTED) {
-        let written = write_word(rt.alloc(), row).expect(&rt, "an answer");
-        same(&rt, written.as_str(), want, "a row");
+    for row in 0..8 {
+        let bytes = counted_from((32 * row) as u8);
+        expect_same(&rt, write_word(rt.alloc(), &bytes), QUOTED[row], "a row");
     }
 }
 
@@ -230,7 +240,6 @@ const REWRITTEN: [PathRow; 4] = [
 #[test]
 fn paths_are_written_without_needless_escapes(rt: HostRuntime) {
     for (text, want) in &REWRITTEN {
-        let written = path_rewritten(rt.alloc(), text.as_bytes()).expect(&rt, "an answer");
-        same(&rt, written.as_str(), want, text);
+        expect_same(&rt, path_rewritten(rt.alloc(), text.as_bytes()), want, text);
     }
 }
