@@ -6,7 +6,7 @@ import os
 import re
 from dataclasses import replace
 
-from wrong_edits import BLOCK, FUNCTION, NOTHING, Edit, Function, ensured, every_function, place_of
+from wrong_edits import BLOCK, FUNCTION, NOTHING, Edit, Function, ensured, every_function, place_of, reduced
 
 # What names another function's proof.
 NAMED = r"\bRattle\.{crate}\.proofs\.([\w.]+)\.(?:Answers|Invariants|Proof)\b"
@@ -117,15 +117,11 @@ def with_copies(crate, edits, texts):
         place, lines = place_of(home, texts), texts[home.file].rstrip("\n").split("\n")
         name = f"{home.name}_as_{len(made) + 1}"
         opens, closes = (header_of(home, lines), ["}"]) if home.of_type else ([], [])
-        left_out = [it for clause, called in ensured(home, lines) if is_less and called != edit.ensures for it in clause]
-        # a clause that stands alone has no name, so that the fact itself is the goal
-        named = [clause[0] for clause, called in ensured(home, lines) if is_less and called == edit.ensures]
-        part = [re.sub(r"\bensures \w+", "ensures", lines[it], count=1) if it in named else lines[it]
-                for it in range(home.first, home.last + 1) if it not in left_out]
+        part = reduced(home, lines, edit.ensures if is_less else "")
         head = next(at for at, it in enumerate(part) if FUNCTION.match(it))
         part[head] = re.sub(rf"\bfn {home.name}\b", f"fn {name}", part[head], count=1)
         first = len(lines) + 1 + len(opens)
-        moved = lambda line: line + first - home.first - len(left_out)
+        moved = lambda line: line + first - home.last - 1 + len(part)
         taken.append(Function(home.file, home.of_type, name, first, moved(home.body), moved(home.last), home.is_plain))
         made.append(replace(edit, function=taken[-1]))
         own, folder = f"Rattle.{crate}.proofs.{place.replace('::', '.')}.", f"proofs/{place.replace('::', '/')}/"

@@ -65,7 +65,7 @@ class Function:
 class Edit:
     """A wrong edit: its name, its replacements (file, old text, new text), the one function whose body it changes, if that is all,
     and else the functions that are told to be refused by it, if any, by their paths below the crate; and the one clause that its
-    function needs to ensure for a refusal, if that is told, or NOTHING."""
+    function, or the one that is told, needs to ensure for a refusal, if that is told, or NOTHING."""
     name: str
     pairs: tuple
     function: Function = None
@@ -219,7 +219,8 @@ def read_edit(name, text, texts):
     if lacking:
         raise BadEdit(f"there is no plain function {lacking[0]} to be refused")
     home, clause = homes.pop() if len(homes) == 1 else None, "".join(line[9:].strip() for line in text.split("\n") if line.startswith("ensures: "))
-    if clause and not (home and clause in (NOTHING, *[it for _, it in ensured(home, texts[home.file].split("\n"))])):
+    law = home or next((it for it in every_function(texts) if [place_of(it, texts)] == [*told]), None)
+    if clause and not (law and clause in (NOTHING, *[it for _, it in ensured(law, texts[law.file].split("\n"))])):
         raise BadEdit(f"its function ensures no clause {clause}")
     return Edit(name, pairs, home, told, clause)
 
@@ -230,8 +231,19 @@ def ensured(function, lines):
     indent = FUNCTION.match(lines[head])[1] + "    "
     starts = [(at, CLAUSE.match(lines[at][len(indent):])) for at in range(head + 1, function.body) if lines[at].startswith(indent)]
     starts = [(at, it) for at, it in starts if it]
-    ends = [*[at for at, _ in starts][1:], function.body - 1]
+    is_empty = function.body == function.last and lines[function.body].strip() == "{}"
+    ends = [*[at for at, _ in starts][1:], function.body - (not is_empty)]
     return [(range(at, end), it[3] or "") for (at, it), end in zip(starts, ends) if it[1] == "ensures" and not it[2]]
+
+
+def reduced(function, lines, clause):
+    """The function's lines where it ensures this clause alone, which has no name then, so that the fact itself is the goal; none of
+    them, where it is NOTHING; and all, where it is empty."""
+    every = ensured(function, lines) if clause else []
+    others = [it for at, called in every if called != clause for it in at]
+    first = [at[0] for at, called in every if called == clause]
+    return [re.sub(r"\bensures \w+", "ensures", lines[it], count=1) if it in first else lines[it]
+            for it in range(function.first, function.last + 1) if it not in others]
 
 
 def applied(edits, texts):
