@@ -1,7 +1,7 @@
 //! Copies of what a call asks for.
 
-ghost use Rattle.std.specs.Prelude.{◌≡◌, false, IsOk, IfOk};
-ghost use Rattle.mount_model.specs.Fits.{carries_bytes};
+ghost use Rattle.std.specs.Prelude.{◌≡◌, true, false, IsOk, IfOk};
+ghost use Rattle.mount_model.specs.Fits.{carries_bytes, carries_path, carries_path_alone};
 
 use super::Op;
 use std::alloc::{AllocError, Global};
@@ -12,13 +12,71 @@ impl Op {
         ensures equal { IfOk result (λ copy. copy ≡ self.now) }
         ensures takes_none { carries_bytes self.now ≡ false → IsOk result }
     {
-        Ok(match self {
-            Op::AddKey { raw } => Op::AddKey {
+        match self {
+            Op::RemoveKey { .. }
+            | Op::RemoveKeyAll { .. }
+            | Op::KeyStatus { .. }
+            | Op::Read { .. }
+            | Op::Close { .. }
+            | Op::DropCaches => Ok(self.same()),
+            Op::AddKey { raw } => Ok(Op::AddKey {
                 raw: raw.copy(alloc)?,
-            },
+            }),
+            Op::Write {
+                handle,
+                offset,
+                bytes,
+            } => Ok(Op::Write {
+                handle: *handle,
+                offset: *offset,
+                bytes: bytes.copy(alloc)?,
+            }),
+            Op::MetaLoad { name } => Ok(Op::MetaLoad {
+                name: name.copy(alloc)?,
+            }),
+            Op::MetaStore {
+                name,
+                expected,
+                bytes,
+            } => Ok(Op::MetaStore {
+                name: name.copy(alloc)?,
+                expected: *expected,
+                bytes: bytes.copy(alloc)?,
+            }),
+            _ => self.copy_with_path(alloc),
+        }
+    }
+
+    // The same, of what carries neither a path nor bytes.
+    fn same(&self) -> Op
+        requires { carries_bytes self.now ≡ false }
+        ensures { result ≡ self.now }
+    {
+        match self {
             Op::RemoveKey { id } => Op::RemoveKey { id: *id },
             Op::RemoveKeyAll { id } => Op::RemoveKeyAll { id: *id },
             Op::KeyStatus { id } => Op::KeyStatus { id: *id },
+            Op::Read {
+                handle,
+                offset,
+                len,
+            } => Op::Read {
+                handle: *handle,
+                offset: *offset,
+                len: *len,
+            },
+            Op::Close { handle } => Op::Close { handle: *handle },
+            Op::DropCaches => Op::DropCaches,
+            _ => unreachable!(),
+        }
+    }
+
+    // The same, of what carries a path.
+    fn copy_with_path(&self, alloc: Global) -> Result<Op, AllocError>
+        requires { carries_path self.now ≡ true }
+        ensures { IfOk result (λ copy. copy ≡ self.now) }
+    {
+        Ok(match self {
             Op::SetPolicy {
                 path,
                 policy,
@@ -26,17 +84,6 @@ impl Op {
             } => Op::SetPolicy {
                 path: path.copy(alloc)?,
                 policy: *policy,
-                nonce: *nonce,
-            },
-            Op::GetPolicy { path } => Op::GetPolicy {
-                path: path.copy(alloc)?,
-            },
-            Op::Mkdir { path, nonce } => Op::Mkdir {
-                path: path.copy(alloc)?,
-                nonce: *nonce,
-            },
-            Op::Create { path, nonce } => Op::Create {
-                path: path.copy(alloc)?,
                 nonce: *nonce,
             },
             Op::Symlink {
@@ -48,6 +95,35 @@ impl Op {
                 target: target.copy(alloc)?,
                 nonce: *nonce,
             },
+            Op::Rename { old_path, new_path } => Op::Rename {
+                old_path: old_path.copy(alloc)?,
+                new_path: new_path.copy(alloc)?,
+            },
+            Op::Mkdir { path, nonce } => Op::Mkdir {
+                path: path.copy(alloc)?,
+                nonce: *nonce,
+            },
+            Op::Create { path, nonce } => Op::Create {
+                path: path.copy(alloc)?,
+                nonce: *nonce,
+            },
+            Op::List { path, start } => Op::List {
+                path: path.copy(alloc)?,
+                start: *start,
+            },
+            _ => self.copy_of_path(alloc)?,
+        })
+    }
+
+    // The same, of what carries a path alone.
+    fn copy_of_path(&self, alloc: Global) -> Result<Op, AllocError>
+        requires { carries_path_alone self.now ≡ true }
+        ensures { IfOk result (λ copy. copy ≡ self.now) }
+    {
+        Ok(match self {
+            Op::GetPolicy { path } => Op::GetPolicy {
+                path: path.copy(alloc)?,
+            },
             Op::ReadLink { path } => Op::ReadLink {
                 path: path.copy(alloc)?,
             },
@@ -57,52 +133,13 @@ impl Op {
             Op::Rmdir { path } => Op::Rmdir {
                 path: path.copy(alloc)?,
             },
-            Op::Rename { old_path, new_path } => Op::Rename {
-                old_path: old_path.copy(alloc)?,
-                new_path: new_path.copy(alloc)?,
-            },
-            Op::List { path, start } => Op::List {
-                path: path.copy(alloc)?,
-                start: *start,
-            },
             Op::Stat { path } => Op::Stat {
                 path: path.copy(alloc)?,
             },
             Op::OpenNode { path } => Op::OpenNode {
                 path: path.copy(alloc)?,
             },
-            Op::Read {
-                handle,
-                offset,
-                len,
-            } => Op::Read {
-                handle: *handle,
-                offset: *offset,
-                len: *len,
-            },
-            Op::Write {
-                handle,
-                offset,
-                bytes,
-            } => Op::Write {
-                handle: *handle,
-                offset: *offset,
-                bytes: bytes.copy(alloc)?,
-            },
-            Op::Close { handle } => Op::Close { handle: *handle },
-            Op::DropCaches => Op::DropCaches,
-            Op::MetaLoad { name } => Op::MetaLoad {
-                name: name.copy(alloc)?,
-            },
-            Op::MetaStore {
-                name,
-                expected,
-                bytes,
-            } => Op::MetaStore {
-                name: name.copy(alloc)?,
-                expected: *expected,
-                bytes: bytes.copy(alloc)?,
-            },
+            _ => unreachable!(),
         })
     }
 }
