@@ -1,12 +1,15 @@
 //! A machine that one thread alone calls, and a caller's way to it.
 
-ghost use Rattle.std.specs.Prelude.{◌≡◌, ◌+◌, ◌≤◌};
+ghost use Rattle.std.specs.Prelude.{◌≡◌, ◌+◌, ◌<◌, ◌≤◌, [], ◌∷◌, ◌++◌};
+ghost use Rattle.call_history.specs.Entries.{entry};
 ghost use Rattle.call_history.specs.declared.TheConstants.{MOST_PLACES};
+ghost use Rattle.mount_model.specs.Fits.{Fits};
+ghost use Rattle.mount_model.specs.History.{History};
 ghost use Rattle.mount_shared.specs.SerialCalls.{SerialCame, serial_view};
 ghost use Rattle.mount_shared.specs.PortLaws.{SerialCame-none, SerialCame-on, SerialCame-caller};
 
 use crate::machine::MountMachine;
-use mount_model::{Call, MountPort, Placed};
+use mount_model::{Call, MountPort, Placed, Reply};
 use std::marker::Model;
 
 /// A machine with the number of places that its callers were given. Places count from 0.
@@ -66,6 +69,31 @@ impl<M: MountMachine> SerialPort<M> {
     {
         self.mount
     }
+
+    // The next place, for one of the calls that are left.
+    fn take_place(&mut self) -> u64
+        requires { 0 < self.old.left }
+        ensures place { result ≡ self.old.places }
+        ensures next { self.new.places ≡ self.old.places + 1 }
+        ensures counted { self.new.left + 1 ≡ self.old.left }
+        ensures machine { self.new.machine ≡ self.old.machine }
+        ensures caller { self.new.caller ≡ self.old.caller }
+    {
+        let place = self.mount.places;
+        self.mount.places += 1;
+        self.left -= 1;
+        place
+    }
+}
+
+// The machine's reply to a call, with nobody at work meanwhile.
+fn reply_of<M: MountMachine>(machine: &mut M, caller: u32, call: &Call) -> Reply
+    requires { Fits call.now }
+    ensures { (history : History) → M.leads history machine.old
+        → M.leads (history ++ entry caller call.now result ∷ []) machine.new }
+{
+    let lent = machine.begin(caller, call);
+    M::finish(lent)
 }
 
 /// Its places count on from those that were given before.
@@ -87,14 +115,9 @@ impl<M: MountMachine> MountPort for SerialPort<M> {
     }
 
     fn call(&mut self, call: &Call) -> Placed {
-        let place = self.mount.places;
-        let lent = self.mount.machine.begin(self.caller, call);
-        self.mount.places += 1;
-        self.left -= 1;
-        Placed {
-            place,
-            reply: M::finish(lent),
-        }
+        let place = self.take_place();
+        let reply = reply_of(&mut self.mount.machine, self.caller, call);
+        Placed { place, reply }
     }
 
     ghost by_none = { SerialCame-none M.leads };

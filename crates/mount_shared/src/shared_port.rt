@@ -5,10 +5,10 @@ ghost use Rattle.mount_shared.specs.SharedCalls.{PassCame};
 ghost use Rattle.mount_shared.specs.PortLaws.{PassCame-none, PassCame-on, PassCame-caller};
 
 use crate::machine::MountMachine;
-use mount_model::{Call, MountPort, Placed};
+use mount_model::{Call, MountPort, Placed, Reply};
 use std::marker::Model;
 use std::sync::Wait;
-use turn_lock::{Pass, Shared, Worn};
+use turn_lock::{At, Pass, Shared, Worn};
 
 /// The port of a pass: each call waits for the turn of the shared machine. In clauses it is its pass.
 #[derive(Drop)]
@@ -48,6 +48,17 @@ impl<'a, M: MountMachine, W: Wait> SharedPort<'a, M, W> {
     }
 }
 
+// The reply to a call of the mount, where it stands in the history.
+fn placed(at: At<Reply>) -> Placed
+    ensures place { result.place ≡ at.place }
+    ensures reply { result.reply ≡ at.reply }
+{
+    Placed {
+        place: at.place,
+        reply: at.reply,
+    }
+}
+
 /// A pass comes by its own entries, and by more of the history that it has seen.
 impl<'a, M: MountMachine, W: Wait> MountPort for SharedPort<'a, M, W> {
     ghost who = { λ pass. pass.who };
@@ -68,10 +79,7 @@ impl<'a, M: MountMachine, W: Wait> MountPort for SharedPort<'a, M, W> {
 
     fn call(&mut self, call: &Call) -> Placed {
         match self.shared.call(self.rt, &mut self.pass, call) {
-            Ok(at) => Placed {
-                place: at.place,
-                reply: at.reply,
-            },
+            Ok(at) => placed(at),
             Err(Worn { made: _ }) => unreachable!(),
         }
     }
