@@ -43,7 +43,7 @@ const MODE_KEY: &str =
     "9c621e403c192295d98e7fc9eedc07eecb1381239e734a752102ce4617295eaf0cc48e789014e0bae5a67af6097aac1beaa57fcd07cccbfd8247b9e90d2b515b";
 
 /// The first four of Linux 6.1, the others of Linux 6.12.
-pub const STORED: [Stored; 18] = [
+pub static STORED: [Stored; 18] = [
     Stored {
         key: SHORT_KEY,
         inode: 0,

@@ -31,7 +31,7 @@ fn is_enciphered_to(want: &[u8]) -> bool {
 
 // Made by the AES-CBC of OpenSSL over the text filled with zeros, and a swap of the last two blocks
 // and the cut by hand.
-const CIPHERTEXTS: [&[u8]; 8] = [
+static CIPHERTEXTS: [&[u8]; 8] = [
     b"\xc5\x20\xfa\x7e\x86\x7b\x82\xc5\xb6\xc0\x1f\x57\xec\x10\xa9\xe3",
     b"\x41\x9a\x67\xd6\x7e\x67\xef\x58\x86\x17\x0f\x3c\xbd\xd2\x3b\x63\
       \xc5",
@@ -83,7 +83,7 @@ const THIRD: &[u8] = b"\x39\x54\xab\x62\x78\xe8\x0c\x7e\x7e\x10\x80\x9f\x37\xc4\
 
 // One block is its first; two are its second and its first; of three, the second is cut to its first
 // byte and stands last.
-const SWAPPED: [&[&[u8]]; 3] = [&[FIRST], &[SECOND, FIRST], &[FIRST, THIRD, b"\xf9"]];
+static SWAPPED: [&[&[u8]]; 3] = [&[FIRST], &[SECOND, FIRST], &[FIRST, THIRD, b"\xf9"]];
 
 #[test]
 fn the_last_two_of_one_to_three_blocks_are_swapped(rt: HostRuntime) {

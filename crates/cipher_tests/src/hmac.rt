@@ -12,7 +12,7 @@ type HmacRow = (
 );
 
 // The test vectors of RFC 4231, cases 1 to 4, 6 and 7. Case 5 cuts its HMAC short, which nothing here does.
-const HMACS: [HmacRow; 6] = [
+static HMACS: [HmacRow; 6] = [
     (
         &[0x0b; 20],
         b"Hi There",
@@ -113,7 +113,7 @@ const HIGH: &[u8; 80] = b"\xb0\xb1\xb2\xb3\xb4\xb5\xb6\xb7\xb8\xb9\xba\xbb\xbc\x
 type KeyRow = (&'static [u8], &'static [u8], &'static [u8], &'static [u8]);
 
 // RFC 5869, appendix A.1 to A.3.
-const KEYS_WITH_SHA_256: [KeyRow; 3] = [
+static KEYS_WITH_SHA_256: [KeyRow; 3] = [
     (
         b"\x00\x01\x02\x03\x04\x05\x06\x07\x08\x09\x0a\x0b\x0c",
         &[0x0b; 22],

@@ -35,7 +35,7 @@ type WrapRow = (&'static [u8; 16], &'static [u8], &'static [u8; 32]);
 
 // Made by Python's `cryptography` (HKDF, AES in counter mode) and its hmac and hashlib. The last iv
 // is 16 bytes 255, so that the counter of the second block is 0.
-const WRAPS: [WrapRow; 3] = [
+static WRAPS: [WrapRow; 3] = [
     (
         b"defghijklmnopqrs",
         b"\xde\x2f\x9c\x36\x74\x28\x6d",

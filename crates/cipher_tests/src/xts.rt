@@ -15,7 +15,7 @@ type UnitRow = (u64, &'static [u8], &'static [u8]);
 // The keys, indexes and units of IEEE 1619, annex B, vectors 10 to 14: 512 bytes that count up, at five
 // indexes. The first and the last block of what they become, and the way back. The ciphertexts are those
 // that another implementation, Python's `cryptography`, makes of these.
-const UNITS: [UnitRow; 5] = [
+static UNITS: [UnitRow; 5] = [
     (
         0xff,
         b"\x1c\x3b\x3a\x10\x2f\x77\x03\x86\xe4\x83\x6c\x99\xe3\x70\xcf\x9b",

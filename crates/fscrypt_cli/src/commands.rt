@@ -20,7 +20,7 @@ pub(crate) fn verb_named(word: &[u8]) -> Option<&'static str> {
 }
 
 /// All commands of the grammar.
-pub(crate) const GROUPS: [Group; 6] = [
+pub(crate) static GROUPS: [Group; 6] = [
     Group {
         title: "Keys",
         lines: &[

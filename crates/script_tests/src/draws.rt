@@ -17,7 +17,7 @@ use std::process::Abort;
 type DrawRow = (u8, u64, Purpose, &'static str);
 
 // What Python's hmac and hashlib draw from 32 zeros.
-const DRAWN_FROM_ZEROS: [DrawRow; 5] = [
+static DRAWN_FROM_ZEROS: [DrawRow; 5] = [
     (
         0,
         0,
@@ -51,7 +51,7 @@ const DRAWN_FROM_ZEROS: [DrawRow; 5] = [
 ];
 
 // And from the bytes 00 to 1f.
-const DRAWN_FROM_COUNTING: [DrawRow; 2] = [
+static DRAWN_FROM_COUNTING: [DrawRow; 2] = [
     (
         7,
         4_294_967_295,

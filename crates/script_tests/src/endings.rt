@@ -9,7 +9,7 @@ use std::alloc::{AllocError, Global};
 use std::process::Abort;
 
 // The numbers and lines that the documents promise.
-const STATUSES: [(Status, u8, &str); 9] = [
+static STATUSES: [(Status, u8, &str); 9] = [
     (Status::Done, 0, ""),
     (Status::Refused { place: 27 }, 1, "fsc: refused at 27"),
     (Status::Usage, 2, "fsc: usage"),
@@ -31,7 +31,7 @@ fn each_status_has_its_number_and_its_line(rt: HostRuntime) {
 }
 
 // The word of each outcome, as the format of notes has it.
-const OUTCOMES: [(Outcome, &str); 13] = [
+static OUTCOMES: [(Outcome, &str); 13] = [
     (Outcome::Done, "ok"),
     (Outcome::Refused, "refused"),
     (Outcome::Conflict, "conflict"),
@@ -87,7 +87,7 @@ const NOBODY: &str = "# nobody calls\n";
 
 // Each fault ends the run with its own status, in the order of the steps. The seed source fails at each
 // call, but is asked only where the words give no seed and the input is a script.
-const FAULTS: [FaultRow; 10] = [
+static FAULTS: [FaultRow; 10] = [
     (Some(SEED), ADDING, None, None, Status::Done, ADDED),
     (Some(SEED), ADDING, Some(1), None, Status::ReadFault, ""),
     (

@@ -14,7 +14,7 @@ fn line(text: &[u8], number: usize) -> &[u8] {
 }
 
 // The number of a text, its seventh line, and the SHA-256 of the whole.
-const TEXTS: [(u32, &str, &str); 3] = [
+static TEXTS: [(u32, &str, &str); 3] = [
     (
         0,
         "remove-key raw:1111111111111111111111111111111111111111111111111111111111111111\

@@ -2,6 +2,7 @@
 
 use crate::counting::Counting;
 use crate::meeting::MeetingGate;
+use crate::texts::same_bytes;
 use fsc_outside::{CallList, FixedSeed, Gate, MemSink, MemSource, OpenGate};
 use fsc_tool::{Mounts, Status, Streams, tool};
 use std::alloc::{AllocError, Global};
@@ -53,8 +54,8 @@ fn two_callers_meet_in_the_middle_of_their_sections(rt: HostRuntime) -> Result<(
     let script = b"caller 1\ndrop-caches\ndrop-caches\ncaller 2\ndrop-caches\ndrop-caches\n";
     let gate = MeetingGate::new();
     let (status, _sink) = replayed(&rt, rt.alloc(), script, &gate, 1000)?;
-    assert_eq!(rt; status, Status::Done);
-    assert_eq!(rt; gate.missed(), 0);
+    assert!(rt; status == Status::Done, "{status}");
+    assert!(rt; gate.missed() == 0);
     Ok(())
 }
 
@@ -63,9 +64,9 @@ fn two_callers_meet_in_the_middle_of_their_sections(rt: HostRuntime) -> Result<(
 fn a_reply_that_wants_memory_ends_no_section(rt: HostRuntime) -> Result<(), Fail> {
     let script = b"caller 1\ndrop-caches\ndrop-caches\ndrop-caches\n";
     let (status, sink) = replayed(&rt, rt.alloc(), script, &OpenGate, 1)?;
-    assert_eq!(rt; status, Status::Done);
+    assert!(rt; status == Status::Done, "{status}");
     let log =
         b"0 0 1 drop-caches = ok\n1 0 1 drop-caches = refused no-memory\n2 0 1 drop-caches = ok\n";
-    assert_eq!(rt; sink.got(), log.as_slice());
+    same_bytes(&rt, sink.got(), log, "the log");
     Ok(())
 }

@@ -22,7 +22,7 @@ pub(crate) enum Kind {
     Wanting,
 }
 
-pub(crate) const KINDS: [Kind; 13] = [
+pub(crate) static KINDS: [Kind; 13] = [
     Kind::Added,
     Kind::Removed,
     Kind::Status,

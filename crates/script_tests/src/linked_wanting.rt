@@ -6,7 +6,7 @@ use crate::linked_commands::{Asked, On, first_wrong};
 // Each command, and the calls that it makes. The record of a protector that is made lies where it is stored, since no
 // link has its name. The key that a lock gives up isn't there, so a removal that is made is refused. Its identifier
 // was made by another program.
-const COMMANDS: [(&str, &[Asked]); 12] = [
+static COMMANDS: [(&str, &[Asked]); 12] = [
     (
         "protector other raw:3333333333333333333333333333333333333333333333333333333333333333\n",
         &[

@@ -160,7 +160,7 @@ const LIMITS: InputLimits = InputLimits { bytes: 6, lines: 2 };
 // A text, what is read of it within the limits, and how much the next call then gives.
 type InputRow = (&'static str, Result<&'static str, InputFault>, usize);
 
-const INPUTS: [InputRow; 5] = [
+static INPUTS: [InputRow; 5] = [
     ("", Ok(""), 0),
     ("a\nb\n", Ok("a\nb\n"), 0),
     ("a\nb\nc", Err(InputFault::TooLong), 0),

@@ -39,7 +39,7 @@ const BEFORE_CALLS: u64 = 11;
 const NOTES: u64 = 6;
 
 // Each command, and what the replies to its calls are to be.
-const COMMANDS: [(&str, &[Kind]); 11] = [
+static COMMANDS: [(&str, &[Kind]); 11] = [
     (
         "protector other raw:3333333333333333333333333333333333333333333333333333333333333333\n",
         &[Kind::Stored],

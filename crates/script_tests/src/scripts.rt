@@ -185,7 +185,7 @@ fn each_command_is_written_as_it_was(rt: HostRuntime) {
 }
 
 // A line, and how it is written.
-const LINES: [(&str, &str); 11] = [
+static LINES: [(&str, &str); 11] = [
     ("write 0 0 00A5", "write 0 0 00a5"),
     ("write 0 0 -", "write 0 0 -"),
     ("meta-put policy/p 0 -", "meta-put policy/p 0 -"),

@@ -45,7 +45,7 @@ fn word_shown(alloc: Global, word: Option<Bytes>) -> Result<String, AllocError> 
 // A path, and how it is shown.
 type PathRow = (&'static str, &'static str);
 
-const STARS: [PathRow; 11] = [
+static STARS: [PathRow; 11] = [
     ("/*0", "/star 0"),
     ("/*17/a", "/star 17/61"),
     ("/*4294967295", "/star 4294967295"),
@@ -59,7 +59,7 @@ const STARS: [PathRow; 11] = [
     ("/*+1", "/2a2b31"),
 ];
 
-const PARTS: [PathRow; 25] = [
+static PARTS: [PathRow; 25] = [
     ("/", ""),
     ("/...", "/2e2e2e"),
     ("/.a/a.", "/2e61/612e"),
@@ -119,7 +119,7 @@ fn paths_have_at_most_32_parts(rt: HostRuntime) {
 // The digits of the word that the text spells, and of the target; `refused` where it spells none.
 type WordRow = (&'static [u8], &'static str, &'static str);
 
-const WORDS: [WordRow; 17] = [
+static WORDS: [WordRow; 17] = [
     (b"a", "61", "61"),
     (b"!~", "217e", "217e"),
     (b"a/b", "612f62", "612f62"),
@@ -168,7 +168,7 @@ fn is_part(alloc: Global, piece: &str, pieces: usize) -> Result<bool, AllocError
 }
 
 // A piece, how many of it there are, and how many bytes the word has that they spell, if they spell one.
-const LENGTHS: [(&str, usize, Option<usize>); 4] = [
+static LENGTHS: [(&str, usize, Option<usize>); 4] = [
     ("a", 1000, Some(1000)),
     ("a", 1001, None),
     ("%61", 1000, Some(1000)),
@@ -194,7 +194,7 @@ fn parts_have_at_most_1000_bytes(rt: HostRuntime) {
 }
 
 // Python's `urllib.parse.quote(bytes(range(256)), safe='')`, a row for each 32 bytes.
-const QUOTED: [&str; 8] = [
+static QUOTED: [&str; 8] = [
     "%00%01%02%03%04%05%06%07%08%09%0A%0B%0C%0D%0E%0F%10%11%12%13%14%15%16%17%18%19%1A%1B%1C%1D%1E%1F",
     "%20%21%22%23%24%25%26%27%28%29%2A%2B%2C-.%2F0123456789%3A%3B%3C%3D%3E%3F",
     "%40ABCDEFGHIJKLMNOPQRSTUVWXYZ%5B%5C%5D%5E_",
@@ -230,7 +230,7 @@ fn path_rewritten(alloc: Global, text: &[u8]) -> Result<String, AllocError> {
     }
 }
 
-const REWRITTEN: [PathRow; 4] = [
+static REWRITTEN: [PathRow; 4] = [
     ("/", "/"),
     ("/*0/%2a0/*01", "/*0/%2A0/%2A01"),
     ("/%2e%2e%2e/%25/%7E-_.a", "/.../%25/~-_.a"),

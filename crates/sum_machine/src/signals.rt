@@ -107,8 +107,8 @@ fn finish_runs_after_release(rt: HostRuntime) -> Result<(), Fail> {
         || shared.call(&rt, &mut first, &()).map(|at| at.place),
         || call_second(&rt, &shared, &mut second, told),
     );
-    assert_eq!(rt; zero.ok(), Some(0));
-    assert_eq!(rt; one, Some((true, 1)));
-    assert_eq!(rt; told.ran_out.load(Ordering::SeqCst), 0);
+    assert!(rt; zero.ok() == Some(0));
+    assert!(rt; one == Some((true, 1)));
+    assert!(rt; told.ran_out.load(Ordering::SeqCst) == 0);
     Ok(())
 }

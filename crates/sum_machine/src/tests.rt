@@ -38,8 +38,8 @@ fn allowance_wears_out_after_three_calls(rt: HostRuntime) -> Result<(), Fail> {
     ];
     let left = pass.left();
     let total = shared.close(pass).total;
-    assert_eq!(rt; told, [Ok((0, 5)), Ok((1, 705)), Ok((2, 1704)), Err(3)]);
-    assert_eq!(rt; (left, total), (0, 1704));
+    assert!(rt; told == [Ok((0, 5)), Ok((1, 705)), Ok((2, 1704)), Err(3)]);
+    assert!(rt; left == 0 && total == 1704);
     Ok(())
 }
 
@@ -57,10 +57,10 @@ fn split_gives_all_calls_away(rt: HostRuntime) -> Result<(), Fail> {
     ];
     shared.join(&mut first, second);
     let total = shared.close(first).total;
-    assert_eq!(rt; callers, (0, 1, 1, 2));
-    assert_eq!(rt; of_first, Err(0));
-    assert_eq!(rt; of_second, [Ok((0, 5)), Ok((1, 11)), Ok((2, 18)), Err(3)]);
-    assert_eq!(rt; total, 18);
+    assert!(rt; callers == (0, 1, 1, 2));
+    assert!(rt; of_first == Err(0));
+    assert!(rt; of_second == [Ok((0, 5)), Ok((1, 11)), Ok((2, 18)), Err(3)]);
+    assert!(rt; total == 18);
     Ok(())
 }
 
@@ -186,9 +186,9 @@ fn eight_threads_agree_on_places(rt: HostRuntime) -> Result<(), Fail> {
     let (shared, pass) = Shared::start(rt.alloc(), Sum::new(), 8, 80_000)?;
     let (pass, told) = run_all(&rt, rt.alloc(), &shared, pass, 10_000);
     // Ten times the numbers from 0 to 999, by each of the eight.
-    assert_eq!(rt; shared.close(pass).total, 8 * 10 * 499_500);
+    assert!(rt; shared.close(pass).total == 8 * 10 * 499_500);
     let told = told?;
-    assert_eq!(rt; told.len(), 8);
+    assert!(rt; told.len() == 8);
     let once = each_once(rt.alloc(), told.as_slice(), 10_000, 80_000)?;
     assert!(rt;
         once,
