@@ -3,8 +3,6 @@
 #![tactic(auto)]
 
 #[cfg(test)]
-mod images;
-#[cfg(test)]
 mod keys;
 #[cfg(test)]
 mod linux;

@@ -2,13 +2,10 @@
 
 ghost use Rattle.std.specs.Prelude.{◌≤◌, length};
 
-use crate::texts::expect_same;
-use call_history::Entry;
-use fsc_commands::{EntryList, path_meant};
+use crate::runs::{Instead, as_it_is, log_of};
+use crate::texts::{expect_same, same_bytes};
 use item_list::Bytes;
-use mount_model::{NameList, Path, Refusal, Reply};
-use reply_text::Shown;
-use script_lang::read_path;
+use mount_model::{NameList, Reply};
 use session_records::{Purpose, draw};
 use std::alloc::{AllocError, Global};
 use std::process::Abort;
@@ -98,67 +95,31 @@ fn draws_are_those_of_python(rt: HostRuntime) {
     expect_drawn(&rt, rt.alloc(), &counting, &DRAWN_FROM_COUNTING);
 }
 
-// The path with stars, where these entries are told.
-fn meant(alloc: Global, told: &EntryList) -> Result<Option<Path>, AllocError> {
-    match read_path(alloc, b"/e/*0/*1/*2/%2A0")? {
-        Some(path) => Ok(Some(path_meant(alloc, told, &path)?)),
-        None => Ok(None),
-    }
-}
-
-// Whether these are the parts of the path.
-fn has_parts(path: &Path, wanted: &[&str]) -> bool {
-    for (index, wanted) in wanted.iter().enumerate() {
-        match path.part(index) {
-            Some(part) if part.bytes() == wanted.as_bytes() => (),
-            _ => return false,
-        }
-    }
-    path.len() == wanted.len()
-}
-
-// A star means the name of its number, and its own text where there is none or it can't be a part.
-#[test]
-fn stars_mean_listed_names(rt: HostRuntime) {
-    let mut told = EntryList::new(rt.alloc());
-    tell_two_calls(&mut told, rt.alloc()).expect(&rt, "memory");
-    let path = meant(rt.alloc(), &told)
-        .expect(&rt, "an answer")
-        .expect(&rt, "a path");
-    assert!(rt; has_parts(&path, &["e", "a b", "*1", "*2", "*0"]));
-}
-
-// Tells a listing of two names, and a call that was refused.
-fn tell_two_calls(told: &mut EntryList, alloc: Global) -> Result<(), AllocError> {
-    let names = listed_names(alloc)?;
-    told.push(entry(alloc, Reply::Names { names, more: false }))?;
-    told.push(entry(alloc, Reply::Refused(Refusal::NotFound)))
-}
-
+// The names of a listing, of which the second can't be a part.
 fn listed_names(alloc: Global) -> Result<NameList, AllocError> {
     let mut names = NameList::new(alloc);
     for name in &["a b", ".."] {
-        push_name(&mut names, alloc, name.as_bytes())?;
+        names.push(Bytes::from_vec(Vec::from_slice(alloc, name.as_bytes())?))?;
     }
     Ok(names)
 }
 
-fn push_name(names: &mut NameList, alloc: Global, name: &[u8]) -> Result<(), AllocError> {
-    names.push(Bytes::from_vec(Vec::from_slice(alloc, name)?))
-}
+const STARRED: &str = "caller 0\nmkdir /e\nlist /e\nstat /n\nstat /e/*0/*1/*2/%2A0\n";
 
-// A call with this reply.
-fn entry(alloc: Global, reply: Reply) -> (u64, Entry<Shown, Reply>) {
-    let call = Shown {
-        uid: 0,
-        words: Bytes::new(alloc),
+const STARRED_LOG: &[u8] = b"0 0 0 mkdir /e = ok\n\
+    1 0 0 list /e 0 = names 2 more=0 a%20b ..\n\
+    2 0 0 stat /n = refused not-found\n\
+    3 0 0 stat /e/a%20b/%2A1/%2A2/%2A0 = refused not-found\n";
+
+// A star means the name of its number, and its own text where there is none or it can't be a part. No mount lists
+// a name that can't be one.
+#[test]
+fn stars_mean_listed_names(rt: HostRuntime) {
+    let names = listed_names(rt.alloc()).expect(&rt, "memory");
+    let listing = Instead {
+        at: 1,
+        reply: Some(Reply::Names { names, more: false }),
     };
-    (
-        0,
-        Entry {
-            who: 0,
-            call,
-            reply,
-        },
-    )
+    let log = log_of(&rt, rt.alloc(), "replay", STARRED, listing, as_it_is()).1;
+    same_bytes(&rt, log.as_slice(), STARRED_LOG, "the log");
 }

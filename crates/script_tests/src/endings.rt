@@ -1,11 +1,10 @@
-//! How runs and commands end: their statuses and outcomes, and sources, sinks and seeds that fail.
+//! How runs end: their statuses, and sources, sinks and seeds that fail.
 
-use crate::runs::{Calls, MemStreams, SEED, got, ran, streams_of, words_of};
+use crate::runs::{BY_4096, Calls, Outside, SEED, as_it_is, run_of};
 use crate::texts::{same, same_bytes};
 use fsc_outside::FixedSeed;
 use fsc_tool::Status;
-use reply_text::Outcome;
-use std::alloc::{AllocError, Global};
+use std::alloc::Global;
 use std::process::Abort;
 
 // The numbers and lines that the documents promise.
@@ -30,50 +29,19 @@ fn each_status_has_its_number_and_its_line(rt: HostRuntime) {
     }
 }
 
-// The word of each outcome, as the format of notes has it.
-static OUTCOMES: [(Outcome, &str); 13] = [
-    (Outcome::Done, "ok"),
-    (Outcome::Refused, "refused"),
-    (Outcome::Conflict, "conflict"),
-    (Outcome::BadRecord, "bad-record"),
-    (Outcome::WrongKind, "wrong-kind"),
-    (Outcome::WrongKey, "wrong-key"),
-    (Outcome::NotListed, "not-listed"),
-    (Outcome::Listed, "listed"),
-    (Outcome::Full, "full"),
-    (Outcome::LastOne, "last-one"),
-    (Outcome::NoMemory, "no-memory"),
-    (Outcome::OddReply, "odd-reply"),
-    (Outcome::Current, "current"),
-];
-
-#[test]
-fn each_outcome_has_its_word(rt: HostRuntime) {
-    for (outcome, word) in &OUTCOMES {
-        same(&rt, outcome.word(), word, word);
-    }
-}
-
-// How a run ends with this seed or without one, on what lies outside.
-fn replayed<A: Abort>(
-    rt: &A,
-    alloc: Global,
-    seed: Option<&str>,
-    streams: &mut MemStreams,
-) -> Status {
-    let words = words_of(alloc, "replay", seed).expect(rt, "memory");
-    ran(rt, alloc, &words, streams)
-}
-
-// A seed if the words give one, the script, the read and the write that fail, how the run ends, and what it writes.
+// The words, the script, the read and the write that fail, how the run ends, and what it writes.
 type FaultRow = (
-    Option<&'static str>,
+    &'static [&'static str],
     &'static str,
     Option<u32>,
     Option<u32>,
     Status,
     &'static str,
 );
+
+const SEEDED: &[&str] = &["replay", "--serial", "--seed", SEED];
+
+const SEEDLESS: &[&str] = &["replay", "--serial"];
 
 // A seed that is a digit short.
 const SHORT: &str = "000000000000000000000000000000000000000000000000000000000000000";
@@ -88,24 +56,31 @@ const NOBODY: &str = "# nobody calls\n";
 // Each fault ends the run with its own status, in the order of the steps. The seed source fails at each
 // call, but is asked only where the words give no seed and the input is a script.
 static FAULTS: [FaultRow; 10] = [
-    (Some(SEED), ADDING, None, None, Status::Done, ADDED),
-    (Some(SEED), ADDING, Some(1), None, Status::ReadFault, ""),
+    (SEEDED, ADDING, None, None, Status::Done, ADDED),
+    (SEEDED, ADDING, Some(1), None, Status::ReadFault, ""),
     (
-        Some(SEED),
+        SEEDED,
         ADDING,
         None,
         Some(1),
         Status::WriteFault,
         "0 0 1000 a",
     ),
-    (Some(SHORT), ADDING, None, None, Status::Usage, ""),
-    (None, ADDING, None, None, Status::SeedFault, ""),
-    (None, NOBODY, None, None, Status::SeedFault, ""),
-    (Some(SEED), NOBODY, None, Some(0), Status::Done, ""),
-    (None, ADDING, None, Some(0), Status::SeedFault, ""),
-    (None, ADDING, Some(1), None, Status::ReadFault, ""),
     (
+        &["replay", "--serial", "--seed", SHORT],
+        ADDING,
         None,
+        None,
+        Status::Usage,
+        "",
+    ),
+    (SEEDLESS, ADDING, None, None, Status::SeedFault, ""),
+    (SEEDLESS, NOBODY, None, None, Status::SeedFault, ""),
+    (SEEDED, NOBODY, None, Some(0), Status::Done, ""),
+    (SEEDLESS, ADDING, None, Some(0), Status::SeedFault, ""),
+    (SEEDLESS, ADDING, Some(1), None, Status::ReadFault, ""),
+    (
+        SEEDLESS,
         "caller 1\nadd-key 7\n",
         None,
         None,
@@ -114,35 +89,33 @@ static FAULTS: [FaultRow; 10] = [
     ),
 ];
 
-// What lies outside of a run of the row: 40 bytes come a read, and ten go a write.
-fn outside_of(alloc: Global, row: &FaultRow) -> Result<MemStreams, AllocError> {
-    let (reads, writes) = (
-        Calls {
+// A run of the row: 40 bytes come a read, and ten go a write.
+fn run_of_row<A: Abort>(rt: &A, alloc: Global, row: &FaultRow) -> (Status, Vec<u8>) {
+    let outside = Outside {
+        script: row.1,
+        reads: Calls {
             piece: 40,
             fails: row.2,
         },
-        Calls {
+        writes: Calls {
             piece: 10,
             fails: row.3,
         },
-    );
-    streams_of(alloc, row.1.as_bytes(), reads, writes, FixedSeed::failing())
+        seeds: FixedSeed::failing(),
+    };
+    run_of(rt, alloc, row.0, outside, as_it_is(), as_it_is())
 }
 
 #[test]
 fn a_fault_outside_is_told(rt: HostRuntime) {
     for row in &FAULTS {
-        let mut streams = outside_of(rt.alloc(), row).expect(&rt, "memory");
-        assert!(rt;
-            replayed(&rt, rt.alloc(), row.0, &mut streams) == row.4,
-            "{}",
-            row.1
-        );
-        same_bytes(&rt, streams.sink.got(), row.5.as_bytes(), row.1);
+        let (status, got) = run_of_row(&rt, rt.alloc(), row);
+        assert!(rt; status == row.4, "{}", row.1);
+        same_bytes(&rt, got.as_slice(), row.5.as_bytes(), row.1);
     }
 }
 
-const ASKING: &[u8] = b"caller 3\nkey-status id:00000000000000000000000000000000\n";
+const ASKING: &str = "caller 3\nkey-status id:00000000000000000000000000000000\n";
 
 const ASKED: &[u8] =
     b"0 0 3 key-status 00000000000000000000000000000000 = status absent self=0 users=0\n";
@@ -150,15 +123,15 @@ const ASKED: &[u8] =
 // A seed source that gives a seed serves the form without one.
 #[test]
 fn the_seed_source_gives_the_seed(rt: HostRuntime) {
-    let calls = Calls {
-        piece: 40,
-        fails: None,
+    let outside = Outside {
+        script: ASKING,
+        reads: BY_4096,
+        writes: BY_4096,
+        seeds: FixedSeed::new([7; 32]),
     };
-    let mut streams = streams_of(rt.alloc(), ASKING, calls, calls, FixedSeed::new([7; 32])).expect(
-        &rt, "memory",
-    );
-    assert!(rt; replayed(&rt, rt.alloc(), None, &mut streams) == Status::Done);
-    same_bytes(&rt, streams.sink.got(), ASKED, "the log");
+    let (status, got) = run_of(&rt, rt.alloc(), SEEDLESS, outside, as_it_is(), as_it_is());
+    assert!(rt; status == Status::Done);
+    same_bytes(&rt, got.as_slice(), ASKED, "the log");
 }
 
 // A key that is added, asked for and removed.
@@ -178,35 +151,26 @@ const FIRST_LOG: &str = "\
 3 0 1000 key-status 8699c2c53707405da5aba5ae4d8583c0 = status absent self=0 users=0
 ";
 
-// What lies outside of a run of that script, whose bytes come by seven and go by sixteen, where these calls fail.
-fn first_outside(
-    alloc: Global,
-    read: Option<u32>,
-    write: Option<u32>,
-) -> Result<MemStreams, AllocError> {
-    let (reads, writes) = (
-        Calls {
-            piece: 7,
-            fails: read,
-        },
-        Calls {
-            piece: 16,
-            fails: write,
-        },
-    );
-    streams_of(alloc, FIRST.as_bytes(), reads, writes, FixedSeed::failing())
-}
-
-// How that run ends, and what it wrote.
+// A run of that script, whose bytes come by seven and go by sixteen, where these calls fail.
 fn first_run<A: Abort>(
     rt: &A,
     alloc: Global,
     read: Option<u32>,
     write: Option<u32>,
 ) -> (Status, Vec<u8>) {
-    let mut streams = first_outside(alloc, read, write).expect(rt, "memory");
-    let status = replayed(rt, alloc, Some(SEED), &mut streams);
-    (status, got(rt, alloc, &streams))
+    let outside = Outside {
+        script: FIRST,
+        reads: Calls {
+            piece: 7,
+            fails: read,
+        },
+        writes: Calls {
+            piece: 16,
+            fails: write,
+        },
+        seeds: FixedSeed::failing(),
+    };
+    run_of(rt, alloc, SEEDED, outside, as_it_is(), as_it_is())
 }
 
 // How often that run reads and writes: a last read finds nothing left.

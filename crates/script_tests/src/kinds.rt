@@ -5,7 +5,7 @@ use mount_model::{KeyId, KeyState, NameList, NodeKind, Refusal, Reply};
 use std::alloc::Global;
 
 // What a reply is: one of the twelve variants, or want of memory.
-#[derive(Clone, Copy, Debug, PartialEq, Eq)]
+#[derive(Clone, Copy, PartialEq, Eq)]
 pub(crate) enum Kind {
     Added,
     Removed,

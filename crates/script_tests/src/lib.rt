@@ -8,8 +8,6 @@ mod draws;
 #[cfg(test)]
 mod endings;
 #[cfg(test)]
-mod generated;
-#[cfg(test)]
 mod in_threads;
 #[cfg(test)]
 mod kinds;
@@ -30,11 +28,7 @@ mod replies;
 #[cfg(test)]
 mod runs;
 #[cfg(test)]
-mod scripted;
-#[cfg(test)]
 mod scripts;
-#[cfg(test)]
-mod sessions;
 #[cfg(test)]
 mod texts;
 #[cfg(test)]

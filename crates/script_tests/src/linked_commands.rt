@@ -3,6 +3,7 @@
 ghost use Rattle.std.specs.Prelude.{◌<◌, length};
 
 use crate::runs::{Instead, log_of};
+use crate::texts::joined;
 use mount_model::{Refusal, Reply};
 use std::alloc::{AllocError, Global};
 use std::process::Abort;
@@ -51,7 +52,7 @@ const NOTES_BEFORE: u64 = 9;
 const NEVER: u64 = u64::MAX;
 
 // Where a call of the command is made.
-#[derive(Clone, Copy, Debug, PartialEq, Eq)]
+#[derive(Clone, Copy, PartialEq, Eq)]
 pub(crate) enum On {
     Own,
     Far,
@@ -70,15 +71,9 @@ pub(crate) fn wanting(at: u64) -> Instead {
 
 // The logs of a run of the command behind those above, on two mounts of which the calls of these numbers want memory.
 fn logs<A: Abort>(rt: &A, alloc: Global, command: &str, far: u64, own: u64) -> Vec<u8> {
-    let script = behind_those(alloc, command).expect(rt, "memory");
+    let script = joined(alloc, BEFORE, command).expect(rt, "memory");
     let (far, own) = (wanting(far), wanting(own));
     log_of(rt, alloc, "replay-linked", script.as_str(), far, own).1
-}
-
-fn behind_those(alloc: Global, command: &str) -> Result<String, AllocError> {
-    let mut script = String::from_str(alloc, BEFORE)?;
-    script.push_str(command)?;
-    Ok(script)
 }
 
 // How many of these are made on this mount.

@@ -113,7 +113,7 @@ static COMMANDS: [(&str, &[Asked]); 12] = [
 fn each_command_wants_memory_at_each_call(rt: HostRuntime) {
     for (command, calls) in &COMMANDS {
         assert!(rt;
-            first_wrong(&rt, rt.alloc(), command, calls) == None,
+            first_wrong(&rt, rt.alloc(), command, calls).is_none(),
             "{command}"
         );
     }

@@ -1,8 +1,9 @@
 //! Sources, sinks and seeds.
 
+use crate::runs::{Calls, call_list, source_of};
 use fsc_outside::{
-    CallList, FixedSeed, InputFault, InputLimits, MemSink, MemSource, RuntimeSeed, SeedSource,
-    Sink, Source, StdSink, StdSource, SteadySink, SteadySource, read_all,
+    FixedSeed, InputFault, InputLimits, MemSink, MemSource, RuntimeSeed, SeedSource, Sink, Source,
+    StdSink, StdSource, SteadySink, SteadySource, read_all,
 };
 use std::alloc::{AllocError, Global};
 use std::io;
@@ -11,22 +12,9 @@ use std::random::RandomSource;
 
 const TEXT: &[u8; 18] = b"one two three four";
 
-// The call of this number alone.
-fn listed_call(alloc: Global, number: u32) -> Result<CallList, AllocError> {
-    let mut list = CallList::new(alloc);
-    list.push(number)?;
-    Ok(list)
-}
-
-// A source of the text, which gives five bytes a call and fails at this one.
-fn failing_source(alloc: Global, listed: u32) -> Result<MemSource, AllocError> {
-    let text = Vec::from_slice(alloc, TEXT)?;
-    Ok(MemSource::new(text, 5, listed_call(alloc, listed)?))
-}
-
 // A sink with room for the text, which takes five bytes a call and fails at this one.
 fn failing_sink(alloc: Global, listed: u32) -> Result<MemSink, AllocError> {
-    MemSink::new(alloc, TEXT.len(), 5, listed_call(alloc, listed)?)
+    MemSink::new(alloc, TEXT.len(), 5, call_list(alloc, Some(listed))?)
 }
 
 // Writes the piece, once more where the first call fails. Whether it failed.
@@ -70,7 +58,11 @@ fn expect_copied<A: Abort>(rt: &A, source: &mut MemSource, sink: &mut MemSink, l
 #[test]
 fn each_listed_call_fails_alone(rt: HostRuntime) {
     for listed in 0..4u32 {
-        let mut source = failing_source(rt.alloc(), listed).expect(&rt, "memory");
+        let reads = Calls {
+            piece: 5,
+            fails: Some(listed),
+        };
+        let mut source = source_of(rt.alloc(), TEXT, reads).expect(&rt, "memory");
         let mut sink = failing_sink(rt.alloc(), listed).expect(&rt, "memory");
         expect_copied(&rt, &mut source, &mut sink, listed);
     }
@@ -123,24 +115,30 @@ impl RandomSource for Broken {
     }
 }
 
-// That of these seeds no two are alike.
-fn expect_no_two_alike<A: Abort>(rt: &A, given: &[[u8; 32]; 16]) {
+// Whether of these seeds no two are alike.
+fn are_apart(given: &[[u8; 32]; 16]) -> bool {
     for i in 0..16 {
         for j in 0..i {
-            assert!(rt; given[i] != given[j], "seeds {j} and {i}");
+            if given[i] == given[j] {
+                return false;
+            }
         }
     }
+    true
 }
 
-// That no byte is the same in all.
-fn no_byte_is_the_same<A: Abort>(rt: &A, given: &[[u8; 32]; 16]) {
+// Whether no byte is the same in all.
+fn each_byte_changes(given: &[[u8; 32]; 16]) -> bool {
     for place in 0..32 {
-        let first = given[0][place];
-        assert!(rt;
-            given.iter().any(|seed| seed[place] != first),
-            "byte {place}"
-        );
+        let mut is_same = true;
+        for i in 1..16 {
+            is_same &= given[i][place] == given[0][place];
+        }
+        if is_same {
+            return false;
+        }
     }
+    true
 }
 
 #[test]
@@ -150,8 +148,8 @@ fn the_runtime_gives_other_bytes_each_time(rt: HostRuntime) {
     for i in 0..16 {
         given[i] = seeds.seed().expect(&rt, "an answer");
     }
-    expect_no_two_alike(&rt, &given);
-    no_byte_is_the_same(&rt, &given);
+    assert!(rt; are_apart(&given));
+    assert!(rt; each_byte_changes(&given));
     assert!(rt; RuntimeSeed::new(&Broken).seed().is_err());
 }
 

@@ -1,9 +1,10 @@
 //! Each command of a session with another reply in the place of each of its calls'.
 
 use crate::kinds::{KINDS, Kind, reply};
-use crate::runs::{Instead, log_of};
-use mount_model::Reply;
-use std::alloc::{AllocError, Global};
+use crate::runs::{Instead, as_it_is, log_of};
+use crate::texts::joined;
+use mount_model::{Refusal, Reply};
+use std::alloc::Global;
 use std::process::Abort;
 
 // Three protectors, a policy that two of them open, a policy of the first version, and an empty directory. Line
@@ -72,24 +73,12 @@ static COMMANDS: [(&str, &[Kind]); 11] = [
 
 // The log of a run of this command behind those above, in which the call of this number has this reply.
 fn log_with<A: Abort>(rt: &A, alloc: Global, command: &str, at: u64, reply: Reply) -> Vec<u8> {
-    let script = behind_those(alloc, command).expect(rt, "memory");
-    let reply = Some(reply);
-    let none = Instead { at: 0, reply: None };
-    log_of(
-        rt,
-        alloc,
-        "replay",
-        script.as_str(),
-        Instead { at, reply },
-        none,
-    )
-    .1
-}
-
-fn behind_those(alloc: Global, command: &str) -> Result<String, AllocError> {
-    let mut script = String::from_str(alloc, BEFORE)?;
-    script.push_str(command)?;
-    Ok(script)
+    let script = joined(alloc, BEFORE, command).expect(rt, "memory");
+    let other = Instead {
+        at,
+        reply: Some(reply),
+    };
+    log_of(rt, alloc, "replay", script.as_str(), other, as_it_is()).1
 }
 
 // How many lines a text has.
@@ -141,8 +130,17 @@ fn first_wrong<A: Abort>(
 fn each_command_ends_at_each_reply(rt: HostRuntime) {
     for (command, wanted) in &COMMANDS {
         assert!(rt;
-            first_wrong(&rt, rt.alloc(), command, wanted) == None,
+            first_wrong(&rt, rt.alloc(), command, wanted).is_none(),
             "{command}"
         );
     }
+}
+
+// No run in turns has a migration find another version at its store than the one that it loaded.
+#[test]
+fn a_migration_ends_by_its_store(rt: HostRuntime) {
+    let changed = Reply::Refused(Refusal::Changed { version: 2 });
+    let at = BEFORE_CALLS.wrapping_add(1);
+    let log = log_with(&rt, rt.alloc(), "migrate old\n", at, changed);
+    assert!(rt; log.ends_with(b"\nnote 0 9 conflict\n"));
 }

@@ -3,12 +3,10 @@
 use std::alloc::{AllocError, Global};
 use std::process::Abort;
 
-// A text, so many times.
-pub(crate) fn repeated(alloc: Global, text: &str, times: usize) -> Result<String, AllocError> {
-    let mut whole = String::new(alloc);
-    for _ in 0..times {
-        whole.push_str(text)?;
-    }
+// A text, and another behind it.
+pub(crate) fn joined(alloc: Global, text: &str, more: &str) -> Result<String, AllocError> {
+    let mut whole = String::from_str(alloc, text)?;
+    whole.push_str(more)?;
     Ok(whole)
 }
 

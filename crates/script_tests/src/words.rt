@@ -1,196 +1,17 @@
-//! Words, targets, parts and paths at the edges of the grammar, through the readers and the writers.
+//! Words and paths that no line of a script can show, and how words and paths are written. What a line spells
+//! stands in `examples/`.
 
-use crate::texts::{expect_same, repeated};
-use item_list::Bytes;
-use script_words::{
-    ScriptPart, read_part, read_path, read_target, read_word, write_path, write_word,
-};
+use crate::texts::expect_same;
+use script_words::{read_path, read_target, read_word, write_path, write_word};
 use std::alloc::{AllocError, Global};
-use std::process::Abort;
 
-// A given part as its digits, a star as its number.
-fn part_shown(alloc: Global, part: &ScriptPart) -> Result<String, AllocError> {
-    match part {
-        ScriptPart::Given(bytes) => hex::encode(alloc, bytes.as_slice()),
-        ScriptPart::Star(number) => format!(in alloc; "star {number}"),
-    }
-}
-
-// The parts, a `/` before each.
-fn parts_shown(alloc: Global, parts: &[ScriptPart]) -> Result<String, AllocError> {
-    let mut shown = String::new(alloc);
-    for part in parts {
-        shown.push('/')?;
-        shown.push_str(&part_shown(alloc, part)?)?;
-    }
-    Ok(shown)
-}
-
-// The parts of the path that the text spells; `refused` for a text outside the grammar.
-fn path_shown(alloc: Global, text: &[u8]) -> Result<String, AllocError> {
-    match read_path(alloc, text)? {
-        Some(path) => parts_shown(alloc, path.parts()),
-        None => String::from_str(alloc, "refused"),
-    }
-}
-
-// The digits of the bytes; `refused` where there are none.
-fn word_shown(alloc: Global, word: Option<Bytes>) -> Result<String, AllocError> {
-    match word {
-        Some(bytes) => hex::encode(alloc, bytes.as_slice()),
-        None => String::from_str(alloc, "refused"),
-    }
-}
-
-// A path, and how it is shown.
-type PathRow = (&'static str, &'static str);
-
-static STARS: [PathRow; 11] = [
-    ("/*0", "/star 0"),
-    ("/*17/a", "/star 17/61"),
-    ("/*4294967295", "/star 4294967295"),
-    ("/*4294967296", "/2a34323934393637323936"),
-    ("/*01", "/2a3031"),
-    ("/%2A0", "/2a30"),
-    ("/*%30", "/2a30"),
-    ("/**", "/2a2a"),
-    ("/*", "/2a"),
-    ("/*1a", "/2a3161"),
-    ("/*+1", "/2a2b31"),
-];
-
-static PARTS: [PathRow; 25] = [
-    ("/", ""),
-    ("/...", "/2e2e2e"),
-    ("/.a/a.", "/2e61/612e"),
-    ("/%25", "/25"),
-    ("/%ff/%FF", "/ff/ff"),
-    ("/%2525", "/253235"),
-    ("/.", "refused"),
-    ("/..", "refused"),
-    ("/%2e", "refused"),
-    ("/%2E%2E", "refused"),
-    ("/.%2e", "refused"),
-    ("/%2f", "refused"),
-    ("/a%2Fb", "refused"),
-    ("/%00", "refused"),
-    ("/%", "refused"),
-    ("/%4", "refused"),
-    ("/%4g", "refused"),
-    ("/%/41", "refused"),
-    ("//", "refused"),
-    ("/a/", "refused"),
-    ("/a//b", "refused"),
-    ("a", "refused"),
-    ("a/b", "refused"),
-    ("", "refused"),
-    ("/a b", "refused"),
-];
-
-// That each of these paths is shown so.
-fn expect_shown<A: Abort>(rt: &A, alloc: Global, rows: &[PathRow]) {
-    for (text, want) in rows {
-        expect_same(rt, path_shown(alloc, text.as_bytes()), want, text);
-    }
-}
-
+// A line is cut at its spaces, so that no script has these readers meet one.
 #[test]
-fn stars_are_stars_as_they_stand(rt: HostRuntime) {
-    expect_shown(&rt, rt.alloc(), &STARS);
-}
-
-#[test]
-fn parts_are_checked_after_decoding(rt: HostRuntime) {
-    expect_shown(&rt, rt.alloc(), &PARTS);
-}
-
-// How many parts the path has that is made of so many pieces `/a`, if there is such a path.
-fn parts_read(alloc: Global, pieces: usize) -> Result<Option<usize>, AllocError> {
-    let text = repeated(alloc, "/a", pieces)?;
-    Ok(read_path(alloc, text.as_bytes())?.map(|path| path.parts().len()))
-}
-
-#[test]
-fn paths_have_at_most_32_parts(rt: HostRuntime) {
-    assert!(rt; matches!(parts_read(rt.alloc(), 32), Ok(Some(32))));
-    assert!(rt; matches!(parts_read(rt.alloc(), 33), Ok(None)));
-}
-
-// The digits of the word that the text spells, and of the target; `refused` where it spells none.
-type WordRow = (&'static [u8], &'static str, &'static str);
-
-static WORDS: [WordRow; 17] = [
-    (b"a", "61", "61"),
-    (b"!~", "217e", "217e"),
-    (b"a/b", "612f62", "612f62"),
-    (b"*0", "2a30", "2a30"),
-    (b"%20%c3%A9", "20c3a9", "20c3a9"),
-    (b"%00", "00", "refused"),
-    (b"a%00", "6100", "refused"),
-    (b"", "refused", "refused"),
-    (b"%", "refused", "refused"),
-    (b"a%4", "refused", "refused"),
-    (b"%4g", "refused", "refused"),
-    (b"%%41", "refused", "refused"),
-    (b"a\tb", "refused", "refused"),
-    (b"a\r", "refused", "refused"),
-    (b"a b", "refused", "refused"),
-    (b"\x7f", "refused", "refused"),
-    (b"\x80", "refused", "refused"),
-];
-
-fn word_read(alloc: Global, text: &[u8]) -> Result<String, AllocError> {
-    word_shown(alloc, read_word(alloc, text)?)
-}
-
-fn target_read(alloc: Global, text: &[u8]) -> Result<String, AllocError> {
-    word_shown(alloc, read_target(alloc, text)?)
-}
-
-#[test]
-fn words_have_graphic_characters_and_whole_escapes(rt: HostRuntime) {
-    for (text, word, target) in &WORDS {
-        expect_same(&rt, word_read(rt.alloc(), text), word, "a word");
-        expect_same(&rt, target_read(rt.alloc(), text), target, "a target");
-    }
-}
-
-// How many bytes the word has that so many of these pieces spell, if they spell one.
-fn length_read(alloc: Global, piece: &str, pieces: usize) -> Result<Option<usize>, AllocError> {
-    let text = repeated(alloc, piece, pieces)?;
-    Ok(read_word(alloc, text.as_bytes())?.map(|word| word.len()))
-}
-
-// Whether so many of these pieces spell a part.
-fn is_part(alloc: Global, piece: &str, pieces: usize) -> Result<bool, AllocError> {
-    let text = repeated(alloc, piece, pieces)?;
-    Ok(read_part(alloc, text.as_bytes())?.is_some())
-}
-
-// A piece, how many of it there are, and how many bytes the word has that they spell, if they spell one.
-static LENGTHS: [(&str, usize, Option<usize>); 4] = [
-    ("a", 1000, Some(1000)),
-    ("a", 1001, None),
-    ("%61", 1000, Some(1000)),
-    ("%61", 1001, None),
-];
-
-#[test]
-fn words_have_at_most_1000_bytes(rt: HostRuntime) {
-    for (piece, pieces, wanted) in &LENGTHS {
-        let length = length_read(rt.alloc(), piece, *pieces).expect(&rt, "memory");
-        assert!(rt; length == *wanted, "{pieces} of {piece}");
-    }
-}
-
-#[test]
-fn parts_have_at_most_1000_bytes(rt: HostRuntime) {
-    for piece in &["a", "%61"] {
-        assert!(rt;
-            matches!(is_part(rt.alloc(), piece, 1001), Ok(false)),
-            "{piece}"
-        );
-    }
+fn words_and_targets_have_no_space(rt: HostRuntime) {
+    let word = read_word(rt.alloc(), b"a b").expect(&rt, "memory");
+    assert!(rt; word.is_none());
+    let target = read_target(rt.alloc(), b"a b").expect(&rt, "memory");
+    assert!(rt; target.is_none());
 }
 
 // Python's `urllib.parse.quote(bytes(range(256)), safe='')`, a row for each 32 bytes.
@@ -230,11 +51,14 @@ fn path_rewritten(alloc: Global, text: &[u8]) -> Result<String, AllocError> {
     }
 }
 
-static REWRITTEN: [PathRow; 4] = [
+// A path, and how it is written: a star as one, and no plain part. A space is no part's.
+static REWRITTEN: [(&str, &str); 6] = [
     ("/", "/"),
     ("/*0/%2a0/*01", "/*0/%2A0/%2A01"),
+    ("/*4294967295/*4294967296", "/*4294967295/%2A4294967296"),
     ("/%2e%2e%2e/%25/%7E-_.a", "/.../%25/~-_.a"),
     ("/caf%c3%a9/a+b", "/caf%C3%A9/a%2Bb"),
+    ("/a b", "refused"),
 ];
 
 #[test]
