@@ -1,6 +1,6 @@
-//! The kernel of claims. It hashes how many claims stand in the end, and no contract says how many
+//! The kernel of claims. It tells how many claims stand in the end, and no contract says how many
 //! that are.
-use sha2::{Digest, Sha256};
+use crate::scattering::scattered;
 use std::alloc::{AllocError, Global};
 use user_claims::{Claims, KeyId};
 
@@ -26,37 +26,26 @@ impl ClaimCount {
 }
 
 /// Makes so many claims of 600 users, one key after another, and again from none in each run.
-pub(crate) fn make_claims(
-    alloc: Global,
-    size: ClaimCount,
-    count: u32,
-) -> Result<[u8; 32], AllocError> {
+pub(crate) fn make_claims(alloc: Global, size: ClaimCount, count: u32) -> Result<u32, AllocError> {
     let mut found = 0u32;
     for _ in 0..count {
         found = found.wrapping_add(claims_of_first(alloc, size)?);
     }
-    Ok(Sha256::digest(&found.to_be_bytes()))
+    Ok(found)
 }
 
 // Makes the claims, and tells how many of them the first key has.
 fn claims_of_first(alloc: Global, size: ClaimCount) -> Result<u32, AllocError> {
     let mut claims = Claims::new(alloc);
-    claim_all(&mut claims, size)?;
-    Ok(claims.count_of_id(&key(0)))
-}
-
-fn claim_all(claims: &mut Claims, size: ClaimCount) -> Result<(), AllocError> {
     for made in 0..size.claims {
         claims
             .claim(&key(made / USERS), made % USERS)
             .map_err(|_| AllocError)?;
     }
-    Ok(())
+    Ok(claims.count_of_id(&key(0)))
 }
 
 // Scattered as identifiers are.
 fn key(number: u32) -> KeyId {
-    let mut id = [0x61; 16];
-    id[..4].copy_from_slice(&number.wrapping_mul(2246822519).to_be_bytes());
-    KeyId(id)
+    KeyId(scattered(number))
 }

@@ -1,5 +1,5 @@
-//! The lengths that a kernel's name may give.
-ghost use Rattle.std.specs.Prelude.{◌≡◌, ◌≤◌, ◌%◌};
+//! The lengths and numbers that a kernel's name may give.
+ghost use Rattle.std.specs.Prelude.{◌≡◌, ◌<◌, ◌≤◌, ◌%◌};
 
 /// How many bytes a name or text has that is enciphered with ciphertext stealing.
 #[derive(Clone, Copy)]
@@ -46,5 +46,33 @@ impl UnitLength {
         ensures whole_blocks { result % 16 ≡ 0 }
     {
         self.bytes
+    }
+}
+
+/// How many nodes, entries or names there are: at least one.
+#[derive(Clone, Copy)]
+pub(crate) struct ItemCount {
+    items: u32,
+    ghost some: { 0 < items },
+}
+
+impl ItemCount {
+    /// The number of which the digits tell, unless it is higher than `most`.
+    pub(crate) fn read(digits: &str, most: u32) -> Option<ItemCount> {
+        match digits.parse::<u32>() {
+            Ok(items) if items > 0 && items <= most => Some(ItemCount { items }),
+            _ => None,
+        }
+    }
+
+    pub(crate) fn items(self) -> u32
+        ensures some { 0 < result }
+    {
+        self.items
+    }
+
+    /// A place below the number, another one for each run.
+    pub(crate) fn place(self, run: u32) -> u32 {
+        run.wrapping_mul(2654435761) % self.items
     }
 }

@@ -6,6 +6,8 @@
 mod callers;
 mod ciphers;
 mod claims;
+mod directories;
+mod fixed;
 mod hashes;
 mod kernel;
 mod lengths;
@@ -42,40 +44,53 @@ names of kernels of a mount: \
     shared-read-1, shared-read-2, shared-read-4";
 
 fn main(rt: HostRuntime) -> io::Result<ExitCode> {
-    let mut words = env::args(&rt)?.skip(1);
-    let (Some(name), Some(count), None) = (words.next(), words.next(), words.next()) else {
-        eprintln!(rt; "{USAGE}")?;
-        return Ok(ExitCode::from(2));
-    };
-    match measured(&rt, rt.alloc(), name.as_str(), count.as_str())? {
-        Some(line) => println!(rt; "{line}")?,
-        None => {
-            eprintln!(rt; "{USAGE}")?;
-            return Ok(ExitCode::from(2));
+    if let Some((name, count)) = asked(&rt)? {
+        if let Some(line) = measured(&rt, rt.alloc(), name.as_str(), count)? {
+            println!(rt; "{line}")?;
+            return Ok(ExitCode::SUCCESS);
         }
     }
-    Ok(ExitCode::SUCCESS)
+    eprintln!(rt; "{USAGE}")?;
+    Ok(ExitCode::from(2))
 }
 
-// Runs the kernel of this name so many times, and tells so in a line; none where there is no such kernel or number.
+// The name and the number that the words tell; none where they tell anything else.
+fn asked(rt: &HostRuntime) -> io::Result<Option<(String, u32)>> {
+    let mut words = env::args(rt)?.skip(1);
+    let (Some(name), Some(count), None) = (words.next(), words.next(), words.next()) else {
+        return Ok(None);
+    };
+    match count.as_str().parse::<u32>() {
+        Ok(count) => Ok(Some((name, count))),
+        Err(_) => Ok(None),
+    }
+}
+
+// Runs the kernel of this name so many times, and tells so in a line; none where there is no such kernel.
 fn measured<R: Threads + Wait + Sync>(
     rt: &R,
     alloc: Global,
     name: &str,
-    count: &str,
+    count: u32,
 ) -> Result<Option<String>, AllocError> {
-    let Ok(count) = count.parse::<u32>() else {
-        return Ok(None);
-    };
+    match outcome(rt, alloc, name, count)? {
+        Some(outcome) => Ok(Some(format!(in alloc; "{name} {count} {outcome}")?)),
+        None => Ok(None),
+    }
+}
+
+// The digest of what came out, or how many calls were refused.
+fn outcome<R: Threads + Wait + Sync>(
+    rt: &R,
+    alloc: Global,
+    name: &str,
+    count: u32,
+) -> Result<Option<String>, AllocError> {
     if let Some(kernel) = Kernel::named(name) {
-        let digest = hex::encode(alloc, &kernel.run(rt, alloc, count)?)?;
-        return Ok(Some(format!(in alloc; "{name} {count} {digest}")?));
+        return Ok(Some(hex::encode(alloc, &kernel.run(rt, alloc, count)?)?));
     }
     match MountKernel::named(name) {
-        Some(kernel) => {
-            let refused = kernel.run(rt, alloc, count)?;
-            Ok(Some(format!(in alloc; "{name} {count} {refused}")?))
-        }
+        Some(kernel) => Ok(Some(format!(in alloc; "{}", kernel.run(rt, alloc, count)?)?)),
         None => Ok(None),
     }
 }

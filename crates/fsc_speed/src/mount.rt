@@ -3,8 +3,9 @@
 //! the libraries ask for.
 mod asking;
 mod calls;
-mod counts;
 mod kernel;
+mod one_caller;
+mod table;
 mod turns;
 mod work;
 

@@ -1,12 +1,10 @@
-//! The kernels of scripts and logs. They hash how much was read or told, and no contract says how much
+//! The kernels of scripts and logs. They tell how much was read or told, and no contract says how much
 //! that is.
-use crate::scattering::scattered;
+use crate::scattering::{scattered, scattered_name};
 use call_history::Entry;
-use item_list::Bytes;
 use mount_model::{Call, NameList, Op, Path, Reply};
 use reply_text::entry_line;
 use script_lang::read_script;
-use sha2::{Digest, Sha256};
 use std::alloc::{AllocError, Global};
 use text_words::push_lower_hex;
 
@@ -19,37 +17,33 @@ const MOST_BYTES: usize = 1_048_576;
 /// As many names as a listing tells.
 const NAMES: u32 = 128;
 
-/// Reads a script of 20,000 lines.
-pub(crate) fn read_scripts(alloc: Global, count: u32) -> Result<[u8; 32], AllocError> {
+/// Reads a script of 20,000 lines. How many commands were read in all.
+pub(crate) fn read_scripts(alloc: Global, count: u32) -> Result<u32, AllocError> {
     let text = script_text(alloc)?;
     read_often(alloc, text.as_slice(), count)
 }
 
-fn read_often(alloc: Global, text: &[u8], count: u32) -> Result<[u8; 32], AllocError> {
+fn read_often(alloc: Global, text: &[u8], count: u32) -> Result<u32, AllocError> {
     let mut read = 0u32;
     for _ in 0..count {
         read = read.wrapping_add(commands_in(alloc, text)?);
     }
-    Ok(Sha256::digest(&read.to_be_bytes()))
+    Ok(read)
 }
 
-/// Makes the line of a listing of 128 names.
-pub(crate) fn tell_listings(alloc: Global, count: u32) -> Result<[u8; 32], AllocError> {
+/// Makes the line of a listing of 128 names. How many bytes were told in all.
+pub(crate) fn tell_listings(alloc: Global, count: u32) -> Result<u32, AllocError> {
     let listing = listing(alloc)?;
     tell_often(alloc, &listing, count)
 }
 
-fn tell_often(
-    alloc: Global,
-    listing: &Entry<Call, Reply>,
-    count: u32,
-) -> Result<[u8; 32], AllocError> {
+fn tell_often(alloc: Global, listing: &Entry<Call, Reply>, count: u32) -> Result<u32, AllocError> {
     let mut told = 0u32;
     for place in 0..count {
         let line = entry_line(alloc, u64::from(place), listing)?;
         told = told.wrapping_add(size_of(line.len()));
     }
-    Ok(Sha256::digest(&told.to_be_bytes()))
+    Ok(told)
 }
 
 // How many commands the first caller has.
@@ -71,17 +65,12 @@ fn size_of(len: usize) -> u32 {
 // A caller, and for each further line a command on a key of its own.
 fn script_text(alloc: Global) -> Result<Vec<u8>, AllocError> {
     let mut text = Vec::from_slice(alloc, b"caller 1000\n")?;
-    push_commands(&mut text)?;
-    Ok(text)
-}
-
-fn push_commands(text: &mut Vec<u8>) -> Result<(), AllocError> {
     for line in 1..LINES {
         text.extend_from_slice(b"key-status id:")?;
-        push_lower_hex(text, &scattered(line))?;
+        push_lower_hex(&mut text, &scattered(line))?;
         text.push(b'\n')?;
     }
-    Ok(())
+    Ok(text)
 }
 
 fn listing(alloc: Global) -> Result<Entry<Call, Reply>, AllocError> {
@@ -100,13 +89,7 @@ fn listing(alloc: Global) -> Result<Entry<Call, Reply>, AllocError> {
 fn listed_names(alloc: Global) -> Result<NameList, AllocError> {
     let mut names = NameList::new(alloc);
     for name in 0..NAMES {
-        push_name(&mut names, alloc, name)?;
+        names.push(scattered_name(alloc, name)?)?;
     }
     Ok(names)
-}
-
-fn push_name(names: &mut NameList, alloc: Global, name: u32) -> Result<(), AllocError> {
-    let mut bytes = Vec::new(alloc);
-    push_lower_hex(&mut bytes, &scattered(name))?;
-    names.push(Bytes::from_vec(bytes))
 }

@@ -1,94 +1,88 @@
-//! The kernels of the tree of stored nodes. They hash how many look-ups found something, and no
+//! The kernels of the tree of stored nodes. They tell how many look-ups found something, and no
 //! contract says how many that are.
-ghost use Rattle.std.specs.Prelude.{◌<◌, ◌≤◌};
-
+use crate::lengths::ItemCount;
 use disk_tree::{Body, DirEntries, DiskTree, StoredNode};
-use sha2::{Digest, Sha256};
 use std::alloc::{AllocError, Global};
 
-/// How many nodes or entries there are: at least one.
+/// What is done again and again.
 #[derive(Clone, Copy)]
-pub(crate) struct TreeSize {
-    items: u32,
-    ghost some: { 0 < items },
+pub(crate) enum TreeWork {
+    /// Nodes of a tree are looked up by number.
+    GetNodes,
+    /// Entries of a directory are looked up by stored name.
+    GetEntries,
+    /// Entries are taken out of a directory and put back at its end.
+    PutEntries,
 }
 
-impl TreeSize {
-    pub(crate) fn read(digits: &str, most: u32) -> Option<TreeSize> {
-        match digits.parse::<u32>() {
-            Ok(items) if items > 0 && items <= most => Some(TreeSize { items }),
-            _ => None,
+/// Works on a tree with so many nodes or entries. How many look-ups found something.
+pub(crate) fn work(
+    alloc: Global,
+    work: TreeWork,
+    size: ItemCount,
+    count: u32,
+) -> Result<u32, AllocError> {
+    let mut tree = DiskTree::new(alloc)?;
+    work_on(alloc, &mut tree, work, size, count)
+}
+
+// The same on a tree that is lent, since all calls of a function that owns one are dear to prove.
+fn work_on(
+    alloc: Global,
+    tree: &mut DiskTree,
+    work: TreeWork,
+    size: ItemCount,
+    count: u32,
+) -> Result<u32, AllocError> {
+    match work {
+        TreeWork::GetNodes => {
+            add_dirs(alloc, tree, size)?;
+            Ok(look_nodes_up(tree, size, count))
+        }
+        TreeWork::GetEntries => {
+            fill_dir(alloc, tree, size)?;
+            Ok(look_entries_up(tree, size, count))
+        }
+        TreeWork::PutEntries => {
+            fill_dir(alloc, tree, size)?;
+            put_often(alloc, tree, size, count)
         }
     }
-
-    // A place below the size, another one for each run.
-    fn place(self, run: u32) -> u32 {
-        run.wrapping_mul(2654435761) % self.items
-    }
 }
 
-/// Looks up nodes of a tree by number.
-pub(crate) fn get_nodes(alloc: Global, size: TreeSize, count: u32) -> Result<[u8; 32], AllocError> {
-    let mut tree = DiskTree::new(alloc)?;
-    add_dirs(alloc, &mut tree, size)?;
-    Ok(look_nodes_up(&tree, size, count))
-}
-
-fn add_dirs(alloc: Global, tree: &mut DiskTree, size: TreeSize) -> Result<(), AllocError> {
-    for number in 1..size.items {
+fn add_dirs(alloc: Global, tree: &mut DiskTree, size: ItemCount) -> Result<(), AllocError> {
+    for number in 1..size.items() {
         add_dir(alloc, tree, number)?;
     }
     Ok(())
 }
 
-fn look_nodes_up(tree: &DiskTree, size: TreeSize, count: u32) -> [u8; 32] {
+fn look_nodes_up(tree: &DiskTree, size: ItemCount, count: u32) -> u32 {
     let mut found = 0u32;
     for run in 0..count {
         if tree.node(size.place(run)).is_some() {
             found = found.wrapping_add(1);
         }
     }
-    Sha256::digest(&found.to_be_bytes())
+    found
 }
 
-/// Looks up entries of a directory by stored name.
-pub(crate) fn get_entries(
-    alloc: Global,
-    size: TreeSize,
-    count: u32,
-) -> Result<[u8; 32], AllocError> {
-    let mut tree = DiskTree::new(alloc)?;
-    fill_dir(alloc, &mut tree, size)?;
-    Ok(look_entries_up(&tree, size, count))
-}
-
-fn look_entries_up(tree: &DiskTree, size: TreeSize, count: u32) -> [u8; 32] {
+fn look_entries_up(tree: &DiskTree, size: ItemCount, count: u32) -> u32 {
     let mut found = 0u32;
     for run in 0..count {
         if tree.entry(0, &stored_name(size.place(run))).is_some() {
             found = found.wrapping_add(1);
         }
     }
-    Sha256::digest(&found.to_be_bytes())
-}
-
-/// Takes entries out of a directory and puts them back at its end.
-pub(crate) fn put_entries(
-    alloc: Global,
-    size: TreeSize,
-    count: u32,
-) -> Result<[u8; 32], AllocError> {
-    let mut tree = DiskTree::new(alloc)?;
-    fill_dir(alloc, &mut tree, size)?;
-    put_often(alloc, &mut tree, size, count)
+    found
 }
 
 fn put_often(
     alloc: Global,
     tree: &mut DiskTree,
-    size: TreeSize,
+    size: ItemCount,
     count: u32,
-) -> Result<[u8; 32], AllocError> {
+) -> Result<u32, AllocError> {
     let mut found = 0u32;
     for run in 0..count {
         let name = stored_name(size.place(run));
@@ -97,7 +91,7 @@ fn put_often(
         }
         put(alloc, tree, &name)?;
     }
-    Ok(Sha256::digest(&found.to_be_bytes()))
+    Ok(found)
 }
 
 fn add_dir(alloc: Global, tree: &mut DiskTree, number: u32) -> Result<(), AllocError> {
@@ -114,9 +108,9 @@ fn add_dir(alloc: Global, tree: &mut DiskTree, number: u32) -> Result<(), AllocE
 }
 
 // Puts so many entries into the root.
-fn fill_dir(alloc: Global, tree: &mut DiskTree, size: TreeSize) -> Result<(), AllocError> {
+fn fill_dir(alloc: Global, tree: &mut DiskTree, size: ItemCount) -> Result<(), AllocError> {
     add_dir(alloc, tree, 1)?;
-    for place in 0..size.items {
+    for place in 0..size.items() {
         put(alloc, tree, &stored_name(place))?;
     }
     Ok(())

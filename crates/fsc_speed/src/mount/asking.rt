@@ -2,8 +2,9 @@
 ghost use Rattle.std.specs.Prelude.{All};
 ghost use Rattle.mount_model.specs.Fits.{Fits};
 
-use crate::mount::calls::{call, id_of_key, open};
-use crate::mount::work::{Work, encrypted_top, tell_status};
+use crate::directories::id_of_key;
+use crate::mount::calls::{OnPath, call, status};
+use crate::mount::work::{Before, Run, push_before, push_steps};
 use mount_model::{Call, Op, Reply};
 use mount_shared::Mount;
 use std::alloc::{AllocError, Global};
@@ -16,48 +17,64 @@ struct Asked {
 }
 
 /// Makes the calls before, and then those of a run so many times. How many of all were refused.
-pub(crate) fn make_calls(alloc: Global, work: &Work, count: u32) -> Result<u64, AllocError> {
-    let mut asked = Asked::new(alloc)?;
-    asked.ask_often(work.before.as_slice(), 1);
-    asked.ask_often(work.run.as_slice(), count);
+pub(crate) fn run_alone(
+    alloc: Global,
+    before: &Before,
+    run: Run,
+    count: u32,
+) -> Result<u64, AllocError> {
+    let mount = Mount::new(alloc)?;
+    let mut asked = Asked { mount, refused: 0 };
+    asked.prepare(alloc, before)?;
+    asked.repeat(alloc, run, before.files, count)?;
     Ok(asked.refused)
 }
 
-/// Opens a file and closes it so many times. How many calls were refused.
-pub(crate) fn open_and_close(alloc: Global, count: u32) -> Result<u64, AllocError> {
-    let mut asked = Asked::new(alloc)?;
-    asked.ask_often(encrypted_top(alloc, 1)?.as_slice(), 1);
-    let open = open(alloc, 0)?;
-    if open.fits() {
-        asked.open_often(&open, count);
+/// What is looked at of a reply.
+#[derive(Clone, Copy)]
+pub(crate) enum Came {
+    /// A file was opened, under this handle.
+    Opened(u32),
+    /// Nothing was done.
+    Refused,
+    Other,
+}
+
+/// What is looked at of this reply.
+pub(crate) fn what_came(reply: &Reply) -> Came {
+    match reply {
+        Reply::Opened(handle) => Came::Opened(*handle),
+        Reply::Refused(_) => Came::Refused,
+        _ => Came::Other,
     }
-    Ok(asked.refused)
-}
-
-/// Tells the status of the key so many times, while 4,096 files are open that need it, by a call that is
-/// made for each, as who asks in turn makes one for each. How many calls were refused.
-pub(crate) fn tell_anew(alloc: Global, count: u32) -> Result<u64, AllocError> {
-    let mut asked = Asked::new(alloc)?;
-    asked.ask_often(tell_status(alloc)?.before.as_slice(), 1);
-    let id = id_of_key();
-    for _ in 0..count {
-        asked.ask(&call(Op::KeyStatus { id }));
-    }
-    Ok(asked.refused)
-}
-
-/// Whether nothing was done.
-pub(crate) fn is_refused(reply: &Reply) -> bool {
-    matches!(reply, Reply::Refused(_))
 }
 
 impl Asked {
-    // The empty mount.
-    fn new(alloc: Global) -> Result<Asked, AllocError> {
-        Ok(Asked {
-            mount: Mount::new(alloc)?,
-            refused: 0,
-        })
+    fn prepare(&mut self, alloc: Global, before: &Before) -> Result<(), AllocError> {
+        let mut calls = Vec::new(alloc);
+        push_before(&mut calls, alloc, before)?;
+        self.ask_often(calls.as_slice(), 1);
+        Ok(())
+    }
+
+    // Makes the run so many times, beside so many names.
+    fn repeat(
+        &mut self,
+        alloc: Global,
+        run: Run,
+        names: u32,
+        count: u32,
+    ) -> Result<(), AllocError> {
+        match run {
+            Run::Steps(steps, first, numbers) => {
+                let mut calls = Vec::new(alloc);
+                push_steps(&mut calls, alloc, steps, first, numbers, names)?;
+                self.ask_often(calls.as_slice(), count);
+            }
+            Run::OpenClose => self.open_often(&OnPath::Open.numbered(alloc, 0)?, count),
+            Run::StatusAnew => self.tell_anew(count),
+        }
+        Ok(())
     }
 
     // Makes the calls so many times. Where one of them may not be made, none is, and all are refused.
@@ -81,23 +98,32 @@ impl Asked {
     }
 
     // Opens so many times, and closes what was opened.
-    fn open_often(&mut self, open: &Call, count: u32)
-        requires { Fits open.now }
-    {
+    fn open_often(&mut self, open: &Call, count: u32) {
+        if !open.fits() {
+            return;
+        }
         for _ in 0..count {
-            if let Reply::Opened(handle) = self.ask(open) {
+            if let Came::Opened(handle) = self.ask(open) {
                 self.ask(&call(Op::Close { handle }));
             }
         }
     }
 
-    fn ask(&mut self, call: &Call) -> Reply
+    // Tells the status of the key so many times.
+    fn tell_anew(&mut self, count: u32) {
+        let id = id_of_key();
+        for _ in 0..count {
+            self.ask(&status(id));
+        }
+    }
+
+    fn ask(&mut self, call: &Call) -> Came
         requires { Fits call.now }
     {
-        let reply = self.mount.answer(0, call).finish();
-        if is_refused(&reply) {
+        let came = what_came(&self.mount.answer(0, call).finish());
+        if let Came::Refused = came {
             self.refused = self.refused.saturating_add(1);
         }
-        reply
+        came
     }
 }

@@ -2,18 +2,42 @@
 ghost use Rattle.std.specs.Prelude.{◌≡◌};
 ghost use Rattle.mount_model.specs.Fits.{Fits};
 
-use crate::scattering::scattered;
-use fsc_keys::{RawKey, key_id};
+use crate::directories::{NONCE, RAW, TOP, policy_of_key, push_part};
+use crate::scattering::scattered_name;
 use item_list::Bytes;
 use mount_model::{Call, KeyId, Op, Part, Path};
 use std::alloc::{AllocError, Global};
-use text_words::push_lower_hex;
 
-/// The raw key, of which the directory is encrypted.
-const RAW: [u8; 64] = [0x5a; 64];
+/// What is asked of a path.
+#[derive(Clone, Copy)]
+pub(crate) enum OnPath {
+    Mkdir,
+    Rmdir,
+    Create,
+    Unlink,
+    Stat,
+    Open,
+}
 
-/// The nonce of each node.
-const NONCE: [u8; 16] = [7; 16];
+impl OnPath {
+    /// The call that asks so of the path.
+    pub(crate) fn call(self, path: Path) -> Call {
+        let nonce = NONCE;
+        call(match self {
+            OnPath::Mkdir => Op::Mkdir { path, nonce },
+            OnPath::Rmdir => Op::Rmdir { path },
+            OnPath::Create => Op::Create { path, nonce },
+            OnPath::Unlink => Op::Unlink { path },
+            OnPath::Stat => Op::Stat { path },
+            OnPath::Open => Op::OpenNode { path },
+        })
+    }
+
+    /// The call that asks so of the name with this number.
+    pub(crate) fn numbered(self, alloc: Global, number: u32) -> Result<Call, AllocError> {
+        Ok(self.call(numbered_path(alloc, number)?))
+    }
+}
 
 /// The call of user 0.
 pub(crate) fn call(op: Op) -> Call
@@ -25,25 +49,15 @@ pub(crate) fn call(op: Op) -> Call
 /// The path of the directory whose names are made and looked up.
 pub(crate) fn top_path(alloc: Global) -> Result<Path, AllocError> {
     let mut path = Path::root(alloc);
-    path.push(Part::new(Bytes::from_vec(Vec::from_slice(alloc, b"top")?)))?;
+    push_part(&mut path, alloc, TOP)?;
     Ok(path)
 }
 
 /// The path of the name with this number in that directory: 32 digits.
 pub(crate) fn numbered_path(alloc: Global, number: u32) -> Result<Path, AllocError> {
-    let mut name = Vec::new(alloc);
-    push_lower_hex(&mut name, &scattered(number))?;
     let mut path = top_path(alloc)?;
-    path.push(Part::new(Bytes::from_vec(name)))?;
+    path.push(Part::new(scattered_name(alloc, number)?))?;
     Ok(path)
-}
-
-pub(crate) fn mkdir(path: Path) -> Call {
-    call(Op::Mkdir { path, nonce: NONCE })
-}
-
-pub(crate) fn create(path: Path) -> Call {
-    call(Op::Create { path, nonce: NONCE })
 }
 
 pub(crate) fn add_key(alloc: Global) -> Result<Call, AllocError> {
@@ -53,29 +67,32 @@ pub(crate) fn add_key(alloc: Global) -> Result<Call, AllocError> {
 
 /// Encrypts the directory under the key.
 pub(crate) fn set_policy(alloc: Global) -> Result<Call, AllocError> {
-    let mut policy = [
-        2, 1, 4, 3, 0, 0, 0, 0, 0, 0, 0, 0, 0, 0, 0, 0, 0, 0, 0, 0, 0, 0, 0, 0,
-    ];
-    policy[8..].copy_from_slice(&id_of_key().0);
     Ok(call(Op::SetPolicy {
         path: top_path(alloc)?,
-        policy,
+        policy: policy_of_key(),
         nonce: NONCE,
     }))
 }
 
-/// The identifier of the key.
-pub(crate) fn id_of_key() -> KeyId {
-    match RawKey::read(&RAW) {
-        Ok(raw) => key_id(&raw),
-        Err(_) => unreachable!(),
-    }
+/// Gives the name with the old number that with the new one.
+pub(crate) fn rename(alloc: Global, old: u32, new: u32) -> Result<Call, AllocError> {
+    Ok(call(Op::Rename {
+        old_path: numbered_path(alloc, old)?,
+        new_path: numbered_path(alloc, new)?,
+    }))
 }
 
-/// Opens the file of the number.
-pub(crate) fn open(alloc: Global, number: u32) -> Result<Call, AllocError> {
-    let path = numbered_path(alloc, number)?;
-    Ok(call(Op::OpenNode { path }))
+/// Tells 128 names of the directory, from this number on.
+pub(crate) fn list(alloc: Global, start: u32) -> Result<Call, AllocError> {
+    let path = top_path(alloc)?;
+    Ok(call(Op::List { path, start }))
+}
+
+/// Tells the status of the key with this identifier.
+pub(crate) fn status(id: KeyId) -> Call
+    ensures { Fits result }
+{
+    call(Op::KeyStatus { id })
 }
 
 /// Reads the first block of the file that is open under the handle.

@@ -1,7 +1,4 @@
 use Rattle.fsc_speed.proofs.kernel.Kernel.run.Given as goal
 
-abbrev pub ghosts-encrypt_names : goal.ghosts-encrypt_names
-ghosts-encrypt_names g a = record { name = a.blank.name; parts = a.blank.parts }
-
 abbrev pub ghosts-walk_often : goal.ghosts-walk_often
 ghosts-walk_often g a = record { name = a.blank.name; parts = a.blank.parts }

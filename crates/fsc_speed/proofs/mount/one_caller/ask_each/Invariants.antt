@@ -1,5 +1,5 @@
 use Rattle.std.proofs.Common.{◌≡◌}
-use Rattle.fsc_speed.proofs.mount.turns.ask_in_turns.Given as goal
+use Rattle.fsc_speed.proofs.mount.one_caller.ask_each.Given as goal
 
 abbrev pub invariant-loop-call : goal.invariant-loop-call
 invariant-loop-call g l = l.pass.table ≡ l.initial.pass.table
