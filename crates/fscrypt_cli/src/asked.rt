@@ -1,7 +1,30 @@
 //! What a form reads from standard input, and writes.
 
+/// What is told of what standard input gives.
+#[derive(Clone, Copy)]
+pub(crate) struct Input {
+    pub(crate) name: &'static str,
+    // At a terminal, while it is waited for.
+    pub(crate) awaited: &'static str,
+}
+
+const SCRIPT: Input = Input {
+    name: "script",
+    awaited: "a script, a command a line,",
+};
+
+const IMAGE: Input = Input {
+    name: "image",
+    awaited: "an image,",
+};
+
+const SCRIPT_WITH_LOG: Input = Input {
+    name: "script with its log",
+    awaited: "a script, a line --- and a log,",
+};
+
 /// What standard input gives.
-#[derive(Clone, Copy, PartialEq, Eq)]
+#[derive(Clone, Copy)]
 pub(crate) enum Asked {
     /// A script, of whose run the log is written, or both logs.
     Log,
@@ -31,12 +54,25 @@ impl Asked {
     }
 
     /// What standard input gives, if it is read.
-    pub(crate) fn input(self) -> Option<&'static str> {
+    pub(crate) fn input(self) -> Option<Input> {
         match self {
-            Asked::Log | Asked::Image => Some("script"),
-            Asked::Listing => Some("image"),
-            Asked::Verdict => Some("script with its log"),
+            Asked::Log | Asked::Image => Some(SCRIPT),
+            Asked::Listing => Some(IMAGE),
+            Asked::Verdict => Some(SCRIPT_WITH_LOG),
             Asked::Other => None,
+        }
+    }
+
+    /// How much standard input may give.
+    pub(crate) fn most(self) -> &'static str {
+        match self {
+            Asked::Listing => "an image has at most 268435456 bytes",
+            Asked::Verdict => {
+                "a script and its log have at most 67108864 bytes, the script 1048576 and 20000 lines"
+            }
+            Asked::Log | Asked::Image | Asked::Other => {
+                "a script has at most 1048576 bytes and 20000 lines"
+            }
         }
     }
 

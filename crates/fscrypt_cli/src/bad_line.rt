@@ -17,6 +17,15 @@ const LISTED: &str = "fsc --help lists the commands";
 const NO_ROOM: &str =
     "there was no room to tell why it is at fault; try the script alone, or where more memory is free";
 
+const COMMENT: &str = "a comment is a line of its own";
+
+// Of a line of too many words: how one of them begins, and what to do.
+static SPARE_WORDS: [(&str, &str); 3] = [
+    ("#", COMMENT),
+    ("pass:", "write a space in a passphrase as %20"),
+    ("/", "write a space in a path as %20"),
+];
+
 // What is told of a line at fault.
 #[derive(Drop)]
 struct ToldLine {
@@ -32,14 +41,25 @@ pub(crate) fn show_line(rt: &HostRuntime, text: Option<&[u8]>, line: u32) {
         Some(text) => told_line(rt.alloc(), text),
         None => None,
     };
-    let Some(told) = told else {
-        let _ = eprintln!(rt; "fsc: line {line}: {NO_ROOM}");
-        return;
-    };
+    match told {
+        Some(told) => tell_line(rt, line, &told),
+        None => {
+            let _ = eprintln!(rt; "fsc: line {line}: {NO_ROOM}");
+        }
+    }
+}
+
+// Tells what is known of the line of this number.
+fn tell_line(rt: &HostRuntime, line: u32, told: &ToldLine) {
     let word = told.word.as_str();
     let fault = told.fault;
     let remedy = told.remedy;
     let _ = eprintln!(rt; "fsc: line {line}: \"{word}\" {fault}; {remedy}");
+}
+
+/// Whether all of these are hexadecimal digits.
+pub(crate) fn is_hexadecimal(digits: &[u8]) -> bool {
+    digits.iter().all(|byte| byte.is_ascii_hexdigit())
 }
 
 // What is told of the first line at fault of a text; none where there is no memory to find it.
@@ -107,22 +127,45 @@ fn remedy(line: &[u8], fault: LineFault) -> &'static str {
 // What to write in place of a word that isn't of this kind.
 fn remedy_of_word(word: &[u8], kind: WordKind) -> &'static str {
     if word.starts_with(b"#") {
-        return "a comment is a line of its own";
+        return COMMENT;
     }
     if word.iter().any(|byte| !byte.is_ascii_graphic()) {
         return "write a byte outside of ! to ~ as %XX";
     }
+    match digits_of(word, kind) {
+        Some(digits) => remedy_of_digits(digits),
+        None => remedy_of_spelling(word, kind),
+    }
+}
+
+// The part of a word of this kind that is to be digits which spell bytes, if it has one.
+fn digits_of(word: &[u8], kind: WordKind) -> Option<&[u8]> {
     match kind {
         WordKind::AddedBytes
         | WordKind::WrittenBytes
         | WordKind::PutBytes
-        | WordKind::PolicyBytes => { remedy_of_digits(word) }
-        WordKind::Key | WordKind::Secret | WordKind::NewSecret if word.starts_with(b"raw:") => {
-            remedy_of_digits(&word[4..])
+        | WordKind::PolicyBytes => Some(word),
+        WordKind::Key | WordKind::Secret | WordKind::NewSecret => {
+            word.strip_prefix(b"raw:").or(word.strip_prefix(b"id:"))
         }
-        WordKind::Key | WordKind::Secret | WordKind::NewSecret if word.starts_with(b"id:") => {
-            remedy_of_digits(&word[3..])
-        }
+        _ => None,
+    }
+}
+
+// What to write in place of digits that spell no bytes.
+fn remedy_of_digits(digits: &[u8]) -> &'static str {
+    if digits.starts_with(b"0x") {
+        return "write the digits without 0x";
+    }
+    if is_hexadecimal(digits) && digits.len() % 2 == 1 {
+        return "their number is odd: a byte is two digits";
+    }
+    LISTED
+}
+
+// What to write in place of a word of this kind that has no such digits.
+fn remedy_of_spelling(word: &[u8], kind: WordKind) -> &'static str {
+    match kind {
         WordKind::Path | WordKind::Target | WordKind::Secret | WordKind::NewSecret
             if word.contains(&b'%') => {
             "behind each % stand two hexadecimal digits, and % itself is %25"
@@ -133,36 +176,18 @@ fn remedy_of_word(word: &[u8], kind: WordKind) -> &'static str {
     }
 }
 
-// What to write in place of digits that spell no bytes.
-fn remedy_of_digits(digits: &[u8]) -> &'static str {
-    if digits.starts_with(b"0x") {
-        return "write the digits without 0x";
-    }
-    if digits.iter().all(|byte| byte.is_ascii_hexdigit()) && digits.len() % 2 == 1 {
-        return "their number is odd: a byte is two digits";
+// What to do about a line of more words than its command takes.
+fn remedy_of_words(line: &[u8]) -> &'static str {
+    for &(start, remedy) in &SPARE_WORDS {
+        if has_word(line, start.as_bytes()) {
+            return remedy;
+        }
     }
     LISTED
 }
 
-// What to do about a line of more words than its command takes.
-fn remedy_of_words(line: &[u8]) -> &'static str {
-    if line
-        .split(|byte| *byte == b' ')
-        .any(|word| word.starts_with(b"#"))
-    {
-        return "a comment is a line of its own";
-    }
-    if line
-        .split(|byte| *byte == b' ')
-        .any(|word| word.starts_with(b"pass:"))
-    {
-        return "write a space in a passphrase as %20";
-    }
-    if line
-        .split(|byte| *byte == b' ')
-        .any(|word| word.starts_with(b"/"))
-    {
-        return "write a space in a path as %20";
-    }
-    LISTED
+// Whether the line has a word that begins so.
+fn has_word(line: &[u8], start: &[u8]) -> bool {
+    line.split(|byte| *byte == b' ')
+        .any(|word| word.starts_with(start))
 }

@@ -83,14 +83,21 @@ Example, where SEED is 64 hexadecimal digits:
     fsc replay --serial --seed SEED < examples/two-callers.fsc
 ";
 
+const REFUSED: &str = "no run has a log that goes on so: places count from 0, a line each";
+
 /// What `--help` prints: the forms, each command, and where to read on.
 pub(crate) fn help_text(alloc: Global) -> Result<String, AllocError> {
-    let mut text = String::from_str(alloc, BEFORE_COMMANDS)?;
-    for group in GROUPS.iter() {
-        push_group(&mut text, group.title, group.lines)?;
-    }
-    text.push_str(BEHIND_COMMANDS)?;
+    let mut text = String::new(alloc);
+    push_help(&mut text)?;
     Ok(text)
+}
+
+fn push_help(text: &mut String) -> Result<(), AllocError> {
+    text.push_str(BEFORE_COMMANDS)?;
+    for group in GROUPS.iter() {
+        push_group(text, group.title, group.lines)?;
+    }
+    text.push_str(BEHIND_COMMANDS)
 }
 
 // The group's title and its lines, of which each begins with the name of a command.
@@ -99,42 +106,55 @@ fn push_group(text: &mut String, title: &str, lines: &[&str]) -> Result<(), Allo
     for line in lines.iter() {
         if is_usable(first_word(line.as_bytes())) {
             if !listed {
-                text.push_str("\n")?;
-                text.push_str(title)?;
-                text.push_str(":\n")?;
+                push_all(text, &["\n", title, ":\n"])?;
                 listed = true;
             }
-            text.push_str("    ")?;
-            text.push_str(line)?;
-            text.push_str("\n")?;
+            push_all(text, &["    ", line, "\n"])?;
         }
     }
     Ok(())
 }
 
+fn push_all(text: &mut String, pieces: &[&str]) -> Result<(), AllocError> {
+    for piece in pieces.iter() {
+        text.push_str(piece)?;
+    }
+    Ok(())
+}
+
+/// Tells a remark on standard error.
+pub(crate) fn remark(rt: &HostRuntime, text: &str) {
+    let _ = eprintln!(rt; "fsc: {text}");
+}
+
 /// Tells on standard error what to do about a status of a form. The text is what the source gave; none where it
 /// wasn't kept.
 pub(crate) fn advise(rt: &HostRuntime, asked: Asked, status: Status, text: Option<&[u8]>) {
-    let advice = match status {
-        Status::Done => return,
-        Status::Refused { .. } =>
-            "no run has a log that goes on so: places count from 0, a line each",
-        Status::BadLine { .. } if asked == Asked::Listing =>
+    match status {
+        Status::Done => {}
+        Status::Refused { .. } => remark(rt, REFUSED),
+        Status::BadLine { line } => advise_on_line(rt, asked, line, text),
+        Status::Usage => remark(rt, "a word of the command line is no text"),
+        Status::ReadFault => tell_of_input(rt, asked),
+        Status::WriteFault => tell_of_output(rt, asked),
+        Status::SeedFault => remark(rt, "the machine gave no seed: give one by --seed HEX64"),
+        Status::TooLong => remark(rt, asked.most()),
+        Status::NoMemory => remark(rt, "run it again where more memory is free"),
+    }
+}
+
+// What to do about the line of this number.
+fn advise_on_line(rt: &HostRuntime, asked: Asked, line: u32, text: Option<&[u8]>) {
+    match asked {
+        Asked::Listing => remark(
+            rt,
             "docs/FORMATS.md tells of the lines of an image, under Images",
-        Status::BadLine { line } if asked == Asked::Verdict && is_behind(text, line) =>
-            "a line --- stands between the script and its log",
-        Status::BadLine { line } => return show_line(rt, text, line),
-        Status::Usage => "a word of the command line is no text",
-        Status::ReadFault => return tell_of_input(rt, asked),
-        Status::WriteFault => return tell_of_output(rt, asked),
-        Status::SeedFault => "the machine gave no seed: give one by --seed HEX64",
-        Status::TooLong if asked == Asked::Listing => "an image has at most 268435456 bytes",
-        Status::TooLong if asked == Asked::Verdict =>
-            "a script and its log have at most 67108864 bytes, the script 1048576 and 20000 lines",
-        Status::TooLong => "a script has at most 1048576 bytes and 20000 lines",
-        Status::NoMemory => "run it again where more memory is free",
-    };
-    let _ = eprintln!(rt; "fsc: {advice}");
+        ),
+        Asked::Verdict if is_behind(text, line) => {
+            remark(rt, "a line --- stands between the script and its log")
+        }
+        _ => show_line(rt, text, line),
+    }
 }
 
 // Whether the line of this number stands behind the text's last one, where the text is known. A last piece counts as
@@ -148,7 +168,10 @@ fn is_behind(text: Option<&[u8]>, line: u32) -> bool {
 
 // What to do where standard input failed.
 fn tell_of_input(rt: &HostRuntime, asked: Asked) {
-    let input = asked.input().unwrap_or("script");
+    let input = match asked.input() {
+        Some(input) => input.name,
+        None => "script",
+    };
     let _ = eprintln!(rt; "fsc: standard input failed: give the {input} by < FILE");
 }
 

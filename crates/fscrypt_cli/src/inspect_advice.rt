@@ -1,6 +1,7 @@
 //! What is told of the words behind `inspect` that are no form: the first at fault, and the remedy.
 
 use crate::advice::{WordFault, at, is_path};
+use crate::bad_line::is_hexadecimal;
 
 const RAW: &str = "raw:";
 
@@ -26,7 +27,7 @@ fn is_raw_key(word: &str) -> bool {
         && digits.len() >= LEAST_KEY_DIGITS
         && digits.len() <= MOST_KEY_DIGITS
         && digits.len() % 2 == 0
-        && digits.iter().all(|byte| byte.is_ascii_hexdigit())
+        && is_hexadecimal(digits)
 }
 
 // What to do about a word in the place of a raw key.

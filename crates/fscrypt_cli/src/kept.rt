@@ -57,11 +57,11 @@ impl KeptText {
     }
 
     /// Overwrites the text, and lets go of it.
+    // Not inlined, so that the machine code has it by its name, by which its overwriting is looked for.
+    #[inline(never)]
     pub(crate) fn forget(&self) {
-        if let Some(mut kept) = self.text.try_lock() {
-            if let Some(mut text) = kept.take() {
-                wipe(text.as_mut_slice());
-            }
+        if let Some(mut text) = self.take() {
+            wipe(text.as_mut_slice());
         }
     }
 
@@ -70,9 +70,9 @@ impl KeptText {
         self.lines.get()?.command(caller, number)
     }
 
-    /// The text, where it is still kept.
-    pub(crate) fn into_text(self) -> Option<Vec<u8>> {
-        self.text.into_inner()
+    /// Takes the text, where it is still kept.
+    pub(crate) fn take(&self) -> Option<Vec<u8>> {
+        self.text.try_lock()?.take()
     }
 }
 

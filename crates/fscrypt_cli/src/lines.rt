@@ -4,6 +4,7 @@ use crate::bad_line::first_word;
 use crate::commands::verb_named;
 use fsc_tool::MOST_INPUT_LINES;
 use std::alloc::{AllocError, Global};
+use text_words::next_line;
 
 /// A command by its line, counted from 1, and its first word.
 #[derive(Clone, Copy)]
@@ -24,9 +25,14 @@ impl CommandLines {
         let mut found = CommandLines {
             callers: Vec::new(alloc),
         };
-        let lines = text.split(|byte| *byte == b'\n').take(MOST_INPUT_LINES);
-        for (before, line) in lines.enumerate() {
-            found.add(alloc, before.saturating_add(1), first_word(line))?;
+        let mut rest = text;
+        for before in 0..MOST_INPUT_LINES {
+            if rest.is_empty() {
+                break;
+            }
+            let line = next_line(rest);
+            found.add(alloc, before.saturating_add(1), first_word(line.bytes))?;
+            rest = line.rest;
         }
         Ok(found)
     }

@@ -10,66 +10,57 @@ mod help;
 mod inspect_advice;
 mod kept;
 mod lines;
+mod seed_advice;
 mod telling;
 
-use advice::{advise_words, tell_of_closed, tell_of_waiting};
+use advice::{advise_words, tell_of_waiting};
 use asked::Asked;
 use byte_words::wipe;
 use caused::CausedSink;
 use fsc_outside::{RuntimeSeed, StdSource, write_all};
 use fsc_tool::{Mounts, Status, Streams, tool};
-use help::{VERSION, advise, help_text};
+use help::{VERSION, advise, help_text, remark};
 use kept::{KeptSource, KeptText};
 use mount_shared::Mount;
 use std::env;
 use std::io::{ErrorKind, IsTerminal};
 use std::process::ExitCode;
+use std::sync::Wait;
+use std::thread::Threads;
 use telling::{TellingGate, clear_command};
 
+// How it ended, and whether its output was read by nobody any more.
+#[derive(Clone, Copy)]
+struct Ended {
+    status: Status,
+    is_closed: bool,
+}
+
+const NO_MEMORY: Ended = Ended {
+    status: Status::NoMemory,
+    is_closed: false,
+};
+
+const NO_READER: &str = "nobody reads the output any more; what was read is a beginning of it";
+
+// Inlined, so that what a run overwrites stands in one function of the machine code, which tools can name.
+#[inline(always)]
 fn main(rt: HostRuntime) -> ExitCode {
     let mut words = match words_of(&rt) {
         Ok(words) => words,
-        Err(status) => return end(rt, Asked::Other, status, None),
-    };
-    if words.len() == 1 {
-        match words[0].as_str() {
-            "--help" => return tell_help(rt),
-            "--version" => return tell(rt, VERSION),
-            _ => {}
+        Err(status) => {
+            let ended = Ended {
+                status,
+                is_closed: false,
+            };
+            return end(&rt, Asked::Other, ended, None);
         }
+    };
+    match words.as_slice() {
+        [word] if word.as_str() == "--help" => tell_help(&rt),
+        [word] if word.as_str() == "--version" => tell(&rt, VERSION),
+        _ => run(&rt, &rt, &mut words),
     }
-    let asked = Asked::of(words.as_slice());
-    let (Ok(even), Ok(odd)) = (Mount::new(rt.alloc()), Mount::new(rt.alloc())) else {
-        return end(rt, Asked::Other, Status::NoMemory, None);
-    };
-    tell_of_waiting(&rt, &words, asked);
-    let is_terminal = rt.stderr().is_terminal();
-    let kept = KeptText::new(rt.alloc(), is_terminal);
-    let mut streams = Streams {
-        source: KeptSource::new(rt.alloc(), StdSource::new(&rt), &kept),
-        sink: CausedSink::over(rt.stdout()),
-        seeds: RuntimeSeed::new(&rt),
-    };
-    let gate = TellingGate::new(&rt, &kept, is_terminal);
-    let mounts = Mounts { even, odd };
-    let status = tool(&rt, rt.alloc(), &mut words, &mut streams, &gate, mounts);
-    match status {
-        Status::Usage => advise_words(&rt, &words),
-        Status::WriteFault if streams.sink.is_closed() => tell_of_closed(&rt),
-        _ => return end_run(rt, asked, status, kept),
-    }
-    kept.forget();
-    ExitCode::from(status.number())
-}
-
-// The same as `end` for a run, whose input is shown where a line of it is at fault, and overwritten then.
-fn end_run(rt: HostRuntime, asked: Asked, status: Status, kept: KeptText) -> ExitCode {
-    let Some(mut text) = kept.into_text() else {
-        return end(rt, asked, status, None);
-    };
-    let code = end(rt, asked, status, Some(text.as_slice()));
-    wipe(text.as_mut_slice());
-    code
 }
 
 // The words of the command line without the program's own name. One that isn't text is Usage.
@@ -86,35 +77,101 @@ fn words_of(rt: &HostRuntime) -> Result<Vec<String>, Status> {
 }
 
 // Prints what `--help` tells.
-fn tell_help(rt: HostRuntime) -> ExitCode {
+fn tell_help(rt: &HostRuntime) -> ExitCode {
     match help_text(rt.alloc()) {
         Ok(text) => tell(rt, text.as_str()),
-        Err(_) => end(rt, Asked::Other, Status::NoMemory, None),
+        Err(_) => end(rt, Asked::Other, NO_MEMORY, None),
     }
 }
 
 // Prints a text on standard output.
-fn tell(rt: HostRuntime, text: &str) -> ExitCode {
+fn tell(rt: &HostRuntime, text: &str) -> ExitCode {
     let mut sink = CausedSink::over(rt.stdout());
-    if write_all(&mut sink, text.as_bytes()).is_ok() {
-        return ExitCode::from(Status::Done.number());
+    let status = match write_all(&mut sink, text.as_bytes()) {
+        Ok(()) => Status::Done,
+        Err(_) => Status::WriteFault,
+    };
+    let ended = Ended {
+        status,
+        is_closed: sink.is_closed(),
+    };
+    end(rt, Asked::Other, ended, None)
+}
+
+// Runs the tool, tells how that ended, and overwrites what came in.
+fn run<R: Threads + Wait + Sync>(
+    rt: &HostRuntime,
+    threads: &R,
+    words: &mut Vec<String>,
+) -> ExitCode {
+    let asked = Asked::of(words.as_slice());
+    let is_terminal = rt.stderr().is_terminal();
+    let kept = KeptText::new(rt.alloc(), is_terminal);
+    let ended = run_tool(rt, threads, words, asked, &kept, is_terminal);
+    let code = match ended.status {
+        Status::Usage => {
+            advise_words(rt, words.as_slice());
+            ExitCode::from(Status::Usage.number())
+        }
+        _ => end_run(rt, asked, ended, &kept),
+    };
+    kept.forget();
+    code
+}
+
+// Hands the words, the standard streams and two empty mounts to the tool.
+fn run_tool<R: Threads + Wait + Sync>(
+    rt: &HostRuntime,
+    threads: &R,
+    words: &mut Vec<String>,
+    asked: Asked,
+    kept: &KeptText,
+    is_terminal: bool,
+) -> Ended {
+    let Ok(even) = Mount::new(rt.alloc()) else {
+        return NO_MEMORY;
+    };
+    let Ok(odd) = Mount::new(rt.alloc()) else {
+        return NO_MEMORY;
+    };
+    tell_of_waiting(rt, words.as_slice(), asked);
+    let mut streams = Streams {
+        source: KeptSource::new(rt.alloc(), StdSource::new(rt), kept),
+        sink: CausedSink::over(rt.stdout()),
+        seeds: RuntimeSeed::new(rt),
+    };
+    let gate = TellingGate::new(rt, kept, is_terminal);
+    let mounts = Mounts { even, odd };
+    let status = tool(threads, rt.alloc(), words, &mut streams, &gate, mounts);
+    Ended {
+        status,
+        is_closed: streams.sink.is_closed(),
     }
-    if !sink.is_closed() {
-        return end(rt, Asked::Other, Status::WriteFault, None);
-    }
-    tell_of_closed(&rt);
-    ExitCode::from(Status::WriteFault.number())
+}
+
+// The same as `end` for a run, whose input is shown where a line of it is at fault, and overwritten then.
+fn end_run(rt: &HostRuntime, asked: Asked, ended: Ended, kept: &KeptText) -> ExitCode {
+    let Some(mut text) = kept.take() else {
+        return end(rt, asked, ended, None);
+    };
+    let code = end(rt, asked, ended, Some(text.as_slice()));
+    wipe(text.as_mut_slice());
+    code
 }
 
 // Prints the status and what to do on standard error, unless the run is done, and ends with its number. The text is
 // what came in; none where it wasn't kept.
-fn end(rt: HostRuntime, asked: Asked, status: Status, text: Option<&[u8]>) -> ExitCode {
+fn end(rt: &HostRuntime, asked: Asked, ended: Ended, text: Option<&[u8]>) -> ExitCode {
+    let status = ended.status;
     if status == Status::NoMemory {
-        clear_command(&rt);
+        clear_command(rt);
     }
     if status != Status::Done {
-        let _ = eprintln!(rt; "{status}");
-        advise(&rt, asked, status, text);
+        let _ = rt.eprintln(status);
+        match status {
+            Status::WriteFault if ended.is_closed => remark(rt, NO_READER),
+            _ => advise(rt, asked, status, text),
+        }
     }
     ExitCode::from(status.number())
 }

@@ -11,7 +11,7 @@ const CLEARED: &str = "\r\x1b[K";
 /// Clears what stands of a command that found no memory: its gate isn't called behind it.
 pub(crate) fn clear_command(rt: &HostRuntime) {
     if rt.stderr().is_terminal() {
-        let _ = eprint!(rt; "{CLEARED}");
+        let _ = rt.eprint(CLEARED);
     }
 }
 
@@ -57,7 +57,7 @@ impl<'a> Gate for TellingGate<'a> {
 
     fn after(&self, _caller: u32, _n: u64) {
         if self.is_terminal {
-            let _ = eprint!(self.rt; "{CLEARED}");
+            let _ = self.rt.eprint(CLEARED);
         }
     }
 }
