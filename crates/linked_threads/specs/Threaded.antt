@@ -1,9 +1,10 @@
 -- What callers need that run in threads on two mounts, and what is known of them when they have ended.
 use Rattle.std.specs.Prelude.{◌≡◌, ℕ, ◌*◌, List}
-use Rattle.call_history.specs.Entries.{by}
+use Rattle.call_history.specs.Entries.{by, entries_by, numbered}
 use Rattle.mount_model.specs.Port.{PlacedCalls}
 use Rattle.turn_lock.specs.Passes.{SharedView}
 use Rattle.mount_shared.specs.SharedCalls.{MountPass}
+use Rattle.reply_text.specs.Shown.{PlacedShown, ShownHistory}
 use Rattle.script_lang.specs.declared.commands.Section.{Section}
 use Rattle.fsc_commands.specs.declared.TheConstants.{MOST_CALLS}
 use Rattle.fsc_session.specs.Session.{notes_by}
@@ -26,6 +27,18 @@ pub record CanRunOnBoth (shared : OnBoth SharedView) (passes : OnBoth MountPass)
   pub on_even : CanRun MOST_CALLS shared.even passes.even sections
   pub on_odd : CanRun (2 * MOST_CALLS) shared.odd passes.odd sections
   pub same_caller : passes.odd.who ≡ passes.even.who
+
+-- passes that have all numbers of their machines, from 0 on
+pub record AreFirst (shared : OnBoth SharedView) (passes : OnBoth MountPass) : Type 0 where
+  pub even_first : passes.even.who ≡ 0
+  pub odd_first : passes.odd.who ≡ 0
+  pub even_all : passes.even.high ≡ shared.even.numbers
+  pub odd_all : passes.odd.high ≡ shared.odd.numbers
+
+-- what is told of the calls of one history, caller by caller, is told in their order
+abbrev pub IsPutInOrder : PlacedShown → PlacedShown → Type 0
+IsPutInOrder old new = (history : ShownHistory) → ((caller : ℕ) → by caller old ≡ entries_by caller history)
+    → new ≡ numbered 0 history
 
 -- the callers of passes to both mounts made these calls, which are runs of their sections, and both passes
 -- have of them what is on their mount

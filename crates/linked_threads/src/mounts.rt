@@ -1,7 +1,15 @@
 //! The two mounts, while callers share them.
 
+ghost use Rattle.std.specs.Prelude.{◌≡◌, ◌<◌, [], length, IfOk};
+ghost use Rattle.script_lang.specs.Spelled.{IsSpelled};
+ghost use Rattle.linked_threads.specs.Threaded.{AreFirst, CanRunOnBoth, both};
+
+use fsc_commands::MOST_CALLS;
+use linked_turns::Mounts;
 use mount_shared::MountMachine;
-use script_lang::Section;
+use script_lang::{Script, Section};
+use script_runs::calls_needed;
+use std::alloc::{AllocError, Global};
 use turn_lock::{Pass, Shared};
 
 // The machines of both mounts, each behind a turn of its own.
@@ -23,4 +31,36 @@ pub(crate) struct Passes<M: MountMachine> {
 pub(crate) struct Callers<'a, M: MountMachine> {
     pub(crate) passes: Passes<M>,
     pub(crate) sections: &'a [Section],
+}
+
+// Puts both mounts behind turns, for the callers of a script that has some, and gives the passes that have all numbers.
+pub(crate) fn share<M: MountMachine>(
+    alloc: Global,
+    mounts: Mounts<M>,
+    script: &Script,
+) -> Result<(SharedMounts<M>, Passes<M>), AllocError>
+    requires spelled { IsSpelled script.now }
+    requires some { 0 < length script.now }
+    requires leads_even { M.leads [] mounts.even }
+    requires leads_odd { M.leads [] mounts.odd }
+    ensures first { IfOk result (λ made. AreFirst (both made.0.even made.0.odd) (both made.1.even made.1.odd)) }
+    ensures can_run { IfOk result (λ made. CanRunOnBoth (both made.0.even made.0.odd)
+        (both made.1.even made.1.odd) script.now) }
+{
+    let sections = script.as_slice();
+    let Some(calls) = calls_needed(sections, MOST_CALLS) else {
+        return Err(AllocError);
+    };
+    let Some(odd_calls) = calls_needed(sections, 2 * MOST_CALLS) else {
+        return Err(AllocError);
+    };
+    let numbers = sections.len() as u32;
+    let Mounts { even, odd } = mounts;
+    let (even, even_pass) = Shared::start(alloc, even, numbers, calls)?;
+    let (odd, odd_pass) = Shared::start(alloc, odd, numbers, odd_calls)?;
+    let passes = Passes {
+        even: even_pass,
+        odd: odd_pass,
+    };
+    Ok((SharedMounts { even, odd }, passes))
 }

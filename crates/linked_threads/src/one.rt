@@ -1,6 +1,10 @@
 //! One caller's section, on the mount of its number.
 
-ghost use Rattle.std.specs.Prelude.{◌≡◌, true, false, length, IfOk};
+ghost use Rattle.std.specs.Prelude.{◌≡◌, true, false, [], length, IfOk};
+ghost use Rattle.fsc_commands.specs.declared.TheConstants.{MOST_CALLS};
+ghost use Rattle.mount_links.specs.LinkCalls.{link_view, load_shown};
+ghost use Rattle.mount_links.specs.Linked.{far_parts, own_parts};
+ghost use Rattle.script_runs.specs.Passes.{calls_needed};
 ghost use Rattle.linked_turns.specs.Parts.{is_even};
 ghost use Rattle.linked_threads.specs.Threaded.{CanRunOnBoth, HaveRun, both};
 
@@ -8,10 +12,11 @@ use crate::mounts::{Callers, Passes, SharedMounts};
 use argon_kdf::Stretch;
 use fsc_commands::MOST_CALLS;
 use fsc_outside::Gate;
-use fsc_session::run_caller;
+use fsc_session::{Ran, run_caller};
 use linked_turns::LinkedTold;
-use mount_links::{LinkPort, split};
+use mount_links::{LinkPort, LinkStep, split};
 use mount_shared::{MountMachine, SharedPort};
+use script_lang::Section;
 use script_runs::calls_needed;
 use std::alloc::{AllocError, Global};
 use std::sync::Wait;
@@ -94,14 +99,8 @@ fn run_on_both<R: Wait, G: Gate, S: Stretch, M: MountMachine>(
         (both callers.entry.passes.even callers.entry.passes.odd) callers.entry.sections.now
         (both ran.0.even ran.0.odd) ran.1) }
 {
-    let Some(calls) = calls_needed(callers.sections, MOST_CALLS) else {
-        return Err(AllocError);
-    };
     let Callers { passes, sections } = callers;
-    let Passes { even, odd } = passes;
-    let own = SharedPort::new(rt, &shared.odd, odd);
-    let far = SharedPort::new(rt, &shared.even, even);
-    let mut port = LinkPort::new(alloc, own, far, calls)?;
+    let mut port = port_on_both(rt, alloc, shared, passes, sections)?;
     let ran = run_caller(alloc, &mut port, gate, stretches, &sections[0], seed)?;
     let (own, far, steps) = port.back();
     let odd = own.back();
@@ -109,11 +108,41 @@ fn run_on_both<R: Wait, G: Gate, S: Stretch, M: MountMachine>(
     // That their own entries are their caller's.
     let _on_mount_1 = odd.who();
     let _on_mount_0 = even.who();
+    let told = told_on_both(alloc, ran, steps)?;
+    Ok((Passes { even, odd }, told))
+}
+
+// The port of a caller with an odd number, for as many calls as its section may make: they go to mount 1, and those
+// for links there to mount 0, too.
+fn port_on_both<'a, R: Wait, M: MountMachine>(
+    rt: &'a R,
+    alloc: Global,
+    shared: &'a SharedMounts<M>,
+    passes: Passes<M>,
+    sections: &[Section],
+) -> Result<LinkPort<SharedPort<'a, M, R>, SharedPort<'a, M, R>>, AllocError>
+    requires { CanRunOnBoth (both shared.now.even shared.now.odd) (both passes.even passes.odd) sections.now }
+    ensures { IfOk result (λ port. port
+        ≡ link_view passes.odd passes.even (calls_needed MOST_CALLS sections.now) []) }
+{
+    let Some(calls) = calls_needed(sections, MOST_CALLS) else {
+        return Err(AllocError);
+    };
+    let own = SharedPort::new(rt, &shared.odd, passes.odd);
+    let far = SharedPort::new(rt, &shared.even, passes.even);
+    LinkPort::new(alloc, own, far, calls)
+}
+
+// What a caller on both mounts was told, by what became of each of its calls.
+fn told_on_both(alloc: Global, ran: Ran, steps: Vec<LinkStep>) -> Result<LinkedTold, AllocError>
+    ensures even { IfOk result (λ told. told.even.items ≡ far_parts steps.items ran.entries) }
+    ensures odd { IfOk result (λ told. told.odd.items ≡ own_parts load_shown steps.items ran.entries) }
+    ensures notes { IfOk result (λ told. told.notes.items ≡ ran.notes) }
+{
     let shown = split(alloc, ran.entries, steps)?;
-    let told = LinkedTold {
+    Ok(LinkedTold {
         even: shown.far.into_vec(),
         odd: shown.own.into_vec(),
         notes: ran.notes.into_vec(),
-    };
-    Ok((Passes { even, odd }, told))
+    })
 }

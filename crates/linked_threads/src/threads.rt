@@ -7,21 +7,18 @@ ghost use Rattle.linked_threads.specs.LinkedThreads.{TellsLinkedCalls};
 ghost use Rattle.linked_threads.specs.Threaded.{CanRunOnBoth, HaveRun, both};
 
 use crate::cut::halve;
-use crate::mounts::{Callers, Passes, SharedMounts};
+use crate::mounts::{Callers, Passes, SharedMounts, share};
 use crate::one::run_one;
-use crate::told::{append, nothing};
+use crate::told::{append, nothing, put_in_order};
 use argon_kdf::Stretch;
-use call_history::sort_by_place;
-use fsc_commands::MOST_CALLS;
 use fsc_outside::Gate;
 use linked_turns::{LinkedTold, Mounts};
 use mount_shared::MountMachine;
 use script_lang::Script;
-use script_runs::{calls_needed, end};
+use script_runs::end;
 use std::alloc::{AllocError, Global};
 use std::sync::Wait;
 use std::thread::{Threads, join};
-use turn_lock::Shared;
 
 /// What a run of the script in threads tells on two mounts, the entries of each in order of place: each
 /// caller runs its section in a thread of its own, each command between the gate's two calls. Callers with an
@@ -53,27 +50,12 @@ pub fn run_linked_in_threads<
     if sections.is_empty() {
         return Ok(run_nobody(alloc, mounts));
     }
-    let Some(calls) = calls_needed(sections, MOST_CALLS) else {
-        return Err(AllocError);
-    };
-    let Some(odd_calls) = calls_needed(sections, 2 * MOST_CALLS) else {
-        return Err(AllocError);
-    };
-    let numbers = sections.len() as u32;
-    let Mounts { even, odd } = mounts;
-    let (even, even_pass) = Shared::start(alloc, even, numbers, calls)?;
-    let (odd, odd_pass) = Shared::start(alloc, odd, numbers, odd_calls)?;
-    let shared = SharedMounts { even, odd };
-    let passes = Passes {
-        even: even_pass,
-        odd: odd_pass,
-    };
+    let (shared, passes) = share(alloc, mounts, script)?;
     let callers = Callers { passes, sections };
     let (passes, mut told) = run_all(rt, alloc, &shared, gate, stretches, callers, seed)?;
     end(shared.even, passes.even);
     end(shared.odd, passes.odd);
-    sort_by_place(&mut told.even)?;
-    sort_by_place(&mut told.odd)?;
+    put_in_order(&mut told)?;
     Ok(told)
 }
 

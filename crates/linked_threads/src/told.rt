@@ -1,7 +1,9 @@
 //! What the callers of a run were told.
 
 ghost use Rattle.std.specs.Prelude.{◌≡◌, [], ◌++◌, OnOk};
+ghost use Rattle.linked_threads.specs.Threaded.{IsPutInOrder};
 
+use call_history::sort_by_place;
 use linked_turns::LinkedTold;
 use std::alloc::{AllocError, Global};
 
@@ -28,4 +30,14 @@ pub(crate) fn append(told: &mut LinkedTold, mut others: LinkedTold) -> Result<()
     told.odd.append(&mut others.odd)?;
     told.notes.append(&mut others.notes)?;
     Ok(())
+}
+
+// Puts what was told of either mount in order of place.
+pub(crate) fn put_in_order(told: &mut LinkedTold) -> Result<(), AllocError>
+    ensures even { OnOk result (IsPutInOrder told.old.even.items told.new.even.items) }
+    ensures odd { OnOk result (IsPutInOrder told.old.odd.items told.new.odd.items) }
+    ensures notes { told.new.notes ≡ told.old.notes }
+{
+    sort_by_place(&mut told.even)?;
+    sort_by_place(&mut told.odd)
 }
