@@ -101,11 +101,22 @@ def answers(text, clause):
     return "\n\n".join(mine.sub(r"\1", it) for it in parts if not is_other(it)) + "\n"
 
 
+def left_out(crate, place, text, goals):
+    """A function's file of answers, or an empty text where it has none, with a hole for each of these goals."""
+    module = f"Rattle.{crate}.proofs.{place.replace('::', '.')}.Goals"
+    parts = [it for it in re.split(r"\n{2,}", text.strip("\n") or f"use {module} as goal") if not any(re.search(rf"^(?:abbrev )?pub {re.escape(goal)}\s*:", it, re.M) for goal in goals)]
+    called = re.search(rf"^use {re.escape(module)} as (\w+)$", "\n".join(parts), re.M)
+    head = [] if called else [f"use {module} as goal"]
+    name = called[1] if called else "goal"
+    return "\n\n".join([*head, *parts, *(f"pub {it} : {name}.{it}\n{it} = ?" for it in goals)]) + "\n"
+
+
 def with_copies(crate, edits, texts):
     """The texts with copies, at the ends of their files, of the functions that several of these edits are of, and the edits each in
     a function of its own: a copy has another name and the proof of the first, which it doesn't hide and that doesn't hide it. An edit
     that tells the clause at which it is refused is made in a copy that ensures this one alone, or nothing, so that nothing is tried
-    for the others: no clause is a fact that stands in the goals of another."""
+    for the others: no clause is a fact that stands in the goals of another. One that tells goals at which it is refused besides has
+    holes for them, since it is refused where one goal is."""
     texts, made, taken, untouched = dict(texts), [], [], texts
     for edit in edits:
         home = edit.function
@@ -132,6 +143,10 @@ def with_copies(crate, edits, texts):
         if is_less and file in texts:
             texts[file] = answers(texts[file], edit.ensures)
         texts[home.file] = "\n".join([*lines, "", *opens, *part, *closes, ""])
+    for edit in (it for it in made if it.leaves):
+        place = place_of(edit.function, texts)
+        file = f"proofs/{place.replace('::', '/')}/Answers.antt"
+        texts[file] = left_out(crate, place, texts.get(file, ""), edit.leaves)
     return texts, made
 
 

@@ -26,6 +26,9 @@ UNREAD = re.compile(r"is not in scope|has no field|is no name|operand is missing
 # A proof that only cites what the edit took away says little of the contract, and what stands on such a proof nothing at all.
 BY_A_NAME = re.compile(r"has no field|record `[^`]*`(?: \(nearest|$)|is not in scope|has no `|was not admitted|which was rejected, w\w+ not checked")
 
+# A goal of what a call of the body asks for, or a loop or a type keeps. What overflows, or is out of a range, may be the edit's own.
+ASKED = re.compile(r"^(?!overflow_).*(?:-requires\b|-(?:init|preserved|decreases)$|^invariant_of-)")
+
 
 class BadEdit(Exception):
     """An edit that can't be applied."""
@@ -65,12 +68,14 @@ class Function:
 class Edit:
     """A wrong edit: its name, its replacements (file, old text, new text), the one function whose body it changes, if that is all,
     and else the functions that are told to be refused by it, if any, by their paths below the crate; and the one clause that its
-    function, or the one that is told, needs to ensure for a refusal, if that is told, or NOTHING."""
+    function, or the one that is told, needs to ensure for a refusal, if that is told, or NOTHING; and the goals at which its function
+    is refused besides, where they are told, so that only others are tried."""
     name: str
     pairs: tuple
     function: Function = None
     refused: tuple = ()
     ensures: str = ""
+    leaves: tuple = ()
 
 
 def type_of(header):
@@ -178,7 +183,7 @@ def pairs_of(text):
                 raise BadEdit("a line 'new:' stands before its 'file:' or 'old:'")
             found.append((file, old, re.sub(r"\A ", "", line[4:])))
             old = None
-        elif line.strip() and not line.startswith(("refused: ", "ensures: ")):
+        elif line.strip() and not line.startswith(("refused: ", "ensures: ", "leaves: ")):
             raise BadEdit(f"a line is of no kind: {line}")
     if old is not None:
         raise BadEdit(f"a line 'new:' is missing behind: {old}")
@@ -222,7 +227,10 @@ def read_edit(name, text, texts):
     law = home or next((it for it in every_function(texts) if [place_of(it, texts)] == [*told]), None)
     if clause and not (law and clause in (NOTHING, *[it for _, it in ensured(law, texts[law.file].split("\n"))])):
         raise BadEdit(f"its function ensures no clause {clause}")
-    return Edit(name, pairs, home, told, clause)
+    leaves = tuple(word for line in text.split("\n") if line.startswith("leaves: ") for word in line[8:].split())
+    if leaves and not (home and place_of(home, texts)):
+        raise BadEdit("it leaves goals out, and is of no one function whose place is sure")
+    return Edit(name, pairs, home, told, clause, leaves)
 
 
 def ensured(function, lines):
@@ -330,12 +338,41 @@ def told(said):
     return [it for it in said if GOAL.match(it) or PROOF.match(it) or STATED.match(it) and not is_unread(it)]
 
 
-def clause_of(line):
-    """The clause that a line refuses, an empty one where the function ensures but one, and NOTHING where it is no clause's goal."""
+def goal_of(line):
+    """The goal that a line refuses, or an empty text where it tells none."""
     goal = re.search(r"\(`([\w-]+)`\)" if GOAL.match(line) else r": error: `([\w-]+)`: ", line)
-    if not goal or not re.match(r"(returns|ends)\b", goal[1]):
-        return NOTHING if goal else ""
-    return re.search(r"(?:-clause-(\w+))?$", goal[1])[1] or ""
+    return goal[1] if goal else ""
+
+
+def is_tried(edit, line):
+    """Whether a line that refuses an edit is of a goal that is tried for it: of any, where it leaves none out."""
+    return not edit.leaves or goal_of(line) not in ("", *edit.leaves)
+
+
+def tells_most(lines):
+    """Of the lines that refuse an edit the one that tells most of the contract, or an empty text: a fact that the function ensures, of
+    which a searched one tells more than a written proof that doesn't fit; else what a call of the body asks for, a loop or a type keeps."""
+    strong = [it for it in lines if is_strong(it) and goal_of(it)]
+    is_clause = lambda it: bool(re.match(r"(returns|ends)\b", goal_of(it)))
+    rank = lambda it: (not is_clause(it), not GOAL.match(it), "at one of its limits" in it)
+    return min((it for it in strong if is_clause(it) or ASKED.search(goal_of(it))), key=rank, default="")
+
+
+def others_refused(lines):
+    """The goals at which an edit is refused besides the one that tells most, of those that were searched for. None, where that is in a
+    file of a written proof, of which it isn't sure that the fact is false."""
+    first = tells_most(lines)
+    searched = [goal_of(it) for it in lines if GOAL.match(it) and goal_of(it) not in ("", goal_of(first))]
+    return list(dict.fromkeys(searched)) if GOAL.match(first) else []
+
+
+def clause_of(line):
+    """The clause that a line refuses, an empty one where the function ensures but one, or where the line tells of no contract, as of an
+    edit's own sum that overflows, and NOTHING where it is at what a call of the body asks for, a loop or a type keeps."""
+    goal = goal_of(line)
+    if not re.match(r"(returns|ends)\b", goal):
+        return NOTHING if ASKED.search(goal) else ""
+    return re.search(r"(?:-clause-(\w+))?$", goal)[1] or ""
 
 
 def is_strong(line):

@@ -1,4 +1,4 @@
-use Rattle.std.proofs.Common.{◌≡◌, ◌+◌, true, Option, option_map, refl, sym, ap, subst, ◌∙◌}
+use Rattle.std.proofs.Common.{◌≡◌, ◌+◌, true, Option, option_map, refl, sym, ap, subst, ◌∙◌, rules}
 use Rattle.policy_ctx.specs.declared.policy.Context.{Context}
 use Rattle.policy_ctx.specs.Context.{context_bytes}
 use Rattle.number_map.specs.Numbered.{insert}
@@ -41,3 +41,6 @@ returns-in-Ok-clause-stands c = λ m path body st at short stored well.
     (made_stands c.args.state.now m st path c.args.place.now at c.args.nonce.now body _ _ added refl refl refl refl refl refl refl
     (made_node c.args.state.now m st path c.args.place.now at c.args.nonce.now body c.args.body stored _ (λ i. record { context = (c.stored_context.ensures ∙ ap (λ (o : Option Context). option_map context_bytes o) c.context_of_new.ensures) i; named = true; body = c.args.body }))
     (well_after c.args.state.now m st path c.args.place.now at c.args.nonce.now body short well))
+
+pub returns-in-Err-clause-stands : goal.returns-in-Err-clause-stands
+returns-in-Err-clause-stands g c = search rules
