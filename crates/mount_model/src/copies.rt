@@ -18,7 +18,7 @@ impl Op {
             | Op::KeyStatus { .. }
             | Op::Read { .. }
             | Op::Close { .. }
-            | Op::DropCaches => Ok(self.same()),
+            | Op::DropCaches => Ok(self.copy_without_bytes()),
             Op::AddKey { raw } => Ok(Op::AddKey {
                 raw: raw.copy(alloc)?,
             }),
@@ -48,7 +48,7 @@ impl Op {
     }
 
     // The same, of what carries neither a path nor bytes.
-    fn same(&self) -> Op
+    fn copy_without_bytes(&self) -> Op
         requires { carries_bytes self.now ≡ false }
         ensures { result ≡ self.now }
     {
@@ -111,12 +111,12 @@ impl Op {
                 path: path.copy(alloc)?,
                 start: *start,
             },
-            _ => self.copy_of_path(alloc)?,
+            _ => self.copy_with_path_alone(alloc)?,
         })
     }
 
     // The same, of what carries a path alone.
-    fn copy_of_path(&self, alloc: Global) -> Result<Op, AllocError>
+    fn copy_with_path_alone(&self, alloc: Global) -> Result<Op, AllocError>
         requires { carries_path_alone self.now ≡ true }
         ensures { IfOk result (λ copy. copy ≡ self.now) }
     {

@@ -87,7 +87,7 @@ impl<M: MountMachine> SerialPort<M> {
 }
 
 // The machine's reply to a call, with nobody at work meanwhile.
-fn reply_of<M: MountMachine>(machine: &mut M, caller: u32, call: &Call) -> Reply
+fn ask<M: MountMachine>(machine: &mut M, caller: u32, call: &Call) -> Reply
     requires { Fits call.now }
     ensures { (history : History) → M.leads history machine.old
         → M.leads (history ++ entry caller call.now result ∷ []) machine.new }
@@ -116,7 +116,7 @@ impl<M: MountMachine> MountPort for SerialPort<M> {
 
     fn call(&mut self, call: &Call) -> Placed {
         let place = self.take_place();
-        let reply = reply_of(&mut self.mount.machine, self.caller, call);
+        let reply = ask(&mut self.mount.machine, self.caller, call);
         Placed { place, reply }
     }
 
