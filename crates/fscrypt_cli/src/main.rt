@@ -98,7 +98,8 @@ fn tell(rt: &HostRuntime, text: &str) -> ExitCode {
     end(rt, Asked::Other, ended, None)
 }
 
-// Runs the tool, tells how that ended, and overwrites what came in.
+// Runs the tool, tells how that ended, and overwrites what came in. `threads` is the runtime too, as what starts
+// threads and waits: what runs in them asks for no more.
 fn run<R: Threads + Wait + Sync>(
     rt: &HostRuntime,
     threads: &R,
