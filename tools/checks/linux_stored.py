@@ -25,9 +25,9 @@ FILES = [
 
 
 def vectors(crate, file):
-    """The text of a file of vectors."""
+    """The text of a file of vectors, each text of it in one line."""
     with open(os.path.join(TOP, "crates", crate, "src", file), encoding="utf-8") as it:
-        return it.read()
+        return re.sub(r"\\\n\s*", "", it.read())
 
 
 def rows(text, record, *fields):

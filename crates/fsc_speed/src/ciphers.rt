@@ -47,7 +47,8 @@ pub(crate) fn aes_block_back(count: u32) -> [u8; 32]
 /// Enciphers a unit of `length` bytes in place again and again, as the unit with index 7.
 pub(crate) fn xts(alloc: Global, length: usize, count: u32) -> Result<[u8; 32], AllocError>
     requires { length % 16 ≡ 0 }
-    ensures { IfOk result (λ digest. digest ≡ sha256 (iterate (xts_encrypted UNIT_KEY 7) count (replicate length 0))) }
+    ensures { IfOk result (λ digest.
+        digest ≡ sha256 (iterate (xts_encrypted UNIT_KEY 7) count (replicate length 0))) }
 {
     let mut unit = vec![in alloc; 0; length]?;
     repeat_xts(unit.as_mut_slice(), count);
@@ -90,7 +91,8 @@ fn repeat_xts_back(unit: &mut [u8], count: u32)
 /// Enciphers a text of `length` bytes in place again and again.
 pub(crate) fn cts(alloc: Global, length: usize, count: u32) -> Result<[u8; 32], AllocError>
     requires { 16 ≤ length }
-    ensures { IfOk result (λ digest. digest ≡ sha256 (iterate (cts_encrypted KEY IV) count (replicate length 0))) }
+    ensures { IfOk result (λ digest.
+        digest ≡ sha256 (iterate (cts_encrypted KEY IV) count (replicate length 0))) }
 {
     let mut text = vec![in alloc; 0; length]?;
     repeat_cts(text.as_mut_slice(), count);

@@ -34,7 +34,8 @@ fn derived(key: &[u8; 64]) -> [u8; 64]
 /// Hashes 192 bytes by SHA-512, of which the first 64 are the hash before.
 #[tactic(auto, using(crate::proofs::Repeating::iterate_more))]
 pub(crate) fn sha512_192(count: u32) -> [u8; 32]
-    ensures { result ≡ sha256 (iterate (λ message. sha512 message ++ drop 64 message) count (replicate 192 0)) }
+    ensures { result ≡ sha256 (iterate (λ message.
+        sha512 message ++ drop 64 message) count (replicate 192 0)) }
 {
     let mut message = [0; 192];
     for _ in 0..count {

@@ -63,7 +63,8 @@ fn call_all<R: Threads + Wait + Sync>(
 // Ends early where the pass has no calls left.
 fn call_one<W: Wait>(rt: &W, shared: &Shared<Sum>, pass: &mut Pass<Sum>, calls: u32)
     requires { pass.old.table ≡ shared.now.table }
-    ensures { (pass.new.table ≡ pass.old.table) × (pass.new.who ≡ pass.old.who) × (pass.new.high ≡ pass.old.high) }
+    ensures { (pass.new.table ≡ pass.old.table) × (pass.new.who ≡ pass.old.who)
+        × (pass.new.high ≡ pass.old.high) }
 {
     for _ in 0..calls {
         if shared.call(rt, pass, &7).is_err() {

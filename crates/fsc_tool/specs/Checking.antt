@@ -84,7 +84,8 @@ abbrev pub IsVerdict : Status → Type 0
 IsVerdict status = (status ≡ Done) ⊎ ((place : ℕ) × (status ≡ Refused place))
 
 -- a run that checks a log of a run with the seed, where Came says by which calls of the source it became what it is
-pub record IsChecking (seed : List ℕ) (Came : List ReadCall → Type 0) (a b : Outside) (status : Status) : Type 0 where
+pub record IsChecking (seed : List ℕ) (Came : List ReadCall → Type 0) (a b : Outside)
+    (status : Status) : Type 0 where
   -- what the status means, with its cause and what was read
   pub ends : EndsChecking seed Came a b status
   -- nothing is written, and no seed asked for

@@ -42,7 +42,8 @@ replay_of (word ∷ words) =
 -- behind `gen` and the number
 abbrev pub generated_behind : List (List ℕ) → ℕ → Option ToolForm
 generated_behind [] number = Some (Generate number)
-generated_behind (word ∷ []) number = if bytes_eq word (codes "--summary") then Some (Summarise number) else None
+generated_behind (word ∷ []) number =
+    if bytes_eq word (codes "--summary") then Some (Summarise number) else None
 generated_behind _ number = None
 
 -- behind `gen`

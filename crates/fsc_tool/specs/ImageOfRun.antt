@@ -20,7 +20,8 @@ image_after history = image_text (mount_image (mount_after history))
 -- what was told of a run in rotation on a mount of its own, and the state in which it left that mount
 abbrev pub RanOnMount : List ℕ → List Section → PlacedShown → List Note → MountState → Type 0
 RanOnMount seed script placed notes state =
-    TellsRun (IsRunBefore (λ history. StandsAfter history state) (IsSerialRun IsLawful)) seed script placed notes
+    TellsRun (IsRunBefore (λ history.
+    StandsAfter history state) (IsSerialRun IsLawful)) seed script placed notes
 
 -- the text is the image of the mount that a run in rotation leaves in which no call wanted memory, where the raw keys
 -- agree that were added; then it is a function of script and seed

@@ -63,14 +63,16 @@ EndsInspection raw Came a b other = ⊥
 
 -- a run that lists an image with the raw key, or with none, where Came says by which calls of the source it became
 -- what it is
-pub record IsInspection (raw : Option (List ℕ)) (Came : List ReadCall → Type 0) (a b : Outside) (status : Status)
+pub record IsInspection (raw : Option (List ℕ)) (Came : List ReadCall → Type 0) (a b : Outside)
+    (status : Status)
     : Type 0 where
   -- what the status means, with its cause and what was read
   pub ends : EndsInspection raw Came a b status
   -- no seed is asked for
   pub unasked : b.seeds ≡ a.seeds
   -- what a source that tells its bytes makes of the other statuses
-  pub too_long : (input : List ℕ) → Told a b input → MOST_IMAGE_BYTES < length input → IsOrNoMemory TooLong status
+  pub too_long : (input : List ℕ) → Told a b input → MOST_IMAGE_BYTES < length input
+      → IsOrNoMemory TooLong status
   pub bad_line : (input : List ℕ) (line : ℕ) → Told a b input → length input ≤ MOST_IMAGE_BYTES
       → image_read input ≡ Err line → IsOrNoMemory (BadLine line) status
   pub complete : (image : Image) → Told a b (image_text image) → length (image_text image) ≤ MOST_IMAGE_BYTES

@@ -21,7 +21,8 @@ use Rattle.script_runs.specs.Runs.{IsLawfulRun, IsSerialRun}
 
 -- a run in this form: an equation a form. Without one nothing is called. Came tells by which calls the source
 -- became what it is
-abbrev pub IsRunIn : (History → Type 0) → (List ReadCall → Type 0) → Option ToolForm → Outside → Outside → Status
+abbrev pub IsRunIn : (History → Type 0) → (List ReadCall → Type 0) → Option ToolForm → Outside → Outside
+    → Status
     → Type 0
 IsRunIn lawful Came None a b status = (status ≡ Usage) × (b ≡ a) × Came []
 IsRunIn lawful Came (Some (Replay InTurn seeding)) a b status =

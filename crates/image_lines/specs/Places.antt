@@ -66,7 +66,8 @@ pub record AreMarked (numbers earlier : List ℕ) (marks : List Bool) : Type 0 w
 abbrev pub GoesOn : List ℕ → List ℕ → Option (List ℕ × ℕ) → List Bool → Bool → Type 0
 GoesOn numbers earlier None marks answer = (answer ≡ true) × AreMarked numbers earlier marks
 GoesOn numbers earlier (Some entry) marks answer =
-    (answer ≡ may_lead_to numbers earlier entry.1) × OnTrue answer (AreMarked numbers (entry.1 ∷ earlier) marks)
+    (answer ≡ may_lead_to numbers earlier entry.1)
+    × OnTrue answer (AreMarked numbers (entry.1 ∷ earlier) marks)
 
 -- a fault is want of memory, or the line at which reading failed
 abbrev pub IsReadFault : ImageFault → Result Image ℕ → Type 0

@@ -23,7 +23,8 @@ pub(crate) fn check_children(
 ) -> Result<(), ImageFault>
     requires short { length text.now ≤ MOST_IMAGE_BYTES }
     requires rising { DoRise places.now }
-    ensures faultless { OnOk result (child_fault_from 1 (numbers_at places.now) [] (pieces_of text.now) ≡ None) }
+    ensures faultless { OnOk result (child_fault_from 1 (numbers_at places.now) [] (pieces_of text.now)
+        ≡ None) }
     ensures refused { IfErr result (λ fault. IsFault fault
         (child_fault_from 1 (numbers_at places.now) [] (pieces_of text.now))) }
 {

@@ -40,7 +40,8 @@ pub(crate) fn node_of_words(text: &[u8]) -> Option<NodeLine>
 
 // The entry of which the words tell.
 pub(crate) fn entry_of_words(text: &[u8]) -> Option<EntryLine>
-    ensures { option_map (λ entry. (entry.name, entry.child)) result ≡ spec.entry_of_words (words_of text.now) }
+    ensures { option_map (λ entry. (entry.name, entry.child)) result
+        ≡ spec.entry_of_words (words_of text.now) }
 {
     let (child, name) = two_words(text)?;
     let child = decimal_value(child)?;

@@ -43,7 +43,8 @@ pub(crate) fn share<M: MountMachine>(
     requires some { 0 < length script.now }
     requires leads_even { M.leads [] mounts.even }
     requires leads_odd { M.leads [] mounts.odd }
-    ensures first { IfOk result (λ made. AreFirst (both made.0.even made.0.odd) (both made.1.even made.1.odd)) }
+    ensures first { IfOk result (λ made.
+        AreFirst (both made.0.even made.0.odd) (both made.1.even made.1.odd)) }
     ensures can_run { IfOk result (λ made. CanRunOnBoth (both made.0.even made.0.odd)
         (both made.1.even made.1.odd) script.now) }
 {

@@ -46,7 +46,10 @@ names_left disk claims names held node =
 abbrev pub modes_left_by : Modes → KeyKind → Option (List ℕ) → Modes
 modes_left_by modes kind None = modes
 modes_left_by modes kind (Some context) =
-    if is_by_mode_in context then with_kind modes kind (without_user (of_kind modes kind) (id_in context)) else modes
+    if is_by_mode_in context
+    then with_kind modes kind (without_user (of_kind modes kind) (id_in context))
+    else modes
 
 abbrev pub modes_left : Disk → Modes → ℕ → Modes
-modes_left disk modes node = modes_left_by modes (kind_on_disk (get disk node)) (context_on_disk (get disk node))
+modes_left disk modes node =
+    modes_left_by modes (kind_on_disk (get disk node)) (context_on_disk (get disk node))

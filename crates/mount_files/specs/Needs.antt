@@ -21,12 +21,14 @@ use Rattle.mount_files.specs.declared.need.Need.TheVariants.{Own, Shared}
 
 -- a file key of this node
 abbrev pub IsKeyFor : Disk → ℕ → NodeKey → Type 0
-IsKeyFor disk node key = (uses_own disk node key.id ≡ true) × (is_of_kind (kind_on_disk (get disk node)) key.key ≡ true)
+IsKeyFor disk node key = (uses_own disk node key.id ≡ true)
+    × (is_of_kind (kind_on_disk (get disk node)) key.key ≡ true)
 
 -- with this key, where there is one, the node has its own key cached if it has one; it uses no mode key
 pub record IsOwnNeed (disk : Disk) (cache : Cache) (node : ℕ) (key : Option NodeKey) : Type 0 where
   pub fits : IfSome key (IsKeyFor disk node)
-  pub cached : (id : KeyId) → uses_own disk node id ≡ true → is_some (get (given cache.keys node key) node) ≡ true
+  pub cached : (id : KeyId) → uses_own disk node id ≡ true
+      → is_some (get (given cache.keys node key) node) ≡ true
   pub unshared : (id : KeyId) (kind : KeyKind) → uses_mode disk id kind node ≡ false
 
 -- this is the mode key that the node uses

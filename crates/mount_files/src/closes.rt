@@ -74,7 +74,8 @@ fn close_on(state: &mut MountState, caller: u32, handle: u32, node: u32)
     requires { node_of state.old.handles.live caller handle ≡ Some node }
     ensures closed { ClosesOne state.old state.new caller handle node }
     ensures same { SameButClosed state.old state.new }
-    ensures stands { (m : PlainMount) → StandsFor state.old m → StandsFor state.new (with_closed m caller handle node) }
+    ensures stands { (m : PlainMount) → StandsFor state.old m
+        → StandsFor state.new (with_closed m caller handle node) }
 {
     state.handles.close(caller, handle);
     state.inodes.unpin(node);
@@ -128,7 +129,8 @@ fn forget_names(
     names: &mut NameCache,
     node: u32,
 )
-    ensures { names.new ≡ names_left disk.now ring.now.claims names.old (not (is_unpinned inodes.now node)) node }
+    ensures { names.new ≡ names_left disk.now ring.now.claims names.old
+        (not (is_unpinned inodes.now node)) node }
 {
     if is_key_kept(disk, ring, inodes, node) || !is_dir(disk, node) {
         return;

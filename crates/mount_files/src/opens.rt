@@ -95,7 +95,8 @@ fn open_keyed(
     ensures opened { OnOk result (OpensOne state.old state.new caller node) }
     ensures kept { OnErr result (SameButCaches state.old state.new) }
     ensures names { state.new.names ≡ state.old.names }
-    ensures caches { (m : PlainMount) → StandsFor state.old m → CachesStand state.new.inodes state.new.modes m }
+    ensures caches { (m : PlainMount) → StandsFor state.old m
+        → CachesStand state.new.inodes state.new.modes m }
 {
     match need_of(state, node) {
         Need::Own(key) => open_own(alloc, state, caller, node, key),

@@ -31,7 +31,8 @@ far_parts-append (a ∷ s) t (x ∷ e) f p =
     ap (λ (l : PlacedCalls). far_part a x ++ l) (far_parts-append s t e f p.1)
     ∙ sym (append_assoc (far_part a x) (far_parts s e) (far_parts t f))
 
-module _ {P Q : Type 0} (own_came : P → PlacedCalls → P → Type 0) (far_came : Q → PlacedCalls → Q → Type 0) where
+module _ {P Q : Type 0} (own_came : P → PlacedCalls → P → Type 0)
+    (far_came : Q → PlacedCalls → Q → Type 0) where
   pub LinkCame-none : ((port : P) → own_came port [] port) → ((port : Q) → far_came port [] port)
       → (port : LinkView P Q) → LinkCame own_came far_came port [] port
   LinkCame-none none_own none_far port = record {
@@ -42,7 +43,8 @@ module _ {P Q : Type 0} (own_came : P → PlacedCalls → P → Type 0) (far_cam
     on_far = none_far port.far;
   }
 
-  pub LinkCame-on : ((first second third : P) (e f : PlacedCalls) → own_came first e second → own_came second f third
+  pub LinkCame-on : ((first second third : P) (e f : PlacedCalls) → own_came first e second
+      → own_came second f third
       → own_came first (e ++ f) third)
       → ((first second third : Q) (e f : PlacedCalls) → far_came first e second → far_came second f third
       → far_came first (e ++ f) third)
@@ -52,7 +54,8 @@ module _ {P Q : Type 0} (own_came : P → PlacedCalls → P → Type 0) (far_cam
   LinkCame-on more_own more_far first second third e f p q = record {
     steps = p.steps ++ q.steps;
     are_steps = AreSteps-append p.steps q.steps e f p.are_steps q.are_steps;
-    kept = q.kept ∙ ap (λ (l : List LinkStep). l ++ q.steps) p.kept ∙ append_assoc first.steps p.steps q.steps;
+    kept =
+        q.kept ∙ ap (λ (l : List LinkStep). l ++ q.steps) p.kept ∙ append_assoc first.steps p.steps q.steps;
     on_own = subst (λ (l : PlacedCalls). own_came first.own l third.own)
         (sym (own_parts-append p.steps q.steps e f p.are_steps))
         (more_own first.own second.own third.own _ _ p.on_own q.on_own);

@@ -42,7 +42,8 @@ or_not_found (Some entry) = Ok entry
 -- the entry of the directory that is found by the part, or why there is none; by its name alone where that is
 -- asked for, and then a locked directory has none
 abbrev pub entry_sought : Bool → PlainMount → Name → ℕ → Result Entry Refusal
-entry_sought by_name m part d = if by_name && not (is_keyed m d) then Err NoKey else or_not_found (entry_found m d part)
+entry_sought by_name m part d =
+    if by_name && not (is_keyed m d) then Err NoKey else or_not_found (entry_found m d part)
 
 abbrev pub entry_walked : Bool → PlainMount → Name → Walked → Result Entry Refusal
 entry_walked by_name m part (Err refusal) = Err refusal

@@ -18,7 +18,8 @@ names_of names = map (λ name. name.now) names
 -- of these names, at most MOST_LISTED from number start on in the order of their bytes, and whether further ones follow
 abbrev pub page_from : ℕ → List Name → Reply
 page_from start names =
-    Names (take MOST_LISTED (drop start (in_order names))) (nat_lt (start + MOST_LISTED) (length (in_order names)))
+    Names (take MOST_LISTED (drop start (in_order names)))
+    (nat_lt (start + MOST_LISTED) (length (in_order names)))
 
 -- the reply is the page of the names as which the entries are shown
 abbrev pub TellsPage : Reading → Entries → ℕ → Reply → Type 0

@@ -36,7 +36,8 @@ pub record IsPlaceOf (m : PlainMount) (name : Name) (place : Place) : Type 0 whe
 
 -- under its policy the names of the directory are enciphered by a key of bytes
 abbrev pub HasByteKey : PlainMount → ℕ → Type 0
-HasByteKey m n = (c : Context) → context_at m.nodes n ≡ Some c → AreBytes (key_bytes (node_key m.raws c Names))
+HasByteKey m n = (c : Context) → context_at m.nodes n ≡ Some c
+    → AreBytes (key_bytes (node_key m.raws c Names))
 
 -- the directory is keyed and has no such name, and the place has the name's stored form
 pub record IsNewName (m : PlainMount) (d : ℕ) (name : Name) (place : Place) : Type 0 where
@@ -48,7 +49,8 @@ pub record IsNewName (m : PlainMount) (d : ℕ) (name : Name) (place : Place) : 
   pub key : HasByteKey m d
 
 -- a name is asked for in a directory of the mount that is keyed and has this context
-pub record IsAskedIn (s : MountState) (m : PlainMount) (d : ℕ) (held : Option Context) (name : Name) : Type 0 where
+pub record IsAskedIn (s : MountState) (m : PlainMount) (d : ℕ) (held : Option Context)
+    (name : Name) : Type 0 where
   pub stands : StandsFor s m
   pub is_dir : is_dir_at m.nodes d ≡ true
   pub named : IsName name

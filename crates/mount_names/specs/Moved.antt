@@ -41,5 +41,6 @@ Renames old new e part path reply = (m : PlainMount) (name : Name) → StandsFor
 
 -- where the mount refuses, the reply is that refusal
 abbrev pub RefusesAsDue : MountState → Entry → PathParts → Reply → Type 0
-RefusesAsDue old e path reply = (m : PlainMount) (name : Name) → StandsFor old m → IsPath path → IsEntryOf m name e
+RefusesAsDue old e path reply = (m : PlainMount) (name : Name) → StandsFor old m → IsPath path
+    → IsEntryOf m name e
     → IsRefusedAsDue (answer_to_move_from m path e.dir name e.number) reply

@@ -34,7 +34,8 @@ names_cipher raws n c = cipher_with n c (node_key raws c Names)
 -- read so, the stored bytes are shown as the name
 abbrev pub ShowsAs : Reading → List ℕ → Name → Type 0
 ShowsAs Plain stored name = (name ≡ stored) × (length stored ≤ MOST_NAME_BYTES)
-ShowsAs (Keyed cipher) stored name = (name ≡ plain_name cipher.key cipher.start stored) × (name ≢ []) × IsStored stored
+ShowsAs (Keyed cipher) stored name = (name ≡ plain_name cipher.key cipher.start stored) × (name ≢ [])
+    × IsStored stored
 ShowsAs Locked stored name = (name ≡ nokey_text_of stored) × IsStored stored
 
 -- a directory or a symlink of the mount: a node whose names or whose target are enciphered
@@ -43,7 +44,8 @@ HasNames m n = plain_kind (get m.nodes n) ≡ Names
 
 -- in whatever mount the state stands for, the stored form of each name or target is shown as it is there
 abbrev pub ReadsAs : MountState → ℕ → Reading → Type 0
-ReadsAs s n reading = (m : PlainMount) (name : Name) → StandsFor s m → HasNames m n → IsPlain name → AreBytes name
+ReadsAs s n reading = (m : PlainMount) (name : Name) → StandsFor s m → HasNames m n → IsPlain name
+    → AreBytes name
     → ShowsAs reading (stored_form m.raws n (context_at m.nodes n) name) (shown m n name)
 
 -- in whatever mount the state stands for, it is the cipher of the keyed node's names
@@ -54,4 +56,5 @@ IsCipherOf s n c cipher = (m : PlainMount) → StandsFor s m → HasNames m n
 
 -- the directory has a policy and is keyed: then a name is enciphered to be found
 abbrev pub enciphers : MountState → ℕ → Bool
-enciphers s dir = is_some (context_on_disk (get s.disk dir)) && held.is_unlocked s.disk s.ring.claims s.handles.live dir
+enciphers s dir =
+    is_some (context_on_disk (get s.disk dir)) && held.is_unlocked s.disk s.ring.claims s.handles.live dir

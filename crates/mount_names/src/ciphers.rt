@@ -41,7 +41,8 @@ fn dir_cipher(state: &MountState, dir: u32, context: &Context) -> Option<NameCip
 
 // That under a key which is drawn from the secret; none where no user has a claim.
 pub(crate) fn drawn_cipher(state: &MountState, number: u32, context: &Context) -> Option<NameCipher>
-    ensures value { result ≡ option_map (cipher_with number context.now) (drawn_key state.now.ring context.now) }
+    ensures value { result ≡ option_map (cipher_with number context.now)
+        (drawn_key state.now.ring context.now) }
     ensures claimed { HoldsClaimedSecrets state.now.ring }
     ensures ranged { IfSome result (λ cipher. AreBytes cipher.key) }
 {

@@ -27,17 +27,22 @@ tells_more claims (x ∷ h) e tells tell = (tells.0, tells_more (claims_left cla
 pub more : (h : History) (e : MountEntry) (old new : MountState) → StandsAfter h old
     → ((m : PlainMount) → StandsFor old m → (is_refused e.reply ≡ false → KeyAgrees m.raws e.call.op)
     → TakesStep m e new)
-    → new.ring.claims ≡ claims_left old.ring.claims e → TellsClaim old.ring.claims e → StandsAfter (h ++ e ∷ []) new
+    → new.ring.claims ≡ claims_left old.ring.claims e → TellsClaim old.ring.claims e
+    → StandsAfter (h ++ e ∷ []) new
 more h e old new before steps claims told =
     let stood : KeysAgree (h ++ e ∷ []) → StandsFor old (mount_after h) = λ agree.
     before.stands (KeysAgree-begun h (e ∷ []) agree) in
     let step : KeysAgree (h ++ e ∷ []) → TakesStep (mount_after h) e new = λ agree.
     steps (mount_after h) (stood agree)
-    (agrees_with_added h e agree (before.lawful.legal (KeysAgree-begun h (e ∷ []) agree)) (stood agree).well.keys) in
+    (agrees_with_added h e agree (before.lawful.legal (KeysAgree-begun h (e ∷ []) agree))
+    (stood agree).well.keys) in
     record {
       lawful = record {
-        legal = λ agree. IsLegal-more h e _ (before.lawful.legal (KeysAgree-begun h (e ∷ []) agree)) (step agree).0;
-        claims = tells_more no_claims h e before.lawful.claims (subst (λ cs. TellsClaim cs e) before.claims told);
+        legal =
+            λ agree. IsLegal-more h e _ (before.lawful.legal (KeysAgree-begun h (e ∷ []) agree))
+            (step agree).0;
+        claims =
+            tells_more no_claims h e before.lawful.claims (subst (λ cs. TellsClaim cs e) before.claims told);
       };
       claims = claims ∙ ap (λ cs. claims_left cs e) before.claims ∙ sym (claims_after-more h e);
       stands = λ agree. subst (StandsFor new) (sym (mount_after-more h e _ (step agree).0)) (step agree).1;
@@ -47,7 +52,8 @@ more h e old new before steps claims told =
 abbrev pub wanting : ℕ → Call → MountEntry
 wanting caller call = entry caller call (Refused NoMemory)
 
-pub StandsAfter-wanting : (h : History) (caller : ℕ) (call : Call) (state : MountState) → IsTrue (takes_memory call.op)
+pub StandsAfter-wanting : (h : History) (caller : ℕ) (call : Call) (state : MountState)
+    → IsTrue (takes_memory call.op)
     → StandsAfter h state → StandsAfter (h ++ wanting caller call ∷ []) state
 StandsAfter-wanting h caller call state takes before =
     more h (wanting caller call) state state before (λ m st agrees. (inr (takes, refl, refl), st)) refl

@@ -49,4 +49,5 @@ IsKept old new dir name number =
 -- so it is in a keyed directory with a policy
 abbrev pub FillsNames : Disk → ClaimSet → HandleList → NameList → NameList → ℕ → Name → ℕ → Type 0
 FillsNames disk claims live old new dir name number =
-    IsSome (context_on_disk (get disk dir)) → is_unlocked disk claims live dir ≡ true → IsKept old new dir name number
+    IsSome (context_on_disk (get disk dir)) → is_unlocked disk claims live dir ≡ true
+    → IsKept old new dir name number

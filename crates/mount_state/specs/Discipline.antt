@@ -36,7 +36,8 @@ pub record FileKeysForget (disk : Disk) (claims : ClaimSet) (cache : Cache) (liv
 
 pub record ModeKeysForget (disk : Disk) (modes : Modes) (live : HandleList) : Type 0 where
   -- the users of a mode key are the handles on the nodes that use it
-  pub counted : (id : KeyId) (kind : KeyKind) → users_in (of_kind modes kind) id ≡ users (uses_mode disk id kind) live
+  pub counted : (id : KeyId) (kind : KeyKind)
+      → users_in (of_kind modes kind) id ≡ users (uses_mode disk id kind) live
   -- and it is a key of its kind
   pub kind : (id : KeyId) (kind : KeyKind) (mode : ModeKey) → mode_at modes id kind ≡ Some mode
       → is_of_kind kind mode.key ≡ true
@@ -50,7 +51,8 @@ pub record PinsAreHandles (cache : Cache) (live : HandleList) : Type 0 where
 
 -- ---- the whole
 
-pub record Forgets (disk : Disk) (claims : ClaimSet) (cache : Cache) (modes : Modes) (live : HandleList) : Type 0 where
+pub record Forgets (disk : Disk) (claims : ClaimSet) (cache : Cache) (modes : Modes)
+    (live : HandleList) : Type 0 where
   pub file_keys : FileKeysForget disk claims cache live
   pub mode_keys : ModeKeysForget disk modes live
   pub pins : PinsAreHandles cache live

@@ -18,7 +18,8 @@ no_handles = record { live = []; opened = map.empty }
 -- a new handle of the caller: its number is how many the caller opened before
 abbrev pub with_handle : Handles → ℕ → ℕ → Handles
 with_handle handles caller node = record {
-  live = handles.live ++ record { caller = caller; number = opens_of handles.opened caller; node = node } ∷ [];
+  live = handles.live ++ record { caller = caller; number = opens_of handles.opened caller; node = node }
+      ∷ [];
   opened = insert handles.opened caller (opens_of handles.opened caller + 1);
 }
 
@@ -28,7 +29,8 @@ without handles caller number = record handles { live = without_handle caller nu
 
 -- so many are open as may be, or the caller opened as many as a number can tell
 abbrev pub is_full : Handles → ℕ → Bool
-is_full handles caller = nat_le MOST_HANDLES (length handles.live) || nat_le MOST_OPENS (opens_of handles.opened caller)
+is_full handles caller =
+    nat_le MOST_HANDLES (length handles.live) || nat_le MOST_OPENS (opens_of handles.opened caller)
 
 -- how many handles are on nodes that pass the test, and on this node
 abbrev pub users : (ℕ → Bool) → HandleList → ℕ

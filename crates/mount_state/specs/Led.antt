@@ -42,7 +42,8 @@ LeadsLocked s dir text there =
 -- a keyed directory with a policy leads there by the name
 abbrev pub LeadsKeyed : MountState → ℕ → Name → Option ℕ → Type 0
 LeadsKeyed s dir name there =
-    (m : PlainMount) (c : Context) → StandsFor s m → is_dir_at m.nodes dir ≡ true → context_at m.nodes dir ≡ Some c
+    (m : PlainMount) (c : Context) → StandsFor s m → is_dir_at m.nodes dir ≡ true
+    → context_at m.nodes dir ≡ Some c
     → is_keyed m dir ≡ true → there ≡ led_to m dir name
 
 -- a directory leads there by the part, whatever its policy

@@ -27,7 +27,8 @@ drawn_key ring c = option_map (key_from c) (secret_of ring c.policy.id)
 
 -- where the stored context is one of an identifier of 16 bytes, it is this one
 abbrev pub IsContextIn : Option (List ℕ) → Option Context → Type 0
-IsContextIn stored read = (c : Context) → length c.policy.id.0 ≡ 16 → stored ≡ Some (context_bytes c) → read ≡ Some c
+IsContextIn stored read = (c : Context) → length c.policy.id.0 ≡ 16 → stored ≡ Some (context_bytes c)
+    → read ≡ Some c
 
 -- the same of the node of this number
 abbrev pub IsContextOf : Disk → ℕ → Option Context → Type 0

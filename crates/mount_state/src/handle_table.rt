@@ -77,7 +77,8 @@ impl HandleTable {
         ensures opened { OnOk result (self.new ≡ with_handle self.old caller node) }
         ensures kept { OnErr result (self.new ≡ self.old) }
         ensures full { IsTrue (is_full self.old caller) → result ≡ Err HandleFault.NoSpace }
-        ensures no_space { IfErr result (λ fault. fault ≡ HandleFault.NoSpace → IsTrue (is_full self.old caller)) }
+        ensures no_space { IfErr result (λ fault.
+            fault ≡ HandleFault.NoSpace → IsTrue (is_full self.old caller)) }
     {
         if self.is_full(caller) {
             return Err(HandleFault::NoSpace);

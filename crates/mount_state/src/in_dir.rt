@@ -66,7 +66,8 @@ fn find_text(entries: &DirEntries, text: &[u8]) -> Option<u32>
 /// The first entry whose stored name is shown as this, with that name. What is shown whole is the name itself,
 /// and is looked up, by hash; only what stands for a longer name is compared with each entry.
 pub fn entry_shown_as<'a>(entries: &'a DirEntries, shown: &'a [u8]) -> Option<(&'a [u8], u32)>
-    ensures found { option_map (λ e. (e.0.now, e.1)) result ≡ lookup_entry (is_shown_as shown.now) entries.now }
+    ensures found { option_map (λ e. (e.0.now, e.1)) result
+        ≡ lookup_entry (is_shown_as shown.now) entries.now }
     ensures short { IfSome result (λ e. length e.0.now ≤ MOST_NAME_BYTES) }
 {
     if shown.len() > MOST_SPELLED_BYTES {
@@ -83,7 +84,8 @@ pub fn entry_shown_as<'a>(entries: &'a DirEntries, shown: &'a [u8]) -> Option<(&
 
 // The same by a search from the first entry on.
 fn long_entry<'a>(entries: &'a DirEntries, shown: &[u8]) -> Option<(&'a [u8], u32)>
-    ensures found { option_map (λ e. (e.0.now, e.1)) result ≡ lookup_entry (is_shown_as shown.now) entries.now }
+    ensures found { option_map (λ e. (e.0.now, e.1)) result
+        ≡ lookup_entry (is_shown_as shown.now) entries.now }
     ensures short { IfSome result (λ e. length e.0.now ≤ MOST_NAME_BYTES) }
 {
     'each: for entry in entries.iter() {

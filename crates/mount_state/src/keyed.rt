@@ -78,7 +78,8 @@ impl MountState {
         steps: &mut Steps<L>,
     ) -> Option<u32>
         requires { IsPlain name.now }
-        ensures value { LeadsByOther self.now.ring self.now.modes dir context.now name.now node.now.body result }
+        ensures value { LeadsByOther self.now.ring self.now.modes dir context.now name.now
+            node.now.body result }
         ensures claimed { HoldsClaimedSecrets self.now.ring }
         ensures ticks { steps.new ≤ steps.old + 1 }
     {
@@ -184,8 +185,9 @@ fn entry_under<L: Ledger>(
     steps: &mut Steps<L>,
 ) -> Option<u32>
     requires { IsPlain name.now }
-    ensures value { result ≡ number_under (stored_name cipher.now (node_start dir context.now) context.now.policy.pad
-        name.now) (entries_of node.now.body) }
+    ensures value { result ≡ number_under
+        (stored_name cipher.now (node_start dir context.now) context.now.policy.pad name.now)
+        (entries_of node.now.body) }
     ensures ticks { steps.new ≡ steps.old + 1 }
 {
     let iv = name_iv(start_of(dir, context));

@@ -96,7 +96,8 @@ impl MountState {
 
     // The same of a node that has this context.
     pub(crate) fn keyed_under(&self, node: u32, context: &[u8; CONTEXT_LEN]) -> bool
-        ensures { result ≡ is_unlocked_under self.now.ring.claims self.now.handles.live node (Some context.now) }
+        ensures { result ≡ is_unlocked_under self.now.ring.claims self.now.handles.live node
+            (Some context.now) }
     {
         self.is_present(&id_in(context)) || self.inodes.pins(node) > 0
     }

@@ -63,7 +63,8 @@ pub(crate) fn number_of<L: Ledger>(
     ensures keyed { result.1 ≡ true
         → is_unlocked state.now.disk state.now.ring.claims state.now.handles.live dir ≡ true }
     ensures by_key { IsSome (context_on_disk (map.get state.now.disk dir)) → IsSome result.0
-        → is_unlocked state.now.disk state.now.ring.claims state.now.handles.live dir ≡ true → result.1 ≡ true }
+        → is_unlocked state.now.disk state.now.ring.claims state.now.handles.live dir ≡ true
+        → result.1 ≡ true }
     ensures plain { context_on_disk (map.get state.now.disk dir) ≡ None → steps.new ≡ steps.old }
     ensures locked { is_unlocked state.now.disk state.now.ring.claims state.now.handles.live dir ≡ false
         → steps.new ≡ steps.old }

@@ -216,7 +216,8 @@ fn directory_kept(
 
 // Whether the directory has a policy, where the part may be looked up in it.
 fn directory_for(state: &MountState, dir: u32, part: &[u8]) -> Result<bool, Refusal>
-    ensures found { IfOk result (λ _. (m : PlainMount) → StandsFor state.now m → looked_in m dir part.now ≡ Ok dir) }
+    ensures found { IfOk result (λ _.
+        (m : PlainMount) → StandsFor state.now m → looked_in m dir part.now ≡ Ok dir) }
     ensures refused { IfErr result (λ refusal. (m : PlainMount) → StandsFor state.now m
         → looked_in m dir part.now ≡ Err refusal) }
     ensures dir { OnOk result (IsDirAt state.now.disk dir) }

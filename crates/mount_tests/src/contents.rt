@@ -11,11 +11,11 @@ use std::process::Abort;
 // two blocks: under a key of the file's own, and under a mode key as inode 116. Byte q is
 // (131 q + 29 (q / 256) + 1) modulo 256. HKDF-SHA512 makes the keys of the master key 00 to 3f, the
 // nonce ec675c89bde4a3d29efbc8d8305eef99 and the filesystem's UUID fsc-memory-mount.
-const OWN_KEY: &str =
-    "edc43bbd4aa562bd040ff10bd6f2d1cc0a1883baa8464e9ea8d4ab9d08c0991448da82f949d80c64c166d5610e8bf072d9641b1fb51c7d1c6ebebfd958b2affc";
+const OWN_KEY: &str = "edc43bbd4aa562bd040ff10bd6f2d1cc0a1883baa8464e9ea8d4ab9d08c09914\
+     48da82f949d80c64c166d5610e8bf072d9641b1fb51c7d1c6ebebfd958b2affc";
 
-const MODE_KEY: &str =
-    "9c621e403c192295d98e7fc9eedc07eecb1381239e734a752102ce4617295eaf0cc48e789014e0bae5a67af6097aac1beaa57fcd07cccbfd8247b9e90d2b515b";
+const MODE_KEY: &str = "9c621e403c192295d98e7fc9eedc07eecb1381239e734a752102ce4617295eaf\
+     0cc48e789014e0bae5a67af6097aac1beaa57fcd07cccbfd8247b9e90d2b515b";
 
 const OWN_BLOCKS: [&str; 2] = [
     "e92b5cec4dd44473982420ef375a96a83a280a7aca624787bca199a9fc06a3d6",

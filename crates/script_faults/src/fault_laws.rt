@@ -10,7 +10,8 @@ ghost use Rattle.script_lang.specs.Script.{parsed_script};
 
 /// The first line at fault is the one that reading tells, and a script has none.
 pub fn faults_are_where_reading_ends()
-    ensures { (text : List ℕ) → option_map (λ found. found.line) (first_fault text) ≡ result_err (parsed_script text) }
+    ensures { (text : List ℕ) → option_map (λ found. found.line) (first_fault text)
+        ≡ result_err (parsed_script text) }
 {}
 
 /// What a fault says that a word has to be is what the grammar asks of it: the words of a command are each

@@ -53,7 +53,8 @@ fn pass_line(
 ) -> Result<Result<usize, LineFault>, AllocError>
     requires { callers < 2 ^ 32 }
     ensures fault { IfOk result (λ passed. result_err passed ≡ spec.fault_behind callers line.now) }
-    ensures callers { IfOk result (λ passed. IfOk passed (λ after. after ≡ spec.callers_with callers line.now)) }
+    ensures callers { IfOk result (λ passed.
+        IfOk passed (λ after. after ≡ spec.callers_with callers line.now)) }
 {
     let said = read_statement(alloc, line)?;
     match fault_of_said(alloc, callers, line, &said)? {

@@ -16,7 +16,8 @@ are_in_range-append e f p q =
     (All-append EntryIsInRange (entries_of e) (entries_of f) p q)
 
 module _ {P : Type 0} where
-  pub RangedCame-none : (came : P → PlacedCalls → P → Type 0) (none : (port : P) → came port [] port) (port : P)
+  pub RangedCame-none : (came : P → PlacedCalls → P → Type 0) (none : (port : P) → came port [] port)
+      (port : P)
       → RangedCame came port [] port
   RangedCame-none came none port = record { came_by = none port; ranged = All-nil EntryIsInRange }
 

@@ -42,7 +42,8 @@ pub fn cut<M: MountMachine>(
     requires can_run { CanRun most shared.now pass.old (first.now ++ others.now) }
     requires some_first { 0 < length first.now }
     requires some_others { 0 < length others.now }
-    ensures halves { IfOk result (λ upper. AreHalves most shared.now pass.old pass.new upper first.now others.now) }
+    ensures halves { IfOk result (λ upper.
+        AreHalves most shared.now pass.old pass.new upper first.now others.now) }
     ensures kept { OnErr result (pass.new ≡ pass.old) }
 {
     let Some(calls) = calls_needed(others, most) else {

@@ -19,31 +19,36 @@ static DRAWN_FROM_ZEROS: [DrawRow; 5] = [
         0,
         0,
         Purpose::NonceOrKey,
-        "5f1e8d5fe33ddabd2f4835479fee20dbd8da57d49abf021f7bff5ea431fdae497058ed9784555d82f1044ad0062a4d6693ab198a909da9ad90f47f0f694d2db9",
+        "5f1e8d5fe33ddabd2f4835479fee20dbd8da57d49abf021f7bff5ea431fdae49\
+         7058ed9784555d82f1044ad0062a4d6693ab198a909da9ad90f47f0f694d2db9",
     ),
     (
         0,
         0,
         Purpose::Iv,
-        "32d8181f6ab843f83537a3438f40b3204e3ba0b89c901565c9e5ca35e56f9af17c89d441399abaca14d9126c4b9b859389f3286196a3e3c64aee87080d6f9cb5",
+        "32d8181f6ab843f83537a3438f40b3204e3ba0b89c901565c9e5ca35e56f9af1\
+         7c89d441399abaca14d9126c4b9b859389f3286196a3e3c64aee87080d6f9cb5",
     ),
     (
         0,
         0,
         Purpose::Salt,
-        "675befcfbf97f33a9c785c61e0cacd87974315f5a67484dacc6246279b0b9432c45e1e29381de4c89dee09011b127bd403a30909465ea5e3838efd12a7957a25",
+        "675befcfbf97f33a9c785c61e0cacd87974315f5a67484dacc6246279b0b9432\
+         c45e1e29381de4c89dee09011b127bd403a30909465ea5e3838efd12a7957a25",
     ),
     (
         0,
         1,
         Purpose::NonceOrKey,
-        "3028da3f8a808b52077b909eb29c51523da32ef1f46a9af7d14eb4bbdfcfee01bc3524979b43735681187cbc4f2df8471e0897c99db194afed567df95c346304",
+        "3028da3f8a808b52077b909eb29c51523da32ef1f46a9af7d14eb4bbdfcfee01\
+         bc3524979b43735681187cbc4f2df8471e0897c99db194afed567df95c346304",
     ),
     (
         1,
         0,
         Purpose::NonceOrKey,
-        "da99867768e6b2137209e264b0c7929688a0f35fe60cbfe951b183f98ef352cda5e71eb70a87a54f36b6ec686a1de7a619a0b59256da7435bf9192be0462f2ce",
+        "da99867768e6b2137209e264b0c7929688a0f35fe60cbfe951b183f98ef352cd\
+         a5e71eb70a87a54f36b6ec686a1de7a619a0b59256da7435bf9192be0462f2ce",
     ),
 ];
 
@@ -53,13 +58,15 @@ static DRAWN_FROM_COUNTING: [DrawRow; 2] = [
         7,
         4_294_967_295,
         Purpose::Salt,
-        "8cd7c8342bdd01bb1d5839421d0e6624e75533aaeae6c58e819a3c840b7eda56b8bec886c2a93a1052d75da883ef211e4b704daaff84727e48a5796c86c2d1d2",
+        "8cd7c8342bdd01bb1d5839421d0e6624e75533aaeae6c58e819a3c840b7eda56\
+         b8bec886c2a93a1052d75da883ef211e4b704daaff84727e48a5796c86c2d1d2",
     ),
     (
         255,
         19_999,
         Purpose::Iv,
-        "b2c7e6f6211be34929a3a4dbeb92ebdda0e187367d5eabcf88e72729285bee3db77df9c0ceb2f29a2946804fd66179190feb7939e9d1c169007d36abeb7be1d2",
+        "b2c7e6f6211be34929a3a4dbeb92ebdda0e187367d5eabcf88e72729285bee3d\
+         b77df9c0ceb2f29a2946804fd66179190feb7939e9d1c169007d36abeb7be1d2",
     ),
 ];
 

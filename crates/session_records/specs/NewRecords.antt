@@ -20,7 +20,8 @@ use Rattle.session_records.specs.Draws.{drawn_bytes, caller_byte}
 
 -- the first so many of the bytes that a caller's command of this number draws
 unfoldable pub first_drawn : ℕ → List ℕ → ℕ → ℕ → Purpose → List ℕ
-first_drawn count seed caller number purpose = take count (drawn_bytes seed (caller_byte caller) number purpose)
+first_drawn count seed caller number purpose =
+    take count (drawn_bytes seed (caller_byte caller) number purpose)
 
 -- ---- protectors
 

@@ -6,4 +6,5 @@ use Rattle.mount_state.specs.StandsFor.{TreeStands}
 use Rattle.tree_image.specs.Images.{image_of, mount_image}
 
 abbrev pub ImagesAgree : Type 0
-ImagesAgree = (disk : Disk) (next : ℕ) (m : PlainMount) → TreeStands disk next m → image_of disk ≡ mount_image m
+ImagesAgree = (disk : Disk) (next : ℕ) (m : PlainMount) → TreeStands disk next m
+    → image_of disk ≡ mount_image m

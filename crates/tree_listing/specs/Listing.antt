@@ -40,7 +40,8 @@ place_seen raw placed =
 
 abbrev pub body_seen : Option (List ℕ) → ℕ → Option (List ℕ) → Body → ListedBody
 body_seen raw n context (stored.Dir entries) = Dir (length entries)
-body_seen raw n context (stored.File blocks size) = File size (digest_seen (sight_of raw context) n blocks size)
+body_seen raw n context (stored.File blocks size) =
+    File size (digest_seen (sight_of raw context) n blocks size)
 body_seen raw n context (stored.Link target) = Link (word_seen (sight_of raw context) n target)
 
 abbrev pub listed : Option (List ℕ) → Image → ImageNode → ListedNode
@@ -59,5 +60,6 @@ pub record IsListing (image : Image) (raw : Option (List ℕ)) (text : List ℕ)
 
 -- an image has one listing with a raw key, and one without
 abbrev pub ListingsAreOne : Type 0
-ListingsAreOne = (image : Image) (raw : Option (List ℕ)) (a b : List ℕ) → IsListing image raw a → IsListing image raw b
+ListingsAreOne = (image : Image) (raw : Option (List ℕ)) (a b : List ℕ) → IsListing image raw a
+    → IsListing image raw b
     → a ≡ b

@@ -41,11 +41,16 @@ start_in n context = if is_by_mode_in context then n * 2 ^ 32 else 0
 -- what the contents of file n are sealed with
 abbrev pub seal_in : List ℕ → List ℕ → ℕ → Seal
 seal_in raw context n =
-    record { key = key_bytes (key_in raw context Contents); start = start_in n context; unit = unit_in context }
+    record {
+      key = key_bytes (key_in raw context Contents);
+      start = start_in n context;
+      unit = unit_in context;
+    }
 
 -- what a name of the directory n, or the target of the link n, is deciphered to; empty where it is nothing
 abbrev pub name_under : List ℕ → List ℕ → ℕ → List ℕ → List ℕ
-name_under raw context n stored = plain_name (key_bytes (key_in raw context Names)) (start_in n context) stored
+name_under raw context n stored =
+    plain_name (key_bytes (key_in raw context Names)) (start_in n context) stored
 
 -- ---- what is seen
 

@@ -30,7 +30,8 @@ pub(crate) fn digest_shown(
 ) -> Option<[u8; 32]>
     requires blocks { length (blocks_at (pieces_of lines.now)) ≡ blocks_for size }
     requires small { size ≤ MOST_FILE_BYTES }
-    ensures { result ≡ digest_seen (sight_of reader.now context.now) number (blocks_at (pieces_of lines.now)) size }
+    ensures { result ≡ digest_seen (sight_of reader.now context.now) number
+        (blocks_at (pieces_of lines.now)) size }
 {
     match context {
         None => Some(digest_of(&None, size, lines)),

@@ -55,7 +55,8 @@ fn push_place(
 ) -> Result<(), AllocError>
     requires { IsWayTo image.now true number way }
     ensures { OnOk result (text.new.items ≡ text.old.items
-        ++ (decimal_of number ++ 32 ∷ place_text (option_map (place_seen reader.now) (entry_to image.now number)))) }
+        ++ (decimal_of number
+        ++ 32 ∷ place_text (option_map (place_seen reader.now) (entry_to image.now number)))) }
 {
     // That it is an image.
     let _text = image.text();
@@ -94,7 +95,8 @@ fn context_of(image: &Image<'_>, number: u32) -> Option<[u8; CONTEXT_LEN]>
 
 // The entry of the line that begins at this index of the text.
 fn entry_at(image: &Image<'_>, at: u32) -> Option<EntryLine>
-    ensures { option_map (λ entry. (entry.name, entry.child)) result ≡ spec.entry_at (image_text image.now) at }
+    ensures { option_map (λ entry. (entry.name, entry.child)) result
+        ≡ spec.entry_at (image_text image.now) at }
 {
     match image.text().get(at as usize..) {
         Some(rest) => read_entry_line(next_line(rest).bytes),
@@ -111,7 +113,8 @@ fn push_body(
 ) -> Result<(), AllocError>
     requires { IsNode (node_in node.now) }
     ensures { OnOk result (text.new.items ≡ text.old.items
-        ++ 32 ∷ body_text (body_seen reader.now node.now.line.number node.now.line.context (node_in node.now).body)) }
+        ++ 32 ∷ body_text (body_seen reader.now node.now.line.number node.now.line.context
+        (node_in node.now).body)) }
 {
     match &node.line.kind {
         NodeKind::Dir => {
