@@ -1,6 +1,6 @@
 //! A caller of `turn_lock`.
 
-ghost use Rattle.std.specs.Prelude.{◌≡◌, ℕ, ◌+◌, ◌<◌, ◌≤◌, ◌^◌, ◌↔◌, [], ◌++◌, length};
+ghost use Rattle.std.specs.Prelude.{◌≡◌, ℕ, ◌+◌, ◌<◌, ◌↔◌, [], ◌++◌, length};
 ghost use Rattle.std.specs.Prelude.{IsErr, IfOk, IfErr, OnOk};
 ghost use Rattle.call_history.specs.Entries.{entry, entries_by};
 ghost use Rattle.turn_lock.specs.Passes.{PassView, first_pass, past_of, IsMadeAt};

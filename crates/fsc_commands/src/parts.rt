@@ -1,6 +1,6 @@
 //! The pieces of which a session's work is made: each is a call, and what its reply makes of it.
 
-ghost use Rattle.std.specs.Prelude.{◌≡◌, ◌≤◌, ◌<◌, ◌+◌, [], ◌∷◌, ◌++◌, Some, IfOk, OnErr};
+ghost use Rattle.std.specs.Prelude.{◌≡◌, ◌<◌, ◌+◌, [], ◌∷◌, Some, IfOk, OnErr};
 ghost use Rattle.mount_model.specs.declared.call.Call.{Call};
 ghost use Rattle.mount_model.specs.Fits.{Fits, OpFits};
 ghost use Rattle.fsc_commands.specs.Wiped.{wiped_call};

@@ -1,5 +1,5 @@
 //! The kernels of keys and names. Each run works on what the run before it left.
-ghost use Rattle.std.specs.Prelude.{◌≡◌, ◌<◌, length, replicate};
+ghost use Rattle.std.specs.Prelude.{◌≡◌, ◌<◌, replicate};
 ghost use Rattle.std.specs.Fn.{iterate};
 ghost use Rattle.sha2.specs.Sha256.{sha256};
 ghost use Rattle.fsc_speed.specs.Runs.{next_iv, next_nonce, next_raw, next_stored};

@@ -1,6 +1,6 @@
 //! The run that lists an image. It asks for no seed.
 
-ghost use Rattle.std.specs.Prelude.{◌≡◌, ℕ, List, IfOk, IfErr};
+ghost use Rattle.std.specs.Prelude.{◌≡◌, List, IfOk, IfErr};
 ghost use Rattle.fsc_outside.specs.Reads.{ReadCall};
 ghost use Rattle.fsc_outside.specs.States.{SeedState, SinkState};
 ghost use Rattle.tree_listing.specs.Listing.{IsListing};

@@ -1,6 +1,6 @@
 //! The summary of a run: how many entries its history has, what became of them, and the digest of its log.
 
-ghost use Rattle.std.specs.Prelude.{◌≡◌, ◌++◌, count_by, codes, IfOk, OnOk};
+ghost use Rattle.std.specs.Prelude.{◌≡◌, ◌++◌, count_by, IfOk, OnOk};
 ghost use Rattle.std.specs.List.{list_any};
 ghost use Rattle.mount_model.specs.History.{is_want_of_memory};
 ghost use Rattle.fsc_tool.specs.Summary as spec;

@@ -1,6 +1,6 @@
 //! The two mounts, while callers share them.
 
-ghost use Rattle.std.specs.Prelude.{◌≡◌, ◌<◌, [], length, IfOk};
+ghost use Rattle.std.specs.Prelude.{◌<◌, [], length, IfOk};
 ghost use Rattle.script_lang.specs.Spelled.{IsSpelled};
 ghost use Rattle.linked_threads.specs.Threaded.{AreFirst, CanRunOnBoth, both};
 

@@ -3,7 +3,6 @@
 ghost use Rattle.std.specs.Prelude.{◌≡◌, ◌↔◌, None, All, IfOk, IsTrue};
 ghost use Rattle.std.specs.List.{flat_map};
 ghost use Rattle.log_check.specs.Endings.{IsEnded};
-ghost use Rattle.next_calls.specs.Callers.{CallerView};
 ghost use Rattle.reply_text.specs.Notes.{notes_text};
 
 use item_list::Bytes;

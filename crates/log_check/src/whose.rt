@@ -1,6 +1,6 @@
 //! Whose line stands at a place of a text.
 
-ghost use Rattle.std.specs.Prelude.{◌≡◌, IfOk};
+ghost use Rattle.std.specs.Prelude.{IfOk};
 ghost use Rattle.log_check.specs.NextLines.{IsAwaited, IsWhose};
 
 use crate::lines::is_line_of;

@@ -2,6 +2,7 @@
 
 ghost use Rattle.std.specs.Prelude.{◌≡◌, ◌≤◌, [], length, map, IfOk, OnOk};
 ghost use Rattle.script_lang.specs.Spelled.{IsSpelled};
+ghost use Rattle.script_lang.specs.declared.limits.TheConstants.{MOST_CALLERS};
 ghost use Rattle.fsc_commands.specs.Steps.Steps.{Done};
 ghost use Rattle.fsc_session.specs.Asking.{AsksRightly};
 ghost use Rattle.fsc_session.specs.Running.{state_of};
@@ -86,7 +87,7 @@ pub fn longest(sections: &[Section]) -> usize
 
 // A runner for each section, before its first command.
 fn fresh_runners(alloc: Global, sections: &[Section]) -> Result<Vec<Runner<'_>>, AllocError>
-    requires { length sections.now ≤ 8 }
+    requires { length sections.now ≤ MOST_CALLERS }
     ensures { IfOk result (λ runners. runners.items ≡ fresh_runners 0 sections.now) }
 {
     let mut runners = Vec::new(alloc);

@@ -1,7 +1,6 @@
 //! Bytes drawn from a seed: each caller, command and purpose has its own.
 
 ghost use Rattle.std.specs.Prelude.{◌≡◌, ◌≤◌, length, take};
-ghost use Rattle.byte_words.specs.Numbers.{little_endian_bytes};
 ghost use Rattle.session_records.specs.Draws.{DrawsAreDistinct, drawn_bytes, draw_info};
 ghost use Rattle.session_records.specs.Draws.{purpose_number, caller_byte, nonce_drawn};
 

@@ -2,6 +2,7 @@
 
 ghost use Rattle.std.specs.Prelude.{◌≡◌, ◌≤◌, [], length, Some, Ok, IfOk};
 ghost use Rattle.argon_kdf.specs.Argon2id.{argon2id_tag};
+ghost use Rattle.argon_kdf.specs.declared.limits.TheConstants.{MOST_TEXT_BYTES};
 ghost use Rattle.fsc_keys.specs.Keys.{key_id_of};
 ghost use Rattle.fsc_keys.specs.declared.raw_key.TheConstants.{MOST_RAW_KEY_BYTES};
 ghost use Rattle.script_words.specs.Secrets.{IsSecret};
@@ -140,7 +141,7 @@ fn stretched<S: Stretch>(
     stretching: &Stretching,
 ) -> Result<[u8; 32], AllocError>
     requires ready { S.ready stretches.now }
-    requires few { length passphrase.now ≤ 1000 }
+    requires few { length passphrase.now ≤ MOST_TEXT_BYTES }
     ensures { IfOk result (λ key. key ≡ argon2id_tag stretching.now.0 passphrase.now stretching.now.1 [] []) }
 {
     let mut key = [0; 32];

@@ -1,6 +1,6 @@
 //! The digest of a file's contents, from the lines of its blocks.
 
-ghost use Rattle.std.specs.Prelude.{◌≡◌, ◌≤◌, Some, None, length, option_map};
+ghost use Rattle.std.specs.Prelude.{◌≡◌, ◌≤◌, Some, None, length};
 ghost use Rattle.sha2.specs.Sha256.{sha256};
 ghost use Rattle.mount_limits.specs.declared.TheConstants.{MOST_FILE_BYTES};
 ghost use Rattle.text_words.specs.Lines.{pieces_of};

@@ -1,6 +1,6 @@
 //! Who an image is listed for, and what the bytes of a context tell.
 
-ghost use Rattle.std.specs.Prelude.{◌≡◌, ◌^◌, ◌%◌, length};
+ghost use Rattle.std.specs.Prelude.{◌≡◌, ◌^◌, ◌%◌};
 ghost use Rattle.byte_words.specs.Bytes.{AreBytes};
 ghost use Rattle.policy_ctx.specs.Context.{id_in};
 ghost use Rattle.policy_ctx.specs.KeyIds.{same_id};

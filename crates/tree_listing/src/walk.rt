@@ -1,6 +1,6 @@
 //! Which nodes entries reach from the root, and by which entry each.
 
-ghost use Rattle.std.specs.Prelude.{◌≡◌, ◌<◌, ◌≤◌, [], ◌∷◌, true, length, IfOk, OnOk};
+ghost use Rattle.std.specs.Prelude.{◌≡◌, ◌<◌, [], ◌∷◌, true, IfOk, OnOk};
 ghost use Rattle.text_words.specs.Lines.{pieces_of};
 ghost use Rattle.image_lines.specs.ImageText.{image_text};
 ghost use Rattle.image_lines.specs.Nodes.{IsRestOf};
