@@ -40,7 +40,7 @@ module _ {C R : Type 0} where
   inserted_after : (x y : ℕ × Entry C R) (ys : PlacedList C R) → y.0 < x.0 → inserted x (y ∷ ys) ≡ y ∷ inserted x ys
   inserted_after x y ys l = ap (λ (b : Bool). if b then x ∷ y ∷ ys else y ∷ inserted x ys) (lt-leb x.0 y.0 l)
 
-  AllFrom-inserted : (k : ℕ) (x : ℕ × Entry C R) (ys : PlacedList C R) → k ≤ x.0 → AllFrom k ys → AllFrom k (inserted x ys)
+  pub AllFrom-inserted : (k : ℕ) (x : ℕ × Entry C R) (ys : PlacedList C R) → k ≤ x.0 → AllFrom k ys → AllFrom k (inserted x ys)
   AllFrom-inserted k x [] l all = (l, tt)
   AllFrom-inserted k x (y ∷ ys) l all = cond_both (leb x.0 y.0) (x ∷ y ∷ ys) (y ∷ inserted x ys) (AllFrom k)
       (λ _. (l, all)) (λ _. (all.0, AllFrom-inserted k x ys l all.1))
@@ -49,13 +49,13 @@ module _ {C R : Type 0} where
   AllFrom-in_order k [] all = tt
   AllFrom-in_order k (x ∷ xs) all = AllFrom-inserted k x (in_order xs) all.0 (AllFrom-in_order k xs all.1)
 
+  pub AllFrom_weaker : (k j : ℕ) (ys : PlacedList C R) → j ≤ k → AllFrom k ys → AllFrom j ys
+  AllFrom_weaker k j [] l all = tt
+  AllFrom_weaker k j (y ∷ ys) l all = let lower : k ≤ y.0 = all.0 in (omega arith, AllFrom_weaker k j ys l all.1)
+
   -- the entry of the lowest place comes first, wherever it stood
   first_out : (x : ℕ × Entry C R) (ps qs : PlacedList C R) → AllFrom (x.0 + 1) (ps ++ qs) → in_order (ps ++ x ∷ qs) ≡ x ∷ in_order (ps ++ qs)
   first_out x [] qs all = inserted_first x (in_order qs) (AllFrom_weaker (x.0 + 1) x.0 (in_order qs) (omega arith) (AllFrom-in_order (x.0 + 1) qs all))
-    where
-      AllFrom_weaker : (k j : ℕ) (ys : PlacedList C R) → j ≤ k → AllFrom k ys → AllFrom j ys
-      AllFrom_weaker k j [] l all = tt
-      AllFrom_weaker k j (y ∷ ys) l all = let lower : k ≤ y.0 = all.0 in (omega arith, AllFrom_weaker k j ys l all.1)
   first_out x (p ∷ ps) qs all =
       let above : x.0 + 1 ≤ p.0 = all.0 in
       ap (inserted p) (first_out x ps qs all.1) ∙ inserted_after p x (in_order (ps ++ qs)) (omega arith)

@@ -1,15 +1,15 @@
 -- Entries sorted by place, where those of one place stay in their order, are the entries in order of place.
-use Rattle.std.proofs.Common.{◌≡◌, ℕ, suc, zero, nat_cmp, filter, ◌+◌, ◌<◌, ◌≤◌, Bool, true, false, cond, not, ◌&&◌, leb, eqb, List, [], ◌∷◌, ◌++◌, length, map, drop, get_or, sym, refl, ap, ap₂, ◌∙◌, subst, ⊎_elim, arith}
+use Rattle.std.proofs.Common.{◌≡◌, ℕ, suc, zero, nat_cmp, filter, ◌<◌, ◌≤◌, Bool, true, false, cond, not, ◌&&◌, leb, eqb, [], ◌∷◌, length, drop, get_or, sym, refl, ap, ap₂, ◌∙◌, subst, ⊎_elim, arith}
 use Rattle.std.specs.Prelude.{slice_index_or}
 use Rattle.std.specs.Ordering.{is_lt}
 use Rattle.std.specs.List.Sorted.{IsNonDecreasingBy, IsStableByKey, ties}
-use Rattle.std.proofs.lemmas.Bool.{cases_eq, cases_Bool, eq-eqb, ne_eqb, leb-true, leb-false}
+use Rattle.std.proofs.lemmas.Bool.{cases_eq, cases_Bool, cond_both, eq-eqb, ne_eqb, leb-true, leb-false}
 use Rattle.std.specs.Cmp.{nat_cmp_is}
 use Rattle.std.specs.declared.cmp.Ordering.{Ordering}
 use Rattle.std.specs.declared.cmp.Ordering.TheVariants.{Less, Equal, Greater}
 use Rattle.call_history.specs.declared.entry.Entry.{Entry}
-use Rattle.call_history.specs.Entries.{History, PlacedList, numbered, by, entries_by, inserted, in_order}
-use Rattle.call_history.proofs.Ordering.{AllFrom, AllFrom-numbered, in_order_by_callers}
+use Rattle.call_history.specs.Entries.{PlacedList, inserted, in_order}
+use Rattle.call_history.proofs.Ordering.{AllFrom, AllFrom-inserted, AllFrom_weaker}
 
 module _ {C R : Type 0} where
   -- those of this place
@@ -49,9 +49,15 @@ module _ {C R : Type 0} where
   Rises [] = Unit {0}
   Rises (x ∷ xs) = AllFrom x.0 xs × Rises xs
 
-  Rises-numbered : (k : ℕ) (h : History C R) → Rises (numbered k h)
-  Rises-numbered k [] = tt
-  Rises-numbered k (e ∷ h) = (AllFrom-numbered k (k + 1) h (omega arith), Rises-numbered (k + 1) h)
+  Rises-inserted : (x : ℕ × Entry C R) (ys : PlacedList C R) → Rises ys → Rises (inserted x ys)
+  Rises-inserted x [] up = (tt, tt)
+  Rises-inserted x (y ∷ ys) up = cond_both (leb x.0 y.0) (x ∷ y ∷ ys) (y ∷ inserted x ys) Rises
+      (λ low. let below = leb-true x.0 y.0 low in ((below, AllFrom_weaker y.0 x.0 ys below up.0), up))
+      (λ high. let above = leb-false x.0 y.0 high in (AllFrom-inserted y.0 x ys (omega (arith, above)) up.0, Rises-inserted x ys up.1))
+
+  Rises-in_order : (xs : PlacedList C R) → Rises (in_order xs)
+  Rises-in_order [] = tt
+  Rises-in_order (x ∷ xs) = Rises-inserted x (in_order xs) (Rises-in_order xs)
 
   all_from : (k : ℕ) (xs : PlacedList C R) → ((j : ℕ) (d : ℕ × Entry C R) → j < length xs → k ≤ (slice_index_or xs j d).0) → AllFrom k xs
   all_from k [] above = tt
@@ -133,9 +139,8 @@ module _ {C R : Type 0} where
   at_stable (x ∷ xs) new stable k =
       let one : ℕ × Entry C R = (k, x.1) in sym (at-ties one new) ∙ stable one ∙ at-ties one (x ∷ xs)
 
-  -- sorted entries that are, caller by caller, those of a history are that history in order of place
-  pub sorted_by_callers : (old new : PlacedList C R) → IsNonDecreasingBy (λ x. x.0) new → IsStableByKey (λ x. x.0) nat_cmp old new
-      → (h : History C R) → ((c : ℕ) → by c old ≡ entries_by c h) → new ≡ numbered 0 h
-  sorted_by_callers old new up stable h each =
-      told_by_places new (numbered 0 h) (rises new up) (Rises-numbered 0 h)
-      (λ k. at_stable old new stable k ∙ sym (at-in_order k old) ∙ ap (at k) (in_order_by_callers 0 h old each))
+  -- sorted entries, where those of one place stay in their order, are the entries in order of place
+  pub sorted_in_order : (old new : PlacedList C R) → IsNonDecreasingBy (λ x. x.0) new → IsStableByKey (λ x. x.0) nat_cmp old new
+      → new ≡ in_order old
+  sorted_in_order old new up stable =
+      told_by_places new (in_order old) (rises new up) (Rises-in_order old) (λ k. at_stable old new stable k ∙ sym (at-in_order k old))

@@ -1,17 +1,20 @@
 //! Entries put in order of place.
 
-ghost use Rattle.std.specs.Prelude.{◌≡◌, ℕ, OnOk};
-ghost use Rattle.call_history.specs.Entries.{History, by, entries_by, numbered};
+ghost use Rattle.std.specs.Prelude.{◌≡◌, ℕ, OnOk, OnErr};
+ghost use Rattle.call_history.specs.Entries.{History, by, entries_by, in_order, numbered};
 
 use crate::entry::Entry;
 use std::alloc::AllocError;
 
-/// Puts entries in order of place. Those that are, caller by caller, the entries of a history are then
-/// that history's, one after another.
+/// Puts entries in order of place; those of one place stay in their order. Those that are, caller by
+/// caller, the entries of a history are then that history's, one after another. For want of memory they
+/// stay as they were.
 pub fn sort_by_place<C, R>(entries: &mut Vec<(u64, Entry<C, R>)>) -> Result<(), AllocError>
-    ensures { OnOk result ((history : History C R)
+    ensures sorted { OnOk result (entries.new.items ≡ in_order entries.old.items) }
+    ensures history { OnOk result ((history : History C R)
         → ((caller : ℕ) → by caller entries.old.items ≡ entries_by caller history)
         → entries.new.items ≡ numbered 0 history) }
+    ensures kept { OnErr result (entries.new.items ≡ entries.old.items) }
 {
     entries.sort_by_key(|entry| entry.0)
 }

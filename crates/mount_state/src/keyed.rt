@@ -139,11 +139,13 @@ impl MountState {
         self.modes.key_of(&context.policy.id, KeyKind::Names)
     }
 
-    /// Draws the key of the names from the secret, over another one of names; not where no user has a claim.
+    /// Draws the key of the names from the secret, over another one of names, and tells whether it did: where
+    /// no user has a claim it leaves that one as it was.
     pub fn draw_key(&self, context: &Context, key: &mut FileKey) -> bool
         requires { key_kind key.old ≡ Names }
         ensures drawn { result ≡ true → drawn_key self.now.ring context.now ≡ Some key.new }
         ensures none { result ≡ false → drawn_key self.now.ring context.now ≡ None }
+        ensures kept { result ≡ false → key.new ≡ key.old }
     {
         match self.ring.secret_of(&context.policy.id) {
             Some(secret) if context.policy.by_mode => {

@@ -5,7 +5,7 @@ use mathlib.Core.Bool.{true≢false}
 use Rattle.std.proofs.Math.ListN.{get_or-append}
 use Rattle.std.proofs.Math.Seq.{get_or-append_right, take-append-add}
 use Rattle.std.specs.List.{position_or_len}
-use Rattle.std.proofs.lemmas.List.{take_at, length-append, length-replicate, length-take, get_or-take, get_or-replicate, drop-replicate, take-replicate}
+use Rattle.std.proofs.lemmas.List.{take_at, drop_at, drop-drop, length-append, length-replicate, length-take, get_or-take, get_or-replicate, drop-replicate, take-replicate}
 use Rattle.std.proofs.lemmas.List.Sums.{position_or_len_is, fails_before_first}
 use Rattle.std.proofs.lemmas.Bool.{ne_eqb, eq-eqb, cases_lt, lt-ltb, le-ltb}
 use Rattle.byte_words.specs.Numbers.{little_endian_bytes}
@@ -74,6 +74,20 @@ take-filled name size room most =
     ∙ ap (λ n. take n (name ++ replicate (255 - length name) 0)) split
     ∙ take-append-add name (replicate (255 - length name) 0) (size - length name)
     ∙ ap (λ l. name ++ l) (take-replicate {X = ℕ} (size - length name) (255 - length name) 0 (omega (arith, most)))
+
+-- behind the filled name are zeros
+pub drop-filled : (name : List ℕ) (size : ℕ) → length name ≤ size
+    → drop size (name ++ drop (length name) (replicate 255 0)) ≡ replicate (255 - size) 0
+drop-filled name size room =
+    let zeros : List ℕ = replicate 255 0 in
+    let left = size - length name in
+    let split : size ≡ length name + left = omega (arith, room) in
+    ap (λ n. drop n (name ++ drop (length name) zeros)) split
+    ∙ sym (drop-drop left (length name) (name ++ drop (length name) zeros))
+    ∙ ap (drop left) (drop_at name (drop (length name) zeros) (length name) refl)
+    ∙ drop-drop left (length name) zeros
+    ∙ ap (λ n. drop n zeros) (sym split)
+    ∙ drop-replicate size 255 0
 
 -- the first place, or the end where there is none
 pub place_or_end : (place len : ℕ) (found : Option ℕ) → found ≡ cond (nat_lt place len) (Some place) None → place ≤ len → unwrap_or found len ≡ place

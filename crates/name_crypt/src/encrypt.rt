@@ -1,6 +1,7 @@
 //! From plain names to stored ones and back.
 
-ghost use Rattle.std.specs.Prelude.{◌≡◌, ◌+◌, ◌≤◌, ◌↔◌, [], ◌++◌, length, take, drop, replicate, IsErr, IfOk};
+ghost use Rattle.std.specs.Prelude.{◌≡◌, ◌+◌, ◌-◌, ◌≤◌, ◌↔◌, IsErr, IfOk};
+ghost use Rattle.std.specs.Prelude.{[], ◌++◌, length, take, drop, replicate};
 ghost use Rattle.cts_mode.specs.Cts.{cts_decrypted};
 ghost use Rattle.name_crypt.specs.Plain.{IsPlain, IsStored};
 ghost use Rattle.name_crypt.specs.StoredName.{before_nul, padded_length, plain_name_with, stored_name_with};
@@ -51,8 +52,9 @@ pub fn encrypt_name_with<L: Ledger>(
     StoredName::of(&text[..len])
 }
 
-/// Writes the stored name of a plain name or target over the beginning of `text`, which is zeros, and tells
-/// its length: 16 to 255 bytes. The round keys are those of a names key. `steps` counts one more.
+/// Writes the stored name of a plain name or target over the beginning of `text`, which is zeros and stays so
+/// behind it, and tells its length: 16 to 255 bytes. The round keys are those of a names key. `steps` counts
+/// one more.
 pub fn encrypt_into<L: Ledger>(
     key: &Aes256,
     iv: [u8; 16],
@@ -67,6 +69,7 @@ pub fn encrypt_into<L: Ledger>(
     ensures stored { IsStored (take result text.new) }
     ensures least { LEAST_STORED_BYTES ≤ result }
     ensures bound { result ≤ MOST_NAME_BYTES }
+    ensures behind { drop result text.new ≡ replicate (MOST_NAME_BYTES - result) 0 }
     ensures tick { steps.new ≡ steps.old + 1 }
 {
     steps.tick();

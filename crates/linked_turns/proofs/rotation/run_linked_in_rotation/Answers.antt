@@ -55,10 +55,10 @@ returns g c =
     subst (λ script. TellsLinkedRun g.M.Machine.lawful c.args.seed.now script c.sort_by_place.new.entries.items c.sort_by_place-2.new.entries.items c.in_ok-told.told.notes.items) same
     (tells_linked g.M.Machine.leads g.M.Machine.lawful law c.args.seed.now sections start after even odd c.longest.result all ended
     c.sort_by_place.new.entries.items c.sort_by_place-2.new.entries.items c.in_ok-told.told.notes.items whole
-    (c.in_ok-sort_by_place.ensures (shown_history (entries_of ended.even))
+    (c.in_ok-sort_by_place.ensures.history (shown_history (entries_of ended.even))
     (λ caller. ap (λ told. by caller told) (c.in_ok-told.ensures.even ∙ ap (shown_by even_shown) back)
     ∙ even_history g.M.Machine.leads g.M.Machine.lawful law c.args.seed.now sections start after even odd c.longest.result all ended caller))
-    (c.in_ok-sort_by_place-2.ensures (shown_history (entries_of ended.odd))
+    (c.in_ok-sort_by_place-2.ensures.history (shown_history (entries_of ended.odd))
     (λ caller. ap (λ told. by caller told) (c.in_ok-told.ensures.odd ∙ ap (shown_by odd_shown) back)
     ∙ odd_history g.M.Machine.leads g.M.Machine.lawful law c.args.seed.now sections start after even odd c.longest.result all ended caller))
     (c.in_ok-told.ensures.notes ∙ ap (λ callers. noted_by (runners_of callers)) back))

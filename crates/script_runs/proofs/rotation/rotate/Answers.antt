@@ -55,7 +55,7 @@ returns g c =
         ended.stands.led,
       );
       ranged = ended.ranged;
-      in_place = c.in_ok-sort_by_place.ensures (shown_history (entries_of ended.told))
+      in_place = c.in_ok-sort_by_place.ensures.history (shown_history (entries_of ended.told))
           (λ caller. ap (λ told. by caller told)
           (c.in_ok-told.ensures.entries ∙ ap (shown_by (λ (r : RunnerView). r.entries)) back)
           ∙ told_history leads lawful law seed (sections_of runners) start after mount c.longest.result all ended caller);

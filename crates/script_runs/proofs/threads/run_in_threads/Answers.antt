@@ -35,6 +35,6 @@ returns g c =
     let first : old.who ≡ 0 = ap (λ (pass : MountPass). pass.who) c.in_ok-shared.ensures.pass in
     tells_lawful g.M.Machine.lawful c.args.seed.now c.args.script.now old new told.entries.items told.notes.items history ran first c.end.ensures.callers
     c.sort_by_place.new.entries.items
-    (c.in_ok-sort_by_place.ensures (shown_history history)
+    (c.in_ok-sort_by_place.ensures.history (shown_history history)
     (told_history g.M.Machine.lawful c.args.seed.now c.args.script.now old new told.entries.items told.notes.items history ran first c.end.ensures.callers))
     c.end.ensures.lawful (in_range-merged (calls_of new) ran.ranged)
