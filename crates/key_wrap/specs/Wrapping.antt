@@ -10,6 +10,11 @@ use Rattle.key_wrap.specs.CounterMode.{counter_mode}
 unfoldable pub stretched_key : List ℕ → List ℕ
 stretched_key key = hkdf_sha256 [] key [] 64
 
+-- the two keys that it has
+pub record TwoKeys : Type 0 where
+  pub cipher : List ℕ
+  pub tag_key : List ℕ
+
 -- the first 32 bytes encipher
 unfoldable pub cipher_key : List ℕ → List ℕ
 cipher_key key = take 32 (stretched_key key)

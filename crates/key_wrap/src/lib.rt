@@ -33,8 +33,8 @@ pub fn wrap(key: &[u8; 32], iv: &[u8; 16], secret: &[u8], out: &mut [u8]) -> [u8
     let mut keys = StretchedKey::zeros();
     keys.set(key);
     out.copy_from_slice(secret);
-    xor_keystream(&keys.cipher, iv, out);
-    let tag = hmac256(&keys.tag_key, iv, out);
+    xor_keystream(keys.cipher(), iv, out);
+    let tag = hmac256(keys.tag_key(), iv, out);
     keys.wipe();
     keys.end();
     tag
@@ -58,13 +58,13 @@ pub fn unwrap(
 {
     let mut keys = StretchedKey::zeros();
     keys.set(key);
-    if !is_same_tag(tag, &hmac256(&keys.tag_key, iv, wrapped)) {
+    if !is_same_tag(tag, &hmac256(keys.tag_key(), iv, wrapped)) {
         keys.wipe();
         keys.end();
         return Err(TagDiffers);
     }
     out.copy_from_slice(wrapped);
-    xor_keystream(&keys.cipher, iv, out);
+    xor_keystream(keys.cipher(), iv, out);
     keys.wipe();
     keys.end();
     Ok(())

@@ -1,17 +1,26 @@
 //! The two keys that a wrapping key is stretched to: one enciphers, the other authenticates.
 
 ghost use Rattle.std.specs.Prelude.{◌≡◌, take, drop, replicate};
-ghost use Rattle.key_wrap.specs.Wrapping.{cipher_key, stretched_key, tag_key};
+ghost use Rattle.key_wrap.specs.Wrapping.{TwoKeys, cipher_key, stretched_key, tag_key};
 
 use aes_core::Aes256;
 use byte_words::wipe;
 use hmac_kdf::hkdf256;
+use std::marker::Model;
 
 /// The two keys, made and wiped where they stand. There is no way to let them go but `end`, which asks
 /// that they were wiped.
 pub(crate) struct StretchedKey {
-    pub(crate) cipher: Aes256,
-    pub(crate) tag_key: [u8; 32],
+    cipher: Aes256,
+    tag_key: [u8; 32],
+}
+
+impl Model for StretchedKey {
+    ghost use Rattle.key_wrap.specs.Wrapping.{TwoKeys};
+
+    ghost Value = { TwoKeys };
+
+    ghost view = { λ keys. record { cipher = keys.cipher; tag_key = keys.tag_key } };
 }
 
 impl StretchedKey {
@@ -43,6 +52,20 @@ impl StretchedKey {
     {
         self.cipher.set(&stretched[..32]);
         self.tag_key.copy_from_slice(&stretched[32..]);
+    }
+
+    // The first: it enciphers.
+    pub(crate) fn cipher(&self) -> &Aes256
+        ensures { result.now ≡ self.now.cipher }
+    {
+        &self.cipher
+    }
+
+    // The second: it authenticates.
+    pub(crate) fn tag_key(&self) -> &[u8; 32]
+        ensures { result.now ≡ self.now.tag_key }
+    {
+        &self.tag_key
     }
 
     // Writes zeros over both keys, and the round keys of zeros over those of the first.

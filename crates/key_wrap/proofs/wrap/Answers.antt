@@ -9,11 +9,11 @@ use Rattle.key_wrap.proofs.wrap.Goals as goal
 pub returns-clause-ciphertext : goal.returns-clause-ciphertext
 unfolding ciphered wrapped_secret
 returns-clause-ciphertext c =
-    c.xor_keystream.ensures ∙ (λ i. counter_mode (encrypted_block (c.set.ensures.cipher i)) c.args.iv.now (c.copy_from_slice.ensures.after i))
+    c.xor_keystream.ensures ∙ (λ i. counter_mode (encrypted_block ((c.cipher.ensures ∙ c.set.ensures.cipher) i)) c.args.iv.now (c.copy_from_slice.ensures.after i))
 
 pub returns-clause-tag : goal.returns-clause-tag
 unfolding ciphered tag_of wrapped_secret
 returns-clause-tag c =
     let text : c.xor_keystream.new.text ≡ ciphered c.args.key.now c.args.iv.now c.args.secret.now =
-    c.xor_keystream.ensures ∙ (λ i. counter_mode (encrypted_block (c.set.ensures.cipher i)) c.args.iv.now (c.copy_from_slice.ensures.after i)) in
-    c.hmac256-tag.ensures ∙ (λ i. hmac_sha256 (c.set.ensures.tag_key i) (c.args.iv.now ++ text i))
+    c.xor_keystream.ensures ∙ (λ i. counter_mode (encrypted_block ((c.cipher.ensures ∙ c.set.ensures.cipher) i)) c.args.iv.now (c.copy_from_slice.ensures.after i)) in
+    c.hmac256-tag.ensures ∙ (λ i. hmac_sha256 ((c.tag_key.ensures ∙ c.set.ensures.tag_key) i) (c.args.iv.now ++ text i))
