@@ -1,7 +1,7 @@
 //! The digests at both ends: H_0, the variable-length hash H', each lane's first two blocks, and the tag
 //! (RFC 9106, 3.2 and 3.3).
 
-ghost use Rattle.std.specs.Prelude.{◌≡◌, ℕ, ◌+◌, ◌*◌, ◌^◌, ◌<◌, ◌≤◌, List, ◌++◌, length, take, drop};
+ghost use Rattle.std.specs.Prelude.{◌≡◌, ℕ, ◌+◌, ◌*◌, ◌<◌, ◌≤◌, List, ◌++◌, length, take, drop};
 ghost use Rattle.blake2_core.specs.Words.{bytes_of_words};
 ghost use Rattle.blake2_core.specs.Digest.{blake2b_digest};
 ghost use Rattle.blake2_core.specs.Hasher.{Holds, output_length};

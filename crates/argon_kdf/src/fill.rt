@@ -1,7 +1,7 @@
 //! The blocks in their order: pass by pass, slice by slice, lane by lane (RFC 9106, 3.2). Each block is
 //! written over the one of the pass before.
 
-ghost use Rattle.std.specs.Prelude.{◌≡◌, ℕ, ◌+◌, ◌-◌, ◌*◌, ◌/◌, ◌<◌, ◌≤◌, List, [], length, slice_index_or};
+ghost use Rattle.std.specs.Prelude.{◌≡◌, ℕ, ◌+◌, ◌-◌, ◌*◌, ◌/◌, ◌<◌, ◌≤◌, [], length, slice_index_or};
 ghost use Rattle.argon_kdf.specs.Blocks.{zero_block};
 ghost use Rattle.argon_kdf.specs.Shapes.{IsWithin, block_count, column_of, columns, place, shape};
 ghost use Rattle.argon_kdf.specs.References.{address_block};

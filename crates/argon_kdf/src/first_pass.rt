@@ -1,10 +1,10 @@
 //! The first pass, in memory that grows: a slice at a time, in which the segments grow at the same time, one
 //! thread a lane. So each thread touches the memory of its lane first, and writes no block twice.
 
-ghost use Rattle.std.specs.Prelude.{◌≡◌, ℕ, ◌+◌, ◌*◌, ◌/◌, ◌<◌, ◌≤◌, All, IfOk, List, [], ◌∷◌, ◌++◌};
+ghost use Rattle.std.specs.Prelude.{◌≡◌, ℕ, ◌+◌, ◌*◌, ◌/◌, ◌<◌, All, IfOk, [], ◌∷◌, ◌++◌};
 ghost use Rattle.std.specs.Prelude.{length, slice_index_or, vec_capacity};
 ghost use Rattle.argon_kdf.specs.Blocks.{zero_block};
-ghost use Rattle.argon_kdf.specs.Shapes.{IsWithin, columns, place, shape};
+ghost use Rattle.argon_kdf.specs.Shapes.{IsWithin, place, shape};
 ghost use Rattle.argon_kdf.specs.Slices.{HasSlices, IsSlice, IsWhole, block_at, segments_of, slices_of};
 ghost use Rattle.argon_kdf.specs.References.{address_block};
 ghost use Rattle.argon_kdf.specs.Tables.{Table, latest};

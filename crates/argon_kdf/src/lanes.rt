@@ -3,7 +3,7 @@
 ghost use Rattle.std.specs.Prelude.{◌≡◌, ℕ, ◌+◌, ◌*◌, ◌<◌};
 ghost use Rattle.std.specs.Prelude.{All, List, length, slice_index_or};
 ghost use Rattle.argon_kdf.specs.Blocks.{zero_block};
-ghost use Rattle.argon_kdf.specs.Shapes.{columns, place, shape};
+ghost use Rattle.argon_kdf.specs.Shapes.{place, shape};
 ghost use Rattle.argon_kdf.specs.Slices.{IsWhole, IsWholeBut, block_at, slices_of};
 ghost use Rattle.argon_kdf.specs.Tables.{Table};
 ghost use Rattle.argon_kdf.specs.Filling.{with_lanes, with_passes, with_places, with_slices};

@@ -1,7 +1,7 @@
 //! The password hash Argon2id, version 0x13 (RFC 9106).
 #![tactic(auto)]
 
-ghost use Rattle.std.specs.Prelude.{◌≡◌, ℕ, ◌*◌, ◌<◌, ◌≤◌, List, [], length};
+ghost use Rattle.std.specs.Prelude.{◌≡◌, ℕ, ◌<◌, ◌≤◌, [], length};
 ghost use Rattle.std.specs.Prelude.{slice_index_or, IfOk, OnOk, OnErr, Ok};
 ghost use Rattle.argon_kdf.specs.Blocks.{zero_block};
 ghost use Rattle.argon_kdf.specs.CostLimits.{checked_costs};

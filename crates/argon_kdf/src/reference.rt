@@ -1,6 +1,6 @@
 //! Which block is taken in beside the one before (RFC 9106, 3.4).
 
-ghost use Rattle.std.specs.Prelude.{◌≡◌, ℕ, ◌+◌, ◌-◌, ◌*◌, ◌/◌, ◌%◌, ◌^◌, ◌<◌, ◌≤◌, slice_index};
+ghost use Rattle.std.specs.Prelude.{◌≡◌, ◌+◌, ◌-◌, ◌*◌, ◌/◌, ◌%◌, ◌^◌, ◌<◌, ◌≤◌};
 ghost use Rattle.argon_kdf.specs.Shapes.{column_of, columns, shape};
 ghost use Rattle.argon_kdf.specs.References.{address_block, address_input, choice, choices, finished};
 ghost use Rattle.argon_kdf.specs.References.{oldest, reference_column, reference_lane, reference_word};

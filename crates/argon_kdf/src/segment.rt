@@ -1,7 +1,7 @@
 //! A segment made in its place, beside the others of its slice: from its own blocks, and from memory, out
 //! of which the slice is taken. No reference goes into another lane's segment of the slice (RFC 9106, 3.4).
 
-ghost use Rattle.std.specs.Prelude.{◌≡◌, ◌≢◌, ◌⊎◌, ℕ, ◌+◌, ◌-◌, ◌*◌, ◌/◌, ◌%◌, ◌<◌};
+ghost use Rattle.std.specs.Prelude.{◌≡◌, ◌≢◌, ℕ, ◌+◌, ◌-◌, ◌*◌, ◌/◌, ◌%◌, ◌<◌};
 ghost use Rattle.std.specs.Prelude.{◌≤◌, List, length, slice_index_or};
 ghost use Rattle.argon_kdf.specs.Blocks.{zero_block};
 ghost use Rattle.argon_kdf.specs.Shapes.{IsWithin, column_of, columns, place, shape};

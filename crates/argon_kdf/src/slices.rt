@@ -1,7 +1,7 @@
 //! Memory with a vector for each segment: slice by slice, and in a slice lane by lane. So a slice can be
 //! taken out, and its segments made by threads of their own.
 
-ghost use Rattle.std.specs.Prelude.{◌≡◌, ℕ, ◌-◌, ◌*◌, ◌/◌, ◌<◌, [], All, IfOk, length, vec_capacity};
+ghost use Rattle.std.specs.Prelude.{◌≡◌, ◌-◌, ◌/◌, ◌<◌, [], All, IfOk, length, vec_capacity};
 ghost use Rattle.argon_kdf.specs.Shapes.{columns, place, shape};
 ghost use Rattle.argon_kdf.specs.Slices.{HasSlice, IsWhole, block_at, slices_of};
 ghost use Rattle.argon_kdf.specs.Segments.{IsRoom};

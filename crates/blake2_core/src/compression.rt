@@ -1,11 +1,11 @@
 //! The compression function of BLAKE2b (RFC 7693, 3.1 and 3.2), one block of 128 bytes at a time.
 
-ghost use Rattle.std.specs.Prelude.{◌≡◌, ℕ, ◌+◌, ◌*◌, ◌/◌, ◌%◌, ◌^◌, ◌<◌, ◌≤◌};
-ghost use Rattle.std.specs.Prelude.{List, length, slice_index, if◌then◌else◌};
+ghost use Rattle.std.specs.Prelude.{◌≡◌, ◌*◌, ◌%◌, ◌^◌, ◌<◌};
+ghost use Rattle.std.specs.Prelude.{length, slice_index, if◌then◌else◌};
 ghost use Rattle.std.specs.Int.{w64, bit_not};
 ghost use Rattle.blake2_core.specs.Words.{block_words};
 ghost use Rattle.blake2_core.specs.Constants.{initial_vector, word_number};
-ghost use Rattle.blake2_core.specs.Compression.{compressed, folded, mixed, mixed_round, rounds, work_vector};
+ghost use Rattle.blake2_core.specs.Compression.{compressed, folded, mixed, mixed_round, work_vector};
 
 use byte_words::read_word;
 

@@ -1,6 +1,6 @@
 //! A part of a file's contents is read in two halves: stored blocks are copied, and then deciphered.
 ghost use Rattle.std.specs.Prelude.{◌≡◌, ◌+◌, ◌*◌, ◌/◌, ◌%◌, ◌<◌, ◌≤◌, ◌^◌};
-ghost use Rattle.std.specs.Prelude.{take, drop, length, IfOk, IfSome, IsSome, OnOk};
+ghost use Rattle.std.specs.Prelude.{take, drop, length, IfOk, IfSome, IsSome};
 ghost use Rattle.data_crypt.specs.Blocks.{wiped_seal};
 ghost use Rattle.data_crypt.specs.Ciphers.{seal_by};
 ghost use Rattle.data_crypt.specs.Laws.{IsKeyOfBytes};

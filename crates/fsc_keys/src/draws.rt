@@ -1,6 +1,6 @@
 //! HKDF-SHA512 in the contexts of Linux fscrypt (fs/crypto/hkdf.c), from the extracted key on.
 
-ghost use Rattle.std.specs.Prelude.{◌≡◌, ◌≤◌, ℕ, List, [], length};
+ghost use Rattle.std.specs.Prelude.{◌≡◌, ℕ, List, []};
 ghost use Rattle.byte_words.specs.Bytes.{AreBytes};
 ghost use Rattle.hmac_kdf.specs.Hmac.{hash_sha512};
 ghost use Rattle.hmac_kdf.specs.Hkdf.{extracted};

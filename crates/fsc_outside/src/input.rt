@@ -1,6 +1,6 @@
 //! Reading a whole input, within limits.
 
-ghost use Rattle.std.specs.Prelude.{◌≡◌, ◌<◌, List, ℕ};
+ghost use Rattle.std.specs.Prelude.{◌≡◌, ◌<◌};
 ghost use Rattle.fsc_outside.specs.Input.{EndsReading, LimitsLines};
 
 use crate::Source;

@@ -1,7 +1,6 @@
 //! The runtime's random source as a source of seeds: the edge of what is proved.
 
-ghost use Rattle.std.specs.Prelude.{◌≡◌, ℕ, List, Option, None};
-ghost use Rattle.fsc_outside.specs.Causes.{GivesSeed, HasCause, one_more};
+ghost use Rattle.std.specs.Prelude.{◌≡◌, None};
 ghost use Rattle.fsc_outside.specs.States.{SeedState};
 
 use crate::{Failed, SeedSource};

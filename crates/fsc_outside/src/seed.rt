@@ -1,6 +1,6 @@
 //! Sources of seeds: the trait, and a source with one seed.
 
-ghost use Rattle.std.specs.Prelude.{◌≡◌, ℕ, List, Option, Some, None, is_some, if◌then◌else◌};
+ghost use Rattle.std.specs.Prelude.{◌≡◌, Option, Some, None, is_some, if◌then◌else◌};
 ghost use Rattle.std.specs.Result.{result_ok};
 ghost use Rattle.fsc_outside.specs.Causes.{GivesSeed, HasCause, one_more};
 ghost use Rattle.fsc_outside.specs.States.{SeedState};

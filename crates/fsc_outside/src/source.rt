@@ -1,7 +1,7 @@
 //! Sources of bytes: the trait, and two sources in memory.
 
 ghost use Rattle.std.specs.Prelude.{◌≡◌, ℕ, ◌≤◌, ◌<◌, ◌↔◌, List, [], ◌∷◌, ◌++◌, length, take, drop};
-ghost use Rattle.std.specs.Prelude.{Option, Some, IfOk, IsErr, OnErr, min, vec_len};
+ghost use Rattle.std.specs.Prelude.{Some, IfOk, IsErr, OnErr, min, vec_len};
 ghost use Rattle.std.specs.Io.{ReadsAtMost};
 ghost use Rattle.std.specs.Io.KnownBytes.{ReadConsumes};
 ghost use Rattle.fsc_outside.specs.Causes.{HasCause};

@@ -1,12 +1,9 @@
 //! Standard input and output as a source and a sink: the edge of what is proved.
 
-ghost use Rattle.std.specs.Prelude.{◌≡◌, ℕ, List, [], ◌∷◌, ◌++◌};
-ghost use Rattle.std.specs.Io.{ReadsAtMost, WritesAtMost};
-ghost use Rattle.std.specs.Io.KnownBytes.{ReadConsumes, WriteAppends};
-ghost use Rattle.fsc_outside.specs.Causes.{HasCause};
-ghost use Rattle.fsc_outside.specs.Reads.{ReadCall, AreReads, read_call};
+ghost use Rattle.std.specs.Prelude.{◌≡◌, ℕ};
+ghost use Rattle.fsc_outside.specs.Reads.{AreReads};
 ghost use Rattle.fsc_outside.specs.ReadLaws.{AreReads-none, AreReads-on};
-ghost use Rattle.fsc_outside.specs.States.{SourceState, SinkState, source_state};
+ghost use Rattle.fsc_outside.specs.States.{source_state};
 
 use crate::{Failed, Sink, Source};
 use std::io::{Read, Stdin, Stdout, Write};

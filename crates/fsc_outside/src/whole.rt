@@ -1,6 +1,5 @@
 //! Writing a whole text.
 
-ghost use Rattle.std.specs.Prelude.{◌≡◌, ℕ, List};
 ghost use Rattle.fsc_outside.specs.Whole.{EndsWriting};
 
 use crate::{Failed, Sink};

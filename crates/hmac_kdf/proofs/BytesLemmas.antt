@@ -1,5 +1,5 @@
 -- Digests are bytes, and so is what is derived from them.
-use Rattle.std.proofs.Common.{ℕ, zero, suc, List, [], ◌++◌}
+use Rattle.std.proofs.Common.{ℕ, zero, suc, List}
 use Rattle.std.specs.Prelude.{slice_index}
 use Rattle.std.specs.Int.{w32, w64, to_be_bytes, div_ceil}
 use Rattle.byte_words.specs.Bytes.{AreBytes}

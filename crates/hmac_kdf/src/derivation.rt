@@ -1,6 +1,6 @@
 //! HKDF: a short key drawn from the key material, and stretched to any length.
 
-ghost use Rattle.std.specs.Prelude.{◌≡◌, ◌++◌, ◌*◌, ◌<◌, ◌≤◌, ◌^◌, ◌-◌, ◌∷◌, [], ℕ, List, length, take, min};
+ghost use Rattle.std.specs.Prelude.{◌≡◌, ◌++◌, ◌*◌, ◌<◌, ◌≤◌, ◌^◌, ◌-◌, ◌∷◌, [], ℕ, List, length, min};
 ghost use Rattle.hmac_kdf.specs.Hmac.{block_key, hash_of, xor_each};
 ghost use Rattle.hmac_kdf.specs.Hkdf.{expanded, extracted, hkdf_with};
 ghost use lib.Seq.{paste};

@@ -34,7 +34,7 @@ impl Drop for KeyRing {
 }
 
 impl Model for KeyRing {
-    ghost use Rattle.std.specs.Prelude.{ℕ, List, refl};
+    ghost use Rattle.std.specs.Prelude.{refl};
     ghost use Rattle.std.specs.Coded.{code_by, coded_ℕ, coded×, coded_list};
     ghost use Rattle.std.specs.FinMap.{code};
     ghost use Rattle.policy_ctx.specs.contracts.policy.KeyId as key;

@@ -1,7 +1,7 @@
 //! The secrets as they are kept: each in a box of its own, so that no map ever moves its bytes. The
 //! bytes of one that goes are overwritten where they stand.
 
-ghost use Rattle.std.specs.Prelude.{◌≡◌, IsTrue, IsSome, IsOk, OnOk, OnErr, length, replicate, option_copied};
+ghost use Rattle.std.specs.Prelude.{◌≡◌, IsTrue, IsOk, OnOk, OnErr, length, replicate, option_copied};
 ghost use Rattle.std.specs.FinMap as map;
 ghost use Rattle.key_ring.specs.Kept.{secrets_of};
 

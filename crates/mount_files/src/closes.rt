@@ -1,6 +1,6 @@
 //! Closing a handle.
 
-ghost use Rattle.std.specs.Prelude.{◌≡◌, ◌<◌, ◌≤◌, ◌==◌, ◌&&◌, ◌||◌, ℕ, true, not, Some, IfSome, None};
+ghost use Rattle.std.specs.Prelude.{◌≡◌, ◌≤◌, ◌==◌, ◌&&◌, ◌||◌, true, not, Some, IfSome, None};
 ghost use Rattle.number_map.specs.Numbered.{get};
 ghost use Rattle.policy_ctx.specs.Context.{id_in};
 ghost use Rattle.policy_ctx.specs.declared.policy.KeyId.{KeyId};
@@ -13,7 +13,7 @@ ghost use Rattle.mount_model.specs.ClaimHistory.{is_refused};
 ghost use Rattle.mount_model.specs.FileAnswers.{answer_to_close, with_closed};
 ghost use Rattle.mount_model.specs.PlainMount.{PlainMount, node_of};
 ghost use Rattle.mount_state.specs.CachedNames.{is_dir_on_disk};
-ghost use Rattle.mount_state.specs.Contexts.{context_on_disk, disk_kind_of, uses_mode};
+ghost use Rattle.mount_state.specs.Contexts.{context_on_disk, uses_mode};
 ghost use Rattle.mount_state.specs.Given.{IsGiven};
 ghost use Rattle.mount_state.specs.Held.{HoldsNothing, key_state};
 ghost use Rattle.mount_state.specs.SameButCaches.{SameButCaches};

@@ -1,6 +1,6 @@
 //! The key of an open file's contents.
 
-ghost use Rattle.std.specs.Prelude.{◌≡◌, true, Some, IfOk, IsOk, List, ℕ, option_copied, option_map};
+ghost use Rattle.std.specs.Prelude.{◌≡◌, Some, IfOk, IsOk, List, ℕ, option_copied, option_map};
 ghost use Rattle.data_crypt.specs.Laws.{IsKeyOfBytes};
 ghost use Rattle.fsc_keys.specs.declared.file_keys.FileKey.TheVariants as key;
 ghost use Rattle.file_disk.specs.Keys.{seal_of};

@@ -1,6 +1,6 @@
 //! Opening a node.
 
-ghost use Rattle.std.specs.Prelude.{◌≡◌, ◌+◌, ◌≤◌, true, false, length, is_some, IfOk, IfErr, OnOk, OnErr};
+ghost use Rattle.std.specs.Prelude.{◌≡◌, ◌+◌, ◌≤◌, true, false, length, is_some, IfOk, OnOk, OnErr};
 ghost use Rattle.number_map.specs.Numbered.{get};
 ghost use Rattle.mount_model.specs.ClaimHistory.{is_refused};
 ghost use Rattle.mount_model.specs.FileAnswers.{answer_to_open, open_told};

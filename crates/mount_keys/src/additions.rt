@@ -3,7 +3,6 @@
 ghost use Rattle.std.specs.Prelude.{◌≡◌, true, false, IfSome, IfNone};
 ghost use Rattle.std.specs.FinMap as map;
 ghost use Rattle.fsc_keys.specs.Keys.{key_id_of};
-ghost use Rattle.user_claims.specs.Claims.{with_claim};
 ghost use Rattle.mount_model.specs.declared.reply.KeyState.TheVariants.{Present};
 ghost use Rattle.mount_model.specs.PlainMount.{PlainMount};
 ghost use Rattle.mount_model.specs.ClaimHistory.{is_refused};

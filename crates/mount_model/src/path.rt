@@ -1,7 +1,7 @@
 //! Paths, and the parts that they are lists of.
 
-ghost use Rattle.std.specs.Prelude.{◌≡◌, ◌↔◌, ℕ, List, [], ◌∷◌, ◌++◌, All, IsTrue, IfOk};
-ghost use Rattle.std.specs.Prelude.{OnOk, OnErr, ◌≤◌, length, option_copied, slice_get};
+ghost use Rattle.std.specs.Prelude.{◌≡◌, ◌↔◌, ℕ, List, [], ◌∷◌, ◌++◌, IsTrue, IfOk};
+ghost use Rattle.std.specs.Prelude.{OnOk, OnErr, length, option_copied, slice_get};
 ghost use Rattle.mount_model.specs.Carried.{IsPart, IsPath};
 
 use super::Bytes;

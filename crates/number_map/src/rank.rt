@@ -1,5 +1,5 @@
 //! Keys of ordered maps that are searched quickly.
-ghost use Rattle.std.specs.Prelude.{◌≡◌, Some};
+ghost use Rattle.std.specs.Prelude.{Some};
 
 use std::cmp::Ordering;
 use std::marker::Model;

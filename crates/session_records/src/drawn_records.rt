@@ -34,7 +34,7 @@ pub fn drawn_protector<S: Stretch>(
     label: &Label,
     new: &NewSecret,
 ) -> Result<Protector, AllocError>
-    requires stretches { S.ready stretches.now }
+    requires ready { S.ready stretches.now }
     requires secret { IsNewSecret new.now }
     ensures { IfOk result (λ protector. protector
         ≡ spec.drawn_protector seed.now turn.caller turn.number label.now new.now) }
@@ -59,7 +59,7 @@ pub fn protector_rewrapped<S: Stretch>(
     opened: &OpenedProtector,
     new: &NewSecret,
 ) -> Result<Protector, AllocError>
-    requires stretches { S.ready stretches.now }
+    requires ready { S.ready stretches.now }
     requires new_secret { IsNewSecret new.now }
     ensures value { IfOk result (λ rewrapped. rewrapped ≡ spec.protector_rewrapped seed.now turn.caller
         turn.number opened.now.loaded.protector opened.now.key new.now) }

@@ -1,7 +1,7 @@
 //! A machine shared by threads.
-ghost use Rattle.std.specs.Prelude.{◌≡◌, ℕ, ◌<◌, ◌≤◌, [], ◌∷◌, ◌++◌, length, OnOk, OnErr, IfOk, IfErr};
+ghost use Rattle.std.specs.Prelude.{◌≡◌, ℕ, ◌<◌, ◌≤◌, [], ◌++◌, length, OnOk, OnErr, IfOk, IfErr};
 ghost use Rattle.call_history.specs.declared.TheConstants.{MOST_PLACES};
-ghost use Rattle.call_history.specs.Entries.{History, by, entry, entries_by, IsComplete};
+ghost use Rattle.call_history.specs.Entries.{by, entry, entries_by, IsComplete};
 ghost use Rattle.call_history.specs.Prefix.{IsPrefix};
 ghost use Rattle.turn_lock.specs.Passes.{past_of, merged_entries, first_pass, IsMadeAt};
 ghost use Rattle.turn_lock.specs.Passes.{lower_part, upper_part, with_other};
