@@ -11,7 +11,7 @@ use Rattle.argon_kdf.specs.Shapes.{Shape, IsWithin, place, columns, column_of, c
 use Rattle.argon_kdf.specs.References.{reference_lane, reference_column}
 use Rattle.argon_kdf.specs.Tables.{Table, put, columns_made, latest}
 use Rattle.argon_kdf.specs.Filling.{joined_block, new_block, with_block, with_places, with_lanes}
-use Rattle.argon_kdf.specs.Slices.{IsOutside}
+use Rattle.argon_kdf.specs.SeenBlocks.{IsOutside}
 use Rattle.argon_kdf.specs.Memory.{Shows}
 use Rattle.argon_kdf.proofs.Recursion.{joined_same, new_first_same, new_joined_same}
 use Rattle.argon_kdf.proofs.SegmentLemmas.{side_of, begin_made}

@@ -12,7 +12,7 @@ use Rattle.argon_kdf.specs.Shapes.{Shape, IsWithin, place, columns, column_befor
 use Rattle.argon_kdf.specs.References.{reference_word, reference_lane, reference_column}
 use Rattle.argon_kdf.specs.Tables.{Table, put, columns_made, latest}
 use Rattle.argon_kdf.specs.Filling.{joined_block, new_block, with_block}
-use Rattle.argon_kdf.specs.Slices.{IsOutside, block_at, seen_block}
+use Rattle.argon_kdf.specs.SeenBlocks.{IsOutside, block_at, seen_block}
 use Rattle.argon_kdf.specs.Memory.{Shows}
 use Rattle.argon_kdf.specs.Segments.{Begun}
 use Rattle.argon_kdf.proofs.Referring.{reference_apart}

@@ -12,8 +12,8 @@ use Rattle.std.proofs.lemmas.Nat.{div-mul-add, mod-mul-add, div_below, le-div}
 use Rattle.argon_kdf.specs.Blocks.{zero_block}
 use Rattle.argon_kdf.specs.declared.layout.Place.{Place}
 use Rattle.argon_kdf.specs.Shapes.{Shape, columns}
-use Rattle.argon_kdf.specs.Slices.{HasSlice, HasSlices, IsSlice, IsWhole, IsWholeBut, IsOutside, block_at}
-use Rattle.argon_kdf.specs.Slices.{seen_block, segments_of, slices_of}
+use Rattle.argon_kdf.specs.Slices.{HasSlice, HasSlices, IsSlice, IsWhole, IsWholeBut, segments_of, slices_of}
+use Rattle.argon_kdf.specs.SeenBlocks.{IsOutside, block_at, seen_block}
 
 -- ---- columns
 

@@ -1,6 +1,7 @@
 pub mod CostLimits
 pub mod Blocks
 pub mod Permutation
+pub mod SeenBlocks
 pub mod Slices
 pub mod LongDigest
 pub mod Segments

@@ -5,7 +5,8 @@ use Rattle.std.specs.declared.vec.Vec.{Vec}
 use Rattle.std.specs.declared.alloc.Global.{Global}
 use Rattle.argon_kdf.specs.declared.layout.Place.{Place}
 use Rattle.argon_kdf.specs.Shapes.{Shape, columns}
-use Rattle.argon_kdf.specs.Slices.{HasSlice, IsOutside, seen_block}
+use Rattle.argon_kdf.specs.Slices.{HasSlice}
+use Rattle.argon_kdf.specs.SeenBlocks.{IsOutside, seen_block}
 use Rattle.argon_kdf.specs.Tables.{Table, latest}
 
 -- room for a slice: a vector for each lane that has no block yet and holds as many as a segment

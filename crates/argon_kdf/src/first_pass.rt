@@ -5,7 +5,8 @@ ghost use Rattle.std.specs.Prelude.{◌≡◌, ℕ, ◌+◌, ◌*◌, ◌/◌, �
 ghost use Rattle.std.specs.Prelude.{length, slice_index_or, vec_capacity};
 ghost use Rattle.argon_kdf.specs.Blocks.{zero_block};
 ghost use Rattle.argon_kdf.specs.Shapes.{IsWithin, place, shape};
-ghost use Rattle.argon_kdf.specs.Slices.{HasSlices, IsSlice, IsWhole, block_at, segments_of, slices_of};
+ghost use Rattle.argon_kdf.specs.Slices.{HasSlices, IsSlice, IsWhole, segments_of, slices_of};
+ghost use Rattle.argon_kdf.specs.SeenBlocks.{block_at};
 ghost use Rattle.argon_kdf.specs.References.{address_block};
 ghost use Rattle.argon_kdf.specs.Tables.{Table, latest};
 ghost use Rattle.argon_kdf.specs.Filling.{new_block, with_lanes, with_passes, with_places};

@@ -5,7 +5,8 @@ ghost use Rattle.std.specs.Prelude.{◌≡◌, ◌≢◌, ℕ, ◌+◌, ◌-◌,
 ghost use Rattle.std.specs.Prelude.{◌≤◌, List, length, slice_index_or};
 ghost use Rattle.argon_kdf.specs.Blocks.{zero_block};
 ghost use Rattle.argon_kdf.specs.Shapes.{IsWithin, column_of, columns, place, shape};
-ghost use Rattle.argon_kdf.specs.Slices.{HasSlice, IsWholeBut, seen_block, slices_of};
+ghost use Rattle.argon_kdf.specs.Slices.{HasSlice, IsWholeBut, slices_of};
+ghost use Rattle.argon_kdf.specs.SeenBlocks.{seen_block};
 ghost use Rattle.argon_kdf.specs.References.{address_block};
 ghost use Rattle.argon_kdf.specs.Tables.{Table, latest};
 ghost use Rattle.argon_kdf.specs.Filling.{joined_block, with_places};
@@ -17,7 +18,7 @@ use crate::reference::{reference_column, reference_lane, reference_word};
 use crate::slices::{Segments, block_at};
 
 // The block of a lane and a column as the segment of a place sees it.
-#[tactic(auto, unfolding(crate::specs::Slices::seen_block))]
+#[tactic(auto, unfolding(crate::specs::SeenBlocks::seen_block))]
 fn seen<'a>(
     layout: Layout,
     memory: &'a [Segments],

@@ -3,7 +3,8 @@
 
 ghost use Rattle.std.specs.Prelude.{◌≡◌, ◌-◌, ◌/◌, ◌<◌, [], All, IfOk, length, vec_capacity};
 ghost use Rattle.argon_kdf.specs.Shapes.{columns, place, shape};
-ghost use Rattle.argon_kdf.specs.Slices.{HasSlice, IsWhole, block_at, slices_of};
+ghost use Rattle.argon_kdf.specs.Slices.{HasSlice, IsWhole, slices_of};
+ghost use Rattle.argon_kdf.specs.SeenBlocks.{block_at};
 ghost use Rattle.argon_kdf.specs.Segments.{IsRoom};
 ghost use Rattle.argon_kdf.specs.Tables.{Table};
 ghost use Rattle.argon_kdf.specs.Memory.{Shows};

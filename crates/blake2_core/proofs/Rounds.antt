@@ -1,6 +1,6 @@
 -- A round more on the work vector.
 use Rattle.std.proofs.Common.{◌≡◌, ℕ, suc, List, ap, ◌∙◌}
-use Rattle.blake2_core.specs.Compression.{mixed_round, rounds}
+use Rattle.blake2_core.specs.Mixing.{mixed_round, rounds}
 
 pub rounds_start : (words v : List ℕ) → rounds words v 0 ≡ v
 unfolding rounds

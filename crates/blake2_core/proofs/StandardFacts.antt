@@ -4,7 +4,8 @@ use Rattle.std.proofs.Common.{◌≡◌, ◌≤◌, ℕ, Bool, List, [], ◌∷�
 use Rattle.std.proofs.lemmas.List.{length-take-le}
 use Rattle.std.specs.List.{range_with_len}
 use Rattle.blake2_core.specs.Words.{block_words, bytes_of_words}
-use Rattle.blake2_core.specs.Compression.{mixed, mixed_round, rounds, compressed}
+use Rattle.blake2_core.specs.Compression.{compressed}
+use Rattle.blake2_core.specs.Mixing.{mixed, mixed_round, rounds}
 use Rattle.byte_words.specs.Blocks.{block_at}
 use Rattle.byte_words.specs.Numbers.{little_endian_value}
 use Rattle.byte_words.specs.Xor.{zero_filled}

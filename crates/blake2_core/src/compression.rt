@@ -5,7 +5,8 @@ ghost use Rattle.std.specs.Prelude.{length, slice_index, if◌then◌else◌};
 ghost use Rattle.std.specs.Int.{w64, bit_not};
 ghost use Rattle.blake2_core.specs.Words.{block_words};
 ghost use Rattle.blake2_core.specs.Constants.{initial_vector, word_number};
-ghost use Rattle.blake2_core.specs.Compression.{compressed, folded, mixed, mixed_round, work_vector};
+ghost use Rattle.blake2_core.specs.Compression.{compressed, folded, work_vector};
+ghost use Rattle.blake2_core.specs.Mixing.{mixed, mixed_round};
 
 use byte_words::read_word;
 

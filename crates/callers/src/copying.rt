@@ -1,7 +1,8 @@
 //! A caller of `fsc_outside`.
 
 ghost use Rattle.std.specs.Prelude.{◌≡◌, ℕ, List, Err, OnOk, IsErrOf};
-ghost use Rattle.fsc_outside.specs.Input.{GaveWhole, IsWithin, EndsReading};
+ghost use Rattle.fsc_outside.specs.Input.{EndsReading};
+ghost use Rattle.fsc_outside.specs.WholeTexts.{GaveWhole, IsWithin};
 ghost use Rattle.fsc_outside.specs.Whole.{GotWhole, GotPart};
 ghost use Rattle.callers.specs.declared.copying.TheConstants.{PAGE};
 

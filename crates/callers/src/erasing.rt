@@ -2,7 +2,8 @@
 
 ghost use Rattle.std.specs.Prelude.{◌≡◌, None, is_some, IfSome};
 ghost use Rattle.number_map.specs.Numbered as map;
-ghost use Rattle.disk_tree.specs.DiskTree.{children, dropped};
+ghost use Rattle.disk_tree.specs.DiskTree.{children};
+ghost use Rattle.disk_tree.specs.EntryChanges.{dropped};
 ghost use Rattle.disk_tree.specs.Entries.{number_under};
 
 use disk_tree::DiskTree;

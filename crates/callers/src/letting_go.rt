@@ -1,7 +1,8 @@
 //! A caller of `key_ring`.
 
 ghost use Rattle.std.specs.Prelude.{◌≡◌, None, is_some, IfSome};
-ghost use Rattle.user_claims.specs.Claims.{has_claim, without_claim, count_of_id};
+ghost use Rattle.user_claims.specs.Claims.{has_claim, without_claim};
+ghost use Rattle.user_claims.specs.ClaimCounts.{count_of_id};
 ghost use Rattle.key_ring.specs.Holding.{secrets_left};
 
 use key_ring::{KeyId, KeyRing};

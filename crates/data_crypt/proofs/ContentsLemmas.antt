@@ -11,7 +11,8 @@ use Rattle.byte_words.proofs.AreBytesLemmas.{AreBytes-block_at, AreBytes-zero_fi
 use Rattle.byte_words.proofs.BlockLemmas.{first_blocks_same, first_blocks-block_at, length-block_at, block_end_le}
 use Rattle.byte_words.proofs.XorLemmas.{length-zero_filled, zero_filled_full}
 use Rattle.data_crypt.specs.Blocks.{Seal, first_index, block_count, plain_block, stored_block, read_block, blocks_by, stored_blocks, read_contents}
-use Rattle.data_crypt.specs.Laws.{IsContentsBlock, IsKeyOfBytes}
+use Rattle.data_crypt.specs.Laws.{IsKeyOfBytes}
+use Rattle.data_crypt.specs.BlockLaws.{IsContentsBlock}
 use Rattle.data_crypt.proofs.UnitLemmas.{opened-sealed, length-sealed_block, length-opened_block}
 
 -- ---- one block

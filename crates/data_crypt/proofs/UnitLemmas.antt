@@ -14,7 +14,7 @@ use Rattle.policy_ctx.specs.declared.policy.Unit.{Unit as DataUnit}
 use Rattle.policy_ctx.specs.declared.policy.Unit.TheVariants.{Block, U512, U1024, U2048, U4096}
 use Rattle.policy_ctx.specs.Policy.{unit_bytes}
 use Rattle.data_crypt.specs.Units.{unit_count, by_units, sealed_block, opened_block}
-use Rattle.data_crypt.specs.Laws.{IsContentsBlock}
+use Rattle.data_crypt.specs.BlockLaws.{IsContentsBlock}
 
 -- the units of a block are the block, each of whole blocks of the cipher
 pub units_whole : (unit : DataUnit) → unit_bytes unit * unit_count unit ≡ 4096

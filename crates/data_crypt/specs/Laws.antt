@@ -1,37 +1,12 @@
--- What holds of sealed blocks and of files for every key, unit and contents.
+-- What holds of the contents of files and their stored blocks, for every key and contents.
 use Rattle.std.specs.Prelude.{◌≡◌, ℕ, ◌+◌, ◌-◌, ◌*◌, ◌<◌, ◌≤◌, List, ◌++◌}
 use Rattle.std.specs.Prelude.{length, replicate, Option, None, Some}
 use Rattle.mount_limits.specs.declared.TheConstants.{BLOCK_SIZE}
 use Rattle.byte_words.specs.Bytes.{AreBytes}
 use Rattle.byte_words.specs.Contents.{with_bytes, bytes_from}
-use Rattle.policy_ctx.specs.declared.policy.Unit.{Unit as DataUnit}
-use Rattle.data_crypt.specs.Units.{sealed_block, opened_block}
 use Rattle.data_crypt.specs.Blocks.{Seal, block_count, plain_block, stored_block}
 use Rattle.data_crypt.specs.Blocks.{read_block, stored_blocks, read_contents}
 use Rattle.data_crypt.specs.Parts.{block_with, edited, rewritten, blocks_joined, content_of}
-
--- a block of contents: 4,096 bytes
-pub record IsContentsBlock (block : List ℕ) : Type 0 where
-  pub size : length block ≡ BLOCK_SIZE
-  pub bytes : AreBytes block
-
--- opening gives back each block that was sealed
-abbrev pub OpeningUndoes : Type 0
-OpeningUndoes =
-    (key : List ℕ) (unit : DataUnit) (first : ℕ) (block : List ℕ) → AreBytes key → IsContentsBlock block →
-    opened_block key unit first (sealed_block key unit first block) ≡ block
-
--- sealing gives back each block that was opened
-abbrev pub SealingUndoes : Type 0
-SealingUndoes =
-    (key : List ℕ) (unit : DataUnit) (first : ℕ) (block : List ℕ) → AreBytes key → IsContentsBlock block →
-    sealed_block key unit first (opened_block key unit first block) ≡ block
-
--- both make blocks of blocks
-abbrev pub MakesBlocks : Type 0
-MakesBlocks =
-    (key : List ℕ) (unit : DataUnit) (first : ℕ) (block : List ℕ) → AreBytes key → IsContentsBlock block →
-    IsContentsBlock (sealed_block key unit first block) × IsContentsBlock (opened_block key unit first block)
 
 -- the key, where there is one, is bytes
 abbrev pub IsKeyOfBytes : Option Seal → Type 0

@@ -1,6 +1,6 @@
 //! The laws of sealed blocks and of files. No function here does anything: its contract is the law.
-ghost use Rattle.data_crypt.specs.Laws.{ContentsComeBack, MakesBlocks, OpeningUndoes};
-ghost use Rattle.data_crypt.specs.Laws.{PiecesFallIntoBlocks, ReadsParts, SealingUndoes, WritesBlocks};
+ghost use Rattle.data_crypt.specs.Laws.{ContentsComeBack, PiecesFallIntoBlocks, ReadsParts, WritesBlocks};
+ghost use Rattle.data_crypt.specs.BlockLaws.{MakesBlocks, OpeningUndoes, SealingUndoes};
 
 /// Opening and sealing undo one another, for every key, unit, index and block.
 pub fn opening_undoes_sealing()

@@ -12,7 +12,9 @@ use Rattle.lru.proofs.CallerLemmas.{Contains-promoted, Contains-remove_entry, Co
 pub use Rattle.lru.proofs.CallerLemmas.{Contains-lookup, Contains-lookup_entry}
 use Rattle.dentry_cache.specs.declared.key.NameKey.{NameKey}
 use Rattle.dentry_cache.specs.declared.limits.TheConstants.{MOST_CACHED_NAMES}
-use Rattle.dentry_cache.specs.Names.{Pair, NameList, key_of, is_name, is_in, is_elsewhere, cached, used, kept, forgotten, dir_forgotten, HoldsNoMore, HoldsBeside, HoldsNone, HoldsNoneIn}
+use Rattle.dentry_cache.specs.Names.{Pair, NameList, key_of, is_name, is_in, is_elsewhere, cached}
+use Rattle.dentry_cache.specs.HeldNames.{HoldsNoMore, HoldsBeside, HoldsNone, HoldsNoneIn}
+use Rattle.dentry_cache.specs.NameChanges.{used, kept, forgotten, dir_forgotten}
 use Rattle.dentry_cache.proofs.PairLemmas.{promoted_found, removed_none, removed_one, removed_all, filter_removed, filter_none, found_there, filter_contains, lookup_there}
 
 -- ---- keys

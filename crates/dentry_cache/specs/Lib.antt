@@ -1,2 +1,4 @@
 pub mod Names
+pub mod HeldNames
+pub mod NameChanges
 pub mod Whole

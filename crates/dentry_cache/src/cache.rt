@@ -2,9 +2,9 @@
 
 ghost use Rattle.std.specs.Prelude.{◌≡◌, ◌≤◌, [], length, Some, option_map, IfOk, OnOk, OnErr};
 ghost use Rattle.std.specs.List.{find};
-ghost use Rattle.dentry_cache.specs.Names.{no_names, with_pairs, key_of, cached, used, kept, one_more_refused};
-ghost use Rattle.dentry_cache.specs.Names.{forgotten, dir_forgotten, HoldsNoMore, HoldsBeside, HoldsNone};
-ghost use Rattle.dentry_cache.specs.Names.{HoldsNoneIn, is_in};
+ghost use Rattle.dentry_cache.specs.Names.{no_names, with_pairs, key_of, cached, is_in};
+ghost use Rattle.dentry_cache.specs.NameChanges.{used, kept, one_more_refused, forgotten, dir_forgotten};
+ghost use Rattle.dentry_cache.specs.HeldNames.{HoldsNoMore, HoldsBeside, HoldsNone, HoldsNoneIn};
 
 use crate::key::NameKey;
 use crate::limits::{MOST_CACHED_NAME_BYTES, MOST_CACHED_NAMES};

@@ -10,7 +10,8 @@ use Rattle.number_map.proofs.NumberedLemmas.{remove_same, insert_other}
 use Rattle.disk_tree.specs.Entries.{Entries, number_under, with_entry, without_entry}
 use Rattle.disk_tree.specs.Blocks.{zero_block, grown, written, block_of, with_block}
 use Rattle.disk_tree.specs.Nodes.{entries_of, blocks_of, with_entries, with_blocks, with_size, on_body, named_as, IsDir, IsFile}
-use Rattle.disk_tree.specs.DiskTree.{Disk, block_total, blocks_in, entries_in, file_blocks, children, of_node, IsDirAt, IsFileAt, entered, root, first_disk}
+use Rattle.disk_tree.specs.DiskTree.{Disk, block_total, blocks_in, entries_in, file_blocks, children, of_node, IsDirAt, IsFileAt, root, first_disk}
+use Rattle.disk_tree.specs.EntryChanges.{entered}
 use Rattle.disk_tree.specs.declared.node.StoredNode.{StoredNode}
 use Rattle.disk_tree.specs.declared.node.Body.{Body}
 use Rattle.disk_tree.specs.declared.node.Body.TheVariants.{Dir, File, Link}

@@ -16,7 +16,8 @@ use Rattle.std.specs.BTreeMap.{is_at, insert_entry}
 use Rattle.byte_words.specs.Bytes.{AreBytes}
 use Rattle.number_map.proofs.NumberTests.{tied, untied}
 use Rattle.disk_tree.specs.Entries.{Entries, HaveByteNames, number_under, without_entry}
-use Rattle.disk_tree.specs.Indexed.{Ordered, Index, by_name, newest_place, oldest, indexed, AreBelow, IsIndexed}
+use Rattle.disk_tree.specs.Indexed.{Ordered, by_name, newest_place, oldest, AreBelow, IsIndexed}
+use Rattle.disk_tree.specs.NameIndex.{Index, indexed}
 
 -- ---- by name and in order
 

@@ -1,10 +1,9 @@
--- What lies on the disk: a finite map from numbers to stored nodes, and what each call makes of it.
-use Rattle.std.specs.Prelude.{ℕ, true, false, List, [], Option, Some, None, length}
+-- What lies on the disk: a finite map from numbers to stored nodes.
+use Rattle.std.specs.Prelude.{ℕ, true, List, [], Option, Some, None, length}
 use Rattle.std.specs.List.{sum_by}
-use Rattle.number_map.specs.Numbered.{Numbered, empty, get, insert, changed, entries}
-use Rattle.disk_tree.specs.Entries.{Entries, with_entry, without_entry}
-use Rattle.disk_tree.specs.Nodes.{entries_of, blocks_of, size_of, with_entries}
-use Rattle.disk_tree.specs.Nodes.{on_body, named_as, IsDir, IsFile}
+use Rattle.number_map.specs.Numbered.{Numbered, empty, get, insert, entries}
+use Rattle.disk_tree.specs.Entries.{Entries}
+use Rattle.disk_tree.specs.Nodes.{entries_of, blocks_of, size_of, IsDir, IsFile}
 use Rattle.disk_tree.specs.declared.node.StoredNode.{StoredNode}
 use Rattle.disk_tree.specs.declared.node.Body.TheVariants.{Dir}
 
@@ -54,19 +53,3 @@ file_size disk number = size_in (get disk number)
 -- the blocks of all files
 unfoldable pub block_total : Disk → ℕ
 block_total disk = sum_by (λ e. length (blocks_of e.1.body)) (entries disk)
-
--- the entry is in the directory, and its node is named
-abbrev pub entered : Disk → ℕ → List ℕ → ℕ → Disk
-entered disk dir name number =
-    changed (changed disk dir (on_body (with_entries (with_entry name number)))) number (named_as true)
-
--- the entry is gone, and its node has no name
-abbrev pub dropped : Disk → ℕ → List ℕ → ℕ → Disk
-dropped disk dir name number =
-    changed (changed disk dir (on_body (with_entries (without_entry name)))) number (named_as false)
-
--- the entry is gone from the one directory and stands last in the other, or in the same one
-abbrev pub moved : Disk → ℕ → List ℕ → ℕ → List ℕ → ℕ → Disk
-moved disk dir name to new_name number =
-    changed (changed disk dir (on_body (with_entries (without_entry name)))) to
-    (on_body (with_entries (with_entry new_name number)))

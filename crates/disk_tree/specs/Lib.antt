@@ -3,7 +3,9 @@ pub mod Blocks
 pub mod BlockLends
 pub mod Nodes
 pub mod DiskTree
+pub mod EntryChanges
 pub mod TreeLends
 pub mod BodyLends
 pub mod Laws
+pub mod NameIndex
 pub mod Indexed

@@ -4,8 +4,8 @@ ghost use Rattle.std.specs.Prelude.{IfErr, IfSome, IsOk, IsSome, IsTrue, OnOk, O
 ghost use Rattle.std.specs.Borrow.{sem};
 ghost use Rattle.number_map.specs.Numbered as map;
 ghost use Rattle.disk_tree.specs.Blocks.{grown, block_of};
-ghost use Rattle.disk_tree.specs.DiskTree.{IsDirAt, IsFileAt, children, blocks_in};
-ghost use Rattle.disk_tree.specs.DiskTree.{file_blocks, block_total, entered, dropped, moved};
+ghost use Rattle.disk_tree.specs.DiskTree.{IsDirAt, IsFileAt, children, blocks_in, file_blocks, block_total};
+ghost use Rattle.disk_tree.specs.EntryChanges.{entered, dropped, moved};
 ghost use Rattle.disk_tree.specs.Entries.{number_under};
 ghost use Rattle.disk_tree.specs.Nodes.{blocks_of, with_blocks, with_size, on_body, with_context};
 

@@ -2,7 +2,8 @@
 ghost use Rattle.std.specs.Prelude.{◌≡◌, ◌≤◌, None, length, IfErr, IsOk, OnOk, OnErr};
 ghost use Rattle.number_map.specs.Numbered as map;
 ghost use Rattle.disk_tree.specs.Blocks.{grown};
-ghost use Rattle.disk_tree.specs.DiskTree.{IsDirAt, IsFileAt, children, entered, file_blocks};
+ghost use Rattle.disk_tree.specs.DiskTree.{IsDirAt, IsFileAt, children, file_blocks};
+ghost use Rattle.disk_tree.specs.EntryChanges.{entered};
 ghost use Rattle.disk_tree.specs.Entries.{number_under, with_entry, without_entry};
 ghost use Rattle.disk_tree.specs.Nodes.{with_entries, with_blocks, with_size};
 ghost use Rattle.disk_tree.specs.Nodes.{on_body, named_as, with_context};

@@ -2,7 +2,8 @@
 ghost use Rattle.std.specs.Prelude.{◌≡◌, [], ℕ, List, true, false};
 ghost use Rattle.std.specs.Prelude.{if◌then◌else◌, IfOk, IsSome, OnErr};
 ghost use Rattle.std.specs.Str.{bytes_eq};
-ghost use Rattle.disk_tree.specs.Indexed.{indexed, oldest};
+ghost use Rattle.disk_tree.specs.Indexed.{oldest};
+ghost use Rattle.disk_tree.specs.NameIndex.{indexed};
 
 use crate::name_index::{Index, Order, add_name, drop_name, searched, told};
 use item_list::Bytes;
@@ -18,7 +19,7 @@ pub(crate) struct HeldIndex {
 }
 
 impl Model for HeldIndex {
-    ghost use Rattle.disk_tree.specs.Indexed.{Index, or_none};
+    ghost use Rattle.disk_tree.specs.NameIndex.{Index, or_none};
     ghost use Rattle.std.specs.Prelude.{option_map};
 
     ghost Value = { Index };

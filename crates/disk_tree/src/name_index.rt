@@ -6,7 +6,8 @@ ghost use Rattle.std.specs.Map.{keys_of, remove_entry};
 ghost use Rattle.std.specs.Ordering.{nat_cmp};
 ghost use Rattle.std.specs.BTreeMap.{is_at};
 ghost use Rattle.std.specs.Str.{bytes_eq};
-ghost use Rattle.disk_tree.specs.Indexed.{AreBelow, hash_of as hash, indexed, newest_place, oldest};
+ghost use Rattle.disk_tree.specs.Indexed.{AreBelow, newest_place, oldest};
+ghost use Rattle.disk_tree.specs.NameIndex.{hash_of as hash, indexed};
 
 use item_list::Bytes;
 use number_map::Rank;

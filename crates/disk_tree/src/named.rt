@@ -2,7 +2,8 @@
 ghost use Rattle.std.specs.Prelude.{◌≡◌, ◌≤◌, ◌⊎◌, [], None, length, IfErr, IfSome, OnOk, OnErr};
 ghost use Rattle.mount_limits.specs.declared.TheConstants.{MOST_CHILDREN};
 ghost use Rattle.number_map.specs.Numbered as map;
-ghost use Rattle.disk_tree.specs.DiskTree.{IsDirAt, children, entered, dropped};
+ghost use Rattle.disk_tree.specs.DiskTree.{IsDirAt, children};
+ghost use Rattle.disk_tree.specs.EntryChanges.{entered, dropped};
 ghost use Rattle.disk_tree.specs.Entries.{number_under};
 ghost use Rattle.disk_tree.specs.Nodes.{blocks_of};
 

@@ -21,7 +21,9 @@ use Rattle.reply_text.specs.Calls.{call_text, span_text, store_text}
 use Rattle.reply_text.specs.CallRange.{CallIsInRange}
 use Rattle.reply_text.proofs.FieldLemmas.{field_literal, IsField-word, IsField-record, IsField-path}
 use Rattle.entry_reader.specs.Fields.{number_in, zeros_in, id_in, path_in}
-use Rattle.entry_reader.specs.CallForms.{no_nonce, call_named, call_behind, call_form}
+use Rattle.entry_reader.specs.CallForms.{call_behind, call_form}
+use Rattle.entry_reader.specs.NamedCalls.{call_named}
+use Rattle.entry_reader.specs.PathForms.{no_nonce}
 use Rattle.entry_reader.specs.Typed.{CallIsTyped}
 use Rattle.entry_reader.proofs.WordLemmas.{IsWord, field_is_word, spaced, number_word, small_word, digits_word, one}
 use Rattle.entry_reader.proofs.BackLemmas.{number_back, zeros_back, zeros_counted, id_back, policy_back, word_back, record_back, path_back}

@@ -1,9 +1,7 @@
--- What is made of the words of a line, one after the other. Each word is read as what stands there in the
--- line of an entry. Of any other word something is made too: that it was another shows when the line is
--- written again.
-use Rattle.std.specs.Prelude.{ℕ, ◌≡◌, ◌^◌, ◌/◌, ◌-◌, ◌==◌, ⊤, Bool, false, nat_le, nat_eq, List, [], length}
-use Rattle.std.specs.Prelude.{drop, map, replicate}
-use Rattle.std.specs.Prelude.{codes, slice_get, unwrap_or, Result, Ok, Err, if◌then◌else◌}
+-- What is made of one word of a line. Each word is read as what stands there in the line of an entry. Of
+-- any other word something is made too: that it was another shows when the line is written again.
+use Rattle.std.specs.Prelude.{ℕ, ◌^◌, ◌/◌, ◌-◌, ◌==◌, Bool, false, nat_le, nat_eq, List, [], length}
+use Rattle.std.specs.Prelude.{drop, map, replicate, codes, slice_get, unwrap_or, if◌then◌else◌}
 use Rattle.std.specs.List.{slice_split, starts_with}
 use Rattle.std.specs.Option.{option_map_or}
 use Rattle.percent_encoding.specs.Percent.{percent_decode}
@@ -12,33 +10,6 @@ use Rattle.text_words.specs.Numbers.{number_below}
 use Rattle.policy_ctx.specs.declared.policy.KeyId.{KeyId}
 use Rattle.script_words.specs.Keys.{hex_or_none}
 use Rattle.script_words.specs.Path.{is_slash}
-
--- what is made of some words, and the words that are left
-abbrev pub Form : Type 0 → Type 0
-Form A = List (List ℕ) → A × List (List ℕ)
-
--- no further word
-abbrev pub says : {A : Type 0} → A → Form A
-says a = λ words. (a, words)
-
--- one form, and then the next
-infixl 10 ◌>>=◌
-abbrev pub ◌>>=◌ : {A B : Type 0} → Form A → (A → Form B) → Form B
-form >>= next = λ words. next (form words).0 (form words).1
-
--- one word, which is empty past the last one
-abbrev pub word : {A : Type 0} → (List ℕ → A) → Form A
-word read = λ words. (read (unwrap_or (slice_get words 0) []), drop 1 words)
-
--- one word, and what is made of what it says
-abbrev pub only : {A B : Type 0} → (A → B) → (List ℕ → A) → Form B
-only make read = word read >>= λ a. says (make a)
-
--- a function that reads makes what the form makes, and leaves the words that the form leaves; want of memory
--- comes freely
-abbrev pub Makes : {A E : Type 0} → Result A E → A × List (List ℕ) → List (List ℕ) → Type 0
-Makes (Ok made) read left = read ≡ (made, left)
-Makes (Err error) read left = ⊤
 
 -- a number below 2^32, and a place
 abbrev pub number_in : List ℕ → ℕ

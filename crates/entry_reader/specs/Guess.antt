@@ -3,7 +3,8 @@ use Rattle.std.specs.Prelude.{ℕ, ◌-◌, List, length, take, Option, Some, No
 use Rattle.text_words.specs.Words.{words_of}
 use Rattle.mount_model.specs.declared.call.Op.{Op}
 use Rattle.entry_reader.specs.declared.reader.LogEntry.{LogEntry}
-use Rattle.entry_reader.specs.Fields.{Form, says, ◌>>=◌, word, number_in, place_in}
+use Rattle.entry_reader.specs.Fields.{number_in, place_in}
+use Rattle.entry_reader.specs.Forms.{Form, says, ◌>>=◌, word}
 use Rattle.entry_reader.specs.CallForms.{call_form}
 use Rattle.entry_reader.specs.ReplyForms.{reply_form}
 

@@ -1,6 +1,11 @@
+pub mod Forms
 pub mod Fields
 pub mod Names
+pub mod PathForms
+pub mod DataForms
+pub mod NamedCalls
 pub mod CallForms
+pub mod LongReplies
 pub mod ReplyForms
 pub mod Guess
 pub mod Typed

@@ -1,56 +1,17 @@
 -- What is made of the words of a reply.
-use Rattle.std.specs.Prelude.{ℕ, List, [], map, codes, Option, Some, None, if◌then◌else◌}
+use Rattle.std.specs.Prelude.{ℕ, List, codes, Option, Some, None, if◌then◌else◌}
 use Rattle.std.specs.Str.{bytes_eq}
 use Rattle.mount_model.specs.declared.reply.Refusal.{Refusal}
 use Rattle.mount_model.specs.declared.reply.Refusal.TheVariants.{Changed}
 use Rattle.mount_model.specs.declared.reply.Reply.{Reply}
 use Rattle.mount_model.specs.declared.reply.Reply.TheVariants as reply
 use Rattle.percent_encoding.specs.Percent.{percent_decode}
-use Rattle.entry_reader.specs.Fields.{Form, says, ◌>>=◌, word, only}
-use Rattle.entry_reader.specs.Fields.{number_in, id_in, policy_in, bytes_in, flag_in, users_in}
-use Rattle.entry_reader.specs.Names.{name_of, refusal_in, state_in, kind_in}
+use Rattle.entry_reader.specs.Forms.{Form, says, ◌>>=◌, word, only}
+use Rattle.entry_reader.specs.Fields.{number_in, id_in, policy_in, bytes_in}
+use Rattle.entry_reader.specs.Names.{name_of, refusal_in}
 use Rattle.entry_reader.specs.declared.names.ReplyName.{ReplyName}
 use Rattle.entry_reader.specs.declared.names.ReplyName.TheVariants as name
-
-abbrev pub removed : Form Reply
-removed = do
-  others ← word flag_in
-  busy ← word flag_in
-  says (reply.Removed others busy)
-
-abbrev pub status : Form Reply
-status = do
-  state ← word state_in
-  by_self ← word flag_in
-  users ← word users_in
-  says (reply.Status state by_self users)
-
--- the bytes of each word that is left
-abbrev pub words_left : Form (List (List ℕ))
-words_left = λ words. (map percent_decode words, [])
-
--- the number of names is not needed
-abbrev pub names : Form Reply
-names = do
-  count ← word (λ text. text)
-  more ← word flag_in
-  names ← words_left
-  says (reply.Names names more)
-
-abbrev pub stat : Form Reply
-stat = do
-  kind ← word kind_in
-  node ← word number_in
-  size ← word number_in
-  encrypted ← word flag_in
-  keyed ← word flag_in
-  says (reply.Stat kind node size encrypted keyed)
-
-abbrev pub held : Form Reply
-held = do
-  version ← word number_in
-  bytes ← word bytes_in
-  says (reply.Held version bytes)
+use Rattle.entry_reader.specs.LongReplies.{removed, status, names, stat, held}
 
 -- a refusal, with the version behind its word where one stands there
 abbrev pub refusal_behind : List ℕ → Form Refusal

@@ -1,8 +1,11 @@
 //! The call of a line.
 
 ghost use Rattle.std.specs.Prelude.{◌≡◌};
-ghost use Rattle.entry_reader.specs.Fields.{Makes};
+ghost use Rattle.entry_reader.specs.Forms.{Makes};
 ghost use Rattle.entry_reader.specs.CallForms as forms;
+ghost use Rattle.entry_reader.specs.NamedCalls as named;
+ghost use Rattle.entry_reader.specs.DataForms as on_data;
+ghost use Rattle.entry_reader.specs.PathForms as on_paths;
 
 use crate::fields::{id, number, path, policy, take_word, unescaped, zeros};
 use mount_model::Op;
@@ -29,7 +32,7 @@ fn read_named(
     name: CommandName,
     words: &mut Words<'_>,
 ) -> Result<Option<Op>, AllocError>
-    ensures { Makes result (forms.call_named name words.old) words.new }
+    ensures { Makes result (named.call_named name words.old) words.new }
 {
     match name {
         CommandName::AddKey => {
@@ -73,7 +76,7 @@ fn read_named(
 }
 
 fn set_policy(alloc: Global, words: &mut Words<'_>) -> Result<Op, AllocError>
-    ensures { Makes result (forms.set_policy words.old) words.new }
+    ensures { Makes result (on_paths.set_policy words.old) words.new }
 {
     let path = path(alloc, words)?;
     let policy = policy(words);
@@ -85,7 +88,7 @@ fn set_policy(alloc: Global, words: &mut Words<'_>) -> Result<Op, AllocError>
 }
 
 fn mkdir(alloc: Global, words: &mut Words<'_>) -> Result<Op, AllocError>
-    ensures { Makes result (forms.mkdir words.old) words.new }
+    ensures { Makes result (on_paths.mkdir words.old) words.new }
 {
     let path = path(alloc, words)?;
     let nonce = NO_NONCE;
@@ -93,7 +96,7 @@ fn mkdir(alloc: Global, words: &mut Words<'_>) -> Result<Op, AllocError>
 }
 
 fn create(alloc: Global, words: &mut Words<'_>) -> Result<Op, AllocError>
-    ensures { Makes result (forms.create words.old) words.new }
+    ensures { Makes result (on_paths.create words.old) words.new }
 {
     let path = path(alloc, words)?;
     let nonce = NO_NONCE;
@@ -101,7 +104,7 @@ fn create(alloc: Global, words: &mut Words<'_>) -> Result<Op, AllocError>
 }
 
 fn symlink(alloc: Global, words: &mut Words<'_>) -> Result<Op, AllocError>
-    ensures { Makes result (forms.symlink words.old) words.new }
+    ensures { Makes result (on_paths.symlink words.old) words.new }
 {
     let path = path(alloc, words)?;
     let target = unescaped(alloc, words)?;
@@ -113,7 +116,7 @@ fn symlink(alloc: Global, words: &mut Words<'_>) -> Result<Op, AllocError>
 }
 
 fn rename(alloc: Global, words: &mut Words<'_>) -> Result<Op, AllocError>
-    ensures { Makes result (forms.rename words.old) words.new }
+    ensures { Makes result (on_paths.rename words.old) words.new }
 {
     let old_path = path(alloc, words)?;
     let new_path = path(alloc, words)?;
@@ -121,7 +124,7 @@ fn rename(alloc: Global, words: &mut Words<'_>) -> Result<Op, AllocError>
 }
 
 fn list(alloc: Global, words: &mut Words<'_>) -> Result<Op, AllocError>
-    ensures { Makes result (forms.list words.old) words.new }
+    ensures { Makes result (on_paths.list words.old) words.new }
 {
     let path = path(alloc, words)?;
     let start = number(words);
@@ -129,14 +132,14 @@ fn list(alloc: Global, words: &mut Words<'_>) -> Result<Op, AllocError>
 }
 
 fn close(words: &mut Words<'_>) -> Op
-    ensures { forms.close words.old ≡ (result, words.new) }
+    ensures { on_data.close words.old ≡ (result, words.new) }
 {
     let handle = number(words);
     Op::Close { handle }
 }
 
 fn read(words: &mut Words<'_>) -> Op
-    ensures { forms.read words.old ≡ (result, words.new) }
+    ensures { on_data.read words.old ≡ (result, words.new) }
 {
     let handle = number(words);
     let offset = number(words);
@@ -149,7 +152,7 @@ fn read(words: &mut Words<'_>) -> Op
 }
 
 fn write(alloc: Global, words: &mut Words<'_>) -> Result<Op, AllocError>
-    ensures { Makes result (forms.write words.old) words.new }
+    ensures { Makes result (on_data.write words.old) words.new }
 {
     let handle = number(words);
     let offset = number(words);
@@ -162,7 +165,7 @@ fn write(alloc: Global, words: &mut Words<'_>) -> Result<Op, AllocError>
 }
 
 fn meta_put(alloc: Global, words: &mut Words<'_>) -> Result<Op, AllocError>
-    ensures { Makes result (forms.meta_put words.old) words.new }
+    ensures { Makes result (on_data.meta_put words.old) words.new }
 {
     let name = unescaped(alloc, words)?;
     let expected = number(words);

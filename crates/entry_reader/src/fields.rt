@@ -5,7 +5,7 @@ ghost use Rattle.std.specs.List.{slice_split};
 ghost use Rattle.percent_encoding.specs.Percent.{percent_decode};
 ghost use Rattle.script_words.specs.Path.{is_slash};
 ghost use Rattle.entry_reader.specs.Fields as spec;
-ghost use Rattle.entry_reader.specs.Fields.{Makes, word};
+ghost use Rattle.entry_reader.specs.Forms.{Makes, word};
 
 use item_list::Bytes;
 use mount_model::{KeyId, Part, Path};

@@ -4,7 +4,7 @@
 ghost use Rattle.std.specs.Prelude.{◌≡◌, ◌↔◌, ◌-◌, ◌<◌, ◌^◌, IfOk, IfSome, IsTrue, Some, length, take};
 ghost use Rattle.mount_model.specs.Fits.{Fits};
 ghost use Rattle.reply_text.specs.Log.{entry_text};
-ghost use Rattle.entry_reader.specs.Fields.{Makes};
+ghost use Rattle.entry_reader.specs.Forms.{Makes};
 ghost use Rattle.entry_reader.specs.Guess.{entry_behind, guess_of};
 ghost use Rattle.entry_reader.specs.Reading.{IsEntry, Keeps, ReadsBack, TellsLine};
 

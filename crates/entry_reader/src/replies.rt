@@ -1,8 +1,9 @@
 //! The reply of a line.
 
 ghost use Rattle.std.specs.Prelude.{◌≡◌};
-ghost use Rattle.entry_reader.specs.Fields.{Makes, word};
+ghost use Rattle.entry_reader.specs.Forms.{Makes, word};
 ghost use Rattle.entry_reader.specs.Names as names;
+ghost use Rattle.entry_reader.specs.LongReplies as long;
 ghost use Rattle.entry_reader.specs.ReplyForms as forms;
 
 use crate::fields::{bytes, flag, id, number, policy, take_word, unescape, unescaped, users};
@@ -43,7 +44,7 @@ fn read_named(alloc: Global, name: ReplyName, words: &mut Words<'_>) -> Result<R
 }
 
 fn removed(words: &mut Words<'_>) -> Reply
-    ensures { forms.removed words.old ≡ (result, words.new) }
+    ensures { long.removed words.old ≡ (result, words.new) }
 {
     let others = flag(words);
     let busy = flag(words);
@@ -51,7 +52,7 @@ fn removed(words: &mut Words<'_>) -> Reply
 }
 
 fn status(words: &mut Words<'_>) -> Reply
-    ensures { forms.status words.old ≡ (result, words.new) }
+    ensures { long.status words.old ≡ (result, words.new) }
 {
     let state = state(words);
     let by_self = flag(words);
@@ -64,7 +65,7 @@ fn status(words: &mut Words<'_>) -> Reply
 }
 
 fn listing(alloc: Global, words: &mut Words<'_>) -> Result<Reply, AllocError>
-    ensures { Makes result (forms.names words.old) words.new }
+    ensures { Makes result (long.names words.old) words.new }
 {
     let _count = take_word(words);
     let more = flag(words);
@@ -74,7 +75,7 @@ fn listing(alloc: Global, words: &mut Words<'_>) -> Result<Reply, AllocError>
 
 // The bytes of each word that is left.
 fn words_left(alloc: Global, words: &mut Words<'_>) -> Result<NameList, AllocError>
-    ensures { Makes result (forms.words_left words.old) words.new }
+    ensures { Makes result (long.words_left words.old) words.new }
 {
     let mut names = NameList::new(alloc);
     'words: while let Some(word) = words.next() {
@@ -85,7 +86,7 @@ fn words_left(alloc: Global, words: &mut Words<'_>) -> Result<NameList, AllocErr
 }
 
 fn stat(words: &mut Words<'_>) -> Reply
-    ensures { forms.stat words.old ≡ (result, words.new) }
+    ensures { long.stat words.old ≡ (result, words.new) }
 {
     let kind = kind(words);
     let node = number(words);
@@ -102,7 +103,7 @@ fn stat(words: &mut Words<'_>) -> Reply
 }
 
 fn held(alloc: Global, words: &mut Words<'_>) -> Result<Reply, AllocError>
-    ensures { Makes result (forms.held words.old) words.new }
+    ensures { Makes result (long.held words.old) words.new }
 {
     let version = number(words);
     let bytes = bytes(alloc, words)?;

@@ -16,7 +16,8 @@ use Rattle.fsc_commands.specs.Steps.Steps.{Done, Ask}
 use Rattle.fsc_commands.specs.CommandSteps.{CommandSteps, ended, when_ok}
 use Rattle.fsc_commands.specs.Made.{Made, MadePart, Begun, asked}
 use Rattle.session_records.specs.Stopped.{Gives}
-use Rattle.fsc_commands.specs.Work.{IsSameCaller, Worked, WorkedPart}
+use Rattle.fsc_commands.specs.Work.{Worked, WorkedPart}
+use Rattle.fsc_commands.specs.Callers.{IsSameCaller}
 use Rattle.fsc_commands.proofs.StepsLemmas.{entries_of-append, grown_twice, Reaches-on}
 
 same_still : {P : Type 0} {who : P → ℕ} {old middle new : Caller P} → IsSameCaller who old middle → IsSameCaller who middle new → IsSameCaller who old new

@@ -1,12 +1,15 @@
+pub mod CommandGroups
 pub mod Commands
 pub mod CommandSteps
 pub mod Made
 pub mod Meant
 pub mod Opening
+pub mod PolicyKeySteps
 pub mod PolicySteps
 pub mod ProtectorSteps
 pub mod Stars
 pub mod Steps
 pub mod Tasks
 pub mod Wiped
+pub mod Callers
 pub mod Work

@@ -9,7 +9,8 @@ use Rattle.session_records.specs.declared.loaded.LoadedPolicy.{LoadedPolicy}
 use Rattle.session_records.specs.declared.opened.OpenedPolicy.{OpenedPolicy}
 use Rattle.session_records.specs.declared.opened.OpenedProtector.{OpenedProtector}
 use Rattle.session_records.specs.declared.outcomes.Wanted.TheVariants as wanted
-use Rattle.session_records.specs.Records.{policy_loaded, protector_opened, policy_opened}
+use Rattle.session_records.specs.Records.{protector_opened, policy_opened}
+use Rattle.session_records.specs.LoadedRecords.{policy_loaded}
 use Rattle.fsc_commands.specs.CommandSteps.{CommandSteps, asking, when_ok, last_call}
 
 -- the policy of this label is loaded

@@ -1,28 +1,23 @@
--- A session's work with policies.
+-- A session's work with the record of a policy alone: no key is opened.
 use Rattle.std.specs.Prelude.{ℕ, List, Option}
 use Rattle.policy_ctx.specs.declared.policy.KeyId.{KeyId}
 use Rattle.policy_ctx.specs.Policy.{policy_bytes}
 use Rattle.mount_model.specs.declared.call.Op.{Op}
-use Rattle.mount_model.specs.declared.call.Op.TheVariants.{AddKey, RemoveKey, KeyStatus, SetPolicy}
+use Rattle.mount_model.specs.declared.call.Op.TheVariants.{RemoveKey, KeyStatus, SetPolicy}
 use Rattle.protector_meta.specs.PolicyText.{policy_text}
 use Rattle.script_words.specs.declared.path.ScriptPart.{ScriptPart}
-use Rattle.script_words.specs.declared.secrets.Secret.{Secret}
-use Rattle.script_lang.specs.declared.verb.Options.{Options as SaidOptions}
 use Rattle.script_words.specs.declared.record_words.Record.TheVariants.{Policy}
 use Rattle.script_lang.specs.declared.verb.Settings.{Settings}
-use Rattle.session_records.specs.declared.loaded.LoadedPolicy.{LoadedPolicy}
 use Rattle.session_records.specs.declared.outcomes.Wanted.{Wanted}
 use Rattle.session_records.specs.declared.outcomes.Wanted.TheVariants as wanted
-use Rattle.session_records.specs.DrawnRecords.{drawn_policy, policy_widened}
 use Rattle.session_records.specs.Draws.{nonce_drawn}
-use Rattle.session_records.specs.PolicyRecords.{node_policy, policy_without, room_for, with_options}
+use Rattle.session_records.specs.PolicyRecords.{policy_without}
+use Rattle.session_records.specs.PolicyOptions.{node_policy, with_options}
 use Rattle.fsc_commands.specs.declared.policies.AskedOfKey.{AskedOfKey}
 use Rattle.fsc_commands.specs.declared.policies.AskedOfKey.TheVariants.{Removal, Status}
 use Rattle.fsc_commands.specs.CommandSteps.{CommandSteps, when_ok, last_call}
-use Rattle.fsc_commands.specs.Opening.{loading_policy, opening_policy, opening_protector, storing}
+use Rattle.fsc_commands.specs.Opening.{loading_policy, storing}
 use Rattle.fsc_commands.specs.Stars.{path_meant}
-
--- ---- with the record alone
 
 -- the call that is asked of a policy's key, and the reply that it is meant to have
 abbrev pub key_op : AskedOfKey → KeyId → Op
@@ -60,45 +55,3 @@ encrypt_steps seed caller uid number names path label settings =
     loading_policy caller uid label
     (λ loaded. last_call caller uid (SetPolicy (path_meant names path)
     (policy_bytes (node_policy loaded.policy settings)) (nonce_drawn seed caller number)) wanted.Done)
-
--- ---- with its key
-
--- the key of a policy is added that a protector with this key opens
-abbrev pub unlock_through : ℕ → ℕ → List ℕ → List ℕ → List ℕ → CommandSteps
-unlock_through caller uid label protector key =
-    opening_policy caller uid label protector key
-    (λ opened. last_call caller uid (AddKey opened.key) wanted.Added)
-
--- the key of a policy that a protector opens is added
-abbrev pub unlock_steps : ℕ → ℕ → List ℕ → List ℕ → Secret → CommandSteps
-unlock_steps caller uid label protector secret =
-    opening_protector caller uid protector secret
-    (λ opener. unlock_through caller uid label protector opener.key)
-
--- a policy is made that a protector opens; no record of its name is expected
-abbrev pub policy_new_steps : List ℕ → ℕ → ℕ → ℕ → List ℕ → List ℕ → Secret → Option SaidOptions
-    → CommandSteps
-policy_new_steps seed caller uid number label protector secret options =
-    opening_protector caller uid protector secret
-    (λ opener. storing caller uid (Policy label) 0
-    (policy_text (drawn_policy seed caller number label protector options opener.key)))
-
--- a further protector opens a policy with this key
-abbrev pub add_to : List ℕ → ℕ → ℕ → ℕ → List ℕ → LoadedPolicy → List ℕ → List ℕ → Secret → CommandSteps
-add_to seed caller uid number label loaded policy_key added added_secret =
-    opening_protector caller uid added added_secret
-    (λ adding. storing caller uid (Policy label) loaded.version
-    (policy_text (policy_widened seed caller number policy_key added adding.key loaded.policy)))
-
--- a further protector opens a policy that one with this key opens
-abbrev pub add_through : List ℕ → ℕ → ℕ → ℕ → List ℕ → List ℕ → List ℕ → List ℕ → Secret → CommandSteps
-add_through seed caller uid number label protector key added added_secret =
-    opening_policy caller uid label protector key
-    (λ opened. when_ok (room_for added opened.loaded.policy.wraps)
-    (λ room. add_to seed caller uid number label opened.loaded opened.key added added_secret))
-
--- a further protector opens a policy, whose key another one gives
-abbrev pub policy_add_steps : List ℕ → ℕ → ℕ → ℕ → List ℕ → List ℕ → Secret → List ℕ → Secret → CommandSteps
-policy_add_steps seed caller uid number label protector secret added added_secret =
-    opening_protector caller uid protector secret
-    (λ opener. add_through seed caller uid number label protector opener.key added added_secret)

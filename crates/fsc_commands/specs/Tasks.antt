@@ -10,8 +10,8 @@ use Rattle.session_records.specs.Draws.{nonce_drawn}
 use Rattle.fsc_commands.specs.CommandSteps.{CommandSteps}
 use Rattle.fsc_commands.specs.declared.policies.AskedOfKey.TheVariants.{Removal, Status}
 use Rattle.fsc_commands.specs.Meant.{id_meant, policy_said, number_said}
-use Rattle.fsc_commands.specs.PolicySteps.{key_steps, policy_drop_steps, migrate_steps}
-use Rattle.fsc_commands.specs.PolicySteps.{encrypt_steps, unlock_steps, policy_new_steps, policy_add_steps}
+use Rattle.fsc_commands.specs.PolicySteps.{key_steps, policy_drop_steps, migrate_steps, encrypt_steps}
+use Rattle.fsc_commands.specs.PolicyKeySteps.{unlock_steps, policy_new_steps, policy_add_steps}
 use Rattle.fsc_commands.specs.ProtectorSteps.{protector_steps, protector_change_steps, protector_link_steps}
 use Rattle.fsc_commands.specs.Stars.{path_meant}
 

@@ -4,7 +4,8 @@ ghost use Rattle.std.specs.Prelude.{◌≡◌, ℕ, List, Some, IfOk, OnErr};
 ghost use Rattle.mount_model.specs.Fits.{OpFits};
 ghost use Rattle.script_lang.specs.Asked.{IsAskable};
 ghost use Rattle.fsc_commands.specs.Commands as spec;
-ghost use Rattle.fsc_commands.specs.Commands.{AnyFits, MayWantMemory, CarriesBytes, DrawsNonce, NamesPath};
+ghost use Rattle.fsc_commands.specs.Commands.{AnyFits, MayWantMemory};
+ghost use Rattle.fsc_commands.specs.CommandGroups.{CarriesBytes, DrawsNonce, NamesPath};
 ghost use Rattle.fsc_commands.specs.Steps.{names_in};
 
 use crate::EntryList;

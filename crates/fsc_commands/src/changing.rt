@@ -1,8 +1,10 @@
 //! A session's work that gives a protector another secret.
 
-ghost use Rattle.script_words.specs.Secrets.{IsSecret, IsNewSecret};
+ghost use Rattle.script_words.specs.Secrets.{IsSecret};
+ghost use Rattle.script_words.specs.NewSecrets.{IsNewSecret};
 ghost use Rattle.fsc_commands.specs.ProtectorSteps.{protector_change_steps};
-ghost use Rattle.fsc_commands.specs.Work.{MayAsk, Worked};
+ghost use Rattle.fsc_commands.specs.Work.{Worked};
+ghost use Rattle.fsc_commands.specs.Callers.{MayAsk};
 ghost use Rattle.fsc_commands.specs.declared.TheConstants.{MOST_CALLS};
 
 use crate::work::{Caller, Opener, Work};

@@ -7,7 +7,8 @@ ghost use Rattle.fsc_commands.specs.Commands.{command_steps, task_steps};
 ghost use Rattle.fsc_commands.specs.Tasks.Task.{Single};
 ghost use Rattle.fsc_commands.specs.Steps.{names_in};
 ghost use Rattle.fsc_commands.specs.Made.{Made, Begun};
-ghost use Rattle.fsc_commands.specs.Work.{MayAsk, Worked};
+ghost use Rattle.fsc_commands.specs.Work.{Worked};
+ghost use Rattle.fsc_commands.specs.Callers.{MayAsk};
 ghost use Rattle.fsc_commands.specs.declared.TheConstants.{MOST_CALLS};
 
 use crate::calls::plain_op;

@@ -2,7 +2,8 @@
 
 ghost use Rattle.fsc_commands.specs.PolicySteps.{encrypt_steps};
 ghost use Rattle.fsc_commands.specs.Steps.{names_in};
-ghost use Rattle.fsc_commands.specs.Work.{MayAsk, Worked};
+ghost use Rattle.fsc_commands.specs.Work.{Worked};
+ghost use Rattle.fsc_commands.specs.Callers.{MayAsk};
 ghost use Rattle.fsc_commands.specs.declared.TheConstants.{MOST_CALLS};
 
 use crate::stars::path_meant;

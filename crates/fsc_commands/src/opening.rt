@@ -5,7 +5,8 @@ ghost use Rattle.fsc_keys.specs.Keys.{key_id_of};
 ghost use Rattle.fsc_keys.specs.declared.raw_key.TheConstants.{MOST_RAW_KEY_BYTES};
 ghost use Rattle.script_words.specs.Secrets.{IsSecret};
 ghost use Rattle.fsc_commands.specs.Opening.{opening_protector, opening_policy};
-ghost use Rattle.fsc_commands.specs.Work.{MayAsk, WorkedPart};
+ghost use Rattle.fsc_commands.specs.Work.{WorkedPart};
+ghost use Rattle.fsc_commands.specs.Callers.{MayAsk};
 
 use crate::work::{Caller, Opener, Work};
 use argon_kdf::Stretch;

@@ -7,7 +7,8 @@ ghost use Rattle.fsc_commands.specs.Wiped.{wiped_call};
 ghost use Rattle.fsc_commands.specs.CommandSteps.{last_call, called};
 ghost use Rattle.fsc_commands.specs.Opening.{loading_policy};
 ghost use Rattle.fsc_commands.specs.Made.{asked};
-ghost use Rattle.fsc_commands.specs.Work.{Answered, IsSameCaller, MayAsk, Worked, WorkedPart};
+ghost use Rattle.fsc_commands.specs.Work.{Worked, WorkedPart};
+ghost use Rattle.fsc_commands.specs.Callers.{Answered, IsSameCaller, MayAsk};
 ghost use Rattle.reply_text.specs.Shown.{shown_entry};
 
 use crate::wiping::wipe_call;

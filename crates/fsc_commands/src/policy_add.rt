@@ -4,9 +4,10 @@ ghost use Rattle.std.specs.Prelude.{◌≡◌, length, Ok};
 ghost use Rattle.fsc_keys.specs.declared.raw_key.TheConstants.{MOST_RAW_KEY_BYTES};
 ghost use Rattle.script_words.specs.Secrets.{IsSecret};
 ghost use Rattle.session_records.specs.PolicyRecords.{room_for};
-ghost use Rattle.fsc_commands.specs.PolicySteps as spec;
-ghost use Rattle.fsc_commands.specs.PolicySteps.{policy_add_steps};
-ghost use Rattle.fsc_commands.specs.Work.{MayAsk, Worked};
+ghost use Rattle.fsc_commands.specs.PolicyKeySteps as spec;
+ghost use Rattle.fsc_commands.specs.PolicyKeySteps.{policy_add_steps};
+ghost use Rattle.fsc_commands.specs.Work.{Worked};
+ghost use Rattle.fsc_commands.specs.Callers.{MayAsk};
 ghost use Rattle.fsc_commands.specs.declared.TheConstants.{MOST_CALLS};
 
 use crate::work::{Caller, Opener, Work};

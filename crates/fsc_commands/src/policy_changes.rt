@@ -1,7 +1,8 @@
 //! A session's work that changes a policy's record.
 
 ghost use Rattle.fsc_commands.specs.PolicySteps.{policy_drop_steps, migrate_steps};
-ghost use Rattle.fsc_commands.specs.Work.{MayAsk, Worked};
+ghost use Rattle.fsc_commands.specs.Work.{Worked};
+ghost use Rattle.fsc_commands.specs.Callers.{MayAsk};
 ghost use Rattle.fsc_commands.specs.declared.TheConstants.{MOST_CALLS};
 
 use crate::work::{Caller, Work};

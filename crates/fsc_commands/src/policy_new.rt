@@ -1,8 +1,9 @@
 //! A session's work that makes a policy for a protector.
 
 ghost use Rattle.script_words.specs.Secrets.{IsSecret};
-ghost use Rattle.fsc_commands.specs.PolicySteps.{policy_new_steps};
-ghost use Rattle.fsc_commands.specs.Work.{MayAsk, Worked};
+ghost use Rattle.fsc_commands.specs.PolicyKeySteps.{policy_new_steps};
+ghost use Rattle.fsc_commands.specs.Work.{Worked};
+ghost use Rattle.fsc_commands.specs.Callers.{MayAsk};
 ghost use Rattle.fsc_commands.specs.declared.TheConstants.{MOST_CALLS};
 
 use crate::work::{Caller, Opener, Work};

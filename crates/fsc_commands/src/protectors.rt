@@ -1,8 +1,9 @@
 //! A session's work that makes protectors.
 
-ghost use Rattle.script_words.specs.Secrets.{IsNewSecret};
+ghost use Rattle.script_words.specs.NewSecrets.{IsNewSecret};
 ghost use Rattle.fsc_commands.specs.ProtectorSteps.{protector_steps};
-ghost use Rattle.fsc_commands.specs.Work.{MayAsk, Worked};
+ghost use Rattle.fsc_commands.specs.Work.{Worked};
+ghost use Rattle.fsc_commands.specs.Callers.{MayAsk};
 ghost use Rattle.fsc_commands.specs.declared.TheConstants.{MOST_CALLS};
 
 use crate::work::{Caller, Work};

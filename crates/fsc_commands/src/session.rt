@@ -2,9 +2,11 @@
 
 ghost use Rattle.std.specs.Prelude.{◌≡◌};
 ghost use Rattle.script_lang.specs.Asked.{IsAskable};
-ghost use Rattle.fsc_commands.specs.Commands.{command_steps, plain_op, OpensProtector};
+ghost use Rattle.fsc_commands.specs.Commands.{command_steps, plain_op};
+ghost use Rattle.fsc_commands.specs.CommandGroups.{OpensProtector};
 ghost use Rattle.fsc_commands.specs.Steps.{names_in};
-ghost use Rattle.fsc_commands.specs.Work.{MayAsk, Worked};
+ghost use Rattle.fsc_commands.specs.Work.{Worked};
+ghost use Rattle.fsc_commands.specs.Callers.{MayAsk};
 ghost use Rattle.fsc_commands.specs.declared.TheConstants.{MOST_CALLS};
 
 use crate::policies::AskedOfKey;

@@ -5,7 +5,8 @@ ghost use Rattle.mount_limits.specs.declared.TheConstants.{MOST_CARRIED_BYTES};
 ghost use Rattle.protector_meta.specs.PolicyText.{policy_text};
 ghost use Rattle.protector_meta.specs.ProtectorText.{protector_text};
 ghost use Rattle.fsc_commands.specs.Opening.{storing};
-ghost use Rattle.fsc_commands.specs.Work.{MayAsk, Worked};
+ghost use Rattle.fsc_commands.specs.Work.{Worked};
+ghost use Rattle.fsc_commands.specs.Callers.{MayAsk};
 
 use crate::work::{Caller, Work};
 use item_list::Bytes;

@@ -7,8 +7,9 @@ ghost use Rattle.mount_model.specs.declared.call.Op.TheVariants.{AddKey};
 ghost use Rattle.script_words.specs.Secrets.{IsSecret};
 ghost use Rattle.session_records.specs.declared.outcomes.Wanted.TheVariants as wanted;
 ghost use Rattle.fsc_commands.specs.CommandSteps.{last_call};
-ghost use Rattle.fsc_commands.specs.PolicySteps.{unlock_steps, unlock_through};
-ghost use Rattle.fsc_commands.specs.Work.{MayAsk, Worked};
+ghost use Rattle.fsc_commands.specs.PolicyKeySteps.{unlock_steps, unlock_through};
+ghost use Rattle.fsc_commands.specs.Work.{Worked};
+ghost use Rattle.fsc_commands.specs.Callers.{MayAsk};
 ghost use Rattle.fsc_commands.specs.declared.TheConstants.{MOST_CALLS};
 
 use crate::work::{Caller, Opener, Work};

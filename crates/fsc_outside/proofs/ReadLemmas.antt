@@ -8,7 +8,8 @@ use Rattle.fsc_outside.specs.States.{SourceState}
 use Rattle.fsc_outside.specs.Reads.{ReadCall, AreReads, GaveSome, given_by, read_call}
 use Rattle.fsc_outside.specs.Reads.ReadCall.{Gave, Faulted}
 use Rattle.fsc_outside.specs.ReadLaws.{Consumes-on, given_on}
-use Rattle.fsc_outside.specs.Input.{EndsReading, GaveWhole, LimitsLines}
+use Rattle.fsc_outside.specs.Input.{EndsReading, LimitsLines}
+use Rattle.fsc_outside.specs.WholeTexts.{GaveWhole}
 use Rattle.fsc_outside.specs.Reading.{CameByReading, most_read}
 use Rattle.fsc_outside.specs.declared.input.InputLimits.{InputLimits}
 use Rattle.fsc_outside.specs.declared.input.InputFault.{InputFault}

@@ -1,6 +1,6 @@
 -- What reading a source to its end does, within limits.
 use Rattle.std.specs.Prelude.{ℕ, ◌≡◌, ◌<◌, ◌≤◌, ◌⊎◌, List, [], ◌∷◌, length, Result, Ok, Err}
-use Rattle.std.specs.Io.KnownBytes.{Consumes, IsAtEnd}
+use Rattle.std.specs.Io.KnownBytes.{Consumes}
 use Rattle.text_words.specs.Lines.{line_count}
 use Rattle.fsc_outside.specs.Reading.{CameByReading, ReadPart, ReadInVain, most_read}
 use Rattle.fsc_outside.specs.Reads.{ReadCall}
@@ -9,16 +9,7 @@ use Rattle.fsc_outside.specs.States.{SourceState}
 use Rattle.fsc_outside.specs.declared.input.InputLimits.{InputLimits}
 use Rattle.fsc_outside.specs.declared.input.InputFault.{InputFault}
 use Rattle.fsc_outside.specs.declared.input.InputFault.TheVariants.{ReadFault, TooLong, NoMemory}
-
--- a source gave these bytes, and ended
-pub record GaveWhole (old new : SourceState) (bytes : List ℕ) : Type 0 where
-  pub given : Consumes old.left new.left bytes
-  pub ended : IsAtEnd new.left
-
--- a text within the limits
-pub record IsWithin (limits : InputLimits) (text : List ℕ) : Type 0 where
-  pub bytes : length text ≤ limits.bytes
-  pub lines : line_count text ≤ limits.lines
+use Rattle.fsc_outside.specs.WholeTexts.{GaveWhole, ReadWhole}
 
 -- a source gave just one byte beyond the limit, and was asked for no more
 pub record GaveByteMore (limits : InputLimits) (Came : List ReadCall → Type 0) (old new : SourceState)
@@ -39,14 +30,6 @@ pub record GaveLinesMore (limits : InputLimits) (Came : List ReadCall → Type 0
 abbrev pub GaveTooMuch : InputLimits → (List ReadCall → Type 0) → SourceState → SourceState → List ℕ → Type 0
 GaveTooMuch limits Came old new bytes =
     GaveByteMore limits Came old new bytes ⊎ GaveLinesMore limits Came old new bytes
-
--- the text was read whole; the last call told its end
-pub record ReadWhole (limits : InputLimits) (Came : List ReadCall → Type 0) (old new : SourceState)
-    (text : List ℕ) : Type 0 where
-  pub gave : GaveWhole old new text
-  pub within : IsWithin limits text
-  pub quiet : new.faults ≡ old.faults
-  pub calls : CameByReading limits Came text (Gave [] ∷ [])
 
 -- a text beyond a limit was begun
 pub record ReadTooMuch (limits : InputLimits) (Came : List ReadCall → Type 0) (old new : SourceState)

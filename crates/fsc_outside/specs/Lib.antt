@@ -6,4 +6,5 @@ pub mod Sources
 pub mod Sinks
 pub mod Whole
 pub mod Reading
+pub mod WholeTexts
 pub mod Input

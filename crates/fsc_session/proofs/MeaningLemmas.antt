@@ -15,7 +15,8 @@ use Rattle.reply_text.proofs.BeginningLemmas.{whole_logs_tell}
 use Rattle.reply_text.specs.declared.notes.Note.{Note}
 use Rattle.fsc_commands.specs.Steps.{Steps, Reaches}
 use Rattle.fsc_commands.specs.Steps.Steps.{Done, Ask}
-use Rattle.fsc_session.specs.Session.{section_steps, IsRunOf, IsRunOfCaller, notes_of}
+use Rattle.fsc_session.specs.Session.{section_steps}
+use Rattle.fsc_session.specs.ScriptRun.{IsRunOf, IsRunOfCaller, notes_of}
 use Rattle.fsc_session.specs.Meaning.{IsBegunBy, Follows, WhatIsToldDeterminesTheHistory, LogsHaveOneMeaning}
 
 abbrev replies : History → List Reply

@@ -4,7 +4,8 @@ use Rattle.call_history.specs.Entries.{by}
 use Rattle.mount_model.specs.Port.{PlacedCalls}
 use Rattle.script_lang.specs.declared.commands.Section.{Section}
 use Rattle.reply_text.specs.declared.notes.Note.{Note}
-use Rattle.fsc_session.specs.Session.{notes_of_section, notes_by}
+use Rattle.fsc_session.specs.Session.{notes_of_section}
+use Rattle.fsc_session.specs.ScriptRun.{notes_by}
 
 -- entries that are alike for each of the callers have the same notes
 pub notes_by-alike : (seed : List ℕ) (k : ℕ) (sections : List Section) (xs ys : PlacedCalls)

@@ -18,7 +18,9 @@ use Rattle.reply_text.specs.declared.notes.Note.{Note}
 use Rattle.reply_text.specs.declared.outcome.Outcome.{Outcome}
 use Rattle.fsc_session.specs.Session.{steps_from, section_steps, noted, notes_of_section, IsRunOfSection, IsRunSoFar}
 use Rattle.reply_text.specs.Shown.{PlacedShown, shown_calls}
-use Rattle.fsc_session.specs.Running.{RunnerView, RanSoFar, Stepped, StepMakes, runner_view}
+use Rattle.fsc_session.specs.Running.{Stepped, StepMakes}
+use Rattle.fsc_session.specs.PortRuns.{RanSoFar}
+use Rattle.fsc_session.specs.Runners.{RunnerView, runner_view}
 use Rattle.fsc_commands.specs.Made.{Made}
 use Rattle.fsc_commands.specs.declared.TheConstants.{MOST_CALLS}
 use Rattle.fsc_commands.proofs.StepsLemmas.{entries_of-append, names_in-append, names_in-shown, shown_calls-append, Reaches-on, Reaches-and_then, value_reached}

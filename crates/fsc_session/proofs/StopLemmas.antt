@@ -15,7 +15,7 @@ use Rattle.fsc_commands.specs.CommandSteps.{CommandSteps}
 use Rattle.fsc_commands.specs.Made.{Begun}
 use Rattle.fsc_commands.proofs.StepsLemmas.{entries_of-append, names_in-shown, Reaches-on, Reaches-begun}
 use Rattle.fsc_session.specs.Meaning.{IsBegunBy}
-use Rattle.fsc_session.specs.Running.{RunnerView, HasRun, runner_view}
+use Rattle.fsc_session.specs.Runners.{RunnerView, HasRun, runner_view}
 use Rattle.fsc_session.specs.Session.{steps_from, section_steps, noted}
 use Rattle.fsc_session.specs.Stopping.{steps_of, next_steps}
 use Rattle.fsc_session.proofs.RunLemmas.{drop-at}

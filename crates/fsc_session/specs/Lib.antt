@@ -1,7 +1,10 @@
 pub mod Asking
 pub mod Meaning
 pub mod Rotation
+pub mod Runners
+pub mod PortRuns
 pub mod Running
 pub mod Serial
 pub mod Session
+pub mod ScriptRun
 pub mod Stopping

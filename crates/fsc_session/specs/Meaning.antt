@@ -11,7 +11,8 @@ use Rattle.reply_text.specs.Notes.{notes_text}
 use Rattle.reply_text.specs.Ranges.{EntryIsInRange}
 use Rattle.reply_text.specs.declared.notes.Note.{Note}
 use Rattle.fsc_commands.specs.Steps.{Steps, Reaches}
-use Rattle.fsc_session.specs.Session.{section_steps, IsRunOf, notes_of}
+use Rattle.fsc_session.specs.Session.{section_steps}
+use Rattle.fsc_session.specs.ScriptRun.{IsRunOf, notes_of}
 
 -- the entries are a beginning of a run of the section that stands at the caller's number; a number without one
 -- has none

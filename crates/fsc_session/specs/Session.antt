@@ -1,10 +1,9 @@
 -- What a caller's section asks of the mount, command after command.
-use Rattle.std.specs.Prelude.{◌≡◌, ℕ, ◌+◌, List, [], ◌∷◌, ◌++◌, drop, slice_get, Option, Some, None, unwrap_or}
-use Rattle.call_history.specs.Entries.{by, numbered}
+use Rattle.std.specs.Prelude.{◌≡◌, ℕ, ◌+◌, List, [], ◌∷◌, ◌++◌, drop, Option, Some, None, unwrap_or}
 use Rattle.call_history.specs.Placed.{entries_of}
 use Rattle.mount_model.specs.declared.call.Call.{Call}
 use Rattle.mount_model.specs.Port.{PlacedCalls}
-use Rattle.mount_model.specs.History.{History, MountEntry, entries_by}
+use Rattle.mount_model.specs.History.{History, MountEntry}
 use Rattle.script_lang.specs.declared.commands.Section.{Section}
 use Rattle.script_lang.specs.declared.commands.Command.{Command}
 use Rattle.reply_text.specs.declared.notes.Note.{Note}
@@ -50,27 +49,6 @@ abbrev pub IsRunSoFar : List ℕ → ℕ → Section → ℕ → PlacedCalls →
 IsRunSoFar seed caller section n placed notes =
     Reaches (section_steps seed caller section) (entries_of placed)
     (steps_from seed caller section.uid n (names_in placed) notes (drop n section.commands))
-
--- the entries are a run of the section that stands at the caller's number; a number without one has none
-abbrev pub IsRunOfCaller : List ℕ → ℕ → Option Section → PlacedCalls → Type 0
-IsRunOfCaller seed caller None placed = placed ≡ []
-IsRunOfCaller seed caller (Some section) placed = IsRunOfSection seed caller section placed
-
--- each caller's entries are a run of its section, and no other caller has any
-abbrev pub IsRunOf : List ℕ → List Section → History → Type 0
-IsRunOf seed script history =
-    (caller : ℕ) → IsRunOfCaller seed caller (slice_get script caller) (entries_by caller history)
-
--- the notes of runs of these sections among the entries of all callers, caller after caller, where the
--- first of them has the number k
-abbrev pub notes_by : List ℕ → ℕ → List Section → PlacedCalls → List Note
-notes_by seed k [] placed = []
-notes_by seed k (section ∷ more) placed =
-    notes_of_section seed k section (by k placed) ++ notes_by seed (k + 1) more placed
-
--- the notes of a run of a script: by caller, and each caller's in the order of its commands
-abbrev pub notes_of : List ℕ → List Section → History → List Note
-notes_of seed script history = notes_by seed 0 script (numbered 0 history)
 
 -- each entry makes the call that comes after those before it, and none comes after all of them
 pub record AreNextCalls {A : Type 0} (steps : Steps A) (es : History) : Type 0 where

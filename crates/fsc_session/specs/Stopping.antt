@@ -10,7 +10,7 @@ use Rattle.fsc_commands.specs.Steps.Steps.{Done}
 use Rattle.fsc_commands.specs.Commands.{command_steps}
 use Rattle.fsc_commands.specs.CommandSteps.{CommandSteps}
 use Rattle.fsc_session.specs.Meaning.{IsBegunBy}
-use Rattle.fsc_session.specs.Running.{RunnerView, HasRun}
+use Rattle.fsc_session.specs.Runners.{RunnerView, HasRun}
 
 -- the steps of a runner's command, where there is one
 abbrev pub steps_of : List ℕ → RunnerView → Option Command → CommandSteps

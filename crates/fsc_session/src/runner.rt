@@ -2,7 +2,8 @@
 
 ghost use Rattle.std.specs.Prelude.{◌≡◌, ◌≤◌, [], ◌++◌, IfOk, OnOk, OnErr, IsErr, IsTrue, IsFalse};
 ghost use Rattle.fsc_session.specs.Asking.{AsksRightly};
-ghost use Rattle.fsc_session.specs.Running.{RunnerView, runner_view, next_command, Stepped};
+ghost use Rattle.fsc_session.specs.Running.{Stepped};
+ghost use Rattle.fsc_session.specs.Runners.{RunnerView, runner_view, next_command};
 ghost use Rattle.fsc_session.specs.Stopping.{next_steps};
 ghost use Rattle.fsc_commands.specs.Made.{Begun};
 ghost use Rattle.fsc_session.specs.Session.{noted};
@@ -41,7 +42,7 @@ pub struct Runner<'a> {
 
 impl<'a> Model for Runner<'a> {
     ghost use Rattle.std.specs.Prelude.{◌≤◌, length};
-    ghost use Rattle.fsc_session.specs.Running.{RunnerView, runner_view, spent_if};
+    ghost use Rattle.fsc_session.specs.Runners.{RunnerView, runner_view, spent_if};
 
     ghost Value = { RunnerView };
 

@@ -2,7 +2,7 @@
 
 ghost use Rattle.std.specs.Prelude.{◌≤◌, ◌*◌, length, IfOk, OnErr};
 ghost use Rattle.fsc_session.specs.Asking.{AsksRightly};
-ghost use Rattle.fsc_session.specs.Running.{SectionRan};
+ghost use Rattle.fsc_session.specs.PortRuns.{SectionRan};
 ghost use Rattle.fsc_session.specs.Stopping.{SectionBegun};
 ghost use Rattle.fsc_commands.specs.declared.TheConstants.{MOST_CALLS};
 

@@ -5,7 +5,8 @@ use Rattle.std.specs.Io.KnownBytes.{Consumes}
 use Rattle.std.proofs.lemmas.List.Sums.{count_by-le-length}
 use Rattle.text_words.specs.Lines.{is_ended, is_line_feed}
 use Rattle.fsc_outside.specs.States.{SourceState}
-use Rattle.fsc_outside.specs.Input.{GaveByteMore, GaveLinesMore, IsWithin, EndsReading, ReadWhole}
+use Rattle.fsc_outside.specs.Input.{GaveByteMore, GaveLinesMore, EndsReading}
+use Rattle.fsc_outside.specs.WholeTexts.{IsWithin, ReadWhole}
 use Rattle.fsc_outside.specs.Reads.{ReadCall}
 use Rattle.fsc_outside.specs.declared.input.InputFault.{InputFault}
 use Rattle.fsc_outside.specs.declared.input.InputFault.TheVariants as fault
@@ -16,8 +17,10 @@ use Rattle.fsc_tool.specs.declared.status.Status.{Status}
 use Rattle.fsc_tool.specs.declared.status.Status.TheVariants.{Done, Usage, BadLine, ReadFault, WriteFault, SeedFault, TooLong, Refused, NoMemory}
 use Rattle.fsc_tool.specs.declared.form.ToolForm.{ToolForm}
 use Rattle.fsc_tool.specs.declared.form.ToolForm.TheVariants.{Check}
-use Rattle.fsc_tool.specs.Checking.{EndsChecking, IsChecking, IsVerdict, SaysOfInput, certificate_limits}
-use Rattle.fsc_tool.specs.Ends.{EndsEarly}
+use Rattle.fsc_tool.specs.Checking.{EndsChecking, IsChecking}
+use Rattle.fsc_tool.specs.CheckStatus.{IsVerdict, SaysOfInput}
+use Rattle.fsc_tool.specs.CertificateEnds.{certificate_limits}
+use Rattle.fsc_tool.specs.ReadEnds.{EndsEarly}
 use Rattle.fsc_tool.specs.Faults.{input_status}
 use Rattle.fsc_tool.specs.Limits.{input_limits, IsLong}
 use Rattle.fsc_tool.specs.Outside.{Outside}

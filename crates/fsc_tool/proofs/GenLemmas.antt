@@ -16,7 +16,7 @@ use Rattle.hex.specs.Hex.{encode_lower}
 use Rattle.sha2.specs.Sha256.{sha256}
 use Rattle.reply_text.specs.Shown.{PlacedShown, ShownEntry, ShownHistory, shown_entry, shown_history, shown_log}
 use Rattle.reply_text.proofs.LogLemmas.{log_shown}
-use Rattle.fsc_session.specs.Session.{notes_of}
+use Rattle.fsc_session.specs.ScriptRun.{notes_of}
 use Rattle.reply_text.specs.Notes.{notes_text}
 use Rattle.reply_text.specs.declared.notes.Note.{Note}
 use Rattle.fsc_tool.specs.Gen.{zero_seed, run_summary, SummaryOfRun}

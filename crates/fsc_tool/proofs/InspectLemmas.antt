@@ -6,7 +6,8 @@ use Rattle.std.proofs.lemmas.List.Sums.{count_by-le-length}
 use Rattle.text_words.specs.Lines.{is_ended, is_line_feed}
 use Rattle.fsc_outside.specs.States.{SourceState}
 use Rattle.fsc_outside.specs.Causes.{Rose}
-use Rattle.fsc_outside.specs.Input.{GaveWhole, GaveByteMore, GaveLinesMore, IsWithin, EndsReading, ReadWhole}
+use Rattle.fsc_outside.specs.Input.{GaveByteMore, GaveLinesMore, EndsReading}
+use Rattle.fsc_outside.specs.WholeTexts.{GaveWhole, IsWithin, ReadWhole}
 use Rattle.fsc_outside.specs.Reads.{ReadCall}
 use Rattle.fsc_outside.specs.declared.input.InputFault.{InputFault}
 use Rattle.fsc_outside.specs.declared.input.InputFault.TheVariants as fault
@@ -23,10 +24,11 @@ use Rattle.fsc_tool.specs.declared.form.ToolForm.TheVariants.{Inspect}
 use Rattle.fsc_tool.specs.Tool.{IsRunIn}
 use Rattle.fsc_tool.specs.Faults.{input_status, image_status}
 use Rattle.image_lines.proofs.ImageLaws.{images_are_texts}
-use Rattle.image_lines.specs.Places.{IsReadFault}
+use Rattle.image_lines.specs.ReadFaults.{IsReadFault}
 use Rattle.image_lines.specs.declared.fault.ImageFault.{ImageFault}
 use Rattle.image_lines.specs.declared.fault.ImageFault.TheVariants as image
-use Rattle.fsc_tool.specs.Inspection.{EndsInspection, HasListing, IsInspection, image_limits}
+use Rattle.fsc_tool.specs.Inspection.{EndsInspection, IsInspection}
+use Rattle.fsc_tool.specs.ImageEnds.{HasListing, image_limits}
 use Rattle.fsc_tool.specs.Outside.{Outside}
 use Rattle.fsc_tool.specs.Replay.{IsOrNoMemory, Told}
 use Rattle.fsc_tool.specs.Written.{EndsLog}

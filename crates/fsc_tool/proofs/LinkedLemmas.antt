@@ -11,7 +11,8 @@ use Rattle.reply_text.specs.Shown.{PlacedShown}
 use Rattle.reply_text.specs.Notes.{notes_text}
 use Rattle.reply_text.specs.declared.notes.Note.{Note}
 use Rattle.fsc_commands.specs.Steps.{value_after}
-use Rattle.fsc_session.specs.Session.{notes_by, section_steps}
+use Rattle.fsc_session.specs.Session.{section_steps}
+use Rattle.fsc_session.specs.ScriptRun.{notes_by}
 use Rattle.fsc_session.proofs.ShownRuns.{told_log}
 use Rattle.linked_turns.specs.LinkedRuns.{TellsLinkedRun}
 use Rattle.linked_turns.specs.LinkedSerial.{TwoHistories, linked_calls}

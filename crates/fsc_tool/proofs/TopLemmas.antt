@@ -7,7 +7,8 @@ use Rattle.mount_model.specs.History.{History}
 use Rattle.script_lang.specs.declared.commands.Section.{Section}
 use Rattle.script_lang.specs.Script.{parsed_script}
 use Rattle.fsc_outside.specs.States.{SourceState, SeedState}
-use Rattle.fsc_outside.specs.Input.{GaveWhole, GaveTooMuch, IsWithin}
+use Rattle.fsc_outside.specs.Input.{GaveTooMuch}
+use Rattle.fsc_outside.specs.WholeTexts.{GaveWhole, IsWithin}
 use Rattle.fsc_outside.specs.Reads.{ReadCall}
 use Rattle.fsc_tool.specs.declared.status.Status.{Status}
 use Rattle.fsc_tool.specs.declared.status.Status.TheVariants.{Done, Usage, BadLine, ReadFault, WriteFault, SeedFault, TooLong, Refused, NoMemory}

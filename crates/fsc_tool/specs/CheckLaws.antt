@@ -3,11 +3,11 @@ use Rattle.std.specs.Prelude.{◌≡◌, ℕ, List, Ok}
 use Rattle.mount_model.specs.Lawful.{IsLawful}
 use Rattle.script_lang.specs.declared.commands.Section.{Section}
 use Rattle.script_lang.specs.Script.{parsed_script}
-use Rattle.fsc_outside.specs.Input.{IsWithin}
+use Rattle.fsc_outside.specs.WholeTexts.{IsWithin}
 use Rattle.log_check.specs.Certificate.{AskedKeysAgree}
 use Rattle.fsc_tool.specs.declared.status.Status.{Status}
 use Rattle.fsc_tool.specs.declared.status.Status.TheVariants.{Done, Refused}
-use Rattle.fsc_tool.specs.Checking.{SaysOfInput}
+use Rattle.fsc_tool.specs.CheckStatus.{SaysOfInput}
 use Rattle.fsc_tool.specs.Limits.{input_limits}
 use Rattle.fsc_tool.specs.LogOfRun.{IsLogOfRun}
 use Rattle.fsc_tool.specs.Parted.{certificate_read, certificate_text}

@@ -1,65 +1,21 @@
 -- A run that checks a log: what it finds, and how it ends. It writes nothing, and asks for no seed.
-use Rattle.std.specs.Prelude.{◌≡◌, ◌⊎◌, ⊤, ◌+◌, ◌<◌, ◌≤◌, ℕ, List, length, Ok, Err}
-use Rattle.fsc_outside.specs.declared.input.InputLimits.{InputLimits}
-use Rattle.fsc_outside.specs.Input.{IsWithin, ReadWhole, GaveByteMore}
+use Rattle.std.specs.Prelude.{◌≡◌, ◌⊎◌, ◌<◌, ◌≤◌, ℕ, List, length, Ok, Err}
+use Rattle.fsc_outside.specs.WholeTexts.{IsWithin}
 use Rattle.fsc_outside.specs.Reads.{ReadCall}
 use Rattle.script_lang.specs.declared.commands.Section.{Section}
 use Rattle.log_check.specs.Verdicts.{IsCertified, IsRefusedAt}
 use Rattle.fsc_tool.specs.declared.limits.TheConstants.{MOST_CERTIFICATE_BYTES}
 use Rattle.fsc_tool.specs.declared.status.Status.{Status}
-use Rattle.fsc_tool.specs.declared.status.Status.TheVariants.{Done, BadLine, ReadFault, TooLong, Refused, NoMemory}
-use Rattle.fsc_tool.specs.Ends.{EndsEarly, EndsReadFault, ReadSome}
+use Rattle.fsc_tool.specs.declared.status.Status.TheVariants.{Done, BadLine, ReadFault, TooLong, Refused}
+use Rattle.fsc_tool.specs.declared.status.Status.TheVariants.{NoMemory}
+use Rattle.fsc_tool.specs.ReadEnds.{EndsEarly, EndsReadFault}
 use Rattle.fsc_tool.specs.Limits.{input_limits, IsLong}
 use Rattle.fsc_tool.specs.Outside.{Outside}
 use Rattle.fsc_tool.specs.Parted.{certificate_read, script_part}
 use Rattle.fsc_tool.specs.Replay.{IsOrNoMemory, Told}
-
--- so many bytes; no text of so many has more lines than these
-abbrev pub certificate_limits : InputLimits
-certificate_limits = record { bytes = MOST_CERTIFICATE_BYTES; lines = MOST_CERTIFICATE_BYTES + 1 }
-
--- an input has a script within its limits and a log, of which this is said
-pub record IsChecked (IsSo : List Section → List ℕ → Type 0) (input : List ℕ) : Type 0 where
-  pub within : IsWithin input_limits (script_part input)
-  pub script : List Section
-  pub log : List ℕ
-  pub parts : certificate_read input ≡ Ok (script, log)
-  pub is_so : IsSo script log
-
--- a line of an input is at fault, whose script's part is within its limits
-pub record IsAtFault (line : ℕ) (input : List ℕ) : Type 0 where
-  pub within : IsWithin input_limits (script_part input)
-  pub bad : certificate_read input ≡ Err line
-
--- the source gave an input of which this is said
-pub record EndsRead (IsSo : List ℕ → Type 0) (Came : List ReadCall → Type 0) (a b : Outside) : Type 0 where
-  pub input : List ℕ
-  pub read : ReadWhole certificate_limits Came a.source b.source input
-  pub is_so : IsSo input
-
--- the source gave one byte more than the limit, or an input whose script's part is beyond a limit
-pub record GaveTooLong (Came : List ReadCall → Type 0) (a b : Outside) : Type 0 where
-  pub bytes : List ℕ
-  pub gave : GaveByteMore certificate_limits Came a.source b.source bytes
-  pub quiet : b.source.faults ≡ a.source.faults
-
-abbrev pub EndsCertificateTooLong : (List ReadCall → Type 0) → Outside → Outside → Type 0
-EndsCertificateTooLong Came a b =
-    GaveTooLong Came a b ⊎ EndsRead (λ input. IsLong (script_part input)) Came a b
-
--- there was no memory; nothing failed
-pub record EndsCertificateNoMemory (Came : List ReadCall → Type 0) (a b : Outside) : Type 0 where
-  pub read : ReadSome certificate_limits Came a b
-  pub quiet : b.source.faults ≡ a.source.faults
-
--- what the status says of an input that was read whole
-abbrev pub SaysOfInput : List ℕ → List ℕ → Status → Type 0
-SaysOfInput seed input Done = IsChecked (IsCertified seed) input
-SaysOfInput seed input (Refused place) = IsChecked (λ script log. IsRefusedAt seed script log place) input
-SaysOfInput seed input (BadLine line) = IsAtFault line input
-SaysOfInput seed input TooLong = IsLong (script_part input)
-SaysOfInput seed input NoMemory = ⊤
-SaysOfInput seed input other = ⊥
+use Rattle.fsc_tool.specs.CertificateEnds.{certificate_limits, IsChecked, IsAtFault, EndsRead}
+use Rattle.fsc_tool.specs.CertificateEnds.{EndsCertificateTooLong, EndsCertificateNoMemory}
+use Rattle.fsc_tool.specs.CheckStatus.{IsVerdict}
 
 -- what the status means; it is none of the others
 abbrev pub EndsChecking : List ℕ → (List ReadCall → Type 0) → Outside → Outside → Status → Type 0
@@ -71,17 +27,6 @@ EndsChecking seed Came a b ReadFault = EndsReadFault certificate_limits Came a b
 EndsChecking seed Came a b TooLong = EndsCertificateTooLong Came a b
 EndsChecking seed Came a b NoMemory = EndsCertificateNoMemory Came a b
 EndsChecking seed Came a b other = ⊥
-
--- what the status says of a log, whose script was read
-abbrev pub SaysOfLog : List ℕ → List Section → List ℕ → Status → Type 0
-SaysOfLog seed script log Done = IsCertified seed script log
-SaysOfLog seed script log (Refused place) = IsRefusedAt seed script log place
-SaysOfLog seed script log NoMemory = ⊤
-SaysOfLog seed script log other = ⊥
-
--- the log was certified, or refused at a place
-abbrev pub IsVerdict : Status → Type 0
-IsVerdict status = (status ≡ Done) ⊎ ((place : ℕ) × (status ≡ Refused place))
 
 -- a run that checks a log of a run with the seed, where Came says by which calls of the source it became what it is
 pub record IsChecking (seed : List ℕ) (Came : List ReadCall → Type 0) (a b : Outside)

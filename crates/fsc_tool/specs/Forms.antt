@@ -5,39 +5,15 @@
 use Rattle.std.specs.Prelude.{ℕ, List, [], ◌∷◌, ◌^◌, codes, Option, Some, None, if◌then◌else◌}
 use Rattle.std.specs.Option.{option_map, option_and_then}
 use Rattle.std.specs.Str.{bytes_eq}
-use Rattle.text_words.specs.Digits.{hex_bytes_of_length}
 use Rattle.text_words.specs.Numbers.{number_below}
 use Rattle.script_words.specs.Keys.{key_ref_of}
 use Rattle.script_words.specs.declared.key_words.KeyRef.{KeyRef}
 use Rattle.script_words.specs.declared.key_words.KeyRef.TheVariants.{Raw}
-use Rattle.fsc_tool.specs.declared.form.Way.{Way}
-use Rattle.fsc_tool.specs.declared.form.Way.TheVariants.{InTurn, InThreads}
-use Rattle.fsc_tool.specs.declared.form.Seeding.{Seeding}
-use Rattle.fsc_tool.specs.declared.form.Seeding.TheVariants.{Given, Asked}
+use Rattle.fsc_tool.specs.declared.form.Way.TheVariants.{InThreads}
 use Rattle.fsc_tool.specs.declared.form.ToolForm.{ToolForm}
-use Rattle.fsc_tool.specs.declared.form.ToolForm.TheVariants.{Replay, Generate, Summarise, Dump, Inspect, Check, ReplayLinked}
-
--- the seed that is given: `--seed` and 32 bytes in 64 digits of either case
-abbrev pub seed_given : List (List ℕ) → Option (List ℕ)
-seed_given (name ∷ digits ∷ []) =
-    if bytes_eq name (codes "--seed") then hex_bytes_of_length 32 digits else None
-seed_given _ = None
-
--- where the seed comes from: no word, or a given one
-abbrev pub seeding_of : List (List ℕ) → Option Seeding
-seeding_of [] = Some Asked
-seeding_of words = option_map Given (seed_given words)
-
-abbrev pub replayed : Way → Option Seeding → Option ToolForm
-replayed way None = None
-replayed way (Some seeding) = Some (Replay way seeding)
-
--- behind `replay`
-abbrev pub replay_of : List (List ℕ) → Option ToolForm
-replay_of [] = replayed InThreads (Some Asked)
-replay_of (word ∷ words) =
-    if bytes_eq word (codes "--serial") then replayed InTurn (seeding_of words)
-    else replayed InThreads (seeding_of (word ∷ words))
+use Rattle.fsc_tool.specs.declared.form.ToolForm.TheVariants.{Replay, Generate, Summarise, Dump, Inspect}
+use Rattle.fsc_tool.specs.declared.form.ToolForm.TheVariants.{Check, ReplayLinked}
+use Rattle.fsc_tool.specs.ReplayForms.{seed_given, replay_of, linked_of}
 
 -- behind `gen` and the number
 abbrev pub generated_behind : List (List ℕ) → ℕ → Option ToolForm
@@ -60,17 +36,6 @@ abbrev pub inspected_of : List (List ℕ) → Option ToolForm
 inspected_of [] = Some (Inspect None)
 inspected_of (word ∷ []) = inspected_with (key_ref_of word)
 inspected_of _ = None
-
-abbrev pub replayed_linked : Way → Option (List ℕ) → Option ToolForm
-replayed_linked way None = None
-replayed_linked way (Some seed) = Some (ReplayLinked way seed)
-
--- behind `replay-linked`
-abbrev pub linked_of : List (List ℕ) → Option ToolForm
-linked_of [] = None
-linked_of (word ∷ words) =
-    if bytes_eq word (codes "--serial") then replayed_linked InTurn (seed_given words)
-    else replayed_linked InThreads (seed_given (word ∷ words))
 
 -- what the words ask for, where they are a form
 abbrev pub form_of : List (List ℕ) → Option ToolForm

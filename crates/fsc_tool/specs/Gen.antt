@@ -9,9 +9,9 @@ use Rattle.reply_text.specs.Log.{log_text}
 use Rattle.reply_text.specs.Notes.{notes_text}
 use Rattle.fsc_tool.specs.declared.status.Status.{Status}
 use Rattle.fsc_tool.specs.declared.status.Status.TheVariants.{Done}
-use Rattle.fsc_session.specs.Session.{notes_of}
+use Rattle.fsc_session.specs.ScriptRun.{notes_of}
 use Rattle.fsc_session.specs.Serial.{serial_history}
-use Rattle.fsc_tool.specs.Ends.{EndsUnread}
+use Rattle.fsc_tool.specs.TextEnds.{EndsUnread}
 use Rattle.fsc_tool.specs.Outside.{Outside}
 use Rattle.fsc_tool.specs.Replay.{IsOrNoMemory}
 use Rattle.script_runs.specs.Runs.{IsSerialRun}

@@ -1,10 +1,16 @@
 pub mod CheckLaws
+pub mod CertificateEnds
+pub mod CheckStatus
 pub mod Checking
+pub mod TextEnds
+pub mod ReadEnds
 pub mod Ends
 pub mod Faults
+pub mod ReplayForms
 pub mod Forms
 pub mod Gen
 pub mod ImageOfRun
+pub mod ImageEnds
 pub mod Inspection
 pub mod Limits
 pub mod LinkedLog

@@ -6,7 +6,7 @@ use Rattle.script_lang.specs.declared.commands.Section.{Section}
 use Rattle.reply_text.specs.Log.{log_text}
 use Rattle.reply_text.specs.Notes.{notes_text}
 use Rattle.reply_text.specs.declared.notes.Note.{Note}
-use Rattle.fsc_session.specs.Session.{notes_by, notes_of}
+use Rattle.fsc_session.specs.ScriptRun.{notes_by, notes_of}
 use Rattle.linked_turns.specs.LinkedRuns.{HaveLinkedCalls, IsLinkedRun}
 use Rattle.linked_turns.specs.LinkedSerial.{linked_calls, linked_histories}
 

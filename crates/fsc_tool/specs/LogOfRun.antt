@@ -5,7 +5,7 @@ use Rattle.script_lang.specs.declared.commands.Section.{Section}
 use Rattle.reply_text.specs.Log.{log_text}
 use Rattle.reply_text.specs.Notes.{notes_text}
 use Rattle.reply_text.specs.Ranges.{EntryIsInRange}
-use Rattle.fsc_session.specs.Session.{notes_of}
+use Rattle.fsc_session.specs.ScriptRun.{notes_of}
 
 -- the text is the log of one history, which is a run of the script with the seed, has fewer entries than there are
 -- places, and holds values of the program alone, and behind it the notes of that run

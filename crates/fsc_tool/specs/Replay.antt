@@ -3,7 +3,7 @@ use Rattle.std.specs.Prelude.{◌≡◌, ◌⊎◌, ℕ, List, Some, Err}
 use Rattle.script_lang.specs.declared.commands.Section.{Section}
 use Rattle.script_lang.specs.Script.{parsed_script}
 use Rattle.fsc_outside.specs.Causes.{Rose}
-use Rattle.fsc_outside.specs.Input.{IsWithin}
+use Rattle.fsc_outside.specs.WholeTexts.{IsWithin}
 use Rattle.fsc_outside.specs.Reads.{ReadCall}
 use Rattle.fsc_tool.specs.declared.status.Status.{Status}
 use Rattle.fsc_tool.specs.declared.status.Status.TheVariants.{Done, BadLine, TooLong, NoMemory}

@@ -2,7 +2,7 @@
 use Rattle.std.specs.Prelude.{◌≡◌, ℕ, List, Ok}
 use Rattle.script_lang.specs.declared.commands.Section.{Section}
 use Rattle.script_lang.specs.Script.{parsed_script}
-use Rattle.fsc_outside.specs.Input.{ReadWhole}
+use Rattle.fsc_outside.specs.WholeTexts.{ReadWhole}
 use Rattle.fsc_outside.specs.Reads.{ReadCall}
 use Rattle.fsc_tool.specs.declared.form.Seeding.{Seeding}
 use Rattle.fsc_tool.specs.Limits.{input_limits}

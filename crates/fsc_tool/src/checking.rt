@@ -5,7 +5,8 @@ ghost use Rattle.log_check.specs.Verdicts.{Says};
 ghost use Rattle.script_lang.specs.Spelled.{IsSpelled};
 ghost use Rattle.fsc_outside.specs.Reads.{ReadCall};
 ghost use Rattle.fsc_outside.specs.States.{SeedState, SinkState};
-ghost use Rattle.fsc_tool.specs.Checking.{IsChecking, SaysOfInput, SaysOfLog};
+ghost use Rattle.fsc_tool.specs.Checking.{IsChecking};
+ghost use Rattle.fsc_tool.specs.CheckStatus.{SaysOfInput, SaysOfLog};
 ghost use Rattle.fsc_tool.specs.Outside.{outside};
 
 use crate::limits::CERTIFICATE_LIMITS;

@@ -1,9 +1,11 @@
 //! The words of the command line.
 
 ghost use Rattle.std.specs.Prelude.{◌≡◌, ◌∷◌, [], map, string_bytes};
-ghost use Rattle.fsc_tool.specs.Forms as spec;
-ghost use Rattle.fsc_tool.specs.Forms.{form_of, generated_behind, generated_of, inspected_of, linked_of, replay_of};
-ghost use Rattle.fsc_tool.specs.Forms.{seed_given, seeding_of, without_threads};
+ghost use Rattle.fsc_tool.specs.ReplayForms as spec;
+ghost use Rattle.fsc_tool.specs.Forms.{form_of, generated_behind, generated_of, inspected_of};
+ghost use Rattle.fsc_tool.specs.ReplayForms.{linked_of, replay_of};
+ghost use Rattle.fsc_tool.specs.Forms.{without_threads};
+ghost use Rattle.fsc_tool.specs.ReplayForms.{seed_given, seeding_of};
 
 use crate::seed::wipe_seeding;
 use byte_words::wipe;

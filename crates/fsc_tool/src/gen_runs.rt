@@ -6,7 +6,7 @@ ghost use Rattle.call_history.specs.Placed.{entries_of};
 ghost use Rattle.mount_model.specs.History.{is_want_of_memory};
 ghost use Rattle.reply_text.specs.Notes.{notes_text};
 ghost use Rattle.reply_text.specs.Shown.{shown_log};
-ghost use Rattle.fsc_tool.specs.Ends.{EndsUnread};
+ghost use Rattle.fsc_tool.specs.TextEnds.{EndsUnread};
 ghost use Rattle.fsc_tool.specs.Gen.{IsScriptText, SummaryOfRun, zero_seed};
 ghost use Rattle.fsc_tool.specs.Summary.{summary_text};
 

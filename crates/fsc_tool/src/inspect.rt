@@ -4,7 +4,8 @@ ghost use Rattle.std.specs.Prelude.{◌≡◌, List, IfOk, IfErr};
 ghost use Rattle.fsc_outside.specs.Reads.{ReadCall};
 ghost use Rattle.fsc_outside.specs.States.{SeedState, SinkState};
 ghost use Rattle.tree_listing.specs.Listing.{IsListing};
-ghost use Rattle.fsc_tool.specs.Inspection.{EndsInspection, HasListing, IsInspection, wiped_key};
+ghost use Rattle.fsc_tool.specs.Inspection.{EndsInspection, IsInspection, wiped_key};
+ghost use Rattle.fsc_tool.specs.ImageEnds.{HasListing};
 ghost use Rattle.fsc_tool.specs.Faults.{image_status};
 ghost use Rattle.fsc_tool.specs.Outside.{outside};
 

@@ -18,10 +18,13 @@ use Rattle.image_lines.specs.declared.place.Place.{Place}
 use Rattle.image_lines.specs.declared.place.Place.TheVariants.{AtHeader, AtRoot, InDir, Behind}
 use Rattle.image_lines.specs.Image.{Image, ImageNode}
 use Rattle.image_lines.specs.ImageText.{header, node_line, entry_line, block_line, told_kind, line_of, body_lines, node_lines}
-use Rattle.image_lines.specs.Rules.{IsEntry, IsBody, IsNode, HasGoodLines, blocks_for}
+use Rattle.image_lines.specs.Rules.{HasGoodLines}
+use Rattle.image_lines.specs.NodeRules.{IsEntry, IsBody, IsNode, blocks_for}
 use Rattle.image_lines.specs.Lines.{node_told, entry_told, block_told}
-use Rattle.image_lines.specs.Reading.{place_behind, behind_node, is_dir, is_root, next_node, step, may_end, or_fault, line_fault_from}
-use Rattle.image_lines.specs.Reading.{entries_at, blocks_at, body_at, node_at, with_node_at, nodes_at}
+use Rattle.image_lines.specs.LineFaults.{may_end, or_fault, line_fault_from}
+use Rattle.image_lines.specs.NextPlaces.{step}
+use Rattle.image_lines.specs.NodeLines.{place_behind, behind_node, is_dir, is_root, next_node}
+use Rattle.image_lines.specs.Told.{entries_at, blocks_at, body_at, node_at, with_node_at, nodes_at}
 use Rattle.image_lines.proofs.Telling.{passes}
 use Rattle.image_lines.proofs.LineLaws.{IsNodeLine, node_told_again, entry_told_again, block_told_again}
 use Rattle.image_lines.proofs.LineLaws.{node_is_no_entry, entry_is_no_node, block_is_no_node}

@@ -10,8 +10,12 @@ use Rattle.image_lines.specs.declared.place.Place.TheVariants.{AtHeader}
 use Rattle.image_lines.specs.Image.{Image, numbers_of}
 use Rattle.image_lines.specs.ImageText.{image_text}
 use Rattle.image_lines.specs.Rules.{IsImage}
-use Rattle.image_lines.specs.Reading.{child_fault, child_fault_from, image_read, line_fault, nodes_at}
-use Rattle.image_lines.specs.Places.{DoRise, IsFault, IsReadFault, node_of_place, numbers_at}
+use Rattle.image_lines.specs.Reading.{image_read}
+use Rattle.image_lines.specs.ChildFaults.{child_fault, child_fault_from}
+use Rattle.image_lines.specs.Told.{nodes_at}
+use Rattle.image_lines.specs.LineFaults.{line_fault}
+use Rattle.image_lines.specs.Places.{DoRise, node_of_place, numbers_at}
+use Rattle.image_lines.specs.ReadFaults.{IsFault, IsReadFault}
 use Rattle.image_lines.proofs.ReadingLaws.{told_from}
 use Rattle.image_lines.proofs.ImageLaws.{images_are_texts}
 

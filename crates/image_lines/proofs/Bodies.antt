@@ -16,7 +16,9 @@ use Rattle.disk_tree.specs.declared.node.Body.{Body}
 use Rattle.disk_tree.specs.declared.node.Body.TheVariants as body
 use Rattle.image_lines.specs.Image.{Image, ImageNode, numbers_of}
 use Rattle.image_lines.specs.ImageText.{told_kind, line_of}
-use Rattle.image_lines.specs.Rules.{IsEntry, IsBody, IsNode, HasGoodLines, is_entry_name, may_be_part}
+use Rattle.image_lines.specs.Rules.{HasGoodLines}
+use Rattle.image_lines.specs.NodeRules.{IsEntry, IsBody, IsNode}
+use Rattle.image_lines.specs.StoredNames.{may_be_part, is_entry_name}
 use Rattle.image_lines.proofs.Chains.{Rises, sorted_from_rises, rises_from_sorted}
 use Rattle.image_lines.proofs.LineLaws.{IsKind, IsNodeLine, IsEntryLine}
 

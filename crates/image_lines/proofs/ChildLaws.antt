@@ -12,9 +12,10 @@ use Rattle.disk_tree.specs.declared.node.Body.{Body}
 use Rattle.disk_tree.specs.declared.node.Body.TheVariants as body
 use Rattle.image_lines.specs.Image.{Image, ImageNode, numbers_of, all_entries, children_of}
 use Rattle.image_lines.specs.ImageText.{header, entry_line, block_line, body_lines, node_lines, line_of}
-use Rattle.image_lines.specs.Rules.{IsEntry, IsBody, IsNode, HasGoodChildren}
+use Rattle.image_lines.specs.Rules.{HasGoodChildren}
+use Rattle.image_lines.specs.NodeRules.{IsEntry, IsBody, IsNode}
 use Rattle.image_lines.specs.Lines.{entry_told}
-use Rattle.image_lines.specs.Reading.{may_lead_to, behind_entry, child_fault_from}
+use Rattle.image_lines.specs.ChildFaults.{may_lead_to, behind_entry, child_fault_from}
 use Rattle.image_lines.proofs.LineLaws.{entry_told_again, node_is_no_entry, block_is_no_entry}
 use Rattle.image_lines.proofs.Bodies.{entry_line_from}
 use Rattle.image_lines.proofs.ReadingLaws.{lines_of}

@@ -8,8 +8,9 @@ use Rattle.std.proofs.lemmas.List.{nil_from_length, get_or-replicate, length-rep
 use Rattle.text_words.specs.Lines.{is_line_feed, pieces_of}
 use Rattle.image_lines.specs.declared.round_of_lines.NodePlace.{NodePlace}
 use Rattle.image_lines.specs.Lines.{entry_told}
-use Rattle.image_lines.specs.Reading.{behind_entry, child_fault_from, may_lead_to}
-use Rattle.image_lines.specs.Places.{AreMarked, GoesOn, numbers_at}
+use Rattle.image_lines.specs.ChildFaults.{behind_entry, child_fault_from, may_lead_to}
+use Rattle.image_lines.specs.Places.{numbers_at}
+use Rattle.image_lines.specs.Marks.{AreMarked, GoesOn}
 use Rattle.image_lines.proofs.RoundLemmas.{shorter}
 use Rattle.image_lines.proofs.SearchLemmas.{length-numbers}
 

@@ -5,9 +5,13 @@ use Rattle.std.proofs.lemmas.List.Elements.{recursion_from_All}
 use Rattle.text_words.specs.Lines.{pieces_of}
 use Rattle.image_lines.specs.Image.{Image, numbers_of}
 use Rattle.image_lines.specs.ImageText.{header, node_lines, image_text}
-use Rattle.image_lines.specs.Rules.{IsNode, IsImage, HasGoodLines}
+use Rattle.image_lines.specs.Rules.{IsImage, HasGoodLines}
+use Rattle.image_lines.specs.NodeRules.{IsNode}
 use Rattle.image_lines.specs.declared.place.Place.TheVariants.{AtHeader}
-use Rattle.image_lines.specs.Reading.{ImagesAreTexts, child_fault, child_fault_from, image_read, line_fault, line_fault_from, nodes_at, unless_fault}
+use Rattle.image_lines.specs.Reading.{ImagesAreTexts, image_read, unless_fault}
+use Rattle.image_lines.specs.ChildFaults.{child_fault, child_fault_from}
+use Rattle.image_lines.specs.Told.{nodes_at}
+use Rattle.image_lines.specs.LineFaults.{line_fault, line_fault_from}
 use Rattle.text_words.proofs.PieceLemmas.{AreLines, pieces_of-ended, ended-from_pieces}
 use Rattle.image_lines.proofs.ReadingLaws.{lines_of, told_from}
 use Rattle.image_lines.proofs.AgainLaws.{image_again, nodes_told, are_lines}

@@ -21,8 +21,9 @@ use Rattle.image_lines.specs.declared.node_line.NodeKind.{NodeKind}
 use Rattle.image_lines.specs.declared.node_line.NodeKind.TheVariants.{Dir, File, Link}
 use Rattle.image_lines.specs.declared.node_line.NodeLine.{NodeLine}
 use Rattle.image_lines.specs.ImageText.{context_text, kind_text, node_line, entry_line, block_line}
-use Rattle.image_lines.specs.Rules.{IsContext, is_target}
-use Rattle.image_lines.specs.Lines.{◌>>=◌, passing, number_told, stored_told, is_context, context_told, file_told, link_told, kind_told}
+use Rattle.image_lines.specs.NodeRules.{IsContext}
+use Rattle.image_lines.specs.StoredNames.{is_target}
+use Rattle.image_lines.specs.Words.{◌>>=◌, passing, number_told, stored_told, is_context, context_told, file_told, link_told, kind_told}
 use Rattle.image_lines.specs.Lines.{node_of, node_of_words, entry_of_words, node_told, entry_told, block_told}
 use Rattle.text_words.proofs.PieceLemmas.{free_of_both, is_free_of, split_at, split_none}
 use Rattle.text_words.proofs.WordLemmas.{behind_again, behind_found, chose, digits_again, digits_are_free, digits_found, number_is_free}

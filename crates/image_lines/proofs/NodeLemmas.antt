@@ -13,10 +13,12 @@ use Rattle.image_lines.specs.declared.node_line.NodeLine.{NodeLine}
 use Rattle.image_lines.specs.declared.round_of_lines.NodePlace.{NodePlace}
 use Rattle.image_lines.specs.Image.{Image, ImageNode}
 use Rattle.image_lines.specs.ImageText.{image_text}
-use Rattle.image_lines.specs.Rules.{IsNode, IsImage}
+use Rattle.image_lines.specs.Rules.{IsImage}
+use Rattle.image_lines.specs.NodeRules.{IsNode}
 use Rattle.image_lines.specs.Lines.{node_told, entry_told, block_told}
 use Rattle.image_lines.specs.Nodes.{IsRestOf}
-use Rattle.image_lines.specs.Reading.{image_read, node_at, entries_at, blocks_at}
+use Rattle.image_lines.specs.Reading.{image_read}
+use Rattle.image_lines.specs.Told.{node_at, entries_at, blocks_at}
 use Rattle.image_lines.specs.Places.{node_of_place, no_node}
 use Rattle.image_lines.proofs.ImageLaws.{images_are_texts}
 use Rattle.image_lines.proofs.RoundLemmas.{dropped}

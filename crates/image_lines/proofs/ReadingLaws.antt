@@ -21,10 +21,15 @@ use Rattle.image_lines.specs.declared.place.Place.{Place}
 use Rattle.image_lines.specs.declared.place.Place.TheVariants.{AtHeader, AtRoot, InDir, Behind}
 use Rattle.image_lines.specs.Image.{Image}
 use Rattle.image_lines.specs.ImageText.{header, node_line, entry_line, block_line, told_kind, line_of, body_lines, node_lines}
-use Rattle.image_lines.specs.Rules.{IsEntry, IsBody, IsNode, HasGoodLines, is_entry_name}
-use Rattle.image_lines.specs.Lines.{◌>>=◌, passing, node_told, entry_told, block_told}
-use Rattle.image_lines.specs.Reading.{place_behind, behind_node, is_dir, is_root, next_node, next_entry, next_block, step, may_end, line_fault_from}
-use Rattle.image_lines.specs.Reading.{while_some, entries_at, blocks_at, body_at, node_at, with_node_at, nodes_at}
+use Rattle.image_lines.specs.Rules.{HasGoodLines}
+use Rattle.image_lines.specs.NodeRules.{IsEntry, IsBody, IsNode}
+use Rattle.image_lines.specs.StoredNames.{is_entry_name}
+use Rattle.image_lines.specs.Lines.{node_told, entry_told, block_told}
+use Rattle.image_lines.specs.Words.{◌>>=◌, passing}
+use Rattle.image_lines.specs.LineFaults.{may_end, line_fault_from}
+use Rattle.image_lines.specs.NextPlaces.{next_entry, next_block, step}
+use Rattle.image_lines.specs.NodeLines.{place_behind, behind_node, is_dir, is_root, next_node}
+use Rattle.image_lines.specs.Told.{while_some, entries_at, blocks_at, body_at, node_at, with_node_at, nodes_at}
 use Rattle.text_words.proofs.WordLemmas.{chose}
 use Rattle.image_lines.proofs.Telling.{was_mapped, passed}
 use Rattle.image_lines.proofs.LineLaws.{IsKind, node_told_found, entry_told_found, block_told_found}

@@ -8,7 +8,9 @@ use Rattle.image_lines.specs.declared.node_line.NodeLine.{NodeLine}
 use Rattle.image_lines.specs.declared.place.Place.{Place}
 use Rattle.image_lines.specs.declared.round_of_lines.NodePlace.{NodePlace}
 use Rattle.image_lines.specs.Lines.{node_told}
-use Rattle.image_lines.specs.Reading.{step, may_end, or_fault, line_fault_from, nodes_at, node_at, with_node_at}
+use Rattle.image_lines.specs.Told.{nodes_at, node_at, with_node_at}
+use Rattle.image_lines.specs.LineFaults.{may_end, or_fault, line_fault_from}
+use Rattle.image_lines.specs.NextPlaces.{step}
 use Rattle.image_lines.specs.Places.{node_of_place, place_told}
 use Rattle.text_words.proofs.PieceLemmas.{first_piece}
 

@@ -12,8 +12,9 @@ use Rattle.std.proofs.lemmas.List.Folds.{list_any_none, list_any_at}
 use Rattle.std.proofs.lemmas.List.Sorted.{IsNonDecreasingBy-from_default}
 use Rattle.std.proofs.lemmas.Map.Keys.{below_from_sorted}
 use Rattle.image_lines.specs.declared.round_of_lines.NodePlace.{NodePlace}
-use Rattle.image_lines.specs.Reading.{may_lead_to}
-use Rattle.image_lines.specs.Places.{numbers_at, DoRise, IsIndexOf, AreMarked}
+use Rattle.image_lines.specs.ChildFaults.{may_lead_to}
+use Rattle.image_lines.specs.Places.{numbers_at, DoRise}
+use Rattle.image_lines.specs.Marks.{IsIndexOf, AreMarked}
 
 pub length-numbers : (places : List NodePlace) → length (numbers_at places) ≡ length places
 length-numbers [] = refl

@@ -15,7 +15,7 @@ use Rattle.text_words.proofs.DigitLemmas.{was_ok}
 use Rattle.text_words.proofs.NumberLemmas.{number_below-decimal_of, decimal_of-number_below}
 use Rattle.text_words.proofs.WordLemmas.{chose, digits_are_lower, digits_found}
 use Rattle.byte_words.specs.Bytes.{AreBytes}
-use Rattle.image_lines.specs.Lines.{◌>>=◌, passing, number_told, stored_told}
+use Rattle.image_lines.specs.Words.{◌>>=◌, passing, number_told, stored_told}
 
 -- ---- choices
 

@@ -1,7 +1,17 @@
 pub mod Image
 pub mod ImageText
+pub mod StoredNames
+pub mod NodeRules
 pub mod Rules
+pub mod Words
 pub mod Lines
+pub mod NodeLines
+pub mod NextPlaces
+pub mod LineFaults
+pub mod Told
+pub mod ChildFaults
 pub mod Reading
+pub mod Marks
+pub mod ReadFaults
 pub mod Places
 pub mod Nodes

@@ -3,7 +3,7 @@ use Rattle.std.specs.Prelude.{◌≡◌, ◌-◌, ℕ, List, length, drop}
 use Rattle.text_words.specs.Lines.{pieces_of}
 use Rattle.image_lines.specs.declared.image.NodeText.{NodeText}
 use Rattle.image_lines.specs.Image.{ImageNode}
-use Rattle.image_lines.specs.Reading.{node_at}
+use Rattle.image_lines.specs.Told.{node_at}
 
 -- the node
 abbrev pub node_in : NodeText → ImageNode

@@ -7,7 +7,9 @@ ghost use Rattle.image_lines.specs.ImageText.{image_text};
 ghost use Rattle.image_lines.specs.Rules.{IsImage};
 ghost use Rattle.image_lines.specs.Reading.{image_read};
 ghost use Rattle.image_lines.specs.Nodes.{IsRestOf, node_in};
-ghost use Rattle.image_lines.specs.Places.{IsIndexOf, IsReadFault, node_of_place};
+ghost use Rattle.image_lines.specs.Places.{node_of_place};
+ghost use Rattle.image_lines.specs.ReadFaults.{IsReadFault};
+ghost use Rattle.image_lines.specs.Marks.{IsIndexOf};
 ghost use Rattle.image_lines.specs.declared.fault.ImageFault.TheVariants.{NoMemory};
 ghost use Rattle.image_lines.specs.declared.TheConstants.{MOST_IMAGE_BYTES};
 

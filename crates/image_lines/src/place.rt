@@ -2,9 +2,11 @@
 
 ghost use Rattle.std.specs.Prelude.{◌≡◌, ◌≤◌};
 ghost use Rattle.image_lines.specs.declared.place.Place.TheVariants.{AtHeader, AtRoot};
-ghost use Rattle.image_lines.specs.Rules as rules;
-ghost use Rattle.image_lines.specs.Reading as spec;
-ghost use Rattle.image_lines.specs.Reading.{step};
+ghost use Rattle.image_lines.specs.NodeRules as rules;
+ghost use Rattle.image_lines.specs.NodeLines as nodes;
+ghost use Rattle.image_lines.specs.NextPlaces as places;
+ghost use Rattle.image_lines.specs.LineFaults as spec;
+ghost use Rattle.image_lines.specs.NextPlaces.{step};
 
 use crate::lines::{read_block_line, read_entry_line, read_node_line};
 use crate::node_line::{NodeKind, NodeLine, StoredBytes};
@@ -94,7 +96,7 @@ fn at_root(line: &[u8]) -> Option<Place>
 
 // The place behind the line of a node of a greater number.
 fn next_node(number: u32, line: &[u8]) -> Option<Place>
-    ensures { result ≡ spec.next_node number line.now }
+    ensures { result ≡ nodes.next_node number line.now }
 {
     let NodeLine {
         number: next,
@@ -115,7 +117,7 @@ fn next_entry(
     last: &StoredBytes,
     name: &StoredBytes,
 ) -> Option<Place>
-    ensures { result ≡ spec.next_entry number under_policy last.now name.now }
+    ensures { result ≡ places.next_entry number under_policy last.now name.now }
 {
     if is_entry_name(under_policy, name.bytes()) && last.bytes().cmp(name.bytes()).is_lt() {
         Some(Place::InDir {
@@ -131,7 +133,7 @@ fn next_entry(
 // The place behind a block, of which so many are still to come.
 fn next_block(number: u32, left: u32, line: &[u8]) -> Option<Place>
     requires { 1 ≤ left }
-    ensures { result ≡ spec.next_block number left line.now }
+    ensures { result ≡ places.next_block number left line.now }
 {
     read_block_line(line)?;
     Some(Place::Behind {
@@ -142,7 +144,7 @@ fn next_block(number: u32, left: u32, line: &[u8]) -> Option<Place>
 
 // The place behind the line of a node.
 fn place_behind(number: u32, under_policy: bool, kind: NodeKind) -> Place
-    ensures { result ≡ spec.place_behind number under_policy kind }
+    ensures { result ≡ nodes.place_behind number under_policy kind }
 {
     match kind {
         NodeKind::Dir => Place::InDir {

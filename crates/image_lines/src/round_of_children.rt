@@ -4,8 +4,10 @@ ghost use Rattle.std.specs.Prelude.{◌≡◌, ◌≤◌, ℕ, List, [], ◌∷�
 ghost use Rattle.std.specs.Bool.{OnTrue};
 ghost use Rattle.text_words.specs.Lines.{pieces_of};
 ghost use Rattle.image_lines.specs.Lines.{entry_told};
-ghost use Rattle.image_lines.specs.Reading.{child_fault_from, may_lead_to};
-ghost use Rattle.image_lines.specs.Places.{AreMarked, DoRise, GoesOn, IsFault, IsIndexOf, numbers_at};
+ghost use Rattle.image_lines.specs.ChildFaults.{child_fault_from, may_lead_to};
+ghost use Rattle.image_lines.specs.Places.{DoRise, numbers_at};
+ghost use Rattle.image_lines.specs.ReadFaults.{IsFault};
+ghost use Rattle.image_lines.specs.Marks.{AreMarked, GoesOn, IsIndexOf};
 ghost use Rattle.image_lines.specs.declared.TheConstants.{MOST_IMAGE_BYTES};
 
 use crate::MOST_IMAGE_BYTES;

@@ -3,8 +3,10 @@
 ghost use Rattle.std.specs.Prelude.{◌≡◌, ◌≤◌, ◌++◌, None, map, length, IfOk, IfErr, OnOk};
 ghost use Rattle.text_words.specs.Lines.{pieces_of};
 ghost use Rattle.image_lines.specs.Lines.{node_told};
-ghost use Rattle.image_lines.specs.Reading.{line_fault, nodes_at};
-ghost use Rattle.image_lines.specs.Places.{IsFault, node_of_place, place_told};
+ghost use Rattle.image_lines.specs.Told.{nodes_at};
+ghost use Rattle.image_lines.specs.LineFaults.{line_fault};
+ghost use Rattle.image_lines.specs.Places.{node_of_place, place_told};
+ghost use Rattle.image_lines.specs.ReadFaults.{IsFault};
 ghost use Rattle.image_lines.specs.declared.TheConstants.{MOST_IMAGE_BYTES};
 
 use crate::MOST_IMAGE_BYTES;

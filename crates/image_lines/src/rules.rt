@@ -1,7 +1,7 @@
 //! Which bytes may stand as a name or a target.
 
 ghost use Rattle.std.specs.Prelude.{◌≡◌};
-ghost use Rattle.image_lines.specs.Rules as spec;
+ghost use Rattle.image_lines.specs.StoredNames as spec;
 
 use name_crypt::{LEAST_STORED_BYTES, MOST_NAME_BYTES};
 use text_words::may_be_part;

@@ -4,6 +4,7 @@ ghost use Rattle.std.specs.Prelude.{◌≡◌, Option, None, Some, MatchOption, 
 ghost use Rattle.std.specs.Option.{option_map};
 ghost use Rattle.text_words.specs.Words.{words_of};
 ghost use Rattle.image_lines.specs.Lines as spec;
+ghost use Rattle.image_lines.specs.Words as told;
 
 use crate::node_line::{EntryLine, NodeKind, NodeLine, StoredBytes};
 use crate::rules::is_target;
@@ -69,7 +70,7 @@ fn node_words(text: &[u8]) -> Option<NodeWords<'_>>
 
 // At most 255 bytes, in lower-case digits.
 fn stored_told(word: &[u8]) -> Option<StoredBytes>
-    ensures { result ≡ spec.stored_told word.now }
+    ensures { result ≡ told.stored_told word.now }
 {
     let len = word.len() / 2;
     if len > MOST_NAME_BYTES {
@@ -84,7 +85,7 @@ fn stored_told(word: &[u8]) -> Option<StoredBytes>
 
 // A context in its 80 digits, or `-` for none.
 fn context_told(word: &[u8]) -> Option<Option<[u8; CONTEXT_LEN]>>
-    ensures { result ≡ spec.context_told word.now }
+    ensures { result ≡ told.context_told word.now }
 {
     if word == b"-".as_slice() {
         return Some(None);
@@ -98,7 +99,7 @@ fn context_told(word: &[u8]) -> Option<Option<[u8; CONTEXT_LEN]>>
 
 // What a word tells a node to be, with the one behind the context, where there is one.
 fn kind_told(word: &[u8], under_policy: bool, last: Option<&[u8]>) -> Option<NodeKind>
-    ensures { result ≡ spec.kind_told word.now under_policy (option_map (λ last. last.now) last.entry) }
+    ensures { result ≡ told.kind_told word.now under_policy (option_map (λ last. last.now) last.entry) }
 {
     match last {
         None if word == b"dir".as_slice() => Some(NodeKind::Dir),
@@ -109,7 +110,7 @@ fn kind_told(word: &[u8], under_policy: bool, last: Option<&[u8]>) -> Option<Nod
 }
 
 fn file_told(word: &[u8]) -> Option<NodeKind>
-    ensures { result ≡ spec.file_told word.now }
+    ensures { result ≡ told.file_told word.now }
 {
     let size = decimal_value(word)?;
     if size as usize > MOST_FILE_BYTES {
@@ -119,7 +120,7 @@ fn file_told(word: &[u8]) -> Option<NodeKind>
 }
 
 fn link_told(under_policy: bool, word: &[u8]) -> Option<NodeKind>
-    ensures { result ≡ spec.link_told under_policy word.now }
+    ensures { result ≡ told.link_told under_policy word.now }
 {
     let target = stored_told(word)?;
     if !is_target(under_policy, target.bytes()) {

@@ -18,9 +18,11 @@ use Rattle.user_claims.proofs.ClaimOrder.{id_cmp_total, id_cmp-IsAntisymmetric, 
 use Rattle.user_claims.proofs.SubMaps.{get-part}
 use Rattle.inode_refs.specs.declared.node_key.NodeKey.{NodeKey}
 use Rattle.inode_refs.specs.declared.users.Users.{Users}
-use Rattle.inode_refs.specs.Cached.{Cache, KeyMap, PinMap, key_at, pins_at, with_pins, given, is_unpinned, has_id, users_of}
+use Rattle.inode_refs.specs.Cached.{Cache, KeyMap, PinMap, key_at, pins_at, with_pins, given}
+use Rattle.inode_refs.specs.Evictions.{is_unpinned, has_id, users_of}
 use Rattle.inode_refs.specs.Kept.{KeyBox, keys_of, pins_in}
-use Rattle.inode_refs.specs.Users.{id_at, user_at, coming, leaving, one_for, AreCounted, HasOneMore, HasOneLess, HasOther, IsCountedFor}
+use Rattle.inode_refs.specs.Users.{one_for, AreCounted, HasOneMore, HasOneLess, HasOther, IsCountedFor}
+use Rattle.inode_refs.specs.KeyUsers.{id_at, user_at, coming, leaving}
 
 -- ---- the counts
 

@@ -1,40 +1,19 @@
 -- How the nodes that hold a key are counted: beside the cache, by the identifiers of their keys.
-use Rattle.std.specs.Prelude.{◌≡◌, ℕ, ◌+◌, ◌<◌, true, ◌==◌, if◌then◌else◌}
-use Rattle.std.specs.Prelude.{Option, Some, None, is_some, option_map, unwrap_or}
+use Rattle.std.specs.Prelude.{◌≡◌, ℕ, ◌+◌, ◌<◌, true, if◌then◌else◌, Option, Some, None, unwrap_or}
 use Rattle.std.specs.BTreeMap.{get}
 use Rattle.std.specs.FinMap as map
 use Rattle.policy_ctx.specs.declared.policy.KeyId.{KeyId}
 use Rattle.policy_ctx.specs.KeyIds.{same_id}
 use Rattle.key_counts.specs.Counted.{counted}
 use Rattle.user_claims.specs.Claims.{id_cmp}
-use Rattle.inode_refs.specs.declared.node_key.NodeKey.{NodeKey}
 use Rattle.inode_refs.specs.declared.users.Users.{Users}
-use Rattle.inode_refs.specs.Cached.{Cache, PinMap, key_at, pins_of, is_unpinned, users_of}
-
--- the identifier of the node's key
-abbrev pub id_at : Cache → ℕ → Option KeyId
-id_at cache node = option_map (λ key. key.id) (key_at cache node)
-
--- the identifier for which the node counts: that of its key, where it has pins
-abbrev pub user_at : Cache → ℕ → Option KeyId
-user_at cache node = if is_unpinned cache node then None else id_at cache node
-
--- the identifier for which the node counts from its next pin on, with the key that comes with that;
--- none where it counts already
-abbrev pub coming : Cache → ℕ → Option NodeKey → Option KeyId
-coming cache node key = if is_some (user_at cache node) then None else
-    if is_some (id_at cache node) then id_at cache node else option_map (λ k. k.id) key
-
--- the identifier for which the node counts no longer once a pin goes
-abbrev pub leaving : Cache → ℕ → Option KeyId
-leaving cache node = if pins_of cache node == 1 then id_at cache node else None
+use Rattle.inode_refs.specs.Cached.{Cache, PinMap}
+use Rattle.inode_refs.specs.Evictions.{users_of}
 
 -- one for the identifier, where there is one
 abbrev pub one_for : Option KeyId → KeyId → ℕ
 one_for None q = 0
 one_for (Some id) q = if same_id id q then 1 else 0
-
--- ---- counts
 
 -- there is the count of each identifier, where users are counted
 abbrev pub AreCounted : Users → (KeyId → ℕ) → Type 0

@@ -5,10 +5,10 @@ ghost use Rattle.std.specs.Prelude.{option_copied, is_some, is_none, IsSome, IfS
 ghost use Rattle.std.specs.Option.{option_map};
 ghost use Rattle.std.specs.FinMap as map;
 ghost use Rattle.byte_words.specs.Bytes.{AreBytes};
-ghost use Rattle.inode_refs.specs.Cached.{no_cache, key_at, pins_of, with_pins, users_of, is_unpinned};
-ghost use Rattle.inode_refs.specs.Cached.{given, evicted, all_evicted};
+ghost use Rattle.inode_refs.specs.Cached.{no_cache, key_at, pins_of, with_pins, given};
+ghost use Rattle.inode_refs.specs.Evictions.{users_of, is_unpinned, evicted, all_evicted};
 ghost use Rattle.inode_refs.specs.Ciphers.{names_key_at};
-ghost use Rattle.inode_refs.specs.Users.{id_at};
+ghost use Rattle.inode_refs.specs.KeyUsers.{id_at};
 
 use crate::kept::{Keys, discard, forget, goes, is_pinned, keep_in, pin_in, stays_for, users_in};
 use crate::node_key::NodeKey;

@@ -1,7 +1,7 @@
 //! For which identifier a node counts as a user, before and after its pins change.
 
 ghost use Rattle.std.specs.Prelude.{◌≡◌};
-ghost use Rattle.inode_refs.specs.Users.{user_at, coming, leaving};
+ghost use Rattle.inode_refs.specs.KeyUsers.{user_at, coming, leaving};
 
 use crate::cache::InodeCache;
 use crate::node_key::NodeKey;

@@ -15,7 +15,8 @@ use Rattle.key_counts.proofs.CountLemmas.{tied}
 use Rattle.key_counts.proofs.ShownLemmas.{get-shown, shown-inserted, shown-removed}
 use Rattle.key_ring.specs.KeptModes.{ModeBox, modes_of}
 use Rattle.key_ring.specs.declared.mode_key.ModeKey.{ModeKey}
-use Rattle.key_ring.specs.Modes.{ModeMap, users_in, more_users, with_users, one_user_less, without_user, IsUsed, AreUsed}
+use Rattle.key_ring.specs.Modes.{ModeMap}
+use Rattle.key_ring.specs.ModeUsers.{users_in, more_users, with_users, one_user_less, without_user, IsUsed, AreUsed}
 
 is_some_of : {X : Type 0} (x y : X) → Some x ≡ Some y → x ≡ y
 is_some_of x y e = ap (λ o. option_map_or (λ v. v) o x) e

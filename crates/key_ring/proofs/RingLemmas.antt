@@ -7,7 +7,8 @@ use Rattle.std.proofs.lemmas.Bool.{cases_Bool, cond-true, cond-false, or_right, 
 use Rattle.policy_ctx.specs.declared.policy.KeyId.{KeyId}
 use Rattle.policy_ctx.specs.KeyIds.{same_id}
 use Rattle.policy_ctx.proofs.KeyIdLemmas.{same_id-eq, same_id-symm}
-use Rattle.user_claims.specs.Claims.{ClaimSet, id_cmp, has_claim, is_present, count_of_id, with_claim, without_claim}
+use Rattle.user_claims.specs.Claims.{ClaimSet, id_cmp, has_claim, with_claim, without_claim}
+use Rattle.user_claims.specs.ClaimCounts.{is_present, count_of_id}
 use Rattle.user_claims.proofs.ClaimOrder.{id_cmp_total, id_ties}
 use Rattle.user_claims.proofs.ClaimLemmas.{without-with_claim}
 use Rattle.user_claims.proofs.PresentLemmas.{is_present-held, is_present-some, is_present-with_claim, is_present-without_claim_other}

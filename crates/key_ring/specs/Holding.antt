@@ -2,7 +2,8 @@
 use Rattle.std.specs.Prelude.{◌≡◌, ℕ, List, Option, is_some, if◌then◌else◌}
 use Rattle.std.specs.FinMap as map
 use Rattle.policy_ctx.specs.declared.policy.KeyId.{KeyId}
-use Rattle.user_claims.specs.Claims.{ClaimSet, id_cmp, is_present}
+use Rattle.user_claims.specs.Claims.{ClaimSet, id_cmp}
+use Rattle.user_claims.specs.ClaimCounts.{is_present}
 
 -- raw keys, each under the identifier of its key
 abbrev pub SecretMap : Type 0

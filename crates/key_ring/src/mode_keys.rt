@@ -3,8 +3,8 @@
 ghost use Rattle.std.specs.Prelude.{◌≡◌, ◌+◌, ◌<◌, ◌≤◌, ◌^◌, IsSome, IsOk, OnOk, OnErr, option_copied};
 ghost use Rattle.std.specs.Option.{option_map};
 ghost use Rattle.std.specs.FinMap as map;
-ghost use Rattle.key_ring.specs.Modes.{no_modes, of_kind, with_kind, mode_at, users_in, users_of};
-ghost use Rattle.key_ring.specs.Modes.{with_users, without_user, AreUsed};
+ghost use Rattle.key_ring.specs.Modes.{no_modes, of_kind, with_kind, mode_at};
+ghost use Rattle.key_ring.specs.ModeUsers.{users_in, users_of, with_users, without_user, AreUsed};
 ghost use Rattle.key_ring.specs.KeptModes.{modes_of};
 
 use super::mode_key::ModeKey;
@@ -41,7 +41,8 @@ impl Model for ModeKeys {
     ghost use Rattle.std.specs.FinMap.{code};
     ghost use Rattle.policy_ctx.specs.contracts.policy.KeyId as key;
     ghost use Rattle.key_ring.specs.contracts.mode_key.ModeKey as mode;
-    ghost use Rattle.key_ring.specs.Modes.{Modes, ModeMap, AreUsed};
+    ghost use Rattle.key_ring.specs.Modes.{Modes, ModeMap};
+    ghost use Rattle.key_ring.specs.ModeUsers.{AreUsed};
     ghost use Rattle.key_ring.specs.KeptModes.{modes_of};
 
     ghost Value = { Modes };

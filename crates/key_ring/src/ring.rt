@@ -3,8 +3,8 @@
 ghost use Rattle.std.specs.Prelude.{◌≡◌, ◌↔◌, IsTrue, IsOk, IsErrOf, IfOk, OnOk, OnErr, option_copied};
 ghost use Rattle.std.specs.FinMap as map;
 ghost use Rattle.fsc_keys.specs.Keys.{key_id_of};
-ghost use Rattle.user_claims.specs.Claims.{IsOverQuota, no_claims, has_claim, count_of_id};
-ghost use Rattle.user_claims.specs.Claims.{with_claim, without_claim, without_id};
+ghost use Rattle.user_claims.specs.Claims.{no_claims, has_claim, with_claim, without_claim, without_id};
+ghost use Rattle.user_claims.specs.ClaimCounts.{IsOverQuota, count_of_id};
 ghost use Rattle.key_ring.specs.Holding.{secret_of, secrets_left, HoldsClaimedSecrets};
 
 use super::secrets;

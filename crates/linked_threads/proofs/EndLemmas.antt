@@ -7,7 +7,7 @@ use Rattle.mount_shared.specs.SharedCalls.{MountPass}
 use Rattle.script_lang.specs.declared.commands.Section.{Section}
 use Rattle.reply_text.specs.Shown.{PlacedShown, shown_calls, shown_history}
 use Rattle.reply_text.specs.declared.notes.Note.{Note}
-use Rattle.fsc_session.specs.Session.{IsRunOfCaller, notes_by}
+use Rattle.fsc_session.specs.ScriptRun.{IsRunOfCaller, notes_by}
 use Rattle.fsc_session.proofs.ShownRuns.{entries_by-shown}
 use Rattle.linked_turns.specs.declared.told.LinkedTold.{LinkedTold}
 use Rattle.linked_turns.specs.Parts.{is_even}

@@ -1,11 +1,12 @@
 -- Passes to both mounts that were cut, whose halves ran, and which were joined.
 use Rattle.std.proofs.Common.{◌≡◌, ℕ, ◌+◌, ◌*◌, ◌<◌, ◌≤◌, Bool, true, false, List, [], ◌∷◌, ◌++◌, length, refl, sym, ap, ◌∙◌, subst}
-use Rattle.turn_lock.specs.Passes.{SharedView, with_other}
+use Rattle.turn_lock.specs.Passes.{SharedView}
+use Rattle.turn_lock.specs.PassParts.{with_other}
 use Rattle.call_history.specs.Entries.{by}
 use Rattle.mount_model.specs.Port.{PlacedCalls}
 use Rattle.mount_shared.specs.SharedCalls.{MountPass}
 use Rattle.script_lang.specs.declared.commands.Section.{Section}
-use Rattle.fsc_session.specs.Session.{notes_by}
+use Rattle.fsc_session.specs.ScriptRun.{notes_by}
 use Rattle.mount_links.specs.declared.step.LinkStep.{LinkStep}
 use Rattle.fsc_commands.specs.declared.TheConstants.{MOST_CALLS}
 use Rattle.script_runs.specs.Passes.{AreHalves, IsAsBefore, RunFrom, Shows, calls_of}

@@ -13,7 +13,8 @@ use Rattle.reply_text.specs.Shown.{PlacedShown, shown_calls}
 use Rattle.fsc_session.specs.Session.{IsRunOfSection, notes_of_section}
 use Rattle.mount_links.specs.declared.step.LinkStep.{LinkStep}
 use Rattle.mount_links.specs.Linked.{own_parts, far_parts}
-use Rattle.mount_links.specs.LinkCalls.{LinkCame, LinkView, link_view, load_call, load_shown}
+use Rattle.mount_links.specs.LinkCalls.{LinkCame, LinkView, link_view, load_call}
+use Rattle.mount_links.specs.ShownParts.{load_shown}
 use Rattle.mount_links.proofs.ShownLemmas.{shows_both}
 use Rattle.linked_turns.specs.declared.told.LinkedTold.{LinkedTold}
 use Rattle.linked_turns.specs.Parts.{HasParts, is_even}

@@ -6,7 +6,7 @@ use Rattle.mount_model.specs.Port.{PlacedCalls}
 use Rattle.script_lang.specs.declared.commands.Section.{Section}
 use Rattle.reply_text.specs.Shown.{PlacedShown, shown_history}
 use Rattle.reply_text.specs.declared.notes.Note.{Note}
-use Rattle.fsc_session.specs.Session.{notes_by}
+use Rattle.fsc_session.specs.ScriptRun.{notes_by}
 use Rattle.linked_turns.specs.LinkedRuns.{HaveLinkedCalls}
 
 -- there are two histories that have the callers' calls, each caller's those of its section, and no other

@@ -7,7 +7,7 @@ use Rattle.mount_shared.specs.SharedCalls.{MountPass}
 use Rattle.reply_text.specs.Shown.{PlacedShown, ShownHistory}
 use Rattle.script_lang.specs.declared.commands.Section.{Section}
 use Rattle.fsc_commands.specs.declared.TheConstants.{MOST_CALLS}
-use Rattle.fsc_session.specs.Session.{notes_by}
+use Rattle.fsc_session.specs.ScriptRun.{notes_by}
 use Rattle.mount_links.specs.declared.step.LinkStep.{LinkStep}
 use Rattle.script_runs.specs.Passes.{CanRun, IsAsBefore, RunFrom, Shows, calls_of}
 use Rattle.linked_turns.specs.declared.told.LinkedTold.{LinkedTold}

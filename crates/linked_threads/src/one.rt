@@ -2,7 +2,8 @@
 
 ghost use Rattle.std.specs.Prelude.{◌≡◌, true, false, [], length, IfOk};
 ghost use Rattle.fsc_commands.specs.declared.TheConstants.{MOST_CALLS};
-ghost use Rattle.mount_links.specs.LinkCalls.{link_view, load_shown};
+ghost use Rattle.mount_links.specs.LinkCalls.{link_view};
+ghost use Rattle.mount_links.specs.ShownParts.{load_shown};
 ghost use Rattle.mount_links.specs.Linked.{far_parts, own_parts};
 ghost use Rattle.script_runs.specs.Passes.{calls_needed};
 ghost use Rattle.linked_turns.specs.Parts.{is_even};

@@ -13,18 +13,19 @@ use Rattle.fsc_commands.specs.Steps.{Steps, Reaches}
 use Rattle.fsc_commands.specs.Steps.Steps.{Done}
 use Rattle.fsc_session.specs.Asking.{AsksRightly}
 use Rattle.reply_text.specs.declared.notes.Note.{Note}
-use Rattle.fsc_session.specs.Running.{RunnerView}
+use Rattle.fsc_session.specs.Runners.{RunnerView}
 use Rattle.fsc_session.specs.Rotation.{Waiting, longest, rotation_steps}
 use Rattle.mount_links.specs.declared.step.LinkStep.{LinkStep}
 use Rattle.mount_links.specs.Linked.{own_parts, far_parts}
-use Rattle.mount_links.specs.LinkCalls.{load_shown}
+use Rattle.mount_links.specs.ShownParts.{load_shown}
 use Rattle.mount_links.proofs.ShownLemmas.{shows_both}
 use Rattle.script_runs.specs.Callers.{fresh_runners, noted_by, shown_by}
-use Rattle.script_runs.specs.Turns.{At}
+use Rattle.script_runs.specs.MountPlaces.{At}
 use Rattle.script_runs.proofs.CallerLemmas.{alike, noted_all, rotates_first, run_of}
 use Rattle.linked_turns.specs.declared.runners.LinkedRunner.{LinkedRunner}
 use Rattle.linked_turns.specs.LinkedRuns.{TellsLinkedRun}
-use Rattle.linked_turns.specs.LinkedSerial.{two, histories, linked_calls, linked_histories}
+use Rattle.linked_turns.specs.LinkedSerial.{histories, linked_calls, linked_histories}
+use Rattle.linked_turns.specs.TwoMounts.{two}
 use Rattle.linked_turns.specs.Parts.{HasParts, is_even}
 use Rattle.linked_turns.proofs.SerialLemmas.{GoesOn, calls_from, linked_from}
 use Rattle.linked_turns.proofs.TurnLemmas.{nobody_at, runner_at}

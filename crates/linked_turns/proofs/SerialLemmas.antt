@@ -26,11 +26,14 @@ use Rattle.mount_links.specs.declared.asked.Asked.{Asked}
 use Rattle.mount_links.specs.declared.asked.Asked.TheVariants.{Load, Store, Other}
 use Rattle.mount_links.specs.declared.step.LinkStep.{LinkStep}
 use Rattle.mount_links.specs.declared.step.LinkStep.TheVariants.{Alone, Followed, Looked, NotMade}
-use Rattle.mount_links.specs.Linked.{asked_of, load_asked, store_asked, is_link, IsStepOf, own_part, far_part}
+use Rattle.mount_links.specs.Linked.{own_part, far_part}
+use Rattle.mount_links.specs.LinkSteps.{asked_of, load_asked, store_asked, is_link, IsStepOf}
 use Rattle.mount_links.specs.LinkCalls.{load_call}
 use Rattle.mount_links.proofs.NameLemmas.{asked_back}
 use Rattle.linked_turns.specs.Parts.{is_even, IsLinkedStep, AreLinked, part_0, part_1, parts_0, parts_1}
-use Rattle.linked_turns.specs.LinkedSerial.{TwoMounts, two, LinkedAnswer, TwoHistories, histories, behind, on_mount_0, on_mount_1, linked_by, linked_answer, linked_played, calls_played}
+use Rattle.linked_turns.specs.LinkedSerial.{TwoHistories, histories, linked_played, calls_played}
+use Rattle.linked_turns.specs.LinkedAnswers.{linked_by, linked_answer}
+use Rattle.linked_turns.specs.TwoMounts.{TwoMounts, two, LinkedAnswer, behind, on_mount_0, on_mount_1}
 
 -- ---- an answered entry
 

@@ -13,7 +13,7 @@ use Rattle.mount_links.specs.Linked.{own_part, own_parts, far_part, far_parts}
 use Rattle.mount_links.specs.LinkCalls.{AreSteps, LinkCame, LinkView, link_view, load_call}
 use Rattle.linked_turns.specs.declared.runners.LinkedRunner.{LinkedRunner}
 use Rattle.linked_turns.specs.Parts.{AreLinked, HasParts, IsLinkedStep, is_even, part_0, part_1, parts_0, parts_1}
-use Rattle.script_runs.specs.Turns.{At, Goes, at}
+use Rattle.script_runs.specs.MountPlaces.{At, Goes, at}
 use Rattle.script_runs.proofs.RoundLemmas.{goes_by, taken_by}
 use Rattle.linked_turns.specs.Turns.{TurnMade}
 

@@ -9,11 +9,12 @@ use Rattle.mount_model.specs.History.{History}
 use Rattle.mount_model.specs.Port.{PlacedCalls}
 use Rattle.script_lang.specs.declared.commands.Section.{Section}
 use Rattle.fsc_commands.specs.Steps.{Steps}
-use Rattle.fsc_session.specs.Running.{RunnerView, state_of}
+use Rattle.fsc_session.specs.Runners.{RunnerView, state_of}
 use Rattle.fsc_session.specs.Rotation.{Waiting, round_steps}
 use Rattle.mount_links.specs.declared.step.LinkStep.{LinkStep}
-use Rattle.mount_links.specs.PortLaws.{AreSteps-append, own_parts-append, far_parts-append}
-use Rattle.script_runs.specs.Turns.{At, Rotates}
+use Rattle.mount_links.specs.StepLaws.{AreSteps-append, own_parts-append, far_parts-append}
+use Rattle.script_runs.specs.Turns.{Rotates}
+use Rattle.script_runs.specs.MountPlaces.{At}
 use Rattle.script_runs.proofs.RoundLemmas.{stands_on}
 use Rattle.script_runs.proofs.TurnLemmas.{each_set, other_behind, own_behind, past_set, rotates_on, turns_in}
 use Rattle.linked_turns.specs.declared.runners.LinkedRunner.{LinkedRunner}

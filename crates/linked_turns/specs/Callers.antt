@@ -2,10 +2,10 @@
 use Rattle.std.specs.Prelude.{ℕ, ◌+◌, Bool, true, false, List, [], ◌∷◌, map}
 use Rattle.script_lang.specs.declared.commands.Section.{Section}
 use Rattle.reply_text.specs.Shown.{PlacedShown}
-use Rattle.fsc_session.specs.Running.{RunnerView, runner_view}
+use Rattle.fsc_session.specs.Runners.{RunnerView, runner_view}
 use Rattle.mount_links.specs.declared.step.LinkStep.{LinkStep}
 use Rattle.mount_links.specs.Linked.{own_parts, far_parts}
-use Rattle.mount_links.specs.LinkCalls.{load_shown}
+use Rattle.mount_links.specs.ShownParts.{load_shown}
 use Rattle.linked_turns.specs.declared.runners.LinkedRunner.{LinkedRunner}
 use Rattle.linked_turns.specs.Parts.{is_even}
 

@@ -9,7 +9,7 @@ use Rattle.reply_text.specs.Shown.{PlacedShown, shown_history}
 use Rattle.reply_text.specs.declared.notes.Note.{Note}
 use Rattle.fsc_commands.specs.Steps.{Reaches}
 use Rattle.fsc_commands.specs.Steps.Steps.{Done}
-use Rattle.fsc_session.specs.Session.{IsRunOfCaller, notes_by}
+use Rattle.fsc_session.specs.ScriptRun.{IsRunOfCaller, notes_by}
 use Rattle.fsc_session.specs.Rotation.{Waiting, rotation_steps}
 use Rattle.mount_links.specs.declared.step.LinkStep.{LinkStep}
 use Rattle.linked_turns.specs.LinkedSerial.{histories, linked_calls, linked_histories}

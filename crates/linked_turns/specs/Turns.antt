@@ -5,11 +5,12 @@ use Rattle.mount_model.specs.History.{History}
 use Rattle.mount_model.specs.Port.{PlacedCalls}
 use Rattle.script_lang.specs.declared.commands.Section.{Section}
 use Rattle.fsc_commands.specs.Steps.{Steps}
-use Rattle.fsc_session.specs.Running.{state_of}
+use Rattle.fsc_session.specs.Runners.{state_of}
 use Rattle.fsc_session.specs.Rotation.{Waiting}
 use Rattle.mount_links.specs.declared.step.LinkStep.{LinkStep}
 use Rattle.script_runs.specs.Callers as runs
-use Rattle.script_runs.specs.Turns.{At, Goes, Rotates, Stands, Taken}
+use Rattle.script_runs.specs.Turns.{Rotates, Taken}
+use Rattle.script_runs.specs.MountPlaces.{At, Goes, Stands}
 use Rattle.linked_turns.specs.declared.runners.LinkedRunner.{LinkedRunner}
 use Rattle.linked_turns.specs.Callers.{runners_of}
 use Rattle.linked_turns.specs.Parts.{AreLinked, HasParts, is_even, parts_0, parts_1}

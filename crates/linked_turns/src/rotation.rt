@@ -5,7 +5,7 @@ ghost use Rattle.script_lang.specs.Spelled.{IsSpelled};
 ghost use Rattle.fsc_commands.specs.Steps.Steps.{Done};
 ghost use Rattle.fsc_session.specs.Rotation.{rounds_steps};
 ghost use Rattle.linked_turns.specs.LinkedRuns.{TellsLinkedRun};
-ghost use Rattle.script_runs.specs.Turns.{at};
+ghost use Rattle.script_runs.specs.MountPlaces.{at};
 ghost use Rattle.linked_turns.specs.Turns.{Rotating, sections_of, states_of};
 
 use crate::mounts::{Mounts, SerialMounts};

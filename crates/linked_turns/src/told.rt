@@ -1,7 +1,7 @@
 //! What the callers of a run on two mounts were told.
 
 ghost use Rattle.std.specs.Prelude.{◌≡◌, ◌++◌, IfOk, OnOk};
-ghost use Rattle.mount_links.specs.LinkCalls.{load_shown};
+ghost use Rattle.mount_links.specs.ShownParts.{load_shown};
 ghost use Rattle.mount_links.specs.Linked.{far_parts, own_parts};
 ghost use Rattle.script_runs.specs.Callers.{noted_by, shown_by};
 ghost use Rattle.linked_turns.specs.Callers.{even_shown, odd_shown, runners_of};

@@ -5,7 +5,7 @@ ghost use Rattle.fsc_commands.specs.declared.TheConstants.{MOST_CALLS};
 ghost use Rattle.fsc_session.specs.Asking.{AsksRightly};
 ghost use Rattle.mount_links.specs.LinkCalls.{link_view};
 ghost use Rattle.mount_shared.specs.SerialCalls.{serial_view};
-ghost use Rattle.script_runs.specs.Turns.{at};
+ghost use Rattle.script_runs.specs.MountPlaces.{at};
 ghost use Rattle.linked_turns.specs.Turns.{TurnMade};
 ghost use Rattle.linked_turns.specs.Parts.{is_even};
 

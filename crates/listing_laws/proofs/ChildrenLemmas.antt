@@ -15,7 +15,8 @@ use Rattle.std.proofs.lemmas.Cmp.{nat_cmp_total, tied_itself}
 use Rattle.std.proofs.lemmas.List.{map-append}
 use Rattle.std.proofs.lemmas.List.Elements.{All-from_recursion}
 use Rattle.number_map.specs.Numbered.{entries, get}
-use Rattle.plain_tree.specs.Nodes.{Name, Node, Body, Dir, File, Link, Children, children_in, children_of, entry}
+use Rattle.plain_tree.specs.Nodes.{Name, Node, Body, Dir, File, Link, Children, children_of}
+use Rattle.plain_tree.specs.NodesByNumber.{children_in, entry}
 use Rattle.plain_tree.specs.Stored.{stored_children}
 use Rattle.plain_tree.specs.Tree.{IsTree}
 use Rattle.plain_tree.proofs.ChildLemmas.{itself}

@@ -22,16 +22,19 @@ use Rattle.fsc_keys.specs.declared.file_keys.KeyKind.TheVariants.{Contents, Name
 use Rattle.name_crypt.specs.Laws.{StoredNamesAreBytes, StoredNamesFit}
 use Rattle.name_crypt.specs.Plain.{IsPlain}
 use Rattle.data_crypt.specs.Blocks.{Seal, block_count, plain_block, stored_block, stored_blocks}
-use Rattle.data_crypt.specs.Laws.{IsContentsBlock, IsKeyOfBytes}
+use Rattle.data_crypt.specs.Laws.{IsKeyOfBytes}
+use Rattle.data_crypt.specs.BlockLaws.{IsContentsBlock}
 use Rattle.data_crypt.proofs.ContentsLemmas.{get_or-blocks_by, length-blocks_by, plain_block-IsContentsBlock}
 use Rattle.data_crypt.proofs.UnitLemmas.{sealed_block-IsContentsBlock}
 use Rattle.plain_tree.specs.Nodes.{Name}
 use Rattle.plain_tree.proofs.ChildLemmas.{other_name}
 use Rattle.mount_model.specs.PlainMount.{PlainMount, Raws, raw_in}
 use Rattle.mount_model.specs.Sealed.{node_key, node_start, sealed_name}
-use Rattle.mount_model.specs.WellFormed.{IsName, IsWellFormed}
+use Rattle.mount_model.specs.WellFormed.{IsWellFormed}
+use Rattle.mount_model.specs.SoundNodes.{IsName}
 use Rattle.mount_state.specs.Stored.{contents_seal, stored_form}
-use Rattle.image_lines.specs.Rules.{IsContext, blocks_for, is_entry_name, is_slash_or_nul, is_target}
+use Rattle.image_lines.specs.NodeRules.{IsContext, blocks_for}
+use Rattle.image_lines.specs.StoredNames.{is_entry_name, is_slash_or_nul, is_target}
 use Rattle.tree_listing.proofs.Members.{In, contains_from_in}
 use Rattle.listing_laws.proofs.SightLemmas.{node_key_is_bytes}
 

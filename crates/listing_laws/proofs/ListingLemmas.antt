@@ -14,23 +14,27 @@ use Rattle.name_crypt.specs.Laws.{NamesComeBack}
 use Rattle.name_crypt.specs.Plain.{IsPlain}
 use Rattle.data_crypt.specs.Laws.{ContentsComeBack}
 use Rattle.number_map.specs.Numbered.{entries, get}
-use Rattle.plain_tree.specs.Nodes.{Name, Node, Body, Dir, File, Link, children_of, is_named, is_named_in}
+use Rattle.plain_tree.specs.Nodes.{Name, Node, Body, Dir, File, Link, children_of}
+use Rattle.plain_tree.specs.NodesByNumber.{is_named, is_named_in}
 use Rattle.plain_tree.specs.Stored.{stored_children}
 use Rattle.plain_tree.specs.Tree.{IsReached as IsNamedFrom, IsTree}
 use Rattle.mount_model.specs.PlainMount.{PlainMount, Raws}
-use Rattle.mount_model.specs.WellFormed.{HasRaw, IsBody, IsName, IsWellFormed}
+use Rattle.mount_model.specs.WellFormed.{IsWellFormed}
+use Rattle.mount_model.specs.SoundNodes.{HasRaw, IsBody, IsName}
 use Rattle.mount_state.specs.Stored.{stored_body, stored_form}
 use Rattle.image_lines.specs.Image.{ImageNode}
 use Rattle.tree_image.specs.Images.{mount_image}
 use Rattle.tree_image.specs.Order.{ordered}
 use Rattle.disk_tree.specs.Nodes.{entries_of}
-use Rattle.tree_listing.specs.Listing.{IsListing, IsReached, PlacedEntry, body_seen, entry_to, listed, place_seen}
+use Rattle.tree_listing.specs.Listing.{IsListing, body_seen, listed, place_seen}
+use Rattle.tree_listing.specs.PlacedEntries.{IsReached, PlacedEntry, entry_to}
 use Rattle.tree_listing.specs.ListingText.{ListedNode, listing_text}
 use Rattle.tree_listing.specs.ListingText as text
 use Rattle.tree_listing.proofs.Members.{In, found_in, in_flat, in_from_flat, in_from_map, in_map}
 use Rattle.tree_listing.proofs.LeadLemmas.{entry_to_from, entry_to_own}
 use Rattle.listing_laws.specs.Laws.{IsOnlyKey}
-use Rattle.listing_laws.specs.Shown.{PlacedName, body_shown, listing_shown, name_to, names_in, place_shown, placed_names, shown}
+use Rattle.listing_laws.specs.Shown.{body_shown, listing_shown, place_shown, shown}
+use Rattle.listing_laws.specs.PlacedNames.{PlacedName, name_to, names_in, placed_names}
 use Rattle.listing_laws.proofs.MapLemmas.{ordered_long, entry_from_get, get_from_entry, in_from_filter}
 use Rattle.listing_laws.proofs.PlainLemmas.{child_entry, entry_dir}
 use Rattle.listing_laws.proofs.SightLemmas.{IsGoodOrNone, digests_agree, words_agree}

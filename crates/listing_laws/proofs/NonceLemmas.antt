@@ -10,17 +10,20 @@ use Rattle.byte_words.specs.Bytes.{AreBytesOfLength}
 use Rattle.byte_words.specs.Contents.{with_bytes}
 use Rattle.policy_ctx.specs.declared.policy.Context.{Context}
 use Rattle.number_map.specs.Numbered.{empty}
-use Rattle.plain_tree.specs.Nodes.{Name, Node, Body, Dir, File, Link, context_at, is_named}
+use Rattle.plain_tree.specs.Nodes.{Name, Node, Body, Dir, File, Link}
+use Rattle.plain_tree.specs.NodesByNumber.{context_at, is_named}
 use Rattle.plain_tree.specs.Changes.{dropped, first_nodes, gone}
 use Rattle.plain_tree.proofs.FactLemmas.{IsOfBodies, each_inserted, each_made, each_dropped, each_gone, each_moved, each_written, each_encrypted}
 use Rattle.mount_model.specs.declared.call.Op.{Op}
 use Rattle.mount_model.specs.declared.call.Op.TheVariants as op
 use Rattle.mount_model.specs.declared.reply.Reply.TheVariants.{Done}
-use Rattle.mount_model.specs.PlainMount.{PlainMount, empty_mount, has_handle, without_handle}
+use Rattle.mount_model.specs.PlainMount.{PlainMount, empty_mount}
+use Rattle.mount_model.specs.OpenHandles.{has_handle, without_handle}
 use Rattle.mount_model.specs.KeyAnswers.{status_of}
-use Rattle.mount_model.specs.PolicyAnswers.{policy_in}
-use Rattle.mount_model.specs.NameAnswers.{inherited, new_node, with_node, without_name}
-use Rattle.mount_model.specs.FileAnswers.{with_closed}
+use Rattle.mount_model.specs.SpelledPolicy.{policy_in}
+use Rattle.mount_model.specs.NewNodes.{inherited, new_node, with_node}
+use Rattle.mount_model.specs.UnlinkAnswers.{without_name}
+use Rattle.mount_model.specs.CloseAnswers.{with_closed}
 use Rattle.mount_model.specs.Answered.{Answer}
 use Rattle.mount_model.specs.Answer.{answer_to}
 use Rattle.mount_model.specs.History.{History, MountEntry, is_want_of_memory, mount_from, mount_left}

@@ -5,7 +5,8 @@ use Rattle.std.specs.Map.{lookup, keys_of}
 use Rattle.std.proofs.lemmas.Bool.{cases_Bool}
 use Rattle.std.proofs.lemmas.Option.{same_Some}
 use Rattle.number_map.specs.Numbered.{get}
-use Rattle.plain_tree.specs.Nodes.{Name, Children, Node, Nodes, children, children_in, children_of, entry, is_named, is_named_in}
+use Rattle.plain_tree.specs.Nodes.{Name, Children, Node, Nodes, children_of}
+use Rattle.plain_tree.specs.NodesByNumber.{children, children_in, entry, is_named, is_named_in}
 use Rattle.plain_tree.specs.Tree.{IsTree}
 use Rattle.plain_tree.proofs.ChildLemmas.{same_name, itself, other_name}
 use Rattle.tree_listing.proofs.Members.{In, holds_in, in_map}

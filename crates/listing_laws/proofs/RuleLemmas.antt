@@ -15,15 +15,18 @@ use Rattle.name_crypt.specs.Laws.{StoredNamesAreBytes, StoredNamesFit}
 use Rattle.name_crypt.specs.NoKeyText.{nokey_text_of}
 use Rattle.name_crypt.specs.Plain.{IsPlain}
 use Rattle.number_map.specs.Numbered.{get}
-use Rattle.plain_tree.specs.Nodes.{Name, Node, Body, Dir, File, Link, children_in, children_of, context_in, is_dir, is_dir_in, is_named_in}
+use Rattle.plain_tree.specs.Nodes.{Name, Node, Body, Dir, File, Link, children_of, is_dir}
+use Rattle.plain_tree.specs.NodesByNumber.{children_in, context_in, is_dir_in, is_named_in}
 use Rattle.plain_tree.specs.Stored.{stored_children}
 use Rattle.disk_tree.specs.Nodes.{IsDir}
 use Rattle.mount_model.specs.PlainMount.{PlainMount}
 use Rattle.mount_model.specs.Sealed.{sealed_name, texts}
-use Rattle.mount_model.specs.WellFormed.{HasRaw, IsBody as IsPlainBody, IsWellFormed}
+use Rattle.mount_model.specs.WellFormed.{IsWellFormed}
+use Rattle.mount_model.specs.SoundNodes.{HasRaw, IsBody as IsPlainBody}
 use Rattle.mount_state.specs.Stored.{contents_seal, stored_body, stored_form}
 use Rattle.image_lines.specs.Image.{Image, ImageNode, numbers_of}
-use Rattle.image_lines.specs.Rules.{BeginsWithRoot, IsBody, IsContext, IsEntry, IsImage, IsNode}
+use Rattle.image_lines.specs.Rules.{BeginsWithRoot, IsImage}
+use Rattle.image_lines.specs.NodeRules.{IsBody, IsContext, IsEntry, IsNode}
 use Rattle.tree_image.specs.Images.{mount_image}
 use Rattle.tree_image.specs.Order.{in_order, ordered}
 use Rattle.tree_listing.proofs.Members.{In, all_from_in, holds_in, in_from_map, in_map}

@@ -29,7 +29,8 @@ use Rattle.script_words.specs.Word.{word_text}
 use Rattle.mount_model.specs.PlainMount.{Raws, raw_in}
 use Rattle.mount_model.specs.Sealed.{node_key, node_start, raw_for, sealed_name, texts}
 use Rattle.mount_state.specs.Stored.{contents_seal, stored_form}
-use Rattle.tree_listing.specs.Sights.{digest_seen, key_in, seal_in, sight_of, start_in, unit_in, word_or_text, word_seen, Under, Locked}
+use Rattle.tree_listing.specs.Sights.{digest_seen, sight_of, word_or_text, word_seen, Under, Locked}
+use Rattle.tree_listing.specs.DrawnKeys.{key_in, seal_in, start_in, unit_in}
 use Rattle.listing_laws.specs.Laws.{IsOnlyKey}
 use Rattle.listing_laws.specs.Shown.{digest_shown, word_shown}
 

@@ -1,3 +1,4 @@
+pub mod PlacedNames
 pub mod Shown
 pub mod Laws
 pub mod Nonces

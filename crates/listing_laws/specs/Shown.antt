@@ -1,36 +1,18 @@
 -- What a mount shows to somebody who has a raw key, or none: its nodes that have a name, as the lines of a listing.
-use Rattle.std.specs.Prelude.{ℕ, ◌==◌, Bool, false, List, length, map, filter, Option, None, Some, if◌then◌else◌}
-use Rattle.std.specs.List.{find, flat_map}
+use Rattle.std.specs.Prelude.{ℕ, Bool, false, List, length, map, filter, Option, None, Some, if◌then◌else◌}
 use Rattle.std.specs.Option.{option_map}
 use Rattle.sha2.specs.Sha256.{sha256}
 use Rattle.policy_ctx.specs.declared.policy.KeyId.{KeyId}
 use Rattle.policy_ctx.specs.declared.policy.Context.{Context}
 use Rattle.policy_ctx.specs.KeyIds.{same_id}
 use Rattle.number_map.specs.Numbered.{entries}
-use Rattle.plain_tree.specs.Nodes.{Name, Node, Nodes, Body, Dir, File, Link, children_of}
+use Rattle.plain_tree.specs.Nodes.{Name, Node, Body, Dir, File, Link}
 use Rattle.script_words.specs.Word.{word_text}
 use Rattle.mount_model.specs.PlainMount.{PlainMount, Raws}
 use Rattle.mount_model.specs.Sealed.{texts}
 use Rattle.tree_listing.specs.ListingText.{ListedBody, ListedNode, listing_text}
 use Rattle.tree_listing.specs.ListingText as listed
-
--- ---- the one name of a node
-
--- a name with the directory that has it, under its number
-abbrev pub PlacedName : Type 0
-PlacedName = (ℕ × Node) × (Name × ℕ)
-
-abbrev pub names_in : ℕ × Node → List PlacedName
-names_in dir = map (λ e. (dir, e)) (children_of dir.1.body)
-
-abbrev pub placed_names : Nodes → List PlacedName
-placed_names nodes = flat_map names_in (entries nodes)
-
--- the name that leads to node n
-abbrev pub name_to : Nodes → ℕ → Option PlacedName
-name_to nodes n = find (λ placed. placed.1.1 == n) (placed_names nodes)
-
--- ---- what is seen
+use Rattle.listing_laws.specs.PlacedNames.{PlacedName, name_to}
 
 -- whether who has the key of this identifier, or none, sees what lies under the policy of a context
 abbrev pub opens : Option KeyId → Context → Bool

@@ -3,7 +3,8 @@ use Rattle.std.proofs.Common.{◌≡◌, ℕ, ◌+◌, ◌<◌, ◌==◌, true, 
 use Rattle.std.proofs.lemmas.List.Elements.{All-nil, All-cons}
 use Rattle.std.proofs.lemmas.Bool.Decides.{nat_tests}
 use Rattle.script_words.specs.Word.{word_text, is_plain_character}
-use Rattle.script_words.specs.Path.{IsPart, IsPath, part_text, path_of, path_text, may_be_part, is_slash_or_nul}
+use Rattle.script_words.specs.Path.{IsPart, IsPath, path_of, may_be_part, is_slash_or_nul}
+use Rattle.script_words.specs.PathText.{part_text, path_text}
 use Rattle.script_words.proofs.PathLemmas.{path_of-path_text}
 use Rattle.load_gen.specs.Words.{name, directory, file, moved_file}
 

@@ -11,7 +11,8 @@ use Rattle.mount_model.specs.History.{History, entries_by}
 use Rattle.script_lang.specs.declared.commands.Section.{Section}
 use Rattle.reply_text.specs.Notes.{notes_text}
 use Rattle.reply_text.specs.declared.notes.Note.{Note}
-use Rattle.fsc_session.specs.Session.{IsRunOf, IsRunOfCaller, IsRunOfSection, section_steps, notes_of_section, notes_by, notes_of, next_call}
+use Rattle.fsc_session.specs.Session.{IsRunOfSection, section_steps, notes_of_section, next_call}
+use Rattle.fsc_session.specs.ScriptRun.{IsRunOf, IsRunOfCaller, notes_by, notes_of}
 use Rattle.fsc_session.specs.Meaning.{IsBegunBy, Follows}
 use Rattle.next_calls.specs.Callers.{CallerView}
 use Rattle.log_check.specs.Endings.{IsEnded}

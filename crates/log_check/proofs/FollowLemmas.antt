@@ -13,7 +13,8 @@ use Rattle.script_lang.specs.declared.commands.Section.{Section}
 use Rattle.fsc_commands.specs.Steps.{Steps, Reaches, next_of}
 use Rattle.fsc_commands.specs.Steps.Steps.{Done, Ask}
 use Rattle.fsc_commands.proofs.StepsLemmas.{entries_of-append}
-use Rattle.fsc_session.specs.Session.{next_call, section_steps, IsRunOf, IsRunOfCaller}
+use Rattle.fsc_session.specs.Session.{next_call, section_steps}
+use Rattle.fsc_session.specs.ScriptRun.{IsRunOf, IsRunOfCaller}
 use Rattle.fsc_session.specs.Meaning.{IsBegunBy, Follows}
 use Rattle.log_check.specs.Laws.{NextCallsFollow}
 

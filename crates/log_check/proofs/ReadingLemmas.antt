@@ -18,7 +18,8 @@ use Rattle.reply_text.specs.Log.{entry_text, log_text}
 use Rattle.reply_text.specs.Ranges.{EntryIsInRange}
 use Rattle.reply_text.specs.Shown.{line_head}
 use Rattle.fsc_session.specs.Session.{next_call}
-use Rattle.next_calls.specs.Callers.{CallerView, Awaits, call_of}
+use Rattle.next_calls.specs.Callers.{CallerView, call_of}
+use Rattle.next_calls.specs.EntriesSoFar.{Awaits}
 use Rattle.log_check.specs.Certificate.{IsPossible, BeginsWith}
 use Rattle.log_check.specs.NextLines.{IsWhose}
 use Rattle.log_check.specs.Reading.{IsCaller, StandBehind}

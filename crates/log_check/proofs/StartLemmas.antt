@@ -4,7 +4,8 @@ use Rattle.std.specs.Prelude.{slice_get}
 use Rattle.std.proofs.lemmas.Bool.{cases_lt}
 use Rattle.std.proofs.lemmas.Option.{slice_get-get_or}
 use Rattle.script_lang.specs.declared.commands.Section.{Section}
-use Rattle.next_calls.specs.Callers.{CallerView, Awaits}
+use Rattle.next_calls.specs.Callers.{CallerView}
+use Rattle.next_calls.specs.EntriesSoFar.{Awaits}
 use Rattle.log_check.specs.Reading.{IsCaller, AreCallers}
 
 -- the first so many of them

@@ -10,7 +10,8 @@ use Rattle.reply_text.specs.Log.{entry_text, log_from, log_text}
 use Rattle.reply_text.specs.Notes.{notes_text}
 use Rattle.reply_text.specs.Ranges.{EntryIsInRange}
 use Rattle.reply_text.proofs.BeginningLemmas.{beginnings_tell}
-use Rattle.fsc_session.specs.Session.{IsRunOf, notes_of, section_steps}
+use Rattle.fsc_session.specs.Session.{section_steps}
+use Rattle.fsc_session.specs.ScriptRun.{IsRunOf, notes_of}
 use Rattle.fsc_session.specs.Meaning.{IsBegunBy, Follows, whole_log}
 use Rattle.fsc_session.proofs.MeaningLemmas.{told_determines, run_follows}
 use Rattle.log_check.specs.Certificate.{AskedKeysAgree, IsPossible, BeginsWith}

@@ -11,7 +11,8 @@ use Rattle.mount_model.specs.Lawful.{IsLawful}
 use Rattle.mount_model.specs.Step.{takes_memory}
 use Rattle.script_lang.specs.declared.commands.Section.{Section}
 use Rattle.reply_text.specs.Ranges.{EntryIsInRange}
-use Rattle.fsc_session.specs.Session.{IsRunOf, next_call}
+use Rattle.fsc_session.specs.Session.{next_call}
+use Rattle.fsc_session.specs.ScriptRun.{IsRunOf}
 use Rattle.fsc_session.specs.Meaning.{Follows, whole_log}
 use Rattle.log_check.specs.Certificate.{AskedKeysAgree}
 use Rattle.log_check.specs.Verdicts.{IsRefusedAt}

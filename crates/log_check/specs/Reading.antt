@@ -2,7 +2,8 @@
 use Rattle.std.specs.Prelude.{◌≡◌, ℕ, List, length, slice_get, Some}
 use Rattle.mount_model.specs.History.{History, entries_by}
 use Rattle.script_lang.specs.declared.commands.Section.{Section}
-use Rattle.next_calls.specs.Callers.{CallerView, Awaits}
+use Rattle.next_calls.specs.Callers.{CallerView}
+use Rattle.next_calls.specs.EntriesSoFar.{Awaits}
 
 -- the caller is the script's, and awaits what comes behind its entries in the history
 pub record IsCaller (seed : List ℕ) (script : List Section) (history : History) (number : ℕ)

@@ -6,7 +6,7 @@ use Rattle.script_lang.specs.declared.commands.Section.{Section}
 use Rattle.reply_text.specs.Log.{entry_text, log_text}
 use Rattle.reply_text.specs.Notes.{notes_text}
 use Rattle.reply_text.specs.Ranges.{EntryIsInRange}
-use Rattle.fsc_session.specs.Session.{IsRunOf, notes_of}
+use Rattle.fsc_session.specs.ScriptRun.{IsRunOf, notes_of}
 use Rattle.fsc_session.specs.Meaning.{Follows}
 use Rattle.log_check.specs.Certificate.{IsPossible, BeginsWith}
 

@@ -5,7 +5,7 @@ use Rattle.mount_model.specs.Lawful.{IsLawful}
 use Rattle.script_lang.specs.declared.commands.Section.{Section}
 use Rattle.reply_text.specs.Ranges.{EntryIsInRange}
 use Rattle.reply_text.specs.Log.{log_text}
-use Rattle.fsc_session.specs.Session.{IsRunOf}
+use Rattle.fsc_session.specs.ScriptRun.{IsRunOf}
 use Rattle.fsc_session.specs.Meaning.{Follows, whole_log}
 use Rattle.log_check.specs.declared.check.Verdict.{Verdict}
 use Rattle.log_check.specs.declared.check.Verdict.TheVariants.{Certified, Refused}

@@ -4,12 +4,16 @@ use Rattle.std.proofs.lemmas.Bool.{cases_eq, or_cases, or_left, or_right, eq-eqb
 use Rattle.policy_ctx.specs.Context.{id_in}
 use Rattle.number_map.specs.Numbered.{get, remove}
 use Rattle.number_map.proofs.NumberedLemmas.{remove_other}
-use Rattle.user_claims.specs.Claims.{ClaimSet, is_present}
-use Rattle.dentry_cache.specs.Names.{Pair, NameList, dir_forgotten, HoldsNoMore}
+use Rattle.user_claims.specs.Claims.{ClaimSet}
+use Rattle.user_claims.specs.ClaimCounts.{is_present}
+use Rattle.dentry_cache.specs.Names.{Pair, NameList}
+use Rattle.dentry_cache.specs.HeldNames.{HoldsNoMore}
+use Rattle.dentry_cache.specs.NameChanges.{dir_forgotten}
 use Rattle.dentry_cache.proofs.NameLemmas.{dir_no_more, dir_none}
 use Rattle.disk_tree.specs.DiskTree.{Disk}
 use Rattle.mount_model.specs.declared.handle.Handle.{Handle}
-use Rattle.mount_model.specs.PlainMount.{HandleList, has_handle, opens_of}
+use Rattle.mount_model.specs.PlainMount.{HandleList}
+use Rattle.mount_model.specs.OpenHandles.{has_handle, opens_of}
 use Rattle.mount_state.specs.CachedNames.{NamesForget, is_dir_on_disk, is_dir_node}
 use Rattle.mount_state.specs.Contexts.{context_on_disk}
 use Rattle.mount_state.specs.Handles.{Handles, LosesOne, with_handle}

@@ -13,18 +13,21 @@ use Rattle.key_ring.specs.Holding.{Holding, secret_of}
 use Rattle.key_ring.specs.Modes.{Modes, mode_at}
 use Rattle.key_ring.specs.declared.mode_key.ModeKey.{ModeKey}
 use Rattle.inode_refs.specs.Cached.{KeyMap}
-use Rattle.plain_tree.specs.Nodes.{Node, Nodes, context_in, context_at, children, children_in, entry, is_named, is_named_in}
+use Rattle.plain_tree.specs.Nodes.{Node, Nodes}
+use Rattle.plain_tree.specs.NodesByNumber.{context_in, context_at, children, children_in, entry, is_named, is_named_in}
 use Rattle.plain_tree.specs.Facts.{AgreesBy}
 use Rattle.plain_tree.proofs.AgreeLemmas.{agree_removed}
 use Rattle.disk_tree.specs.DiskTree.{Disk}
 use Rattle.mount_model.specs.declared.call.Op.TheVariants as op
-use Rattle.mount_model.specs.PlainMount.{PlainMount, HandleList, raw_in, node_of, has_handle, without_handle}
+use Rattle.mount_model.specs.PlainMount.{PlainMount, HandleList, raw_in}
+use Rattle.mount_model.specs.OpenHandles.{node_of, has_handle, without_handle}
 use Rattle.mount_model.specs.Answered.{done}
 use Rattle.mount_model.specs.Sealed.{node_key}
-use Rattle.mount_model.specs.FileAnswers.{at_handle, answer_to_close, with_closed, kept_by}
+use Rattle.mount_model.specs.FileAnswers.{at_handle}
+use Rattle.mount_model.specs.CloseAnswers.{answer_to_close, with_closed, kept_by}
 use Rattle.mount_model.specs.WellFormed.{IsWellFormed}
 use Rattle.mount_model.proofs.WellSteps.{step_well}
-use Rattle.mount_state.specs.Contexts.{kind_on_disk}
+use Rattle.mount_state.specs.StoredKinds.{kind_on_disk}
 use Rattle.mount_state.specs.Contexts.{context_on_disk as stored_context}
 use Rattle.std.specs.Map.{lookup}
 use Rattle.std.specs.Str.{bytes_eq}
@@ -32,8 +35,9 @@ use Rattle.dentry_cache.specs.Names.{Pair, NameList}
 use Rattle.mount_state.specs.CachedNames.{NamesStand}
 use Rattle.mount_state.specs.Handles.{Handles}
 use Rattle.mount_state.specs.Stored.{stored_node}
-use Rattle.mount_state.specs.StandsFor.{StandsFor, TreeStands, CachesStand}
-use Rattle.mount_state.specs.StandsFor.{plain_kind}
+use Rattle.mount_state.specs.StandsFor.{StandsFor, TreeStands}
+use Rattle.mount_state.specs.CachedKeys.{CachesStand}
+use Rattle.mount_state.specs.CachedKeys.{plain_kind}
 use Rattle.mount_state.specs.declared.state.MountState.{MountState}
 use Rattle.mount_files.specs.Closed.{is_lasting, disk_left, modes_left_by, names_left}
 use Rattle.mount_files.specs.Closed.{is_named_in as is_named_on}

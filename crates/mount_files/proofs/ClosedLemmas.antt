@@ -9,14 +9,18 @@ use Rattle.policy_ctx.proofs.KeyIdLemmas.{same_id-eq}
 use Rattle.fsc_keys.specs.declared.file_keys.KeyKind.{KeyKind}
 use Rattle.number_map.specs.Numbered.{get, remove}
 use Rattle.number_map.proofs.NumberedLemmas.{remove_here, remove_other}
-use Rattle.user_claims.specs.Claims.{ClaimSet, is_present}
-use Rattle.key_ring.specs.Modes.{Modes, of_kind, users_in}
+use Rattle.user_claims.specs.Claims.{ClaimSet}
+use Rattle.user_claims.specs.ClaimCounts.{is_present}
+use Rattle.key_ring.specs.Modes.{Modes, of_kind}
+use Rattle.key_ring.specs.ModeUsers.{users_in}
 use Rattle.inode_refs.specs.Cached.{Cache, KeyMap, key_at, pins_of, with_pins}
 use Rattle.inode_refs.specs.declared.node_key.NodeKey.{NodeKey}
 use Rattle.disk_tree.specs.DiskTree.{Disk}
 use Rattle.mount_model.specs.declared.handle.Handle.{Handle}
-use Rattle.mount_model.specs.PlainMount.{HandleList, has_handle}
-use Rattle.mount_state.specs.Contexts.{context_on_disk, kind_on_disk, has_own, has_shared, same_kind, uses_own, uses_mode, is_of_kind}
+use Rattle.mount_model.specs.PlainMount.{HandleList}
+use Rattle.mount_model.specs.OpenHandles.{has_handle}
+use Rattle.mount_state.specs.Contexts.{context_on_disk, has_own, has_shared, uses_own, uses_mode}
+use Rattle.mount_state.specs.StoredKinds.{kind_on_disk, same_kind, is_of_kind}
 use Rattle.mount_state.specs.Discipline.{Forgets, FileKeysForget, ModeKeysForget, PinsAreHandles}
 use Rattle.mount_state.specs.Handles.{users, handles_on, LosesOne}
 use Rattle.mount_state.specs.Safe.{IsSafe}

@@ -3,12 +3,16 @@ use Rattle.std.proofs.Common.{◌≡◌, ℕ, ◌-◌, ◌<◌, ◌≤◌, Bool,
 use Rattle.std.proofs.lemmas.Bool.{cases_lt, lt-ltb, le-ltb, eq-eqb, ne_eqb}
 use Rattle.policy_ctx.specs.declared.policy.KeyId.{KeyId}
 use Rattle.fsc_keys.specs.declared.file_keys.KeyKind.{KeyKind}
-use Rattle.user_claims.specs.Claims.{ClaimSet, is_present}
+use Rattle.user_claims.specs.Claims.{ClaimSet}
+use Rattle.user_claims.specs.ClaimCounts.{is_present}
 use Rattle.key_ring.specs.Holding.{Holding, HoldsClaimedSecrets}
-use Rattle.key_ring.specs.Modes.{Modes, of_kind, users_in, AreUsed}
-use Rattle.inode_refs.specs.Cached.{Cache, pins_of, with_pins, is_unpinned}
+use Rattle.key_ring.specs.Modes.{Modes, of_kind}
+use Rattle.key_ring.specs.ModeUsers.{users_in, AreUsed}
+use Rattle.inode_refs.specs.Cached.{Cache, pins_of, with_pins}
+use Rattle.inode_refs.specs.Evictions.{is_unpinned}
 use Rattle.disk_tree.specs.DiskTree.{Disk}
-use Rattle.mount_model.specs.PlainMount.{HandleList, is_handle, node_of, has_handle}
+use Rattle.mount_model.specs.PlainMount.{HandleList}
+use Rattle.mount_model.specs.OpenHandles.{is_handle, node_of, has_handle}
 use Rattle.mount_model.specs.declared.reply.KeyState.TheVariants.{Absent, Present, Incomplete}
 use Rattle.mount_state.specs.Contexts.{uses_mode}
 use Rattle.mount_state.specs.Discipline.{Forgets}

@@ -8,7 +8,8 @@ use Rattle.policy_ctx.proofs.KeyIdLemmas.{same_id-refl}
 use Rattle.fsc_keys.specs.declared.file_keys.KeyKind.{KeyKind}
 use Rattle.number_map.specs.Numbered.{get}
 use Rattle.disk_tree.specs.DiskTree.{Disk}
-use Rattle.mount_state.specs.Contexts.{context_on_disk, kind_on_disk, has_own, has_shared, same_kind, uses_own, uses_mode}
+use Rattle.mount_state.specs.Contexts.{context_on_disk, has_own, has_shared, uses_own, uses_mode}
+use Rattle.mount_state.specs.StoredKinds.{kind_on_disk, same_kind}
 use Rattle.mount_files.proofs.ModeCounts.{is_it}
 
 module _ (disk : Disk) (node : ℕ) (none : context_on_disk (get disk node) ≡ None) where

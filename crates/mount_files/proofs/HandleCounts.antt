@@ -8,7 +8,8 @@ use Rattle.number_map.specs.Numbered.{insert, remove}
 use Rattle.number_map.proofs.NumberedLemmas.{insert_here, insert_other, remove_here, remove_other}
 use Rattle.inode_refs.specs.Cached.{PinMap, pins_at, with_pins}
 use Rattle.mount_model.specs.declared.handle.Handle.{Handle}
-use Rattle.mount_model.specs.PlainMount.{HandleList, has_handle}
+use Rattle.mount_model.specs.PlainMount.{HandleList}
+use Rattle.mount_model.specs.OpenHandles.{has_handle}
 use Rattle.mount_state.specs.Handles.{users, handles_on, LosesOne}
 use Rattle.mount_state.proofs.UserLemmas.{some_user, users_from, pins_tell}
 

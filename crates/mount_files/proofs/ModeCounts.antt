@@ -14,8 +14,9 @@ use Rattle.fsc_keys.specs.declared.file_keys.KeyKind.TheVariants.{Contents, Name
 use Rattle.user_claims.specs.Claims.{id_cmp}
 use Rattle.user_claims.proofs.ClaimOrder.{id_cmp_total, id_cmp-IsAntisymmetric, id_ties}
 use Rattle.key_ring.specs.declared.mode_key.ModeKey.{ModeKey}
-use Rattle.key_ring.specs.Modes.{Modes, ModeMap, of_kind, with_kind, mode_at, users_in, more_users, with_users, one_user_less, without_user, IsUsed, AreUsed}
-use Rattle.mount_state.specs.Contexts.{same_kind}
+use Rattle.key_ring.specs.Modes.{Modes, ModeMap, of_kind, with_kind, mode_at}
+use Rattle.key_ring.specs.ModeUsers.{users_in, more_users, with_users, one_user_less, without_user, IsUsed, AreUsed}
+use Rattle.mount_state.specs.StoredKinds.{same_kind}
 use Rattle.mount_files.proofs.HandleCounts.{one_if}
 
 -- ---- look-ups by identifier

@@ -13,25 +13,29 @@ use Rattle.fsc_keys.specs.declared.file_keys.KeyKind.{KeyKind}
 use Rattle.fsc_keys.specs.declared.file_keys.KeyKind.TheVariants.{Contents, Names}
 use Rattle.number_map.specs.Numbered.{get, insert}
 use Rattle.number_map.proofs.NumberedLemmas.{insert_here}
-use Rattle.user_claims.specs.Claims.{is_present}
+use Rattle.user_claims.specs.ClaimCounts.{is_present}
 use Rattle.key_ring.specs.Holding.{Holding, secret_of, HoldsClaimedSecrets}
-use Rattle.key_ring.specs.Modes.{Modes, of_kind, mode_at, users_in}
+use Rattle.key_ring.specs.Modes.{Modes, of_kind, mode_at}
+use Rattle.key_ring.specs.ModeUsers.{users_in}
 use Rattle.key_ring.specs.declared.mode_key.ModeKey.{ModeKey}
 use Rattle.inode_refs.specs.Cached.{Cache, KeyMap, key_at, given}
 use Rattle.inode_refs.specs.declared.node_key.NodeKey.{NodeKey}
 use Rattle.plain_tree.specs.Nodes as plain
-use Rattle.plain_tree.specs.Nodes.{Node, context_at}
+use Rattle.plain_tree.specs.Nodes.{Node}
+use Rattle.plain_tree.specs.NodesByNumber.{context_at}
 use Rattle.disk_tree.specs.DiskTree.{Disk}
-use Rattle.mount_model.specs.PlainMount.{PlainMount, HandleList, raw_in, has_handle}
+use Rattle.mount_model.specs.PlainMount.{PlainMount, HandleList, raw_in}
+use Rattle.mount_model.specs.OpenHandles.{has_handle}
 use Rattle.mount_model.specs.Sealed.{raw_for, node_key}
 use Rattle.mount_model.specs.WellFormed.{IsWellFormed}
-use Rattle.mount_state.specs.Contexts.{context_on_disk, kind_on_disk, uses_own, uses_mode, is_of_kind, same_kind}
+use Rattle.mount_state.specs.Contexts.{context_on_disk, uses_own, uses_mode}
+use Rattle.mount_state.specs.StoredKinds.{kind_on_disk, is_of_kind, same_kind}
 use Rattle.mount_state.specs.Discipline.{Forgets}
 use Rattle.mount_state.specs.Held.{is_unlocked, is_unlocked_under}
 use Rattle.mount_state.specs.Stored.{stored_node}
 use Rattle.mount_state.specs.StandsFor.{TreeStands, KeysStand}
-use Rattle.mount_state.specs.StandsFor.{plain_kind}
-use Rattle.mount_state.specs.StandsFor.{plain_kind_of}
+use Rattle.mount_state.specs.CachedKeys.{plain_kind}
+use Rattle.mount_state.specs.CachedKeys.{plain_kind_of}
 use Rattle.mount_state.proofs.StandLemmas.{context_is, id_sized}
 use Rattle.mount_state.proofs.UserLemmas.{some_from, users_from}
 use Rattle.mount_files.specs.Needs.{IsOwnNeed, IsSharedNeed}

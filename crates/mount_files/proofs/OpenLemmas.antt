@@ -4,16 +4,20 @@ use Rattle.std.specs.List.{find}
 use Rattle.std.proofs.lemmas.Bool.{cases_Bool, and_parts, true≢false, eq-eqb}
 use Rattle.fsc_keys.specs.declared.file_keys.KeyKind.TheVariants.{Contents}
 use Rattle.number_map.specs.Numbered.{get}
-use Rattle.plain_tree.specs.Nodes.{Node, Body, Dir, File, Link, is_dir_in, is_dir_at}
+use Rattle.plain_tree.specs.Nodes.{Node, Body, Dir, File, Link}
+use Rattle.plain_tree.specs.NodesByNumber.{is_dir_in, is_dir_at}
 use Rattle.disk_tree.specs.DiskTree.{IsDirAt, IsFileAt, of_node}
 use Rattle.disk_tree.specs.Nodes.{IsDir, IsFile}
 use Rattle.mount_model.specs.declared.reply.Refusal.TheVariants.{IsDir as IsDirectory}
-use Rattle.mount_model.specs.PlainMount.{PlainMount, Raws, HandleList, is_handle, has_handle, node_of}
+use Rattle.mount_model.specs.PlainMount.{PlainMount, Raws, HandleList}
+use Rattle.mount_model.specs.OpenHandles.{is_handle, has_handle, node_of}
 use Rattle.mount_model.specs.Answered.{Answer, refused}
-use Rattle.mount_model.specs.FileAnswers.{at_handle, at_file, is_link_at}
+use Rattle.mount_model.specs.FileAnswers.{at_handle, at_file}
+use Rattle.mount_model.specs.OpenAnswers.{is_link_at}
 use Rattle.mount_model.proofs.NodeParts.{link_in}
 use Rattle.mount_state.specs.Stored.{stored_node}
-use Rattle.mount_state.specs.StandsFor.{StandsFor, plain_kind}
+use Rattle.mount_state.specs.StandsFor.{StandsFor}
+use Rattle.mount_state.specs.CachedKeys.{plain_kind}
 use Rattle.mount_state.specs.declared.state.MountState.{MountState}
 use Rattle.mount_files.specs.OpenFile.{IsOpen}
 

@@ -5,7 +5,8 @@ use Rattle.std.proofs.lemmas.Bool.{or_parts, leb-false, true≢false}
 use Rattle.policy_ctx.specs.declared.policy.Context.{Context}
 use Rattle.number_map.specs.Numbered.{get, insert}
 use Rattle.key_ring.specs.Holding.{Holding, secret_of}
-use Rattle.plain_tree.specs.Nodes.{Node, Body, Dir, File, Link, is_link, is_named_in}
+use Rattle.plain_tree.specs.Nodes.{Node, Body, Dir, File, Link, is_link}
+use Rattle.plain_tree.specs.NodesByNumber.{is_named_in}
 use Rattle.plain_tree.specs.Facts.{AgreesBy}
 use Rattle.plain_tree.proofs.ReachedLemmas.{reached_named}
 use Rattle.disk_tree.specs.DiskTree.{Disk}
@@ -16,10 +17,11 @@ use Rattle.mount_model.specs.declared.reply.Refusal.{Refusal}
 use Rattle.mount_model.specs.declared.reply.Refusal.TheVariants.{Inval, NoKey, NoSpace}
 use Rattle.mount_model.specs.declared.limits.TheConstants.{MOST_HANDLES, MOST_OPENS}
 use Rattle.mount_model.specs.ClaimHistory.{is_refused}
-use Rattle.mount_model.specs.PlainMount.{PlainMount, Raws, opens_of}
+use Rattle.mount_model.specs.PlainMount.{PlainMount, Raws}
+use Rattle.mount_model.specs.OpenHandles.{opens_of}
 use Rattle.mount_model.specs.States.{is_keyed}
 use Rattle.mount_model.specs.Answered.{Answer, refused, at_node}
-use Rattle.mount_model.specs.FileAnswers.{is_link_at, is_out_of_handles, opened_on, open_told, with_handle, answer_to_open}
+use Rattle.mount_model.specs.OpenAnswers.{is_link_at, is_out_of_handles, opened_on, open_told, with_handle, answer_to_open}
 use Rattle.mount_model.specs.Walk.{PathParts, Walked, walked}
 use Rattle.mount_model.specs.WellFormed.{IsWellFormed}
 use Rattle.mount_model.proofs.OpenLemmas.{opened_well}
@@ -33,7 +35,8 @@ use Rattle.mount_state.specs.CachedNames.{NamesStand}
 use Rattle.mount_state.specs.Handles.{with_handle as with_new}
 use Rattle.mount_state.specs.SameButCaches.{SameButCaches}
 use Rattle.mount_state.specs.Stored.{stored_node, stored_body}
-use Rattle.mount_state.specs.StandsFor.{StandsFor, TreeStands, HandlesStand, CachesStand}
+use Rattle.mount_state.specs.StandsFor.{StandsFor, TreeStands, HandlesStand}
+use Rattle.mount_state.specs.CachedKeys.{CachesStand}
 use Rattle.mount_state.specs.declared.state.MountState.{MountState}
 use Rattle.mount_files.specs.Opened.{is_link_body, OpensAsTold, OpensOne}
 

@@ -6,15 +6,18 @@ use Rattle.fsc_keys.specs.declared.file_keys.KeyKind.{KeyKind}
 use Rattle.fsc_keys.specs.declared.file_keys.FileKey.{FileKey}
 use Rattle.number_map.specs.Numbered.{get, insert}
 use Rattle.number_map.proofs.NumberedLemmas.{insert_here, insert_other}
-use Rattle.user_claims.specs.Claims.{ClaimSet, is_present}
+use Rattle.user_claims.specs.Claims.{ClaimSet}
+use Rattle.user_claims.specs.ClaimCounts.{is_present}
 use Rattle.key_ring.specs.Modes.{Modes}
 use Rattle.inode_refs.specs.Cached.{Cache, KeyMap, pins_of, with_pins, given}
 use Rattle.inode_refs.specs.declared.node_key.NodeKey.{NodeKey}
 use Rattle.disk_tree.specs.DiskTree.{Disk}
 use Rattle.mount_model.specs.declared.handle.Handle.{Handle}
 use Rattle.mount_model.specs.declared.limits.TheConstants.{MOST_HANDLES}
-use Rattle.mount_model.specs.PlainMount.{HandleList, has_handle}
-use Rattle.mount_state.specs.Contexts.{uses_own, uses_mode, kind_on_disk, is_of_kind}
+use Rattle.mount_model.specs.PlainMount.{HandleList}
+use Rattle.mount_model.specs.OpenHandles.{has_handle}
+use Rattle.mount_state.specs.Contexts.{uses_own, uses_mode}
+use Rattle.mount_state.specs.StoredKinds.{kind_on_disk, is_of_kind}
 use Rattle.mount_state.specs.Discipline.{Forgets, FileKeysForget, ModeKeysForget, PinsAreHandles}
 use Rattle.mount_state.specs.Handles.{users, handles_on}
 use Rattle.mount_state.specs.Safe.{IsSafe}

@@ -10,22 +10,24 @@ use Rattle.fsc_keys.specs.declared.file_keys.KeyKind.{KeyKind}
 use Rattle.fsc_keys.specs.declared.file_keys.KeyKind.TheVariants.{Contents, Names}
 use Rattle.number_map.specs.Numbered.{get, remove}
 use Rattle.user_claims.specs.Claims.{ClaimSet}
-use Rattle.key_ring.specs.Modes.{Modes, users_of}
+use Rattle.key_ring.specs.Modes.{Modes}
+use Rattle.key_ring.specs.ModeUsers.{users_of}
 use Rattle.inode_refs.specs.Cached.{Cache, PinMap, key_at, pins_of, with_pins, given}
 use Rattle.inode_refs.specs.declared.node_key.NodeKey.{NodeKey}
 use Rattle.inode_refs.proofs.CacheLemmas.{given_cached, taken_back, no_key}
-use Rattle.plain_tree.specs.Nodes.{context_at}
+use Rattle.plain_tree.specs.NodesByNumber.{context_at}
 use Rattle.disk_tree.specs.DiskTree.{Disk}
 use Rattle.mount_model.specs.declared.handle.Handle.{Handle}
 use Rattle.mount_model.specs.declared.limits.TheConstants.{MOST_HANDLES, MOST_OPENS}
-use Rattle.mount_model.specs.PlainMount.{PlainMount, HandleList, raw_in, opens_of}
+use Rattle.mount_model.specs.PlainMount.{PlainMount, HandleList, raw_in}
+use Rattle.mount_model.specs.OpenHandles.{opens_of}
 use Rattle.mount_model.specs.Sealed.{node_key}
 use Rattle.mount_state.specs.Contexts.{uses_mode}
 use Rattle.mount_state.specs.Discipline.{Forgets}
 use Rattle.mount_state.specs.Handles.{Handles, is_full, users, with_handle}
 use Rattle.mount_state.specs.Safe.{IsSafe}
-use Rattle.mount_state.specs.StandsFor.{CachesStand}
-use Rattle.mount_state.specs.StandsFor.{plain_kind}
+use Rattle.mount_state.specs.CachedKeys.{CachesStand}
+use Rattle.mount_state.specs.CachedKeys.{plain_kind}
 use Rattle.mount_files.specs.Needs.{IsOwnNeed, IsSharedNeed}
 use Rattle.mount_files.proofs.HandleCounts.{one_if, pins_here}
 use Rattle.mount_files.proofs.ModeCounts.{held, each_held}

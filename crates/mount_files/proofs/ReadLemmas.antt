@@ -6,7 +6,8 @@ use Rattle.policy_ctx.specs.declared.policy.Context.{Context}
 use Rattle.fsc_keys.specs.declared.file_keys.KeyKind.TheVariants.{Contents}
 use Rattle.number_map.specs.Numbered.{get}
 use Rattle.data_crypt.specs.Blocks.{Seal}
-use Rattle.plain_tree.specs.Nodes.{Node, Body, Dir, File, Link, contents_of, context_in}
+use Rattle.plain_tree.specs.Nodes.{Node, Body, Dir, File, Link, contents_of}
+use Rattle.plain_tree.specs.NodesByNumber.{context_in}
 use Rattle.disk_tree.specs.DiskTree.{IsFileAt}
 use Rattle.file_disk.specs.Bodies.{file_body}
 use Rattle.file_disk.specs.Lent.{IsStored, IsPart, lent_content}
@@ -15,11 +16,13 @@ use Rattle.mount_limits.specs.declared.TheConstants.{MOST_READ_BYTES}
 use Rattle.mount_model.specs.declared.reply.Reply.TheVariants.{Content, Refused}
 use Rattle.mount_model.specs.declared.reply.Refusal.{Refusal}
 use Rattle.mount_model.specs.declared.reply.Refusal.TheVariants.{TooBig}
-use Rattle.mount_model.specs.PlainMount.{PlainMount, node_of}
+use Rattle.mount_model.specs.PlainMount.{PlainMount}
+use Rattle.mount_model.specs.OpenHandles.{node_of}
 use Rattle.mount_model.specs.Answered.{Answer, refused, told}
 use Rattle.mount_model.specs.FileAnswers.{contents_at, content_of, answer_to_read}
 use Rattle.mount_state.specs.Stored.{stored_node, contents_seal}
-use Rattle.mount_state.specs.StandsFor.{StandsFor, plain_kind}
+use Rattle.mount_state.specs.StandsFor.{StandsFor}
+use Rattle.mount_state.specs.CachedKeys.{plain_kind}
 use Rattle.mount_state.specs.declared.state.MountState.{MountState}
 use Rattle.mount_files.specs.OpenFile.{IsOpen, IsFileRefused}
 use Rattle.mount_files.specs.Seals.{IsSealOf}

@@ -21,8 +21,9 @@ use Rattle.disk_tree.specs.Nodes.{blocks_of}
 use Rattle.disk_tree.specs.declared.node.StoredNode.{StoredNode}
 use Rattle.file_disk.specs.Bodies.{ExceedsDisk, end_block}
 use Rattle.mount_model.specs.PlainMount.{PlainMount, Raws}
-use Rattle.mount_model.specs.FileAnswers.{contents_at, block_total, lacks_blocks_for}
-use Rattle.mount_model.specs.FileAnswers.{block_count as plain_count}
+use Rattle.mount_model.specs.FileAnswers.{contents_at, lacks_blocks_for}
+use Rattle.mount_model.specs.Blocks.{block_total}
+use Rattle.mount_model.specs.Blocks.{block_count as plain_count}
 use Rattle.mount_state.specs.Stored.{stored_node, stored_body, contents_seal}
 use Rattle.mount_state.specs.StandsFor.{StandsFor}
 use Rattle.mount_state.specs.declared.state.MountState.{MountState}

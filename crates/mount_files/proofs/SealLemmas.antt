@@ -12,20 +12,25 @@ use Rattle.fsc_keys.specs.declared.file_keys.FileKey.TheVariants as key
 use Rattle.fsc_keys.specs.declared.file_keys.KeyKind.TheVariants.{Contents}
 use Rattle.number_map.specs.Numbered.{get}
 use Rattle.user_claims.specs.Claims.{ClaimSet}
-use Rattle.key_ring.specs.Modes.{Modes, mode_at, users_in}
+use Rattle.key_ring.specs.Modes.{Modes, mode_at}
+use Rattle.key_ring.specs.ModeUsers.{users_in}
 use Rattle.key_ring.specs.declared.mode_key.ModeKey.{ModeKey}
 use Rattle.inode_refs.specs.Cached.{Cache, key_at}
 use Rattle.inode_refs.specs.declared.node_key.NodeKey.{NodeKey}
 use Rattle.data_crypt.specs.Blocks.{Seal}
-use Rattle.plain_tree.specs.Nodes.{Node, Body, Dir, File, Link, context_at}
+use Rattle.plain_tree.specs.Nodes.{Node, Body, Dir, File, Link}
+use Rattle.plain_tree.specs.NodesByNumber.{context_at}
 use Rattle.disk_tree.specs.DiskTree.{Disk}
-use Rattle.mount_model.specs.PlainMount.{PlainMount, HandleList, has_handle}
+use Rattle.mount_model.specs.PlainMount.{PlainMount, HandleList}
+use Rattle.mount_model.specs.OpenHandles.{has_handle}
 use Rattle.mount_model.specs.Sealed.{raw_for, node_key}
-use Rattle.mount_state.specs.Contexts.{context_on_disk, has_shared, uses_mode, same_kind}
-use Rattle.mount_state.specs.Contexts.{kind_on_disk as stored_kind}
+use Rattle.mount_state.specs.Contexts.{context_on_disk, has_shared, uses_mode}
+use Rattle.mount_state.specs.StoredKinds.{same_kind}
+use Rattle.mount_state.specs.StoredKinds.{kind_on_disk as stored_kind}
 use Rattle.mount_state.specs.Discipline.{Forgets}
 use Rattle.mount_state.specs.Stored.{stored_node, contents_seal}
-use Rattle.mount_state.specs.StandsFor.{StandsFor, CachesStand, plain_kind}
+use Rattle.mount_state.specs.StandsFor.{StandsFor}
+use Rattle.mount_state.specs.CachedKeys.{CachesStand, plain_kind}
 use Rattle.mount_state.specs.declared.state.MountState.{MountState}
 use Rattle.mount_state.proofs.ContextLemmas.{context_read}
 use Rattle.mount_state.proofs.KeepLemmas.{own_there}

@@ -11,7 +11,8 @@ use Rattle.mount_model.specs.declared.reply.Reply.TheVariants.{Done, Refused}
 use Rattle.mount_model.specs.declared.reply.Refusal.{Refusal}
 use Rattle.mount_model.specs.declared.reply.Refusal.TheVariants.{TooBig, NoSpace}
 use Rattle.mount_model.specs.ClaimHistory.{is_refused}
-use Rattle.mount_model.specs.PlainMount.{PlainMount, node_of}
+use Rattle.mount_model.specs.PlainMount.{PlainMount}
+use Rattle.mount_model.specs.OpenHandles.{node_of}
 use Rattle.mount_model.specs.Answered.{Answer, refused, done}
 use Rattle.mount_model.specs.FileAnswers.{lacks_blocks_for, answer_to_write}
 use Rattle.mount_state.specs.Given.{IsGivenOrNoMemory}

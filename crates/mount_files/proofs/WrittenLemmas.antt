@@ -13,7 +13,9 @@ use Rattle.key_ring.specs.Modes.{Modes}
 use Rattle.inode_refs.specs.Cached.{Cache}
 use Rattle.data_crypt.specs.Blocks.{Seal}
 use Rattle.data_crypt.specs.Laws.{IsKeyOfBytes}
-use Rattle.plain_tree.specs.Nodes.{Node, Body, Dir, File, Link, with_contents, context_in, context_at}
+use Rattle.plain_tree.specs.Nodes.{Node, Body, Dir, File, Link}
+use Rattle.plain_tree.specs.BodyChanges.{with_contents}
+use Rattle.plain_tree.specs.NodesByNumber.{context_in, context_at}
 use Rattle.plain_tree.specs.Changes.{on_contents, written}
 use Rattle.plain_tree.specs.Facts.{AgreesBy}
 use Rattle.plain_tree.proofs.AgreeLemmas.{agree_edited}
@@ -27,12 +29,15 @@ use Rattle.file_disk.specs.Bodies.{body_written, disk_written, file_body}
 use Rattle.file_disk.proofs.BodyLemmas.{writes_give}
 use Rattle.mount_model.specs.PlainMount.{PlainMount, Raws, HandleList}
 use Rattle.mount_model.specs.Sealed.{node_key}
-use Rattle.mount_model.specs.FileAnswers.{contents_at, block_count, block_total, lacks_blocks_for}
-use Rattle.mount_model.specs.WellFormed.{IsBody, IsWellFormed}
+use Rattle.mount_model.specs.FileAnswers.{contents_at, lacks_blocks_for}
+use Rattle.mount_model.specs.Blocks.{block_count, block_total}
+use Rattle.mount_model.specs.WellFormed.{IsWellFormed}
+use Rattle.mount_model.specs.SoundNodes.{IsBody}
 use Rattle.mount_model.proofs.CallParts.{body_written as is_body_written}
 use Rattle.mount_model.proofs.NodesWell.{written_well}
 use Rattle.mount_model.proofs.HandlesWell.{written_open}
-use Rattle.mount_state.specs.Contexts.{has_own, has_shared, same_kind, is_of_kind}
+use Rattle.mount_state.specs.Contexts.{has_own, has_shared}
+use Rattle.mount_state.specs.StoredKinds.{disk_kind_of, kind_on_disk, same_kind, is_of_kind}
 use Rattle.mount_state.specs.Contexts as disk
 use Rattle.dentry_cache.specs.Names.{NameList}
 use Rattle.plain_tree.proofs.EditedLemmas.{edited_entry, leaves_contents}
@@ -43,8 +48,9 @@ use Rattle.mount_state.specs.Discipline.{Forgets}
 use Rattle.mount_state.specs.Handles.{Handles, users}
 use Rattle.mount_state.specs.Safe.{IsSafe}
 use Rattle.mount_state.specs.Stored.{stored_body, stored_node, contents_seal}
-use Rattle.mount_state.specs.StandsFor.{StandsFor, CachesStand, plain_kind}
-use Rattle.mount_state.specs.StandsFor as plain
+use Rattle.mount_state.specs.StandsFor.{StandsFor}
+use Rattle.mount_state.specs.CachedKeys.{CachesStand, plain_kind}
+use Rattle.mount_state.specs.CachedKeys as plain
 use Rattle.mount_state.specs.declared.state.MountState.{MountState}
 use Rattle.mount_state.proofs.WalkLemmas.{same_cache}
 use Rattle.mount_files.specs.Written.{SameButDisk}
@@ -65,7 +71,7 @@ module _ {V A : Type 0} (read : Option V → A) (nodes : Numbered V) (k : ℕ) (
 
 -- ---- the rule
 
-kind_left : (seal : Option Seal) (at : ℕ) (bytes : List ℕ) (b : StoredBody) → disk.disk_kind_of (body_written seal at bytes b) ≡ disk.disk_kind_of b
+kind_left : (seal : Option Seal) (at : ℕ) (bytes : List ℕ) (b : StoredBody) → disk_kind_of (body_written seal at bytes b) ≡ disk_kind_of b
 kind_left seal at [] b = refl
 kind_left seal at (x ∷ xs) (stored.Dir entries) = refl
 kind_left seal at (x ∷ xs) (stored.File blocks size) = refl
@@ -81,8 +87,8 @@ module _ (on_disk : Disk) (file : ℕ) (seal : Option Seal) (at : ℕ) (bytes : 
   contexts : (n : ℕ) → disk.context_on_disk (get (disk_written on_disk file seal at bytes) n) ≡ disk.context_on_disk (get on_disk n)
   contexts = read_changed disk.context_on_disk on_disk file (on_body (body_written seal at bytes)) (λ v. refl)
 
-  kinds : (n : ℕ) → disk.kind_on_disk (get (disk_written on_disk file seal at bytes) n) ≡ disk.kind_on_disk (get on_disk n)
-  kinds = read_changed disk.kind_on_disk on_disk file (on_body (body_written seal at bytes)) (λ v. kind_left seal at bytes v.body)
+  kinds : (n : ℕ) → kind_on_disk (get (disk_written on_disk file seal at bytes) n) ≡ kind_on_disk (get on_disk n)
+  kinds = read_changed kind_on_disk on_disk file (on_body (body_written seal at bytes)) (λ v. kind_left seal at bytes v.body)
 
   there : (n : ℕ) → is_some (get (disk_written on_disk file seal at bytes) n) ≡ is_some (get on_disk n)
   there = read_changed (λ (o : Option StoredNode). is_some o) on_disk file (on_body (body_written seal at bytes)) (λ v. refl)

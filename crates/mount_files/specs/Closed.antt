@@ -1,16 +1,20 @@
 -- What goes where a handle is closed.
 use Rattle.std.specs.Prelude.{ℕ, Bool, true, false, not, ◌&&◌, ◌||◌, ◌==◌, List, Option, Some, None, if◌then◌else◌}
 use Rattle.number_map.specs.Numbered.{get, remove}
-use Rattle.user_claims.specs.Claims.{ClaimSet, is_present}
+use Rattle.user_claims.specs.Claims.{ClaimSet}
+use Rattle.user_claims.specs.ClaimCounts.{is_present}
 use Rattle.policy_ctx.specs.Context.{id_in, is_by_mode_in}
 use Rattle.fsc_keys.specs.declared.file_keys.KeyKind.{KeyKind}
-use Rattle.key_ring.specs.Modes.{Modes, of_kind, with_kind, without_user}
+use Rattle.key_ring.specs.Modes.{Modes, of_kind, with_kind}
+use Rattle.key_ring.specs.ModeUsers.{without_user}
 use Rattle.inode_refs.specs.Cached.{KeyMap}
 use Rattle.disk_tree.specs.DiskTree.{Disk}
 use Rattle.disk_tree.specs.declared.node.StoredNode.{StoredNode}
-use Rattle.dentry_cache.specs.Names.{NameList, dir_forgotten}
+use Rattle.dentry_cache.specs.Names.{NameList}
+use Rattle.dentry_cache.specs.NameChanges.{dir_forgotten}
 use Rattle.mount_state.specs.CachedNames.{is_dir_on_disk}
-use Rattle.mount_state.specs.Contexts.{context_on_disk, kind_on_disk}
+use Rattle.mount_state.specs.Contexts.{context_on_disk}
+use Rattle.mount_state.specs.StoredKinds.{kind_on_disk}
 
 abbrev pub is_named_in : Option StoredNode → Bool
 is_named_in None = false

@@ -10,12 +10,13 @@ use Rattle.fsc_keys.specs.declared.file_keys.KeyKind.{KeyKind}
 use Rattle.number_map.specs.Numbered.{get}
 use Rattle.inode_refs.specs.Cached.{Cache, given}
 use Rattle.inode_refs.specs.declared.node_key.NodeKey.{NodeKey}
-use Rattle.plain_tree.specs.Nodes.{context_at}
+use Rattle.plain_tree.specs.NodesByNumber.{context_at}
 use Rattle.disk_tree.specs.DiskTree.{Disk}
 use Rattle.mount_model.specs.PlainMount.{PlainMount, raw_in}
 use Rattle.mount_model.specs.Sealed.{node_key}
-use Rattle.mount_state.specs.Contexts.{uses_own, uses_mode, kind_on_disk, is_of_kind, same_kind}
-use Rattle.mount_state.specs.StandsFor.{plain_kind}
+use Rattle.mount_state.specs.Contexts.{uses_own, uses_mode}
+use Rattle.mount_state.specs.StoredKinds.{kind_on_disk, is_of_kind, same_kind}
+use Rattle.mount_state.specs.CachedKeys.{plain_kind}
 use Rattle.mount_files.specs.declared.need.Need.{Need}
 use Rattle.mount_files.specs.declared.need.Need.TheVariants.{Own, Shared}
 

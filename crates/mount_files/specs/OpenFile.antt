@@ -3,10 +3,12 @@ use Rattle.std.specs.Prelude.{◌≡◌, ℕ, true}
 use Rattle.fsc_keys.specs.declared.file_keys.KeyKind.TheVariants.{Contents}
 use Rattle.number_map.specs.Numbered.{get}
 use Rattle.mount_model.specs.declared.reply.Refusal.{Refusal}
-use Rattle.mount_model.specs.PlainMount.{PlainMount, has_handle}
+use Rattle.mount_model.specs.PlainMount.{PlainMount}
+use Rattle.mount_model.specs.OpenHandles.{has_handle}
 use Rattle.mount_model.specs.Answered.{Answer, refused}
 use Rattle.mount_model.specs.FileAnswers.{at_file}
-use Rattle.mount_state.specs.StandsFor.{StandsFor, plain_kind}
+use Rattle.mount_state.specs.StandsFor.{StandsFor}
+use Rattle.mount_state.specs.CachedKeys.{plain_kind}
 use Rattle.mount_state.specs.declared.state.MountState.{MountState}
 
 -- in whatever mount the state stands for, a call on that file is refused so

@@ -2,7 +2,7 @@
 
 ghost use Rattle.std.specs.Prelude.{◌≡◌, Some, IfOk, IfErr};
 ghost use Rattle.disk_tree.specs.DiskTree.{IsFileAt};
-ghost use Rattle.mount_model.specs.PlainMount.{node_of};
+ghost use Rattle.mount_model.specs.OpenHandles.{node_of};
 ghost use Rattle.mount_files.specs.OpenFile.{IsFileRefused};
 
 use mount_model::Refusal;

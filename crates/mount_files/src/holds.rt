@@ -3,10 +3,12 @@
 ghost use Rattle.std.specs.Prelude.{◌≡◌, ◌+◌, ◌-◌, ◌<◌, ◌^◌, true, false, is_some, IfOk, OnOk, OnErr, if◌then◌else◌};
 ghost use Rattle.number_map.specs.Numbered.{get, remove};
 ghost use Rattle.inode_refs.specs.Cached.{pins_of, with_pins, given};
-ghost use Rattle.mount_model.specs.PlainMount.{PlainMount, opens_of};
+ghost use Rattle.mount_model.specs.PlainMount.{PlainMount};
+ghost use Rattle.mount_model.specs.OpenHandles.{opens_of};
 ghost use Rattle.mount_state.specs.Handles.{is_full, with_handle};
 ghost use Rattle.mount_state.specs.SameButCaches.{SameButCaches};
-ghost use Rattle.mount_state.specs.StandsFor.{StandsFor, CachesStand};
+ghost use Rattle.mount_state.specs.StandsFor.{StandsFor};
+ghost use Rattle.mount_state.specs.CachedKeys.{CachesStand};
 ghost use Rattle.mount_files.specs.Needs.{IsOwnNeed, IsSharedNeed, IsNeedIn};
 ghost use Rattle.mount_files.specs.Opened.{OpensOne};
 ghost use Rattle.mount_files.specs.declared.need.Need.TheVariants.{Own, Shared};

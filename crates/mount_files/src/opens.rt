@@ -3,13 +3,15 @@
 ghost use Rattle.std.specs.Prelude.{◌≡◌, ◌+◌, ◌≤◌, true, false, length, is_some, IfOk, OnOk, OnErr};
 ghost use Rattle.number_map.specs.Numbered.{get};
 ghost use Rattle.mount_model.specs.ClaimHistory.{is_refused};
-ghost use Rattle.mount_model.specs.FileAnswers.{answer_to_open, open_told};
-ghost use Rattle.mount_model.specs.PlainMount.{PlainMount, opens_of};
+ghost use Rattle.mount_model.specs.OpenAnswers.{answer_to_open, open_told};
+ghost use Rattle.mount_model.specs.PlainMount.{PlainMount};
+ghost use Rattle.mount_model.specs.OpenHandles.{opens_of};
 ghost use Rattle.mount_state.specs.Given.{IsGivenOrNoMemory};
 ghost use Rattle.mount_state.specs.Handles.{is_full};
 ghost use Rattle.mount_state.specs.Held.{is_unlocked};
 ghost use Rattle.mount_state.specs.SameButCaches.{SameButCaches};
-ghost use Rattle.mount_state.specs.StandsFor.{StandsFor, CachesStand};
+ghost use Rattle.mount_state.specs.StandsFor.{StandsFor};
+ghost use Rattle.mount_state.specs.CachedKeys.{CachesStand};
 ghost use Rattle.mount_files.specs.Opened.{is_link_body, OpensAsTold, OpensOne, SameButOpen};
 
 use crate::holds::{open_own, open_shared};

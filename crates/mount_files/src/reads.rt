@@ -2,7 +2,8 @@
 //! deciphered.
 
 ghost use Rattle.std.specs.Prelude.{◌≡◌, ◌≤◌, Some};
-ghost use Rattle.mount_model.specs.PlainMount.{PlainMount, node_of};
+ghost use Rattle.mount_model.specs.PlainMount.{PlainMount};
+ghost use Rattle.mount_model.specs.OpenHandles.{node_of};
 ghost use Rattle.mount_model.specs.FileAnswers.{answer_to_read};
 ghost use Rattle.mount_state.specs.Given.{IsToldOrNoMemory, IsRefusedAsDue};
 ghost use Rattle.mount_state.specs.StandsFor.{StandsFor};

@@ -3,7 +3,8 @@
 ghost use Rattle.std.specs.Prelude.{◌≡◌, true, false};
 ghost use Rattle.mount_model.specs.ClaimHistory.{is_refused};
 ghost use Rattle.mount_model.specs.FileAnswers.{answer_to_write};
-ghost use Rattle.mount_model.specs.PlainMount.{PlainMount, node_of};
+ghost use Rattle.mount_model.specs.PlainMount.{PlainMount};
+ghost use Rattle.mount_model.specs.OpenHandles.{node_of};
 ghost use Rattle.mount_state.specs.Given.{IsGivenOrNoMemory};
 ghost use Rattle.mount_state.specs.SameBut.{IsSame};
 ghost use Rattle.mount_state.specs.StandsFor.{StandsFor};

@@ -12,15 +12,17 @@ use Rattle.policy_ctx.proofs.KeyIdLemmas.{same_id-eq, same_id-refl}
 use Rattle.fsc_keys.specs.Keys.{key_id_of, mode_key_of}
 use Rattle.fsc_keys.specs.declared.raw_key.TheConstants.{LEAST_RAW_KEY_BYTES, MOST_RAW_KEY_BYTES}
 use Rattle.fsc_keys.specs.declared.file_keys.KeyKind.{KeyKind}
-use Rattle.user_claims.specs.Claims.{ClaimSet, has_claim, is_present, count_of_user, with_claim, IsOverQuota}
+use Rattle.user_claims.specs.Claims.{ClaimSet, has_claim, with_claim}
+use Rattle.user_claims.specs.ClaimCounts.{is_present, count_of_user, IsOverQuota}
 use Rattle.user_claims.specs.declared.claims.TheConstants.{MOST_CLAIMS}
 use Rattle.user_claims.proofs.ClaimOrder.{id_cmp_total, id_ties}
 use Rattle.user_claims.proofs.PresentLemmas.{is_present-with_claim}
 use Rattle.key_ring.specs.Holding.{SecretMap}
-use Rattle.key_ring.specs.Modes.{Modes, AreUsed, mode_at}
+use Rattle.key_ring.specs.Modes.{Modes, mode_at}
+use Rattle.key_ring.specs.ModeUsers.{AreUsed}
 use Rattle.key_ring.specs.declared.mode_key.ModeKey.{ModeKey}
 use Rattle.inode_refs.specs.Cached.{Cache}
-use Rattle.plain_tree.specs.Nodes.{context_at}
+use Rattle.plain_tree.specs.NodesByNumber.{context_at}
 use Rattle.plain_tree.specs.Facts.{AgreesBy}
 use Rattle.disk_tree.specs.DiskTree.{Disk}
 use Rattle.mount_model.specs.declared.reply.Reply.TheVariants.{Added}
@@ -38,7 +40,8 @@ use Rattle.mount_state.specs.CachedNames.{NamesStand}
 use Rattle.mount_state.specs.Handles.{Handles}
 use Rattle.mount_state.specs.Held.{is_in_use, key_state}
 use Rattle.mount_state.specs.Stored.{stored_node}
-use Rattle.mount_state.specs.StandsFor.{StandsFor, CachesStand}
+use Rattle.mount_state.specs.StandsFor.{StandsFor}
+use Rattle.mount_state.specs.CachedKeys.{CachesStand}
 use Rattle.mount_state.specs.declared.state.MountState.{MountState}
 use Rattle.mount_state.proofs.RuleLemmas.{no_mode_key}
 use Rattle.mount_state.proofs.StandLemmas.{busy_stands}

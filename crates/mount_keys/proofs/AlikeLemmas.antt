@@ -14,14 +14,15 @@ use Rattle.fsc_keys.specs.declared.file_keys.KeyKind.TheVariants.{Contents, Name
 use Rattle.data_crypt.specs.Blocks.{stored_blocks}
 use Rattle.name_crypt.specs.StoredName.{stored_name}
 use Rattle.number_map.specs.Numbered.{get}
-use Rattle.plain_tree.specs.Nodes.{Name, Body, Dir, File, Link, Node, Nodes, context_in, context_at}
+use Rattle.plain_tree.specs.Nodes.{Name, Body, Dir, File, Link, Node, Nodes}
+use Rattle.plain_tree.specs.NodesByNumber.{context_in, context_at}
 use Rattle.plain_tree.specs.Facts.{AgreesBy}
 use Rattle.plain_tree.specs.Stored.{stored_children}
 use Rattle.disk_tree.specs.DiskTree.{Disk}
 use Rattle.disk_tree.specs.declared.node.Body.TheVariants as stored
 use Rattle.mount_model.specs.PlainMount.{Raws, raw_in, with_raw}
 use Rattle.mount_model.specs.Sealed.{node_key, node_start, sealed_name}
-use Rattle.mount_model.specs.WellFormed.{HasRaw, HasNodes}
+use Rattle.mount_model.specs.SoundNodes.{HasRaw, HasNodes}
 use Rattle.mount_model.specs.Lawful.{AgreesWith}
 use Rattle.mount_model.proofs.KeyLemmas.{raw_in-with_raw}
 use Rattle.mount_state.specs.Stored.{stored_form, contents_seal, stored_body, stored_node}

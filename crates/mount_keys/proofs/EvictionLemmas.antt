@@ -11,15 +11,17 @@ use Rattle.std.proofs.lemmas.Bool.{ltb-false, not_from_false}
 use Rattle.policy_ctx.specs.declared.policy.KeyId.{KeyId}
 use Rattle.policy_ctx.specs.KeyIds.{same_id}
 use Rattle.policy_ctx.proofs.KeyIdLemmas.{same_id-eq, same_id-symm}
-use Rattle.user_claims.specs.Claims.{ClaimSet, is_present, with_claim}
+use Rattle.user_claims.specs.Claims.{ClaimSet, with_claim}
+use Rattle.user_claims.specs.ClaimCounts.{is_present}
 use Rattle.user_claims.proofs.PresentLemmas.{is_present-with_claim}
 use Rattle.key_ring.specs.Holding.{Holding}
 use Rattle.key_ring.specs.Modes.{Modes}
-use Rattle.inode_refs.specs.Cached.{Cache, KeyMap, key_at, pins_at, pins_of, is_unpinned, has_id, evicted}
-use Rattle.inode_refs.specs.Cached.{all_evicted}
+use Rattle.inode_refs.specs.Cached.{Cache, KeyMap, key_at, pins_at, pins_of}
+use Rattle.inode_refs.specs.Evictions.{is_unpinned, has_id, evicted, all_evicted}
 use Rattle.inode_refs.specs.declared.node_key.NodeKey.{NodeKey}
 use Rattle.disk_tree.specs.DiskTree.{Disk}
-use Rattle.mount_model.specs.PlainMount.{HandleList, has_handle}
+use Rattle.mount_model.specs.PlainMount.{HandleList}
+use Rattle.mount_model.specs.OpenHandles.{has_handle}
 use Rattle.number_map.specs.Numbered.{get}
 use Rattle.dentry_cache.specs.Names.{NameList}
 use Rattle.mount_state.specs.CachedNames.{NamesForget}

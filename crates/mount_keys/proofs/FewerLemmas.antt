@@ -4,19 +4,22 @@ use Rattle.std.proofs.Common.{◌∙◌}
 use Rattle.std.specs.FinMap as map
 use Rattle.policy_ctx.specs.declared.policy.KeyId.{KeyId}
 use Rattle.fsc_keys.specs.declared.file_keys.KeyKind.{KeyKind}
-use Rattle.user_claims.specs.Claims.{ClaimSet, is_present, without_claim, without_id}
+use Rattle.user_claims.specs.Claims.{ClaimSet, without_claim, without_id}
+use Rattle.user_claims.specs.ClaimCounts.{is_present}
 use Rattle.user_claims.proofs.ClaimLemmas.{without_claim-absent}
 use Rattle.user_claims.proofs.PresentLemmas.{has_claim-absent, is_present-without_id}
 use Rattle.key_ring.specs.Holding.{SecretMap, HoldsClaimedSecrets, secret_of}
 use Rattle.key_ring.specs.Modes.{Modes, mode_at}
-use Rattle.inode_refs.specs.Cached.{Cache, KeyMap, key_at, evicted}
+use Rattle.inode_refs.specs.Cached.{Cache, KeyMap, key_at}
+use Rattle.inode_refs.specs.Evictions.{evicted}
 use Rattle.inode_refs.specs.declared.node_key.NodeKey.{NodeKey}
 use Rattle.plain_tree.specs.Facts.{AgreesBy}
 use Rattle.disk_tree.specs.DiskTree.{Disk}
 use Rattle.mount_model.specs.PlainMount.{PlainMount}
 use Rattle.mount_model.specs.WellFormed.{HasKeys}
 use Rattle.mount_model.proofs.KeyLemmas.{HasKeys-without_claim, HasKeys-without_id}
-use Rattle.dentry_cache.specs.Names.{NameList, with_pairs, HoldsNoMore}
+use Rattle.dentry_cache.specs.Names.{NameList, with_pairs}
+use Rattle.dentry_cache.specs.HeldNames.{HoldsNoMore}
 use Rattle.dentry_cache.proofs.NameLemmas.{none_held}
 use Rattle.mount_state.specs.Handles.{Handles}
 use Rattle.mount_state.specs.Held.{HoldsNothing, is_in_use}

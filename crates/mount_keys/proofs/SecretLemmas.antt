@@ -7,7 +7,8 @@ use Rattle.std.specs.Ordering.{eq_by_cmp}
 use Rattle.std.proofs.lemmas.Bool.{cases_Bool, cond-true, cond-false, true≢false}
 use Rattle.policy_ctx.specs.declared.policy.KeyId.{KeyId}
 use Rattle.policy_ctx.proofs.KeyIdLemmas.{same_id-refl, same_id-eq}
-use Rattle.user_claims.specs.Claims.{ClaimSet, id_cmp, is_present}
+use Rattle.user_claims.specs.Claims.{ClaimSet, id_cmp}
+use Rattle.user_claims.specs.ClaimCounts.{is_present}
 use Rattle.user_claims.proofs.ClaimOrder.{id_cmp_total, id_cmp-IsAntisymmetric, id_ties}
 use Rattle.key_ring.specs.Holding.{SecretMap, secrets_left}
 

@@ -2,7 +2,8 @@
 use Rattle.std.proofs.Common.{◌≡◌, ℕ, Bool, true, false, cond, not, ◌&&◌, ◌==◌, refl, sym, ap, ◌∙◌}
 use Rattle.std.proofs.lemmas.Bool.{true≢false}
 use Rattle.policy_ctx.specs.declared.policy.KeyId.{KeyId}
-use Rattle.user_claims.specs.Claims.{ClaimSet, has_claim, is_present, without_claim, without_id}
+use Rattle.user_claims.specs.Claims.{ClaimSet, has_claim, without_claim, without_id}
+use Rattle.user_claims.specs.ClaimCounts.{is_present}
 use Rattle.user_claims.proofs.ClaimLemmas.{without_claim-absent}
 use Rattle.user_claims.proofs.PresentLemmas.{is_present-held, has_claim-absent}
 use Rattle.mount_model.specs.declared.reply.Reply.{Reply}
@@ -11,8 +12,8 @@ use Rattle.mount_model.specs.declared.reply.Refusal.TheVariants.{NoKey, Access}
 use Rattle.mount_model.specs.PlainMount.{PlainMount}
 use Rattle.mount_model.specs.States as plain
 use Rattle.mount_model.specs.Answered.{Answer, refused}
-use Rattle.mount_model.specs.KeyAnswers.{is_absent, removal_told, removed, all_removed}
-use Rattle.mount_model.specs.KeyAnswers.{answer_to_remove_key, answer_to_remove_key_all}
+use Rattle.mount_model.specs.RemovalAnswers.{is_absent, removal_told, removed, all_removed}
+use Rattle.mount_model.specs.RemovalAnswers.{answer_to_remove_key, answer_to_remove_key_all}
 use Rattle.mount_model.proofs.CaseLemmas.{at_remove_key, at_remove_key_all}
 use Rattle.mount_state.specs.Held.{is_in_use}
 use Rattle.mount_state.specs.StandsFor.{StandsFor}

@@ -3,9 +3,11 @@ use Rattle.std.specs.Prelude.{◌≡◌, ℕ, List, [], ◌∷◌, not, ◌&&◌
 use Rattle.std.specs.FinMap as map
 use Rattle.policy_ctx.specs.declared.policy.KeyId.{KeyId}
 use Rattle.fsc_keys.specs.Keys.{key_id_of}
-use Rattle.user_claims.specs.Claims.{ClaimSet, is_present, with_claim, without_claim, without_id}
+use Rattle.user_claims.specs.Claims.{ClaimSet, with_claim, without_claim, without_id}
+use Rattle.user_claims.specs.ClaimCounts.{is_present}
 use Rattle.key_ring.specs.Holding.{secrets_left}
-use Rattle.inode_refs.specs.Cached.{Cache, KeyMap, evicted}
+use Rattle.inode_refs.specs.Cached.{Cache, KeyMap}
+use Rattle.inode_refs.specs.Evictions.{evicted}
 use Rattle.dentry_cache.specs.Names.{NameList, with_pairs}
 use Rattle.mount_state.specs.SameBut.{SameBut, Ring, CachedKeys, CachedNames}
 use Rattle.mount_state.specs.declared.state.MountState.{MountState}

@@ -2,7 +2,7 @@
 
 ghost use Rattle.std.specs.Prelude.{◌≡◌, []};
 ghost use Rattle.dentry_cache.specs.Names.{with_pairs};
-ghost use Rattle.inode_refs.specs.Cached.{all_evicted};
+ghost use Rattle.inode_refs.specs.Evictions.{all_evicted};
 ghost use Rattle.mount_model.specs.PlainMount.{PlainMount};
 ghost use Rattle.mount_model.specs.Answered.{done};
 ghost use Rattle.mount_state.specs.Given.{IsGiven};

@@ -3,7 +3,7 @@
 ghost use Rattle.std.specs.Prelude.{◌≡◌, true, false};
 ghost use Rattle.mount_model.specs.PlainMount.{PlainMount};
 ghost use Rattle.mount_model.specs.ClaimHistory.{is_refused};
-ghost use Rattle.mount_model.specs.KeyAnswers.{answer_to_remove_key_all};
+ghost use Rattle.mount_model.specs.RemovalAnswers.{answer_to_remove_key_all};
 ghost use Rattle.mount_state.specs.Given.{IsGiven};
 ghost use Rattle.mount_keys.specs.Told.{told_of_clearing};
 ghost use Rattle.mount_keys.specs.Taken.{LosesAllClaims, SameButKeyed};

@@ -1,10 +1,11 @@
 //! A user gives up a claim.
 
 ghost use Rattle.std.specs.Prelude.{◌≡◌, true, false};
-ghost use Rattle.user_claims.specs.Claims.{has_claim, is_present};
+ghost use Rattle.user_claims.specs.Claims.{has_claim};
+ghost use Rattle.user_claims.specs.ClaimCounts.{is_present};
 ghost use Rattle.mount_model.specs.PlainMount.{PlainMount};
 ghost use Rattle.mount_model.specs.ClaimHistory.{is_refused};
-ghost use Rattle.mount_model.specs.KeyAnswers.{answer_to_remove_key};
+ghost use Rattle.mount_model.specs.RemovalAnswers.{answer_to_remove_key};
 ghost use Rattle.mount_state.specs.Given.{IsGiven};
 ghost use Rattle.mount_keys.specs.Told.{told_of_removal};
 ghost use Rattle.mount_keys.specs.Taken.{LosesClaim, SameButKeyed};

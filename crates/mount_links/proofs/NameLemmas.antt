@@ -7,7 +7,7 @@ use Rattle.std.proofs.lemmas.Slice.Eq.{starts_is}
 use Rattle.short_bytes.specs.Label.{is_label, label_of}
 use Rattle.script_words.specs.Records.{record_of, record_name}
 use Rattle.mount_links.specs.declared.asked.Asked.TheVariants.{Load}
-use Rattle.mount_links.specs.Linked.{load_asked}
+use Rattle.mount_links.specs.LinkSteps.{load_asked}
 use Rattle.script_words.specs.declared.record_words.Record.{Record}
 use Rattle.script_words.specs.declared.record_words.Record.TheVariants.{Protector, Policy}
 

@@ -7,7 +7,8 @@ use Rattle.reply_text.specs.Shown.{PlacedShown, ShownEntry, shown_entry, shown_c
 use Rattle.mount_links.specs.declared.step.LinkStep.{LinkStep}
 use Rattle.mount_links.specs.declared.step.LinkStep.TheVariants.{Alone, Followed, Looked, NotMade}
 use Rattle.mount_links.specs.Linked.{own_part, own_parts, far_part, far_parts}
-use Rattle.mount_links.specs.LinkCalls.{load_call, load_shown, ShowsBoth}
+use Rattle.mount_links.specs.LinkCalls.{load_call}
+use Rattle.mount_links.specs.ShownParts.{load_shown, ShowsBoth}
 
 -- what is shown of an entry with its place
 abbrev shown_placed : ℕ × MountEntry → ℕ × ShownEntry

@@ -1,25 +1,18 @@
--- What calls on two mounts make of a caller's ports to them, and what a log shows of both.
+-- What calls on two mounts make of a caller's ports to them.
 use Rattle.std.specs.Prelude.{◌≡◌, ⊤, ℕ, List, [], ◌∷◌, ◌++◌}
 use Rattle.mount_model.specs.declared.call.Call.{Call}
 use Rattle.mount_model.specs.declared.call.Op.TheVariants.{MetaLoad}
 use Rattle.mount_model.specs.History.{MountEntry}
 use Rattle.mount_model.specs.Port.{PlacedCalls}
-use Rattle.reply_text.specs.Calls.{call_text}
-use Rattle.reply_text.specs.Shown.{shown_calls}
-use Rattle.reply_text.specs.declared.shown.Shown.{Shown}
 use Rattle.script_words.specs.Records.{record_name}
 use Rattle.script_words.specs.declared.record_words.Record.TheVariants.{Protector}
 use Rattle.mount_links.specs.declared.step.LinkStep.{LinkStep}
-use Rattle.mount_links.specs.Linked.{asked_of, IsStepOf, own_part, own_parts, far_part, far_parts}
+use Rattle.mount_links.specs.Linked.{own_part, own_parts, far_part, far_parts}
+use Rattle.mount_links.specs.LinkSteps.{asked_of, IsStepOf}
 
 -- loading the record of a protector, for the user of a call
 abbrev pub load_call : List ℕ → Call → Call
 load_call label call = record { uid = call.uid; op = MetaLoad (record_name (Protector label)) }
-
--- what a log shows of that, by what it shows of the call
-abbrev pub load_shown : List ℕ → Shown → Shown
-load_shown label shown =
-    record { uid = shown.uid; words = call_text (MetaLoad (record_name (Protector label))) }
 
 -- this became of the caller's call
 abbrev pub IsStep : LinkStep → ℕ × MountEntry → Type 0
@@ -59,8 +52,3 @@ pub record LinkCame {P Q : Type 0} (own_came : P → PlacedCalls → P → Type 
   pub kept : new.steps ≡ old.steps ++ steps
   pub on_own : own_came old.own (own_parts load_call steps calls) new.own
   pub on_far : far_came old.far (far_parts steps calls) new.far
-
--- what is shown of the calls on both mounts is told by what is shown of the caller's calls, and their steps
-pub record ShowsBoth (steps : List LinkStep) (calls : PlacedCalls) : Type 0 where
-  pub on_own : own_parts load_shown steps (shown_calls calls) ≡ shown_calls (own_parts load_call steps calls)
-  pub on_far : far_parts steps (shown_calls calls) ≡ shown_calls (far_parts steps calls)

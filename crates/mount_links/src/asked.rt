@@ -5,7 +5,7 @@ ghost use Rattle.mount_model.specs.History as history;
 ghost use Rattle.mount_model.specs.declared.call.Op.TheVariants.{MetaLoad};
 ghost use Rattle.script_words.specs.Records.{record_name};
 ghost use Rattle.script_words.specs.declared.record_words.Record.TheVariants.{Protector};
-ghost use Rattle.mount_links.specs.Linked as spec;
+ghost use Rattle.mount_links.specs.LinkSteps as spec;
 ghost use Rattle.mount_links.specs.declared.asked.Asked.TheVariants.{Load};
 
 use mount_model::{Op, Refusal, Reply};

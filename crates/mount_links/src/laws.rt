@@ -3,7 +3,7 @@
 ghost use Rattle.std.specs.Prelude.{List};
 ghost use Rattle.mount_model.specs.Port.{PlacedCalls};
 ghost use Rattle.mount_links.specs.declared.step.LinkStep.{LinkStep};
-ghost use Rattle.mount_links.specs.LinkCalls.{ShowsBoth};
+ghost use Rattle.mount_links.specs.ShownParts.{ShowsBoth};
 
 /// What `split` makes of what a log shows of a caller's calls is what it shows of the calls on both mounts.
 pub fn shown_histories_are_of_the_calls()

@@ -4,7 +4,7 @@ ghost use Rattle.std.specs.Prelude.{◌≡◌, ◌+◌, ◌<◌, ◌≤◌, [], 
 ghost use Rattle.call_history.specs.Entries.{entry};
 ghost use Rattle.mount_model.specs.Fits.{Fits};
 ghost use Rattle.mount_links.specs.LinkCalls.{CameByOne, load_call};
-ghost use Rattle.mount_links.specs.Linked as spec;
+ghost use Rattle.mount_links.specs.LinkSteps as spec;
 ghost use Rattle.mount_links.specs.declared.step.LinkStep.TheVariants.{Followed};
 ghost use Rattle.mount_links.specs.declared.asked.Asked.TheVariants.{Load, Other, Store};
 

@@ -1,7 +1,7 @@
 //! What a log shows of a caller's calls, parted into what it shows on either mount.
 
 ghost use Rattle.std.specs.Prelude.{◌≡◌, ◌++◌, IfOk, OnOk};
-ghost use Rattle.mount_links.specs.LinkCalls.{load_shown};
+ghost use Rattle.mount_links.specs.ShownParts.{load_shown};
 ghost use Rattle.mount_links.specs.Linked as spec;
 
 use crate::room::NameRoom;

@@ -11,11 +11,12 @@ use Rattle.fsc_keys.specs.Keys.{key_id_of, file_key_of, mode_key_of, key_bytes}
 use Rattle.name_crypt.specs.StoredName.{stored_name}
 use Rattle.name_crypt.specs.NoKeyText.{nokey_text_of}
 use Rattle.number_map.specs.Numbered.{get}
-use Rattle.plain_tree.specs.Nodes.{Name, Node, Nodes, context_in}
+use Rattle.plain_tree.specs.Nodes.{Name, Node, Nodes}
+use Rattle.plain_tree.specs.NodesByNumber.{context_in}
 use Rattle.plain_tree.proofs.SealLemmas.{same_texts}
 use Rattle.mount_model.specs.PlainMount.{Raws, raw_in, with_raw}
 use Rattle.mount_model.specs.Sealed.{node_start, sealed_name, texts}
-use Rattle.mount_model.specs.WellFormed.{HasRaw, HasNodes}
+use Rattle.mount_model.specs.SoundNodes.{HasRaw, HasNodes}
 use Rattle.mount_model.specs.Lawful.{AgreesWith}
 use Rattle.mount_model.proofs.KeyLemmas.{raw_in-with_raw}
 

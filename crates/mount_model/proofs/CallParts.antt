@@ -5,20 +5,24 @@ use Rattle.std.proofs.lemmas.List.{length-take-le}
 use Rattle.std.proofs.Common.{length-drop}
 use Rattle.policy_ctx.specs.declared.policy.KeyId.{KeyId}
 use Rattle.policy_ctx.specs.declared.fault.CtxFault.TheVariants.{Length}
-use Rattle.policy_ctx.specs.Policy.{header_fault, policy_fault}
-use Rattle.user_claims.specs.Claims.{has_claim, is_present}
+use Rattle.policy_ctx.specs.PolicyFaults.{header_fault, policy_fault}
+use Rattle.user_claims.specs.Claims.{has_claim}
+use Rattle.user_claims.specs.ClaimCounts.{is_present}
 use Rattle.user_claims.proofs.PresentLemmas.{holder}
 use Rattle.byte_words.specs.Bytes.{AreBytes}
 use Rattle.byte_words.specs.Contents.{with_bytes}
 use Rattle.byte_words.proofs.ContentsLemmas.{length-with_bytes, AreBytes-with_bytes}
-use Rattle.plain_tree.specs.Nodes.{Body, Dir, File, Link, with_contents}
+use Rattle.plain_tree.specs.Nodes.{Body, Dir, File, Link}
+use Rattle.plain_tree.specs.BodyChanges.{with_contents}
 use Rattle.mount_limits.specs.declared.TheConstants.{MOST_FILE_BYTES}
 use Rattle.name_crypt.specs.declared.limits.TheConstants.{MOST_NAME_BYTES}
 use Rattle.mount_model.specs.Carried.{IsTarget}
 use Rattle.mount_model.specs.PlainMount.{PlainMount, raw_in}
-use Rattle.mount_model.specs.PolicyAnswers.{policy_in, may_use}
+use Rattle.mount_model.specs.PolicyAnswers.{may_use}
+use Rattle.mount_model.specs.SpelledPolicy.{policy_in}
 use Rattle.mount_model.specs.NameAnswers.{is_long_target}
-use Rattle.mount_model.specs.WellFormed.{IsBody, HasRaw, HasKeys}
+use Rattle.mount_model.specs.WellFormed.{HasKeys}
+use Rattle.mount_model.specs.SoundNodes.{IsBody, HasRaw}
 use Rattle.mount_model.proofs.CaseLemmas.{CanEncrypt}
 use Rattle.mount_model.proofs.TreeCalls.{IsFresh}
 

@@ -4,11 +4,13 @@ use Rattle.std.proofs.Common.{nat_lt, ◌≡◌, ℕ, Bool, true, false, cond, n
 use Rattle.std.proofs.lemmas.Bool.{cond_both}
 use Rattle.policy_ctx.specs.declared.policy.KeyId.{KeyId}
 use Rattle.policy_ctx.specs.declared.policy.Context.{Context}
-use Rattle.policy_ctx.specs.Policy.{policy_fault}
-use Rattle.plain_tree.specs.Nodes.{Name, children, context_at, is_dir_at}
+use Rattle.policy_ctx.specs.PolicyFaults.{policy_fault}
+use Rattle.plain_tree.specs.Nodes.{Name}
+use Rattle.plain_tree.specs.NodesByNumber.{children, context_at, is_dir_at}
 use Rattle.plain_tree.specs.Changes.{encrypted}
 use Rattle.fsc_keys.specs.Keys.{key_id_of}
-use Rattle.user_claims.specs.Claims.{has_claim, is_present}
+use Rattle.user_claims.specs.Claims.{has_claim}
+use Rattle.user_claims.specs.ClaimCounts.{is_present}
 use Rattle.mount_model.specs.declared.reply.Reply.{Reply}
 use Rattle.mount_model.specs.declared.reply.Reply.TheVariants.{Done, Refused}
 use Rattle.name_crypt.specs.declared.limits.TheConstants.{MOST_NAME_BYTES}
@@ -17,9 +19,12 @@ use Rattle.mount_model.specs.declared.reply.Refusal.TheVariants.{NoKey, Access, 
 use Rattle.mount_model.specs.PlainMount.{PlainMount}
 use Rattle.mount_model.specs.Answered.{Answer, refused, told, done, at_node, at_entry}
 use Rattle.mount_model.specs.States.{is_busy}
-use Rattle.mount_model.specs.Walk.{PathParts, Walked, found, led, looked_in, stepped, walked_on, walked_from, walked, parent, parent_parts, last_part}
-use Rattle.mount_model.specs.KeyAnswers.{is_raw_key, is_over_quota, is_absent, added, removed, all_removed, answer_to_add_key, answer_to_remove_key, answer_to_remove_key_all}
-use Rattle.mount_model.specs.PolicyAnswers.{policy_in, may_use, answer_to_encrypt, answer_to_set_policy, policy_told, answer_to_get_policy}
+use Rattle.mount_model.specs.Walk.{PathParts, Walked, found, led, looked_in, stepped, walked_on, walked_from, walked}
+use Rattle.mount_model.specs.EntryPaths.{parent, parent_parts, last_part}
+use Rattle.mount_model.specs.KeyAnswers.{is_raw_key, is_over_quota, added, answer_to_add_key}
+use Rattle.mount_model.specs.RemovalAnswers.{is_absent, removed, all_removed, answer_to_remove_key, answer_to_remove_key_all}
+use Rattle.mount_model.specs.PolicyAnswers.{may_use, answer_to_encrypt, answer_to_set_policy, policy_told, answer_to_get_policy}
+use Rattle.mount_model.specs.SpelledPolicy.{policy_in}
 use Rattle.mount_model.specs.FileAnswers.{at_handle}
 use Rattle.mount_model.specs.History.{is_want_of_memory}
 use Rattle.mount_model.specs.ClaimHistory.{is_refused}

@@ -4,12 +4,14 @@ use Rattle.std.specs.List.{list_any, find, filter, IsDistinct, AllByRecursion}
 use Rattle.std.proofs.lemmas.Bool.{cases_eq, cases_Bool, or_cases, or_parts, true≢false, ne_eqb}
 use Rattle.number_map.specs.Numbered.{Numbered, get}
 use Rattle.number_map.proofs.NumberedLemmas.{remove_here, remove_other}
-use Rattle.plain_tree.specs.Nodes.{Nodes, is_named_in, is_named}
+use Rattle.plain_tree.specs.Nodes.{Nodes}
+use Rattle.plain_tree.specs.NodesByNumber.{is_named_in, is_named}
 use Rattle.plain_tree.specs.Changes.{gone}
 use Rattle.mount_model.specs.declared.handle.Handle.{Handle}
-use Rattle.mount_model.specs.PlainMount.{HandleList, is_handle, node_of, has_handle, without_handle}
-use Rattle.mount_model.specs.FileAnswers.{kept_by}
-use Rattle.mount_model.specs.WellFormed.{is_openable, is_same_handle, HasHandles}
+use Rattle.mount_model.specs.PlainMount.{HandleList}
+use Rattle.mount_model.specs.OpenHandles.{is_handle, node_of, has_handle, without_handle}
+use Rattle.mount_model.specs.CloseAnswers.{kept_by}
+use Rattle.mount_model.specs.SoundHandles.{is_openable, is_same_handle, HasHandles}
 use Rattle.mount_model.proofs.HandlesWell.{openable_in}
 use Rattle.mount_model.proofs.OpenLemmas.{same_caller}
 

@@ -2,18 +2,24 @@
 -- by case.
 use Rattle.std.proofs.Common.{nat_lt, ◌≡◌, ◌+◌, ℕ, false, not, List, length, Option, Some, None, Ok, refl}
 use Rattle.number_map.specs.Numbered.{get}
-use Rattle.plain_tree.specs.Nodes.{Body, Dir, File, Link, Node, is_dir_at}
+use Rattle.plain_tree.specs.Nodes.{Body, Dir, File, Link, Node}
+use Rattle.plain_tree.specs.NodesByNumber.{is_dir_at}
 use Rattle.plain_tree.specs.Changes.{written}
 use Rattle.meta_files.specs.Records.{record_of}
 use Rattle.byte_words.specs.Contents.{with_bytes}
 use Rattle.mount_limits.specs.declared.TheConstants.{MOST_FILE_BYTES, MOST_READ_BYTES}
 use Rattle.meta_files.specs.declared.files.TheConstants.{MOST_RECORD_BYTES}
 use Rattle.mount_model.specs.declared.reply.Refusal.TheVariants.{NoKey, Inval, NotFound, NotDir, IsDir, TooBig, NoSpace, Changed}
-use Rattle.mount_model.specs.PlainMount.{PlainMount, node_of}
+use Rattle.mount_model.specs.PlainMount.{PlainMount}
+use Rattle.mount_model.specs.OpenHandles.{node_of}
 use Rattle.mount_model.specs.Answered.{Answer, done}
 use Rattle.mount_model.specs.Walk.{PathParts, walked}
-use Rattle.mount_model.specs.LookAnswers.{target_told, answer_to_read_link, page_of, answer_to_list, node_told, answer_to_stat}
-use Rattle.mount_model.specs.FileAnswers.{opened_on, is_out_of_handles, is_link_at, answer_to_open, contents_at, content_of, answer_to_read, lacks_blocks, answer_to_write, with_closed, answer_to_close}
+use Rattle.mount_model.specs.LookAnswers.{target_told, answer_to_read_link, node_told, answer_to_stat}
+use Rattle.mount_model.specs.ListAnswers.{page_of, answer_to_list}
+use Rattle.mount_model.specs.FileAnswers.{contents_at, content_of, answer_to_read, answer_to_write}
+use Rattle.mount_model.specs.Blocks.{lacks_blocks}
+use Rattle.mount_model.specs.CloseAnswers.{with_closed, answer_to_close}
+use Rattle.mount_model.specs.OpenAnswers.{opened_on, is_out_of_handles, is_link_at, answer_to_open}
 use Rattle.mount_model.specs.RecordAnswers.{record_told, answer_to_meta_load, is_out_of_records, stored, answer_to_meta_store}
 use Rattle.mount_model.proofs.CaseLemmas.{Covers, when, walked_from_due, at_walk, at_open}
 

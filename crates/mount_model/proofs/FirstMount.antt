@@ -10,16 +10,20 @@ use Rattle.std.specs.Ordering.{nat_cmp}
 use Rattle.std.proofs.lemmas.Bool.{true≢false}
 use Rattle.number_map.specs.Numbered.{empty, get}
 use Rattle.number_map.proofs.TotalLemmas.{total_added, total_empty}
-use Rattle.plain_tree.specs.Nodes.{Dir, Node, Nodes, contents_of, is_named_in}
+use Rattle.plain_tree.specs.Nodes.{Dir, Node, Nodes, contents_of}
+use Rattle.plain_tree.specs.NodesByNumber.{is_named_in}
 use Rattle.plain_tree.specs.Changes.{first_nodes}
 use Rattle.plain_tree.specs.Facts.{EachNode}
 use Rattle.plain_tree.proofs.FactLemmas.{each_inserted}
 use Rattle.plain_tree.proofs.FirstLemmas.{first_children, first_tree, first_sealed}
 use Rattle.mount_limits.specs.declared.TheConstants.{MOST_BLOCKS}
-use Rattle.mount_model.specs.PlainMount.{opens_of, empty_mount}
+use Rattle.mount_model.specs.PlainMount.{empty_mount}
+use Rattle.mount_model.specs.OpenHandles.{opens_of}
 use Rattle.mount_model.specs.Sealed.{texts}
-use Rattle.mount_model.specs.FileAnswers.{block_count, block_total}
-use Rattle.mount_model.specs.WellFormed.{IsBody, HasRaw, HasNodes, HasHandles, is_same_handle, IsWellFormed}
+use Rattle.mount_model.specs.Blocks.{block_count, block_total}
+use Rattle.mount_model.specs.WellFormed.{IsWellFormed}
+use Rattle.mount_model.specs.SoundHandles.{HasHandles, is_same_handle}
+use Rattle.mount_model.specs.SoundNodes.{IsBody, HasRaw, HasNodes}
 use Rattle.mount_model.proofs.KeyLemmas.{HasKeys-empty}
 use Rattle.mount_model.proofs.RecordLemmas.{HasRecords-empty}
 

@@ -3,7 +3,8 @@ use Rattle.std.proofs.Common.{nat_le, ◌≡◌, ℕ, true, ◌&&◌, List, [], 
 use Rattle.std.proofs.lemmas.Bool.{or_parts, leb-false, not_from_false}
 use Rattle.byte_words.specs.Contents.{with_bytes}
 use Rattle.number_map.specs.Numbered.{get}
-use Rattle.plain_tree.specs.Nodes.{Body, Dir, File, Link, Node, is_named_in}
+use Rattle.plain_tree.specs.Nodes.{Body, Dir, File, Link, Node}
+use Rattle.plain_tree.specs.NodesByNumber.{is_named_in}
 use Rattle.plain_tree.specs.Tree.{IsReached}
 use Rattle.plain_tree.proofs.ReachedLemmas.{reached_named}
 use Rattle.mount_model.specs.declared.call.Op.{Op}
@@ -12,15 +13,17 @@ use Rattle.mount_model.specs.declared.reply.Reply.TheVariants.{Done}
 use Rattle.mount_model.specs.declared.limits.TheConstants.{MOST_HANDLES, MOST_OPENS}
 use Rattle.mount_model.specs.Carried.{IsPath}
 use Rattle.mount_model.specs.Fits.{OpFits}
-use Rattle.mount_model.specs.PlainMount.{PlainMount, opens_of}
-use Rattle.mount_model.specs.Walk.{PathParts, last_part}
+use Rattle.mount_model.specs.PlainMount.{PlainMount}
+use Rattle.mount_model.specs.OpenHandles.{opens_of}
+use Rattle.mount_model.specs.Walk.{PathParts}
+use Rattle.mount_model.specs.EntryPaths.{last_part}
 use Rattle.mount_model.specs.KeyAnswers.{status_of}
-use Rattle.mount_model.specs.PolicyAnswers.{policy_in}
-use Rattle.mount_model.specs.NameAnswers.{new_node, with_node}
-use Rattle.mount_model.specs.FileAnswers.{is_link_at, with_handle}
+use Rattle.mount_model.specs.SpelledPolicy.{policy_in}
+use Rattle.mount_model.specs.NewNodes.{new_node, with_node}
+use Rattle.mount_model.specs.OpenAnswers.{is_link_at, with_handle}
 use Rattle.mount_model.specs.Answered.{Answer}
 use Rattle.mount_model.specs.Answer.{answer_to}
-use Rattle.mount_model.specs.WellFormed.{HasHandles}
+use Rattle.mount_model.specs.SoundHandles.{HasHandles}
 use Rattle.mount_model.proofs.CaseLemmas.{Covers, at_add_key, at_remove_key, at_remove_key_all, at_set_policy, at_get_policy}
 use Rattle.mount_model.proofs.NameCases.{CanMake, at_make, at_unlink, at_rmdir, at_rename}
 use Rattle.mount_model.proofs.FileCases.{CanOpen, at_read_link, at_list, at_stat, at_open_node, at_read, at_write, at_close, at_meta_load, at_meta_store}

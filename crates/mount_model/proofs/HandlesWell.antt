@@ -5,7 +5,9 @@ use Rattle.std.proofs.lemmas.Bool.{cases_eq, and_parts}
 use Rattle.policy_ctx.specs.declared.policy.Context.{Context}
 use Rattle.number_map.specs.Numbered.{Numbered, get}
 use Rattle.number_map.proofs.NumberedLemmas.{remove_here, remove_other}
-use Rattle.plain_tree.specs.Nodes.{Name, Node, Nodes, is_named_in, with_child, is_named}
+use Rattle.plain_tree.specs.Nodes.{Name, Node, Nodes}
+use Rattle.plain_tree.specs.BodyChanges.{with_child}
+use Rattle.plain_tree.specs.NodesByNumber.{is_named_in, is_named}
 use Rattle.plain_tree.specs.Changes.{on_contents, with_context, name_put, made, dropped, gone, moved, written, encrypted}
 use Rattle.plain_tree.specs.Tree.{IsTree}
 use Rattle.plain_tree.specs.Laws.{IsNew, CanBeMade}
@@ -14,9 +16,10 @@ use Rattle.plain_tree.proofs.MadeLemmas.{made_before, made_here, next_free}
 use Rattle.plain_tree.proofs.DroppedLemmas.{dropped_there, dropped_others}
 use Rattle.plain_tree.proofs.MovedLemmas.{moved_there, moved_named}
 use Rattle.plain_tree.proofs.EditedLemmas.{edited_there, edited_named, leaves_contents, leaves_context}
-use Rattle.mount_model.specs.PlainMount.{HandleList, has_handle}
-use Rattle.mount_model.specs.FileAnswers.{is_link_at}
-use Rattle.mount_model.specs.WellFormed.{is_openable, HasHandles}
+use Rattle.mount_model.specs.PlainMount.{HandleList}
+use Rattle.mount_model.specs.OpenHandles.{has_handle}
+use Rattle.mount_model.specs.OpenAnswers.{is_link_at}
+use Rattle.mount_model.specs.SoundHandles.{is_openable, HasHandles}
 use Rattle.mount_model.proofs.NodeParts.{link_in, link_edited, link_dropped, link_moved, link_written, link_encrypted}
 
 unfoldable pub openable_in : Option Node → Bool

@@ -10,7 +10,8 @@ use Rattle.policy_ctx.specs.declared.policy.KeyId.{KeyId}
 use Rattle.policy_ctx.specs.KeyIds.{same_id}
 use Rattle.policy_ctx.proofs.KeyIdLemmas.{same_id-eq}
 use Rattle.fsc_keys.specs.Keys.{key_id_of}
-use Rattle.user_claims.specs.Claims.{ClaimSet, no_claims, has_claim, count_of_user, with_claim, without_claim, without_id}
+use Rattle.user_claims.specs.Claims.{ClaimSet, no_claims, has_claim, with_claim, without_claim, without_id}
+use Rattle.user_claims.specs.ClaimCounts.{count_of_user}
 use Rattle.user_claims.proofs.ClaimLemmas.{has_claim-none, has_claim-with_claim, has_claim-without_claim, has_claim-without_id, count_of_user-none, count_of_user-with_claim-le, count_of_user-without_claim-le, same_claim}
 use Rattle.user_claims.proofs.PresentLemmas.{count_of_user-without_id-le}
 use Rattle.user_claims.specs.declared.claims.TheConstants.{MOST_CLAIMS}

@@ -5,18 +5,22 @@ use Rattle.policy_ctx.specs.declared.policy.KeyId.{KeyId}
 use Rattle.fsc_keys.specs.Keys.{key_id_of}
 use Rattle.meta_files.specs.Records.{record_of, version_of}
 use Rattle.meta_files.specs.declared.files.TheConstants.{MOST_RECORD_BYTES}
-use Rattle.user_claims.specs.Claims.{ClaimSet, no_claims, has_claim, is_present}
+use Rattle.user_claims.specs.Claims.{ClaimSet, no_claims, has_claim}
+use Rattle.user_claims.specs.ClaimCounts.{is_present}
 use Rattle.mount_model.specs.declared.call.Op.{Op}
 use Rattle.mount_model.specs.declared.call.Op.TheVariants as op
 use Rattle.mount_model.specs.declared.reply.Reply.TheVariants.{Refused}
 use Rattle.mount_model.specs.declared.reply.Refusal.TheVariants.{NoKey, Access, Quota, Inval, TooBig, Changed, NoSpace, NoMemory}
-use Rattle.mount_model.specs.PlainMount.{PlainMount, empty_mount, node_of}
+use Rattle.mount_model.specs.PlainMount.{PlainMount, empty_mount}
+use Rattle.mount_model.specs.OpenHandles.{node_of}
 use Rattle.mount_model.specs.Answered.{Answer, refused, done}
 use Rattle.mount_model.specs.Answer.{answer_to}
 use Rattle.mount_model.specs.States.{is_busy}
-use Rattle.mount_model.specs.KeyAnswers.{is_raw_key, is_over_quota, is_absent, added, removed, all_removed, answer_to_add_key, answer_to_remove_key, answer_to_remove_key_all}
+use Rattle.mount_model.specs.KeyAnswers.{is_raw_key, is_over_quota, added, answer_to_add_key}
+use Rattle.mount_model.specs.RemovalAnswers.{is_absent, removed, all_removed, answer_to_remove_key, answer_to_remove_key_all}
 use Rattle.mount_model.specs.KeyReplies.{added_unless, addition_by, removal_by, clearing_by}
-use Rattle.mount_model.specs.FileAnswers.{at_handle, with_closed}
+use Rattle.mount_model.specs.FileAnswers.{at_handle}
+use Rattle.mount_model.specs.CloseAnswers.{with_closed}
 use Rattle.mount_model.specs.RecordAnswers.{record_told, is_out_of_records, stored}
 use Rattle.mount_model.specs.Step.{takes_memory, IsMountStep}
 use Rattle.mount_model.specs.History.{MountEntry, History, mount_left, IsLegalFrom, IsLegal}

@@ -5,8 +5,8 @@ use Rattle.std.proofs.lemmas.List.{drop_all, length-take, length-drop}
 use Rattle.plain_tree.specs.Nodes.{Name}
 use Rattle.mount_model.specs.declared.limits.TheConstants.{MOST_HANDLES, MOST_OPENS, MOST_LISTED}
 use Rattle.name_crypt.specs.declared.limits.TheConstants.{MOST_NAME_BYTES}
-use Rattle.mount_model.specs.PlainMount.{opens_of}
-use Rattle.mount_model.specs.LookAnswers.{listed}
+use Rattle.mount_model.specs.OpenHandles.{opens_of}
+use Rattle.mount_model.specs.ListAnswers.{listed}
 use Rattle.mount_model.specs.LimitLaws.{LimitsAreExact, FurtherNamesFollow}
 
 pub limits_exact : LimitsAreExact

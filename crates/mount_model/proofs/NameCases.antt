@@ -2,15 +2,21 @@
 use Rattle.std.proofs.Common.{◌≡◌, ℕ, Bool, true, false, cond, not, List, length, eqb, Option, Some, None, is_some}
 use Rattle.std.proofs.Common.{inl, inr, ◌⊎◌, Ok, refl}
 use Rattle.std.proofs.lemmas.Bool.{cond_both, or_parts}
-use Rattle.plain_tree.specs.Nodes.{Name, Body, children, context_at, is_dir_at, entry}
+use Rattle.plain_tree.specs.Nodes.{Name, Body}
+use Rattle.plain_tree.specs.NodesByNumber.{children, context_at, is_dir_at, entry}
 use Rattle.mount_model.specs.declared.reply.Refusal.{Refusal}
 use Rattle.mount_model.specs.declared.reply.Refusal.TheVariants.{NoKey, Inval, Exists, NotDir, IsDir, NotEmpty, XDev, NameTooLong, NoSpace, NoKeyClash}
 use Rattle.mount_model.specs.PlainMount.{PlainMount}
 use Rattle.mount_model.specs.States.{is_keyed}
 use Rattle.mount_model.specs.Answered.{Answer, refused, done, done_unless}
-use Rattle.mount_model.specs.Walk.{PathParts, found, is_root, parent, last_part, is_at_or_above}
-use Rattle.mount_model.specs.NameAnswers.{lacks_key, clashes, is_full, is_long_target, new_node, with_node, without_name, answer_to_make_in, answer_to_make, answer_to_unlink, answer_to_rmdir}
-use Rattle.mount_model.specs.RenameAnswer.{may_hold, is_full_elsewhere, with_moved, answer_to_move_from, answer_to_rename}
+use Rattle.mount_model.specs.Walk.{PathParts, found}
+use Rattle.mount_model.specs.EntryPaths.{is_root, parent, last_part, is_at_or_above}
+use Rattle.mount_model.specs.NameAnswers.{is_full, is_long_target, answer_to_make_in, answer_to_make}
+use Rattle.mount_model.specs.NewNodes.{new_node, with_node}
+use Rattle.mount_model.specs.UnlinkAnswers.{without_name, answer_to_unlink, answer_to_rmdir}
+use Rattle.mount_model.specs.EncryptedNames.{lacks_key, clashes}
+use Rattle.mount_model.specs.RenameAnswer.{with_moved, answer_to_move_from, answer_to_rename}
+use Rattle.mount_model.specs.MoveRefusal.{may_hold, is_full_elsewhere}
 use Rattle.mount_model.proofs.CaseLemmas.{is_so, Covers, when, parent_due, at_walk, at_found}
 
 -- ---- Mkdir, Create, Symlink

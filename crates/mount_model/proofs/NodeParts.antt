@@ -5,12 +5,16 @@ use Rattle.policy_ctx.specs.declared.policy.Context.{Context}
 use Rattle.number_map.specs.Numbered.{get, changed}
 use Rattle.number_map.proofs.NumberedLemmas.{remove_same, changed_None}
 use Rattle.number_map.proofs.TotalLemmas.{total_added, total_removed, total_changed, total_changed_to}
-use Rattle.plain_tree.specs.Nodes.{Name, Children, Body, Dir, File, Link, Node, Nodes, contents_of, is_dir_at, is_link, with_children, with_contents, with_child, without_child}
+use Rattle.plain_tree.specs.Nodes.{Name, Children, Body, Dir, File, Link, Node, Nodes, contents_of, is_link}
+use Rattle.plain_tree.specs.BodyChanges.{with_children, with_contents, with_child, without_child}
+use Rattle.plain_tree.specs.NodesByNumber.{is_dir_at}
 use Rattle.plain_tree.specs.Changes.{on_children, on_contents, named_as, with_context, name_put, name_taken, made, dropped, gone, moved, written, encrypted}
 use Rattle.plain_tree.proofs.ReadLemmas.{read_changed}
 use Rattle.plain_tree.proofs.MadeLemmas.{still_free}
 use Rattle.mount_limits.specs.declared.TheConstants.{MOST_BLOCKS}
-use Rattle.mount_model.specs.FileAnswers.{is_link_at, contents_at, block_count, block_total}
+use Rattle.mount_model.specs.FileAnswers.{contents_at}
+use Rattle.mount_model.specs.Blocks.{block_count, block_total}
+use Rattle.mount_model.specs.OpenAnswers.{is_link_at}
 
 -- ---- symlinks
 

@@ -3,7 +3,8 @@ use Rattle.std.proofs.Common.{◌≡◌, ℕ, ◌-◌, ◌||◌, List, [], refl}
 use Rattle.std.proofs.lemmas.Bool.{cond_both, or_parts, ltb-false, eqb-false}
 use Rattle.fsc_keys.specs.Keys.{key_id_of}
 use Rattle.byte_words.specs.Contents.{with_bytes}
-use Rattle.plain_tree.specs.Nodes.{Name, Body, Dir, File, Link, children, is_named}
+use Rattle.plain_tree.specs.Nodes.{Name, Body, Dir, File, Link}
+use Rattle.plain_tree.specs.NodesByNumber.{children, is_named}
 use Rattle.plain_tree.specs.Changes.{dropped, gone, written}
 use Rattle.plain_tree.proofs.DroppedLemmas.{dropped_nameless}
 use Rattle.mount_model.specs.declared.call.Op.{Op}
@@ -12,16 +13,22 @@ use Rattle.mount_model.specs.declared.reply.Reply.TheVariants.{Done}
 use Rattle.mount_limits.specs.declared.TheConstants.{MOST_BLOCKS}
 use Rattle.mount_model.specs.Carried.{IsPath}
 use Rattle.mount_model.specs.Fits.{OpFits}
-use Rattle.mount_model.specs.PlainMount.{PlainMount, with_raw, has_handle, without_handle}
-use Rattle.mount_model.specs.Walk.{PathParts, last_part}
+use Rattle.mount_model.specs.PlainMount.{PlainMount, with_raw}
+use Rattle.mount_model.specs.OpenHandles.{has_handle, without_handle}
+use Rattle.mount_model.specs.Walk.{PathParts}
+use Rattle.mount_model.specs.EntryPaths.{last_part}
 use Rattle.mount_model.specs.KeyAnswers.{status_of}
-use Rattle.mount_model.specs.PolicyAnswers.{policy_in}
-use Rattle.mount_model.specs.NameAnswers.{new_node, with_node, without_name}
+use Rattle.mount_model.specs.SpelledPolicy.{policy_in}
+use Rattle.mount_model.specs.NewNodes.{new_node, with_node}
+use Rattle.mount_model.specs.UnlinkAnswers.{without_name}
 use Rattle.mount_model.specs.RenameAnswer.{with_moved}
-use Rattle.mount_model.specs.FileAnswers.{contents_at, block_count, block_total, with_closed}
+use Rattle.mount_model.specs.FileAnswers.{contents_at}
+use Rattle.mount_model.specs.Blocks.{block_count, block_total}
+use Rattle.mount_model.specs.CloseAnswers.{with_closed}
 use Rattle.mount_model.specs.Answered.{Answer}
 use Rattle.mount_model.specs.Answer.{answer_to}
-use Rattle.mount_model.specs.WellFormed.{HasKeys, HasNodes}
+use Rattle.mount_model.specs.WellFormed.{HasKeys}
+use Rattle.mount_model.specs.SoundNodes.{HasNodes}
 use Rattle.mount_model.proofs.CaseLemmas.{Covers, CanEncrypt, at_add_key, at_remove_key, at_remove_key_all, at_set_policy, at_get_policy, encrypted_at}
 use Rattle.mount_model.proofs.NameCases.{CanMake, CanGo, CanMove, at_make, at_unlink, at_rmdir, at_rename}
 use Rattle.mount_model.proofs.FileCases.{CanWrite, at_read_link, at_list, at_stat, at_open_node, at_read, at_write, at_close, at_meta_load, at_meta_store}

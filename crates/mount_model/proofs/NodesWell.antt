@@ -3,10 +3,12 @@
 use Rattle.std.proofs.Common.{◌≡◌, ◌≢◌, ℕ, ◌+◌, ◌-◌, ◌<◌, ◌≤◌, false, List, [], Some, None, arith}
 use Rattle.policy_ctx.specs.declared.policy.Context.{Context}
 use Rattle.number_map.specs.Numbered.{get}
-use Rattle.plain_tree.specs.Nodes.{Name, Children, Body, Dir, File, Link, Node, Nodes, contents_of, with_children, with_contents, children, context_at, is_named, entry}
+use Rattle.plain_tree.specs.Nodes.{Name, Children, Body, Dir, File, Link, Node, Nodes, contents_of}
+use Rattle.plain_tree.specs.BodyChanges.{with_children, with_contents}
+use Rattle.plain_tree.specs.NodesByNumber.{children, context_at, is_named, entry}
 use Rattle.plain_tree.specs.Changes.{made, dropped, gone, moved, written, encrypted}
 use Rattle.plain_tree.specs.Laws.{IsNew, CanBeMade, CanBeMoved}
-use Rattle.plain_tree.specs.SealLaws.{FitsInto, MovesInto}
+use Rattle.plain_tree.specs.FittingNodes.{FitsInto, MovesInto}
 use Rattle.plain_tree.proofs.MadeLemmas.{made_tree, next_free}
 use Rattle.plain_tree.proofs.DroppedLemmas.{dropped_tree}
 use Rattle.plain_tree.proofs.GoneLemmas.{gone_tree}
@@ -19,8 +21,9 @@ use Rattle.mount_model.specs.declared.limits.TheConstants.{LAST_NODE}
 use Rattle.mount_limits.specs.declared.TheConstants.{MOST_BLOCKS}
 use Rattle.mount_model.specs.PlainMount.{Raws}
 use Rattle.mount_model.specs.Sealed.{texts}
-use Rattle.mount_model.specs.FileAnswers.{contents_at, block_count, block_total}
-use Rattle.mount_model.specs.WellFormed.{IsName, IsBody, HasRaw, HasNodes}
+use Rattle.mount_model.specs.FileAnswers.{contents_at}
+use Rattle.mount_model.specs.Blocks.{block_count, block_total}
+use Rattle.mount_model.specs.SoundNodes.{IsName, IsBody, HasRaw, HasNodes}
 use Rattle.mount_model.proofs.NodeParts.{total_made, total_dropped, total_gone, total_moved, total_written, total_encrypted}
 
 -- ---- facts of nodes that don't look at names and entries

@@ -11,8 +11,9 @@ use Rattle.number_map.proofs.NumberedLemmas.{insert_here, insert_other}
 use Rattle.plain_tree.specs.Nodes.{Nodes}
 use Rattle.mount_model.specs.declared.handle.Handle.{Handle}
 use Rattle.mount_model.specs.declared.limits.TheConstants.{MOST_HANDLES, MOST_OPENS}
-use Rattle.mount_model.specs.PlainMount.{HandleList, is_handle, opens_of}
-use Rattle.mount_model.specs.WellFormed.{is_openable, is_live, is_same_handle, HasHandles}
+use Rattle.mount_model.specs.PlainMount.{HandleList}
+use Rattle.mount_model.specs.OpenHandles.{is_handle, opens_of}
+use Rattle.mount_model.specs.SoundHandles.{is_openable, is_live, is_same_handle, HasHandles}
 
 -- ---- one handle and another
 

@@ -2,16 +2,18 @@
 use Rattle.std.proofs.Common.{◌≡◌, ◌≢◌, ℕ, Bool, true, false, cond, not, ◌||◌, List, [], ◌∷◌, length, eqb, eqb-true, Option, Some, None, is_some, refl, ap, ◌∙◌, arith}
 use Rattle.std.proofs.lemmas.Bool.{cond-true, cond-false}
 use Rattle.policy_ctx.specs.declared.policy.Context.{Context}
-use Rattle.policy_ctx.specs.Policy.{policy_fault}
-use Rattle.user_claims.specs.Claims.{is_present}
-use Rattle.plain_tree.specs.Nodes.{children, context_at, is_dir_at}
+use Rattle.policy_ctx.specs.PolicyFaults.{policy_fault}
+use Rattle.user_claims.specs.ClaimCounts.{is_present}
+use Rattle.plain_tree.specs.NodesByNumber.{children, context_at, is_dir_at}
 use Rattle.mount_model.specs.declared.reply.Refusal.TheVariants.{NoKey, Inval, Exists, NotDir, NotEmpty}
 use Rattle.mount_model.specs.PlainMount.{PlainMount}
 use Rattle.mount_model.specs.States.{is_keyed_under}
-use Rattle.mount_model.specs.Walk.{is_root, last_part, parent}
+use Rattle.mount_model.specs.EntryPaths.{is_root, last_part, parent}
 use Rattle.mount_model.specs.Answered.{Answer, refused, at_node}
-use Rattle.mount_model.specs.PolicyAnswers.{policy_in, answer_to_encrypt, answer_to_set_at}
-use Rattle.mount_model.specs.NameAnswers.{lacks_key, answer_to_make_in}
+use Rattle.mount_model.specs.PolicyAnswers.{answer_to_encrypt, answer_to_set_at}
+use Rattle.mount_model.specs.SpelledPolicy.{policy_in}
+use Rattle.mount_model.specs.NameAnswers.{answer_to_make_in}
+use Rattle.mount_model.specs.EncryptedNames.{lacks_key}
 use Rattle.mount_model.specs.OrderLaws.{HandlesKeepNodesKeyed, CreationsNeedTheKey, OnlyEmptyOnesAreEncrypted}
 
 pub handles_keep_keyed : HandlesKeepNodesKeyed

@@ -8,7 +8,7 @@ use Rattle.policy_ctx.specs.declared.policy.Unit.TheVariants.{Block, U512, U1024
 use Rattle.policy_ctx.specs.Settings.{unit_of_log2}
 use Rattle.policy_ctx.specs.Policy.{flags_of, unit_log2}
 use Rattle.std.specs.Option.{unwrap_or}
-use Rattle.mount_model.specs.PolicyAnswers.{pad_told}
+use Rattle.mount_model.specs.SpelledPolicy.{pad_told}
 use Rattle.mount_model.specs.PolicyLaws.{PoliciesAreReadBack}
 
 pad_told-flags_of : (pad : Pad) (by_mode : Bool) → pad_told (flags_of pad by_mode) ≡ pad

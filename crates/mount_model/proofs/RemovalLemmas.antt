@@ -4,12 +4,13 @@ use Rattle.std.specs.List.{list_any}
 use Rattle.std.proofs.lemmas.Bool.{cond-false}
 use Rattle.user_claims.specs.Claims.{has_claim}
 use Rattle.user_claims.proofs.ClaimLemmas.{has_claim-without_claim}
-use Rattle.user_claims.specs.Claims.{is_present}
+use Rattle.user_claims.specs.ClaimCounts.{is_present}
 use Rattle.mount_model.specs.declared.reply.KeyState.{KeyState}
 use Rattle.mount_model.specs.declared.reply.KeyState.TheVariants.{Absent, Present, Incomplete}
 use Rattle.mount_model.specs.declared.reply.Reply.{Reply}
 use Rattle.mount_model.specs.declared.reply.Reply.TheVariants.{Status}
-use Rattle.mount_model.specs.PlainMount.{HandleList, has_handle}
+use Rattle.mount_model.specs.PlainMount.{HandleList}
+use Rattle.mount_model.specs.OpenHandles.{has_handle}
 use Rattle.mount_model.specs.Answered.{Answer}
 use Rattle.mount_model.specs.States.{is_busy, names_key}
 use Rattle.mount_model.specs.KeyLaws.{OtherClaimsStay, OpenHandlesKeepKeys, OpenHandlesAreTold}

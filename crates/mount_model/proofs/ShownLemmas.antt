@@ -4,7 +4,8 @@ use Rattle.std.specs.Str.{bytes_eq}
 use Rattle.std.specs.Map.{lookup, lookup_entry}
 use Rattle.std.proofs.lemmas.Bool.{cases_Bool, true≢false}
 use Rattle.policy_ctx.specs.declared.policy.Context.{Context}
-use Rattle.plain_tree.specs.Nodes.{Name, Children, children, context_at, entry}
+use Rattle.plain_tree.specs.Nodes.{Name, Children}
+use Rattle.plain_tree.specs.NodesByNumber.{children, context_at, entry}
 use Rattle.plain_tree.proofs.ChildLemmas.{same_name}
 use Rattle.plain_tree.proofs.FoundLemmas.{found_passes, found_entry}
 use Rattle.plain_tree.proofs.SealLemmas.{text_leads}

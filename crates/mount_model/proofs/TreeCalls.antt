@@ -7,9 +7,10 @@ use Rattle.policy_ctx.specs.declared.policy.Context.{Context}
 use Rattle.policy_ctx.specs.Policy.{policy_bytes}
 use Rattle.policy_ctx.proofs.Encodings.{policy_bytes-injective}
 use Rattle.number_map.specs.Numbered.{get, len}
-use Rattle.plain_tree.specs.Nodes.{Name, Body, Dir, File, Link, Node, Nodes, children_of, children_in, contents_of, is_dir, is_dir_in, context_in, children, context_at, entry}
+use Rattle.plain_tree.specs.Nodes.{Name, Body, Dir, File, Link, Node, Nodes, children_of, contents_of, is_dir}
+use Rattle.plain_tree.specs.NodesByNumber.{children_in, is_dir_in, context_in, children, context_at, entry}
 use Rattle.plain_tree.specs.Laws.{CanBeMoved}
-use Rattle.plain_tree.specs.SealLaws.{MovesInto}
+use Rattle.plain_tree.specs.FittingNodes.{MovesInto}
 use Rattle.mount_limits.specs.declared.TheConstants.{MOST_NODES, MOST_CHILDREN}
 use Rattle.plain_tree.proofs.ChildLemmas.{same_name}
 use Rattle.plain_tree.proofs.FoundLemmas.{found_entry}
@@ -18,10 +19,12 @@ use Rattle.mount_model.specs.Carried.{IsPath}
 use Rattle.mount_model.specs.PlainMount.{PlainMount, Raws}
 use Rattle.mount_model.specs.Sealed.{texts}
 use Rattle.mount_model.specs.States.{shown}
-use Rattle.mount_model.specs.Walk.{PathParts, found, is_root, last_part}
-use Rattle.mount_model.specs.NameAnswers.{has_text_of, inherited, new_node}
-use Rattle.mount_model.specs.RenameAnswer.{has_policy, may_hold}
-use Rattle.mount_model.specs.WellFormed.{IsName, IsBody, HasRaw, HasNodes}
+use Rattle.mount_model.specs.Walk.{PathParts, found}
+use Rattle.mount_model.specs.EntryPaths.{is_root, last_part}
+use Rattle.mount_model.specs.NewNodes.{inherited, new_node}
+use Rattle.mount_model.specs.EncryptedNames.{has_text_of}
+use Rattle.mount_model.specs.MoveRefusal.{has_policy, may_hold}
+use Rattle.mount_model.specs.SoundNodes.{IsName, IsBody, HasRaw, HasNodes}
 use Rattle.mount_model.proofs.NameCases.{CanMake, CanGo, CanMove}
 use Rattle.mount_model.proofs.WalkLemmas.{IsParent, parent_ok, reached_without}
 use Rattle.mount_model.proofs.NodesWell.{IsComing}

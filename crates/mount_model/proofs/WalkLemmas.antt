@@ -3,7 +3,8 @@ use Rattle.std.proofs.Common.{nat_lt, ◌≡◌, ◌≢◌, ℕ, ◌≤◌, true
 use Rattle.std.specs.List.{list_any}
 use Rattle.std.specs.Str.{bytes_eq}
 use Rattle.std.proofs.lemmas.Bool.{cases_Bool, not-false, ltb-false, eqb-false, or_parts}
-use Rattle.plain_tree.specs.Nodes.{Name, is_dir_at, entry}
+use Rattle.plain_tree.specs.Nodes.{Name}
+use Rattle.plain_tree.specs.NodesByNumber.{is_dir_at, entry}
 use Rattle.plain_tree.specs.Tree.{IsReached, IsReachedWithout}
 use Rattle.plain_tree.proofs.FoundLemmas.{found_entry}
 use Rattle.name_crypt.specs.declared.limits.TheConstants.{MOST_NAME_BYTES}
@@ -11,7 +12,8 @@ use Rattle.mount_model.specs.declared.reply.Refusal.{Refusal}
 use Rattle.mount_model.specs.declared.reply.Refusal.TheVariants.{NotFound, NotDir, NameTooLong}
 use Rattle.mount_model.specs.PlainMount.{PlainMount}
 use Rattle.mount_model.specs.States.{shown}
-use Rattle.mount_model.specs.Walk.{PathParts, Walked, found, led, looked_in, stepped, walked_on, walked_from, walked, parent, parent_parts, last_part, passed_on, passed_from, is_at_or_above}
+use Rattle.mount_model.specs.Walk.{PathParts, Walked, found, led, looked_in, stepped, walked_on, walked_from, walked}
+use Rattle.mount_model.specs.EntryPaths.{parent, parent_parts, last_part, passed_on, passed_from, is_at_or_above}
 
 abbrev ok_at : ℕ → Walked
 ok_at n = Ok n

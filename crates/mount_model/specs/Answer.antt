@@ -7,14 +7,20 @@ use Rattle.mount_model.specs.declared.call.Op.TheVariants as op
 use Rattle.plain_tree.specs.Nodes.{Dir, File, Link}
 use Rattle.mount_model.specs.PlainMount.{PlainMount}
 use Rattle.mount_model.specs.Answered.{done}
-use Rattle.mount_model.specs.LookAnswers.{answer_to_read_link, answer_to_list, answer_to_stat}
+use Rattle.mount_model.specs.LookAnswers.{answer_to_read_link, answer_to_stat}
+use Rattle.mount_model.specs.ListAnswers.{answer_to_list}
 pub use Rattle.mount_model.specs.Answered.{Answer, refused}
-pub use Rattle.mount_model.specs.KeyAnswers.{with_key, answer_to_add_key, answer_to_remove_key}
-pub use Rattle.mount_model.specs.KeyAnswers.{answer_to_remove_key_all, answer_to_key_status}
+pub use Rattle.mount_model.specs.KeyAnswers.{with_key, answer_to_add_key}
+pub use Rattle.mount_model.specs.RemovalAnswers.{answer_to_remove_key}
+pub use Rattle.mount_model.specs.KeyAnswers.{answer_to_key_status}
+pub use Rattle.mount_model.specs.RemovalAnswers.{answer_to_remove_key_all}
 use Rattle.mount_model.specs.PolicyAnswers.{answer_to_set_policy, answer_to_get_policy}
-use Rattle.mount_model.specs.NameAnswers.{answer_to_make, answer_to_unlink, answer_to_rmdir}
+use Rattle.mount_model.specs.NameAnswers.{answer_to_make}
+use Rattle.mount_model.specs.UnlinkAnswers.{answer_to_unlink, answer_to_rmdir}
 use Rattle.mount_model.specs.RenameAnswer.{answer_to_rename}
-use Rattle.mount_model.specs.FileAnswers.{answer_to_open, answer_to_read, answer_to_write, answer_to_close}
+use Rattle.mount_model.specs.FileAnswers.{answer_to_read, answer_to_write}
+use Rattle.mount_model.specs.CloseAnswers.{answer_to_close}
+use Rattle.mount_model.specs.OpenAnswers.{answer_to_open}
 use Rattle.mount_model.specs.RecordAnswers.{answer_to_meta_load, answer_to_meta_store}
 
 -- the answer to what a caller asks as a user

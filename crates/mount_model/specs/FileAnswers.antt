@@ -1,59 +1,20 @@
--- The calls on open files and directories: what each answers, its refusals in the order in which they
--- are tried, and the mount that it leaves.
-use Rattle.std.specs.Prelude.{ℕ, ◌+◌, ◌-◌, Bool, false, List, [], ◌∷◌, ◌++◌, length, Option}
-use Rattle.std.specs.Prelude.{Some, None, not, ◌||◌, nat_le, nat_lt, if◌then◌else◌}
+-- The calls that read and write an open file: what each answers, its refusals in the order in which
+-- they are tried, and the mount that it leaves.
+use Rattle.std.specs.Prelude.{ℕ, ◌+◌, Bool, List, [], length, Option, Some, None, nat_lt, if◌then◌else◌}
 use Rattle.std.specs.Option.{option_map_or}
-use Rattle.std.specs.List.{sum_by}
-use Rattle.std.specs.Int.{div_ceil}
 use Rattle.byte_words.specs.Contents.{with_bytes, bytes_from}
-use Rattle.number_map.specs.Numbered.{get, insert, entries}
-use Rattle.plain_tree.specs.Nodes.{Nodes, contents_of, is_link, is_dir_at, is_named}
-use Rattle.plain_tree.specs.Changes.{gone, written}
-use Rattle.mount_limits.specs.declared.TheConstants.{BLOCK_SIZE, MOST_BLOCKS}
+use Rattle.number_map.specs.Numbered.{get}
+use Rattle.plain_tree.specs.Nodes.{Nodes, contents_of}
+use Rattle.plain_tree.specs.NodesByNumber.{is_dir_at}
+use Rattle.plain_tree.specs.Changes.{written}
 use Rattle.mount_limits.specs.declared.TheConstants.{MOST_FILE_BYTES, MOST_READ_BYTES}
-use Rattle.mount_model.specs.declared.limits.TheConstants.{MOST_HANDLES, MOST_OPENS}
 use Rattle.mount_model.specs.declared.reply.Reply.{Reply}
-use Rattle.mount_model.specs.declared.reply.Reply.TheVariants.{Opened, Content}
-use Rattle.mount_model.specs.declared.reply.Refusal.TheVariants.{NoKey, Inval, IsDir}
-use Rattle.mount_model.specs.declared.reply.Refusal.TheVariants.{BadHandle, TooBig, NoSpace}
-use Rattle.mount_model.specs.PlainMount.{PlainMount, HandleList, node_of}
-use Rattle.mount_model.specs.PlainMount.{has_handle, without_handle, opens_of}
-use Rattle.mount_model.specs.States.{is_keyed}
-use Rattle.mount_model.specs.Walk.{PathParts, walked}
-use Rattle.mount_model.specs.Answered.{Answer, refused, told, done, at_node}
-
--- ---- OpenNode
-
--- the mount in which the caller has a new handle on the node
-abbrev pub with_handle : PlainMount → ℕ → ℕ → PlainMount
-with_handle m caller n = record m {
-  handles = m.handles ++ record { caller = caller; number = opens_of m.opened caller; node = n } ∷ [];
-  opened = insert m.opened caller (opens_of m.opened caller + 1);
-}
-
--- 4,096 handles are open, or the caller has opened as many as a number can tell
-abbrev pub is_out_of_handles : PlainMount → ℕ → Bool
-is_out_of_handles m caller =
-    nat_le MOST_HANDLES (length m.handles) || nat_le MOST_OPENS (opens_of m.opened caller)
-
-abbrev pub opened_on : PlainMount → ℕ → ℕ → Answer
-opened_on m caller n = record { reply = Opened (opens_of m.opened caller); mount = with_handle m caller n }
-
-abbrev pub is_link_at : Nodes → ℕ → Bool
-is_link_at nodes n = option_map_or (λ v. is_link v.body) (get nodes n) false
-
--- what is answered at node n
-abbrev pub open_told : PlainMount → ℕ → ℕ → Answer
-open_told m caller n =
-    if is_link_at m.nodes n then refused m Inval else
-    if not (is_keyed m n) then refused m NoKey else
-    if is_out_of_handles m caller then refused m NoSpace else
-    opened_on m caller n
-
-abbrev pub answer_to_open : PlainMount → ℕ → PathParts → Answer
-answer_to_open m caller path = at_node m (walked m path) (open_told m caller)
-
--- ---- Read and Write
+use Rattle.mount_model.specs.declared.reply.Reply.TheVariants.{Content}
+use Rattle.mount_model.specs.declared.reply.Refusal.TheVariants.{IsDir, BadHandle, TooBig, NoSpace}
+use Rattle.mount_model.specs.PlainMount.{PlainMount}
+use Rattle.mount_model.specs.OpenHandles.{node_of}
+use Rattle.mount_model.specs.Answered.{Answer, refused, told, done}
+use Rattle.mount_model.specs.Blocks.{lacks_blocks}
 
 -- what is answered at the node that is open under the number; BadHandle where the caller has none
 abbrev pub at_handle : PlainMount → Option ℕ → (ℕ → Answer) → Answer
@@ -81,18 +42,6 @@ answer_to_read m caller handle offset len =
     if nat_lt MOST_READ_BYTES len then refused m TooBig else
     told m (content_of m n offset len)
 
--- how many blocks contents have, the last of them perhaps begun
-abbrev pub block_count : List ℕ → ℕ
-block_count contents = div_ceil (length contents) BLOCK_SIZE
-
--- the blocks of all files
-unfoldable pub block_total : Nodes → ℕ
-block_total nodes = sum_by (λ e. block_count (contents_of e.1.body)) (entries nodes)
-
--- the contents would need more blocks than are free beside those that they have
-abbrev pub lacks_blocks : PlainMount → List ℕ → List ℕ → Bool
-lacks_blocks m old new = nat_lt (MOST_BLOCKS - block_total m.nodes) (block_count new - block_count old)
-
 -- so do the contents of file n, once the bytes are written
 abbrev pub lacks_blocks_for : PlainMount → ℕ → ℕ → List ℕ → Bool
 lacks_blocks_for m n offset bytes =
@@ -105,20 +54,3 @@ answer_to_write m caller handle offset bytes =
     if nat_lt MOST_FILE_BYTES (offset + length bytes) then refused m TooBig else
     if lacks_blocks_for m n offset bytes then refused m NoSpace else
     done (record m { nodes = written m.nodes n (with_bytes offset bytes) })
-
--- ---- Close
-
--- a node without name goes with its last handle; the root counts as named
-abbrev pub kept_by : HandleList → Nodes → ℕ → Nodes
-kept_by handles nodes n = if is_named nodes n || has_handle handles n then nodes else gone nodes n
-
--- the mount without the handle
-abbrev pub with_closed : PlainMount → ℕ → ℕ → ℕ → PlainMount
-with_closed m caller handle n = record m {
-  handles = without_handle caller handle m.handles;
-  nodes = kept_by (without_handle caller handle m.handles) m.nodes n;
-}
-
-abbrev pub answer_to_close : PlainMount → ℕ → ℕ → Answer
-answer_to_close m caller handle =
-    at_handle m (node_of m.handles caller handle) λ n. done (with_closed m caller handle n)

@@ -2,13 +2,16 @@
 use Rattle.std.specs.Prelude.{◌≡◌, ◌≢◌, ℕ, Bool, true, false, ◌&&◌, ◌==◌, if◌then◌else◌}
 use Rattle.policy_ctx.specs.declared.policy.KeyId.{KeyId}
 use Rattle.policy_ctx.specs.KeyIds.{same_id}
-use Rattle.user_claims.specs.Claims.{has_claim, is_present}
+use Rattle.user_claims.specs.Claims.{has_claim}
+use Rattle.user_claims.specs.ClaimCounts.{is_present}
 use Rattle.mount_model.specs.declared.reply.KeyState.{KeyState}
 use Rattle.mount_model.specs.declared.reply.KeyState.TheVariants.{Absent, Incomplete}
 use Rattle.mount_model.specs.declared.reply.Reply.TheVariants.{Status}
-use Rattle.mount_model.specs.PlainMount.{PlainMount, has_handle}
+use Rattle.mount_model.specs.PlainMount.{PlainMount}
+use Rattle.mount_model.specs.OpenHandles.{has_handle}
 use Rattle.mount_model.specs.States.{is_busy, key_state_of, names_key}
-use Rattle.mount_model.specs.KeyAnswers.{answer_to_remove_key, answer_to_key_status}
+use Rattle.mount_model.specs.KeyAnswers.{answer_to_key_status}
+use Rattle.mount_model.specs.RemovalAnswers.{answer_to_remove_key}
 
 -- a removal by one user leaves each claim but that user's on that key
 abbrev pub OtherClaimsStay : Type 0

@@ -3,12 +3,14 @@
 use Rattle.std.specs.Prelude.{◌≡◌, ℕ, Bool, false, List, Option, Some, None, ◌⊎◌}
 use Rattle.policy_ctx.specs.declared.policy.KeyId.{KeyId}
 use Rattle.fsc_keys.specs.Keys.{key_id_of}
-use Rattle.user_claims.specs.Claims.{ClaimSet, is_present, without_claim}
+use Rattle.user_claims.specs.Claims.{ClaimSet, without_claim}
+use Rattle.user_claims.specs.ClaimCounts.{is_present}
 use Rattle.mount_model.specs.declared.reply.Reply.{Reply}
 use Rattle.mount_model.specs.declared.reply.Reply.TheVariants.{Added, Removed, Refused}
 use Rattle.mount_model.specs.declared.reply.Refusal.{Refusal}
 use Rattle.mount_model.specs.declared.reply.Refusal.TheVariants.{NoMemory}
-use Rattle.mount_model.specs.KeyAnswers.{adding, removing, removing_all, removal_told}
+use Rattle.mount_model.specs.KeyAnswers.{adding}
+use Rattle.mount_model.specs.RemovalAnswers.{removing, removing_all, removal_told}
 pub use Rattle.mount_model.specs.KeyAnswers.{is_over_quota, status_by}
 
 -- this was told, or there was no memory

@@ -5,10 +5,11 @@ use Rattle.plain_tree.specs.Nodes.{Name, Link}
 use Rattle.mount_model.specs.declared.call.Op.TheVariants.{MetaLoad}
 use Rattle.mount_model.specs.declared.limits.TheConstants.{MOST_LISTED}
 use Rattle.mount_model.specs.declared.reply.Reply.TheVariants.{Names}
-use Rattle.mount_model.specs.PlainMount.{PlainMount, opens_of}
+use Rattle.mount_model.specs.PlainMount.{PlainMount}
+use Rattle.mount_model.specs.OpenHandles.{opens_of}
 use Rattle.mount_model.specs.Fits.{OpFits}
-use Rattle.mount_model.specs.FileAnswers.{is_out_of_handles}
-use Rattle.mount_model.specs.LookAnswers.{page_of}
+use Rattle.mount_model.specs.OpenAnswers.{is_out_of_handles}
+use Rattle.mount_model.specs.ListAnswers.{page_of}
 use Rattle.mount_model.specs.NameAnswers.{is_long_target}
 
 pub record LimitsAreExact : Type 0 where

@@ -1,7 +1,8 @@
 -- What well-formed mounts say of names: policies below policies, and what leads where.
 use Rattle.std.specs.Prelude.{◌≡◌, ℕ, Some}
 use Rattle.policy_ctx.specs.declared.policy.Context.{Context}
-use Rattle.plain_tree.specs.Nodes.{Name, context_at, policy_at, entry}
+use Rattle.plain_tree.specs.Nodes.{Name}
+use Rattle.plain_tree.specs.NodesByNumber.{context_at, policy_at, entry}
 use Rattle.mount_model.specs.PlainMount.{PlainMount}
 use Rattle.mount_model.specs.Sealed.{texts}
 use Rattle.mount_model.specs.States.{shown}

@@ -1,14 +1,18 @@
 -- Which refusal comes first where several would hold, and that a handle keeps its node's key at hand.
 use Rattle.std.specs.Prelude.{◌≡◌, ◌≢◌, ℕ, true, false, List, [], Ok, None, is_some}
-use Rattle.policy_ctx.specs.Policy.{policy_fault}
-use Rattle.plain_tree.specs.Nodes.{Body, children, context_at, is_dir_at}
+use Rattle.policy_ctx.specs.PolicyFaults.{policy_fault}
+use Rattle.plain_tree.specs.Nodes.{Body}
+use Rattle.plain_tree.specs.NodesByNumber.{children, context_at, is_dir_at}
 use Rattle.mount_model.specs.declared.reply.Refusal.TheVariants.{NoKey, NotEmpty}
-use Rattle.mount_model.specs.PlainMount.{PlainMount, has_handle}
+use Rattle.mount_model.specs.PlainMount.{PlainMount}
+use Rattle.mount_model.specs.OpenHandles.{has_handle}
 use Rattle.mount_model.specs.States.{is_keyed}
-use Rattle.mount_model.specs.Walk.{PathParts, walked, is_root, parent}
+use Rattle.mount_model.specs.Walk.{PathParts, walked}
+use Rattle.mount_model.specs.EntryPaths.{is_root, parent}
 use Rattle.mount_model.specs.Answered.{refused}
 use Rattle.mount_model.specs.PolicyAnswers.{answer_to_set_policy}
-use Rattle.mount_model.specs.NameAnswers.{lacks_key, answer_to_make}
+use Rattle.mount_model.specs.NameAnswers.{answer_to_make}
+use Rattle.mount_model.specs.EncryptedNames.{lacks_key}
 
 -- a node is keyed as long as a handle is open on it, whatever becomes of the claims
 abbrev pub HandlesKeepNodesKeyed : Type 0

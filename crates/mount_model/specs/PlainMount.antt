@@ -1,8 +1,6 @@
 -- The one-thread mount as plain data: nodes, claims with the raw keys, open handles, records. Nothing
 -- of what is stored, cached or enciphered stands in it.
-use Rattle.std.specs.Prelude.{ℕ, Bool, List, [], Option, ◌==◌, ◌&&◌, not, filter}
-use Rattle.std.specs.Option.{option_map, unwrap_or}
-use Rattle.std.specs.List.{find, list_any}
+use Rattle.std.specs.Prelude.{ℕ, List, [], Option}
 use Rattle.std.specs.Ordering.{nat_cmp}
 use Rattle.std.specs.Cmp.Lexicographic.{slice_cmp}
 use Rattle.std.specs.FinMap as map
@@ -47,8 +45,6 @@ empty_mount = record {
   records = [];
 }
 
--- ---- raw keys
-
 -- the raw key last added under the identifier
 abbrev pub raw_in : Raws → KeyId → Option (List ℕ)
 raw_in raws id = map.get raws id.0
@@ -56,23 +52,3 @@ raw_in raws id = map.get raws id.0
 -- the raw keys once this one was added
 abbrev pub with_raw : Raws → KeyId → List ℕ → Raws
 with_raw raws id raw = map.insert raws id.0 raw
-
--- ---- handles
-
-abbrev pub is_handle : ℕ → ℕ → Handle → Bool
-is_handle caller number h = (h.caller == caller) && (h.number == number)
-
--- the node on which the caller has the handle of that number
-abbrev pub node_of : HandleList → ℕ → ℕ → Option ℕ
-node_of handles caller number = option_map (λ h. h.node) (find (is_handle caller number) handles)
-
--- some handle is on the node
-abbrev pub has_handle : HandleList → ℕ → Bool
-has_handle handles n = list_any (λ h. h.node == n) handles
-
-abbrev pub without_handle : ℕ → ℕ → HandleList → HandleList
-without_handle caller number handles = filter (λ h. not (is_handle caller number h)) handles
-
--- how many handles the caller ever opened
-abbrev pub opens_of : Numbered ℕ → ℕ → ℕ
-opens_of opened caller = unwrap_or (map.get opened caller) 0

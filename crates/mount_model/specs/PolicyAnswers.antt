@@ -1,20 +1,13 @@
 -- The calls on policies: what each answers, its refusals in the order in which they are tried, and the
 -- mount that it leaves.
-use Rattle.std.specs.Prelude.{ℕ, ◌%◌, Bool, List, length, slice_index, Option}
-use Rattle.std.specs.Prelude.{Some, None, is_some, not, ◌==◌, if◌then◌else◌}
-use Rattle.std.specs.Option.{unwrap_or}
-use Rattle.std.specs.Str.{bytes_eq}
+use Rattle.std.specs.Prelude.{ℕ, Bool, List, length, Option, Some, None, is_some, not, ◌==◌, if◌then◌else◌}
 use Rattle.policy_ctx.specs.declared.policy.KeyId.{KeyId}
-use Rattle.policy_ctx.specs.declared.policy.Pad.{Pad}
-use Rattle.policy_ctx.specs.declared.policy.Pad.TheVariants.{P4, P8, P16, P32}
-use Rattle.policy_ctx.specs.declared.policy.Unit.TheVariants.{Block}
-use Rattle.policy_ctx.specs.declared.policy.Policy.{Policy}
 use Rattle.policy_ctx.specs.declared.policy.Context.{Context}
-use Rattle.policy_ctx.specs.Settings.{unit_of_log2}
-use Rattle.policy_ctx.specs.Policy.{policy_bytes, policy_fault}
-use Rattle.policy_ctx.specs.Context.{id_in, is_by_mode_in}
-use Rattle.user_claims.specs.Claims.{has_claim, is_present}
-use Rattle.plain_tree.specs.Nodes.{children, context_at, is_dir_at}
+use Rattle.policy_ctx.specs.Policy.{policy_bytes}
+use Rattle.policy_ctx.specs.PolicyFaults.{policy_fault}
+use Rattle.user_claims.specs.Claims.{has_claim}
+use Rattle.user_claims.specs.ClaimCounts.{is_present}
+use Rattle.plain_tree.specs.NodesByNumber.{children, context_at, is_dir_at}
 use Rattle.plain_tree.specs.Changes.{encrypted}
 use Rattle.mount_model.specs.declared.reply.Reply.TheVariants.{PolicyIs}
 use Rattle.mount_model.specs.declared.reply.Refusal.TheVariants.{NoKey, Inval, Exists}
@@ -22,31 +15,7 @@ use Rattle.mount_model.specs.declared.reply.Refusal.TheVariants.{NotDir, NotEmpt
 use Rattle.mount_model.specs.PlainMount.{PlainMount}
 use Rattle.mount_model.specs.Walk.{PathParts, walked}
 use Rattle.mount_model.specs.Answered.{Answer, refused, told, done, at_node}
-
--- ---- the policy that 24 bytes without fault spell
-
-abbrev pub pad_told : ℕ → Pad
-pad_told flags =
-    if flags % 4 == 0 then P4 else
-    if flags % 4 == 1 then P8 else
-    if flags % 4 == 2 then P16 else
-    P32
-
-abbrev pub policy_in : List ℕ → Policy
-policy_in bytes = record {
-  pad = pad_told (slice_index bytes 3);
-  unit = unwrap_or (unit_of_log2 (slice_index bytes 4)) Block;
-  by_mode = is_by_mode_in bytes;
-  id = id_in bytes;
-}
-
--- what a node of the policy that the bytes spell keeps
-abbrev pub context_of : List ℕ → List ℕ → Context
-context_of policy nonce = record { policy = policy_in policy; nonce = nonce }
-
--- two policies are one, in each setting and in the key
-abbrev pub is_same_policy : Policy → Policy → Bool
-is_same_policy a b = bytes_eq (policy_bytes a) (policy_bytes b)
+use Rattle.mount_model.specs.SpelledPolicy.{context_of, is_same_policy}
 
 -- ---- SetPolicy
 

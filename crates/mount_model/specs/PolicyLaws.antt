@@ -2,7 +2,7 @@
 use Rattle.std.specs.Prelude.{◌≡◌, length}
 use Rattle.policy_ctx.specs.declared.policy.Policy.{Policy}
 use Rattle.policy_ctx.specs.Policy.{policy_bytes}
-use Rattle.mount_model.specs.PolicyAnswers.{policy_in}
+use Rattle.mount_model.specs.SpelledPolicy.{policy_in}
 
 -- each policy, its key's identifier being 16 bytes, is the one that its own bytes spell
 abbrev pub PoliciesAreReadBack : Type 0

@@ -1,10 +1,10 @@
 -- Where paths lead.
-use Rattle.std.specs.Prelude.{ℕ, ◌-◌, Bool, List, [], ◌∷◌, length, take, Result, Ok, Err, Option}
-use Rattle.std.specs.Prelude.{Some, None, not, ◌==◌, nat_lt, if◌then◌else◌, slice_index_or}
-use Rattle.std.specs.List.{list_any}
+use Rattle.std.specs.Prelude.{ℕ, List, [], ◌∷◌, length, Result, Ok, Err, Option}
+use Rattle.std.specs.Prelude.{Some, None, not, nat_lt, if◌then◌else◌}
 use Rattle.std.specs.Str.{bytes_eq}
 use Rattle.std.specs.Map.{lookup_entry}
-use Rattle.plain_tree.specs.Nodes.{Name, children, is_dir_at}
+use Rattle.plain_tree.specs.Nodes.{Name}
+use Rattle.plain_tree.specs.NodesByNumber.{children, is_dir_at}
 use Rattle.name_crypt.specs.declared.limits.TheConstants.{MOST_NAME_BYTES}
 use Rattle.mount_model.specs.declared.reply.Refusal.{Refusal}
 use Rattle.mount_model.specs.declared.reply.Refusal.TheVariants.{NotFound, NotDir, NameTooLong}
@@ -49,33 +49,3 @@ walked_from m n (part ∷ parts) = walked_on (λ x. walked_from m x parts) (step
 -- the node to which the path leads from the root
 abbrev pub walked : PlainMount → PathParts → Walked
 walked m path = walked_from m 0 path
-
--- ---- paths that name an entry
-
-abbrev pub is_root : PathParts → Bool
-is_root path = length path == 0
-
-abbrev pub parent_parts : PathParts → PathParts
-parent_parts path = take (length path - 1) path
-
-abbrev pub last_part : PathParts → Name
-last_part path = slice_index_or path (length path - 1) []
-
--- the directory in which the path's last part is to be looked up
-abbrev pub parent : PlainMount → PathParts → Walked
-parent m path = walked_on (λ d. looked_in m d (last_part path)) (walked m (parent_parts path))
-
--- ---- what a walk passes
-
-abbrev pub passed_on : (ℕ → List ℕ) → Walked → List ℕ
-passed_on f (Err refusal) = []
-passed_on f (Ok n) = f n
-
--- the nodes on the walk, its first and its last among them
-abbrev pub passed_from : PlainMount → ℕ → PathParts → List ℕ
-passed_from m n [] = n ∷ []
-passed_from m n (part ∷ parts) = n ∷ passed_on (λ x. passed_from m x parts) (stepped m n part)
-
--- node x is the directory that holds the path's last part, or stands above it
-abbrev pub is_at_or_above : PlainMount → ℕ → PathParts → Bool
-is_at_or_above m x path = list_any (λ n. n == x) (passed_from m 0 (parent_parts path))

@@ -2,7 +2,8 @@
 
 ghost use Rattle.std.specs.Prelude.{◌≡◌, ◌↔◌, false, IsTrue, IsOk, IfOk};
 ghost use Rattle.mount_model.specs.Carried.{AreFewBytes, HasLength, IsTarget};
-ghost use Rattle.mount_model.specs.Fits.{Fits, OpFits, carries_bytes};
+ghost use Rattle.mount_model.specs.Fits.{Fits, OpFits};
+ghost use Rattle.mount_model.specs.Carriers.{carries_bytes};
 
 use super::limits::{
     MOST_CARRIED_BYTES, MOST_RAW_BYTES, MOST_RECORD_NAME_BYTES, MOST_TARGET_BYTES, MOST_WRITE_BYTES,

@@ -1,7 +1,7 @@
 //! Copies of what a call asks for.
 
 ghost use Rattle.std.specs.Prelude.{◌≡◌, true, false, IsOk, IfOk};
-ghost use Rattle.mount_model.specs.Fits.{carries_bytes, carries_path, carries_path_alone};
+ghost use Rattle.mount_model.specs.Carriers.{carries_bytes, carries_path, carries_path_alone};
 
 use super::Op;
 use std::alloc::{AllocError, Global};

@@ -4,15 +4,18 @@ use Rattle.policy_ctx.specs.declared.policy.Context.{Context}
 use Rattle.policy_ctx.specs.Context.{context_bytes}
 use Rattle.number_map.specs.Numbered.{get, insert, changed}
 use Rattle.number_map.proofs.NumberedLemmas.{insert_other, changed_through, changed_inserted}
-use Rattle.plain_tree.specs.Nodes.{Name, Children, Body, Dir, File, Link, Node, Nodes, children_of, children_in, children, context_at, with_child, without_child, with_children}
-use Rattle.plain_tree.specs.Nodes.{context_in as plain_context}
+use Rattle.plain_tree.specs.Nodes.{Name, Children, Body, Dir, File, Link, Node, Nodes, children_of}
+use Rattle.plain_tree.specs.BodyChanges.{with_child, without_child, with_children}
+use Rattle.plain_tree.specs.NodesByNumber.{children_in, children, context_at}
+use Rattle.plain_tree.specs.NodesByNumber.{context_in as plain_context}
 use Rattle.plain_tree.specs.Changes.{on_children, named_as, name_put, name_taken, made, dropped}
 use Rattle.plain_tree.specs.Facts.{AgreesBy}
 use Rattle.plain_tree.specs.Stored.{IsNameOf}
 use Rattle.plain_tree.proofs.AgreeLemmas.{agree_inserted, agree_edited}
 use Rattle.plain_tree.proofs.StoredLemmas.{puts_agree, removals_agree}
-use Rattle.disk_tree.specs.DiskTree.{Disk, entered}
-use Rattle.disk_tree.specs.DiskTree as disk
+use Rattle.disk_tree.specs.DiskTree.{Disk}
+use Rattle.disk_tree.specs.EntryChanges.{entered}
+use Rattle.disk_tree.specs.EntryChanges as disk
 use Rattle.disk_tree.specs.Entries.{with_entry, without_entry}
 use Rattle.disk_tree.specs.Nodes.{on_body, with_entries}
 use Rattle.disk_tree.specs.Nodes as stored

@@ -6,15 +6,19 @@ use Rattle.policy_ctx.specs.Context.{context_bytes, id_in}
 use Rattle.policy_ctx.proofs.Encodings.{id_in-context_bytes}
 use Rattle.number_map.specs.Numbered.{get, insert, remove, changed}
 use Rattle.number_map.proofs.NumberedLemmas.{changed_here, changed_other}
-use Rattle.user_claims.specs.Claims.{ClaimSet, is_present}
-use Rattle.dentry_cache.specs.Names.{Pair, NameList, HoldsNoneIn}
-use Rattle.disk_tree.specs.DiskTree.{Disk, IsDirAt, of_node, entered, dropped, moved}
+use Rattle.user_claims.specs.Claims.{ClaimSet}
+use Rattle.user_claims.specs.ClaimCounts.{is_present}
+use Rattle.dentry_cache.specs.Names.{Pair, NameList}
+use Rattle.dentry_cache.specs.HeldNames.{HoldsNoneIn}
+use Rattle.disk_tree.specs.DiskTree.{Disk, IsDirAt, of_node}
+use Rattle.disk_tree.specs.EntryChanges.{entered, dropped, moved}
 use Rattle.disk_tree.specs.Entries.{Entries}
 use Rattle.disk_tree.specs.Nodes.{IsDir, with_entries, with_context}
 use Rattle.disk_tree.specs.declared.node.StoredNode.{StoredNode}
 use Rattle.disk_tree.specs.declared.node.Body.{Body}
 use Rattle.disk_tree.specs.declared.node.Body.TheVariants.{Dir, File, Link}
-use Rattle.mount_model.specs.PlainMount.{HandleList, has_handle}
+use Rattle.mount_model.specs.PlainMount.{HandleList}
+use Rattle.mount_model.specs.OpenHandles.{has_handle}
 use Rattle.mount_state.specs.CachedNames.{NamesForget, is_dir_body, is_dir_node, is_dir_on_disk}
 use Rattle.mount_state.specs.Contexts.{context_on_disk}
 use Rattle.mount_state.specs.Held.{is_unlocked_under}

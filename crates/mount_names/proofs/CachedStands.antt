@@ -3,13 +3,15 @@ use Rattle.std.proofs.Common.{◌≡◌, ◌≢◌, ℕ, true, false, cond, Cont
 use Rattle.std.proofs.lemmas.Bool.{true≢false, eq-eqb}
 use Rattle.std.proofs.lemmas.Slice.Eq.{bytes_eq-Decides}
 use Rattle.policy_ctx.specs.declared.policy.Context.{Context}
-use Rattle.dentry_cache.specs.Names.{Pair, NameList, key_of, is_name, HoldsNoMore, HoldsNone, HoldsNoneIn}
+use Rattle.dentry_cache.specs.Names.{Pair, NameList, key_of, is_name}
+use Rattle.dentry_cache.specs.HeldNames.{HoldsNoMore, HoldsNone, HoldsNoneIn}
 use Rattle.dentry_cache.proofs.NameLemmas as cache
 use Rattle.std.specs.Map.{lookup}
 use Rattle.std.specs.Str.{bytes_eq}
-use Rattle.plain_tree.specs.Nodes.{Name, Node, Nodes, children, children_in, context_at, is_dir_at, entry}
+use Rattle.plain_tree.specs.Nodes.{Name, Node, Nodes}
+use Rattle.plain_tree.specs.NodesByNumber.{children, children_in, context_at, is_dir_at, entry}
 use Rattle.plain_tree.specs.Changes.{name_put, name_taken, dropped, gone, moved, made}
-use Rattle.plain_tree.specs.Nodes.{without_child}
+use Rattle.plain_tree.specs.BodyChanges.{without_child}
 use Rattle.plain_tree.proofs.EditLemmas.{edit_dir, put_apart, put_kept, taken_apart}
 use Rattle.plain_tree.proofs.DroppedLemmas.{dropped_entry}
 use Rattle.mount_model.specs.PlainMount.{PlainMount}

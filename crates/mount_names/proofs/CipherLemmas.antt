@@ -6,18 +6,22 @@ use Rattle.fsc_keys.specs.declared.file_keys.FileKey.{FileKey}
 use Rattle.fsc_keys.specs.declared.file_keys.KeyKind.TheVariants.{Names}
 use Rattle.name_crypt.specs.declared.cipher.NameCipher.{NameCipher}
 use Rattle.number_map.specs.Numbered.{get}
-use Rattle.user_claims.specs.Claims.{is_present}
+use Rattle.user_claims.specs.ClaimCounts.{is_present}
 use Rattle.key_ring.specs.Holding.{Holding, secret_of, HoldsClaimedSecrets}
-use Rattle.plain_tree.specs.Nodes.{Node, Body, Dir, File, Link, context_in, context_at, is_dir_in, is_dir_at}
-use Rattle.mount_model.specs.PlainMount.{PlainMount, has_handle}
-use Rattle.mount_model.specs.FileAnswers.{is_link_at}
+use Rattle.plain_tree.specs.Nodes.{Node, Body, Dir, File, Link}
+use Rattle.plain_tree.specs.NodesByNumber.{context_in, context_at, is_dir_in, is_dir_at}
+use Rattle.mount_model.specs.PlainMount.{PlainMount}
+use Rattle.mount_model.specs.OpenHandles.{has_handle}
+use Rattle.mount_model.specs.OpenAnswers.{is_link_at}
 use Rattle.mount_model.specs.States.{is_keyed, is_keyed_under}
-use Rattle.mount_model.specs.WellFormed.{HasHandles}
+use Rattle.mount_model.specs.SoundHandles.{HasHandles}
 use Rattle.mount_model.proofs.NodeParts.{link_in}
 use Rattle.mount_state.specs.NamesKey.{drawn_key, key_from}
-use Rattle.mount_state.specs.StandsFor.{KeysStand, plain_kind}
+use Rattle.mount_state.specs.StandsFor.{KeysStand}
+use Rattle.mount_state.specs.CachedKeys.{plain_kind}
 use Rattle.mount_state.proofs.KeyedLemmas.{drawn_is}
-use Rattle.mount_names.specs.Shown.{HasNames, cipher_with, names_cipher}
+use Rattle.mount_names.specs.Shown.{HasNames}
+use Rattle.mount_names.specs.NameCiphers.{cipher_with, names_cipher}
 
 -- ---- a symlink is never open
 

@@ -11,7 +11,8 @@ use Rattle.name_crypt.specs.declared.limits.TheConstants.{MOST_SPELLED_BYTES}
 use Rattle.name_crypt.specs.Laws.{NamesStayDistinct, StoredNamesFit, StoredNamesAreBytes, ShortTextsStayDistinct, LongTextsAreOthers}
 use Rattle.name_crypt.specs.Plain.{IsPlain, IsStored}
 use Rattle.name_crypt.specs.NoKeyText.{nokey_text_of}
-use Rattle.plain_tree.specs.Nodes.{Name, Children, children, context_at, entry}
+use Rattle.plain_tree.specs.Nodes.{Name, Children}
+use Rattle.plain_tree.specs.NodesByNumber.{children, context_at, entry}
 use Rattle.plain_tree.specs.Stored.{IsNameOf}
 use Rattle.plain_tree.proofs.ChildLemmas.{same_name}
 use Rattle.plain_tree.proofs.StoredLemmas.{name_behind, name_front, searches_agree}
@@ -19,13 +20,14 @@ use Rattle.disk_tree.specs.DiskTree.{Disk}
 use Rattle.disk_tree.specs.DiskTree.{children as stored_entries}
 use Rattle.mount_model.specs.PlainMount.{PlainMount}
 use Rattle.mount_model.specs.Sealed.{node_key, node_start, sealed_name, texts}
-use Rattle.mount_model.specs.NameAnswers.{clashes, has_text_of}
-use Rattle.mount_model.specs.WellFormed.{IsWellFormed, IsName}
+use Rattle.mount_model.specs.EncryptedNames.{clashes, has_text_of}
+use Rattle.mount_model.specs.WellFormed.{IsWellFormed}
+use Rattle.mount_model.specs.SoundNodes.{IsName}
 use Rattle.mount_state.specs.Led.{is_stored, is_text_of}
 use Rattle.mount_state.specs.Stored.{stored_form}
 use Rattle.mount_state.specs.StandsFor.{TreeStands}
 use Rattle.mount_state.proofs.EntryLemmas.{children_stand, name_there}
-use Rattle.mount_names.specs.Made.{HasByteKey}
+use Rattle.mount_names.specs.NewPlaces.{HasByteKey}
 
 -- ---- searches and tests of lists
 

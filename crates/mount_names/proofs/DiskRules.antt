@@ -7,14 +7,17 @@ use Rattle.user_claims.specs.Claims.{ClaimSet}
 use Rattle.key_ring.specs.Modes.{Modes}
 use Rattle.inode_refs.specs.Cached.{Cache, key_at}
 use Rattle.inode_refs.specs.declared.node_key.NodeKey.{NodeKey}
-use Rattle.disk_tree.specs.DiskTree.{Disk, entered, dropped, moved}
+use Rattle.disk_tree.specs.DiskTree.{Disk}
+use Rattle.disk_tree.specs.EntryChanges.{entered, dropped, moved}
 use Rattle.disk_tree.specs.Entries.{Entries, with_entry, without_entry}
 use Rattle.disk_tree.specs.Nodes.{on_body, with_entries, named_as}
 use Rattle.disk_tree.specs.declared.node.StoredNode.{StoredNode}
 use Rattle.disk_tree.specs.declared.node.Body.{Body}
 use Rattle.disk_tree.specs.declared.node.Body.TheVariants.{Dir, File, Link}
-use Rattle.mount_model.specs.PlainMount.{HandleList, has_handle}
-use Rattle.mount_state.specs.Contexts.{context_on_disk, disk_kind_of, kind_on_disk, has_own}
+use Rattle.mount_model.specs.PlainMount.{HandleList}
+use Rattle.mount_model.specs.OpenHandles.{has_handle}
+use Rattle.mount_state.specs.Contexts.{context_on_disk, has_own}
+use Rattle.mount_state.specs.StoredKinds.{disk_kind_of, kind_on_disk}
 use Rattle.mount_state.specs.Discipline.{Forgets}
 use Rattle.mount_state.specs.Safe.{IsSafe}
 use Rattle.mount_names.proofs.EditLemmas.{read_changed, read_inserted, read_removed}

@@ -7,7 +7,8 @@ use Rattle.policy_ctx.specs.declared.policy.Context.{Context}
 use Rattle.name_crypt.specs.Laws.{NamesStayDistinct, StoredNamesFit}
 use Rattle.name_crypt.specs.NoKeyText.{nokey_text_of}
 use Rattle.name_crypt.specs.Plain.{IsPlain}
-use Rattle.plain_tree.specs.Nodes.{Name, Children, children, context_at, is_dir_at, entry}
+use Rattle.plain_tree.specs.Nodes.{Name, Children}
+use Rattle.plain_tree.specs.NodesByNumber.{children, context_at, is_dir_at, entry}
 use Rattle.plain_tree.specs.Stored.{stored_children, IsNameOf}
 use Rattle.plain_tree.proofs.ChildLemmas.{itself, other_name, same_name, cases_name}
 use Rattle.plain_tree.proofs.FoundLemmas.{found_entry, found_passes}
@@ -21,7 +22,8 @@ use Rattle.mount_model.specs.PlainMount.{PlainMount}
 use Rattle.mount_model.specs.Answered.{Answer, refused, at_node, at_entry}
 use Rattle.mount_model.specs.Sealed.{sealed_name, texts}
 use Rattle.mount_model.specs.States.{is_keyed, is_keyed_under, shown, shown_under}
-use Rattle.mount_model.specs.Walk.{PathParts, Walked, found, last_part, parent}
+use Rattle.mount_model.specs.Walk.{PathParts, Walked, found}
+use Rattle.mount_model.specs.EntryPaths.{last_part, parent}
 use Rattle.mount_model.specs.WellFormed.{IsWellFormed}
 use Rattle.mount_state.specs.Led.{led_to, is_text_of}
 use Rattle.mount_state.specs.Stored.{stored_form}
@@ -31,7 +33,7 @@ use Rattle.mount_state.proofs.KeyedLemmas.{keyed_led}
 use Rattle.mount_state.proofs.LedLemmas.{plain_led}
 use Rattle.mount_names.specs.Places.{Entry}
 use Rattle.mount_names.specs.Found.{form_in, entry_in, entry_found, IsStoredFor, or_not_found, entry_sought, entry_walked, entry_end}
-use Rattle.mount_names.specs.Made.{HasByteKey}
+use Rattle.mount_names.specs.NewPlaces.{HasByteKey}
 use Rattle.mount_names.specs.Removed.{IsEntryOf}
 use Rattle.mount_names.specs.Shown.{ShowsAs}
 use Rattle.mount_names.specs.declared.reading.Reading.TheVariants.{Locked}

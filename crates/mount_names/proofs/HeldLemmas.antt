@@ -9,15 +9,18 @@ use Rattle.key_ring.specs.Modes.{Modes}
 use Rattle.inode_refs.specs.Cached.{Cache, key_at}
 use Rattle.inode_refs.specs.declared.node_key.NodeKey.{NodeKey}
 use Rattle.disk_tree.specs.DiskTree.{Disk}
-use Rattle.plain_tree.specs.Nodes.{Nodes, context_at}
+use Rattle.plain_tree.specs.Nodes.{Nodes}
+use Rattle.plain_tree.specs.NodesByNumber.{context_at}
 use Rattle.mount_model.specs.declared.handle.Handle.{Handle}
-use Rattle.mount_model.specs.PlainMount.{PlainMount, HandleList, has_handle}
+use Rattle.mount_model.specs.PlainMount.{PlainMount, HandleList}
+use Rattle.mount_model.specs.OpenHandles.{has_handle}
 use Rattle.mount_model.specs.Sealed.{node_key}
-use Rattle.mount_state.specs.Contexts.{context_on_disk, kind_on_disk, has_own, has_shared, same_kind, is_of_kind, uses_mode}
+use Rattle.mount_state.specs.Contexts.{context_on_disk, has_own, has_shared, uses_mode}
+use Rattle.mount_state.specs.StoredKinds.{kind_on_disk, same_kind, is_of_kind}
 use Rattle.mount_state.specs.Discipline.{Forgets}
 use Rattle.mount_state.specs.Handles.{users}
-use Rattle.mount_state.specs.StandsFor.{CachesStand}
-use Rattle.mount_state.specs.StandsFor.{plain_kind}
+use Rattle.mount_state.specs.CachedKeys.{CachesStand}
+use Rattle.mount_state.specs.CachedKeys.{plain_kind}
 
 -- ---- users of nodes that have handles
 

@@ -5,17 +5,20 @@ use Rattle.name_crypt.specs.declared.cipher.NameCipher.{NameCipher}
 use Rattle.number_map.specs.Numbered.{insert}
 use Rattle.number_map.proofs.NumberedLemmas.{insert_here}
 use Rattle.key_ring.specs.Holding.{Holding, HoldsClaimedSecrets}
-use Rattle.plain_tree.specs.Nodes.{Node, Link, context_in, context_at}
+use Rattle.plain_tree.specs.Nodes.{Node, Link}
+use Rattle.plain_tree.specs.NodesByNumber.{context_in, context_at}
 use Rattle.mount_model.specs.PlainMount.{PlainMount}
 use Rattle.mount_model.specs.Carried.{IsPath, IsTarget}
-use Rattle.mount_model.specs.NameAnswers.{lacks_key, inherited, answer_to_make}
+use Rattle.mount_model.specs.NameAnswers.{answer_to_make}
+use Rattle.mount_model.specs.NewNodes.{inherited}
+use Rattle.mount_model.specs.EncryptedNames.{lacks_key}
 use Rattle.mount_model.specs.WellFormed.{IsWellFormed}
 use Rattle.mount_model.specs.Walk.{PathParts}
 use Rattle.mount_model.specs.declared.call.Op.TheVariants as op
 use Rattle.mount_model.proofs.WellSteps.{step_well}
 use Rattle.mount_state.specs.NamesKey.{drawn_key}
 use Rattle.mount_state.specs.StandsFor.{KeysStand}
-use Rattle.mount_names.specs.Shown.{cipher_with, names_cipher}
+use Rattle.mount_names.specs.NameCiphers.{cipher_with, names_cipher}
 use Rattle.mount_names.proofs.CipherLemmas.{secret_there, drawn_cipher_is}
 
 present_then : (b : Bool) → not b ≡ false → b ≡ true

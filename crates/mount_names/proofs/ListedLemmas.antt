@@ -9,7 +9,8 @@ use Rattle.std.proofs.lemmas.List.MinMax.{ranks_by}
 use Rattle.std.proofs.lemmas.Map.Text.{is_eq-slice_cmp}
 use Rattle.byte_words.specs.Bytes.{AreBytes}
 use Rattle.name_crypt.specs.Plain.{IsPlain}
-use Rattle.plain_tree.specs.Nodes.{Name, Children, children, context_at, is_dir_at}
+use Rattle.plain_tree.specs.Nodes.{Name, Children}
+use Rattle.plain_tree.specs.NodesByNumber.{children, context_at, is_dir_at}
 use Rattle.plain_tree.specs.Stored.{IsNameOf, stored_children}
 use Rattle.plain_tree.proofs.ChildLemmas.{same_name}
 use Rattle.plain_tree.proofs.StoredLemmas.{name_behind, name_front}
@@ -20,7 +21,7 @@ use Rattle.disk_tree.specs.declared.node.StoredNode.{StoredNode}
 use Rattle.disk_tree.specs.declared.node.Body.TheVariants as stored
 use Rattle.disk_tree.specs.DiskTree.{children as stored_entries}
 use Rattle.disk_tree.specs.Entries.{Entries}
-use Rattle.mount_model.specs.LookAnswers.{put_in_order, in_order, page_of, page_at}
+use Rattle.mount_model.specs.ListAnswers.{put_in_order, in_order, page_of, page_at}
 use Rattle.mount_model.specs.declared.reply.Reply.{Reply}
 use Rattle.mount_model.specs.declared.reply.Refusal.TheVariants.{NotDir}
 use Rattle.mount_model.specs.PlainMount.{PlainMount}

@@ -5,10 +5,13 @@ use Rattle.std.proofs.lemmas.Bool.{true≢false}
 use Rattle.number_map.specs.Numbered.{get, insert}
 use Rattle.number_map.proofs.NumberedLemmas.{insert_other}
 use Rattle.inode_refs.specs.Cached.{Cache}
-use Rattle.plain_tree.specs.Nodes.{Name, Children, Body, Dir, File, Link, Node, with_children, with_child, context_in}
+use Rattle.plain_tree.specs.Nodes.{Name, Children, Body, Dir, File, Link, Node}
+use Rattle.plain_tree.specs.BodyChanges.{with_children, with_child}
+use Rattle.plain_tree.specs.NodesByNumber.{context_in}
 use Rattle.plain_tree.specs.Changes.{on_children, name_put, made}
 use Rattle.plain_tree.specs.Facts.{AgreesBy}
-use Rattle.disk_tree.specs.DiskTree.{Disk, IsDirAt, of_node, entered}
+use Rattle.disk_tree.specs.DiskTree.{Disk, IsDirAt, of_node}
+use Rattle.disk_tree.specs.EntryChanges.{entered}
 use Rattle.disk_tree.specs.Nodes.{IsDir}
 use Rattle.disk_tree.specs.declared.node.StoredNode.{StoredNode}
 use Rattle.disk_tree.specs.declared.node.Body.{Body as StoredBody}
@@ -22,21 +25,24 @@ use Rattle.mount_model.specs.declared.reply.Reply.TheVariants.{Done}
 use Rattle.mount_model.specs.declared.reply.Reply.{Reply}
 use Rattle.mount_model.specs.PlainMount.{PlainMount}
 use Rattle.mount_model.specs.Answered.{Answer, done}
-use Rattle.mount_model.specs.Walk.{PathParts, last_part}
+use Rattle.mount_model.specs.Walk.{PathParts}
+use Rattle.mount_model.specs.EntryPaths.{last_part}
 use Rattle.mount_model.specs.WellFormed.{IsWellFormed}
-use Rattle.mount_model.specs.NameAnswers.{is_long_target, inherited, new_node, with_node, answer_to_make}
+use Rattle.mount_model.specs.NameAnswers.{is_long_target, answer_to_make}
+use Rattle.mount_model.specs.NewNodes.{inherited, new_node, with_node}
 use Rattle.mount_model.specs.Carried.{IsPath}
 use Rattle.mount_model.specs.declared.call.Op.TheVariants as op
 use Rattle.mount_model.proofs.WalkLemmas.{parent_ok}
 use Rattle.mount_model.proofs.WellSteps.{step_well}
 use Rattle.data_crypt.specs.Blocks.{Seal, stored_blocks, blocks_by, block_count}
 use Rattle.mount_state.specs.Stored.{stored_body, stored_node}
-use Rattle.mount_state.specs.StandsFor.{StandsFor, CachesStand}
-use Rattle.mount_state.specs.StandsFor.{plain_kind_of, plain_kind}
+use Rattle.mount_state.specs.StandsFor.{StandsFor}
+use Rattle.mount_state.specs.CachedKeys.{CachesStand}
+use Rattle.mount_state.specs.CachedKeys.{plain_kind_of, plain_kind}
 use Rattle.mount_state.specs.declared.state.MountState.{MountState}
 use Rattle.mount_names.specs.Places.{Place}
 use Rattle.mount_state.specs.Given.{IsGivenOrNoMemory, IsRefusedAsDue}
-use Rattle.mount_names.specs.Made.{IsPlaceAt}
+use Rattle.mount_names.specs.NewPlaces.{IsPlaceAt}
 use Rattle.mount_names.proofs.AgreeLemmas.{made_agrees}
 use Rattle.mount_names.proofs.CachedStands.{names_made}
 use Rattle.mount_names.proofs.DiskRules.{none_at_next, unheld}

@@ -2,13 +2,14 @@
 use Rattle.std.proofs.Common.{◌≡◌, ℕ, ◌≤◌, length, arith, Bool, true, false, cond, not, ◌||◌, List, Option, option_map, IfSome, OnOk, OnErr, Some, None, is_some, Result, Ok, Err, inl, refl, sym, ap, subst, ◌∙◌}
 use Rattle.number_map.specs.Numbered.{changed}
 use Rattle.inode_refs.specs.Cached.{Cache}
-use Rattle.plain_tree.specs.Nodes.{Name, Nodes, context_at, context_in, entry}
+use Rattle.plain_tree.specs.Nodes.{Name, Nodes}
+use Rattle.plain_tree.specs.NodesByNumber.{context_at, context_in, entry}
 use Rattle.plain_tree.specs.Changes.{on_children, name_taken, moved}
-use Rattle.plain_tree.specs.Nodes.{without_child}
+use Rattle.plain_tree.specs.BodyChanges.{without_child}
 use Rattle.plain_tree.specs.Facts.{AgreesBy}
 use Rattle.plain_tree.proofs.ChildLemmas.{itself}
 use Rattle.disk_tree.specs.DiskTree.{Disk}
-use Rattle.disk_tree.specs.DiskTree as disk
+use Rattle.disk_tree.specs.EntryChanges as disk
 use Rattle.disk_tree.specs.DiskTree.{children as stored_entries}
 use Rattle.disk_tree.specs.Entries.{number_under}
 use Rattle.disk_tree.specs.Entries.{without_entry}
@@ -16,7 +17,7 @@ use Rattle.disk_tree.specs.Nodes.{on_body, with_entries}
 use Rattle.policy_ctx.specs.declared.policy.Context.{Context}
 use Rattle.policy_ctx.specs.declared.policy.Policy.{Policy}
 use Rattle.policy_ctx.specs.Policy.{policy_bytes}
-use Rattle.mount_model.specs.PolicyAnswers.{is_same_policy}
+use Rattle.mount_model.specs.SpelledPolicy.{is_same_policy}
 use Rattle.mount_model.specs.declared.reply.Refusal.{Refusal}
 use Rattle.mount_model.specs.declared.reply.Refusal.TheVariants.{NoKey, Inval, Exists, XDev, NoSpace, NoKeyClash}
 use Rattle.std.proofs.lemmas.Bool.{ne_eqb}
@@ -24,22 +25,25 @@ use Rattle.mount_state.specs.Passed.{with_past}
 use Rattle.mount_model.specs.PlainMount.{PlainMount}
 use Rattle.mount_model.specs.Answered.{Answer, refused, done, done_unless, at_node}
 use Rattle.mount_model.specs.States.{is_keyed}
-use Rattle.mount_model.specs.NameAnswers.{clashes}
-use Rattle.mount_model.specs.RenameAnswer.{may_hold, has_policy, is_full_elsewhere, with_moved, move_refusal}
+use Rattle.mount_model.specs.EncryptedNames.{clashes}
+use Rattle.mount_model.specs.RenameAnswer.{with_moved}
+use Rattle.mount_model.specs.MoveRefusal.{may_hold, has_policy, is_full_elsewhere, move_refusal}
 use Rattle.mount_model.specs.RenameAnswer.{answer_to_move_from, answer_to_rename}
-use Rattle.mount_model.specs.Walk.{PathParts, Walked, is_root, last_part, parent, is_at_or_above}
+use Rattle.mount_model.specs.Walk.{PathParts, Walked}
+use Rattle.mount_model.specs.EntryPaths.{is_root, last_part, parent, is_at_or_above}
 use Rattle.mount_model.specs.WellFormed.{IsWellFormed}
 use Rattle.mount_model.specs.Carried.{IsPath}
 use Rattle.mount_model.specs.declared.call.Op.TheVariants as op
 use Rattle.mount_model.proofs.WellSteps.{step_well}
 use Rattle.mount_state.specs.CachedNames.{NamesForget, NamesStand}
 use Rattle.mount_state.specs.Stored.{stored_node, stored_form}
-use Rattle.mount_state.specs.StandsFor.{StandsFor, CachesStand}
-use Rattle.mount_state.specs.StandsFor.{plain_kind}
+use Rattle.mount_state.specs.StandsFor.{StandsFor}
+use Rattle.mount_state.specs.CachedKeys.{CachesStand}
+use Rattle.mount_state.specs.CachedKeys.{plain_kind}
 use Rattle.mount_state.specs.declared.state.MountState.{MountState}
 use Rattle.mount_names.specs.Places.{Entry, Place}
 use Rattle.mount_names.specs.Found.{IsEntryOn, entry_end}
-use Rattle.mount_names.specs.Made.{IsNewName}
+use Rattle.mount_names.specs.NewPlaces.{IsNewName}
 use Rattle.mount_names.specs.Moved.{IsTargetAt}
 use Rattle.mount_names.specs.Removed.{IsEntryOf}
 use Rattle.mount_names.specs.SameButTree.{SameButTree}

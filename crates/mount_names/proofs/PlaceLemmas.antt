@@ -3,26 +3,33 @@ use Rattle.std.proofs.Common.{◌≡◌, ℕ, Bool, true, false, cond, not, ◌|
 use Rattle.std.specs.Map.{lookup, lookup_entry}
 use Rattle.std.proofs.lemmas.Bool.{true≢false, ne_eqb}
 use Rattle.policy_ctx.specs.declared.policy.Context.{Context}
-use Rattle.user_claims.specs.Claims.{is_present}
+use Rattle.user_claims.specs.ClaimCounts.{is_present}
 use Rattle.fsc_keys.specs.declared.file_keys.KeyKind.TheVariants.{Names}
 use Rattle.name_crypt.specs.Plain.{IsPlain}
 use Rattle.number_map.specs.Numbered.{get}
-use Rattle.plain_tree.specs.Nodes.{Name, Children, Node, Body, Dir, File, Link, children, context_at, is_dir_in, is_dir_at, entry}
+use Rattle.plain_tree.specs.Nodes.{Name, Children, Node, Body, Dir, File, Link}
+use Rattle.plain_tree.specs.NodesByNumber.{children, context_at, is_dir_in, is_dir_at, entry}
 use Rattle.disk_tree.specs.DiskTree.{Disk}
 use Rattle.mount_model.specs.declared.reply.Refusal.{Refusal}
 use Rattle.mount_model.specs.declared.reply.Refusal.TheVariants.{NoKey, Exists, NameTooLong, NoSpace, NoKeyClash}
-use Rattle.mount_model.specs.PlainMount.{PlainMount, has_handle}
+use Rattle.mount_model.specs.PlainMount.{PlainMount}
+use Rattle.mount_model.specs.OpenHandles.{has_handle}
 use Rattle.mount_model.specs.States.{is_keyed_under}
-use Rattle.mount_model.specs.Walk.{PathParts, is_root, last_part, parent}
-use Rattle.mount_model.specs.WellFormed.{IsWellFormed, IsName}
-use Rattle.mount_model.specs.NameAnswers.{lacks_key, clashes, is_full, is_long_target, new_node, with_node, answer_to_make_in, answer_to_make}
+use Rattle.mount_model.specs.Walk.{PathParts}
+use Rattle.mount_model.specs.EntryPaths.{is_root, last_part, parent}
+use Rattle.mount_model.specs.WellFormed.{IsWellFormed}
+use Rattle.mount_model.specs.SoundNodes.{IsName}
+use Rattle.mount_model.specs.NameAnswers.{is_full, is_long_target, answer_to_make_in, answer_to_make}
+use Rattle.mount_model.specs.NewNodes.{new_node, with_node}
+use Rattle.mount_model.specs.EncryptedNames.{lacks_key, clashes}
 use Rattle.mount_model.specs.Answered.{Answer, refused, done, at_node}
 use Rattle.mount_model.specs.Carried.{IsPath}
 use Rattle.mount_model.proofs.TreeCalls.{is_name}
 use Rattle.mount_model.proofs.WalkLemmas.{parent_ok}
-use Rattle.mount_state.specs.StandsFor.{StandsFor, TreeStands, plain_kind}
+use Rattle.mount_state.specs.StandsFor.{StandsFor, TreeStands}
+use Rattle.mount_state.specs.CachedKeys.{plain_kind}
 use Rattle.mount_state.specs.declared.state.MountState.{MountState}
-use Rattle.mount_names.specs.Made.{IsAskedIn, IsNewName, IsPlaceOf}
+use Rattle.mount_names.specs.NewPlaces.{IsAskedIn, IsNewName, IsPlaceOf}
 use Rattle.mount_names.specs.Places.{Place}
 use Rattle.mount_names.specs.Shown.{HasNames}
 

@@ -16,9 +16,11 @@ use Rattle.fsc_keys.specs.declared.file_keys.KeyKind.{KeyKind}
 use Rattle.fsc_keys.specs.declared.file_keys.KeyKind.TheVariants.{Contents, Names}
 use Rattle.number_map.specs.Numbered.{get, changed}
 use Rattle.number_map.proofs.NumberedLemmas.{insert_here, insert_other, changed_here, changed_other}
-use Rattle.user_claims.specs.Claims.{ClaimSet, id_cmp, is_present}
+use Rattle.user_claims.specs.Claims.{ClaimSet, id_cmp}
+use Rattle.user_claims.specs.ClaimCounts.{is_present}
 use Rattle.user_claims.proofs.ClaimOrder.{id_cmp_total, id_ties}
-use Rattle.key_ring.specs.Modes.{Modes, of_kind, with_kind, with_users, more_users, mode_at, users_in, users_of}
+use Rattle.key_ring.specs.Modes.{Modes, of_kind, with_kind, mode_at}
+use Rattle.key_ring.specs.ModeUsers.{with_users, more_users, users_in, users_of}
 use Rattle.key_ring.specs.declared.mode_key.ModeKey.{ModeKey}
 use Rattle.key_ring.proofs.ModeLemmas.{users_in-with_users}
 use Rattle.inode_refs.specs.Cached.{Cache, key_at}
@@ -27,8 +29,10 @@ use Rattle.disk_tree.specs.DiskTree.{Disk, IsDirAt, of_node}
 use Rattle.disk_tree.specs.Nodes.{IsDir, with_context}
 use Rattle.disk_tree.specs.declared.node.StoredNode.{StoredNode}
 use Rattle.mount_model.specs.declared.handle.Handle.{Handle}
-use Rattle.mount_model.specs.PlainMount.{HandleList, has_handle}
-use Rattle.mount_state.specs.Contexts.{context_on_disk, kind_on_disk, has_own, has_shared, same_kind, is_of_kind, uses_own, uses_mode}
+use Rattle.mount_model.specs.PlainMount.{HandleList}
+use Rattle.mount_model.specs.OpenHandles.{has_handle}
+use Rattle.mount_state.specs.Contexts.{context_on_disk, has_own, has_shared, uses_own, uses_mode}
+use Rattle.mount_state.specs.StoredKinds.{kind_on_disk, same_kind, is_of_kind}
 use Rattle.mount_state.specs.Discipline.{Forgets}
 use Rattle.mount_state.specs.Handles.{users, handles_on}
 use Rattle.mount_state.specs.Safe.{IsSafe}

@@ -11,27 +11,31 @@ use Rattle.fsc_keys.specs.declared.file_keys.KeyKind.TheVariants.{Contents, Name
 use Rattle.number_map.specs.Numbered.{get, changed}
 use Rattle.number_map.proofs.NumberedLemmas.{changed_here, changed_other}
 use Rattle.key_ring.specs.Holding.{Holding, secret_of}
-use Rattle.key_ring.specs.Modes.{Modes, of_kind, with_kind, with_users, mode_at}
+use Rattle.key_ring.specs.Modes.{Modes, of_kind, with_kind, mode_at}
+use Rattle.key_ring.specs.ModeUsers.{with_users}
 use Rattle.key_ring.specs.declared.mode_key.ModeKey.{ModeKey}
 use Rattle.inode_refs.specs.Cached.{Cache}
-use Rattle.plain_tree.specs.Nodes.{Node, Body, Dir, File, Link, Children, children, children_in, children_of, context_in, context_at, is_dir_in, is_dir_at}
+use Rattle.plain_tree.specs.Nodes.{Node, Body, Dir, File, Link, Children, children_of}
+use Rattle.plain_tree.specs.NodesByNumber.{children, children_in, context_in, context_at, is_dir_in, is_dir_at}
 use Rattle.plain_tree.specs.Changes.{with_context, encrypted}
 use Rattle.plain_tree.specs.Facts.{AgreesBy}
 use Rattle.plain_tree.proofs.AgreeLemmas.{agree_edited}
 use Rattle.disk_tree.specs.DiskTree.{Disk, IsDirAt}
 use Rattle.disk_tree.specs.Nodes as stored
-use Rattle.mount_model.specs.PlainMount.{PlainMount, Raws, raw_in, has_handle}
+use Rattle.mount_model.specs.PlainMount.{PlainMount, Raws, raw_in}
+use Rattle.mount_model.specs.OpenHandles.{has_handle}
 use Rattle.mount_model.specs.Sealed.{raw_for, node_key}
 use Rattle.mount_model.specs.WellFormed.{IsWellFormed}
 use Rattle.mount_state.specs.Contexts as disk
-use Rattle.mount_state.specs.Contexts.{is_of_kind}
+use Rattle.mount_state.specs.StoredKinds.{is_of_kind}
 use Rattle.dentry_cache.specs.Names.{NameList}
 use Rattle.plain_tree.proofs.EditedLemmas.{edited_entry, leaves_context}
 use Rattle.mount_state.specs.CachedNames.{NamesStand}
 use Rattle.mount_state.specs.Handles.{Handles, handles_on}
 use Rattle.mount_state.specs.NamesKey.{drawn_key}
 use Rattle.mount_state.specs.Stored.{stored_node, stored_body}
-use Rattle.mount_state.specs.StandsFor.{StandsFor, CachesStand, plain_kind}
+use Rattle.mount_state.specs.StandsFor.{StandsFor}
+use Rattle.mount_state.specs.CachedKeys.{CachesStand, plain_kind}
 use Rattle.mount_state.specs.declared.state.MountState.{MountState}
 use Rattle.mount_state.proofs.KeepLemmas.{with_key, kept_stand}
 use Rattle.mount_state.proofs.KeyedLemmas.{drawn_is}

@@ -4,7 +4,8 @@ use Rattle.std.proofs.lemmas.Bool.{true≢false}
 use Rattle.policy_ctx.specs.declared.policy.Context.{Context}
 use Rattle.policy_ctx.specs.Context.{context_bytes}
 use Rattle.number_map.specs.Numbered.{get}
-use Rattle.plain_tree.specs.Nodes.{Node, Body, Dir, File, Link, is_dir, is_dir_in, is_dir_at, context_at}
+use Rattle.plain_tree.specs.Nodes.{Node, Body, Dir, File, Link, is_dir}
+use Rattle.plain_tree.specs.NodesByNumber.{is_dir_in, is_dir_at, context_at}
 use Rattle.disk_tree.specs.DiskTree.{Disk, IsDirAt, of_node}
 use Rattle.disk_tree.specs.Nodes.{IsDir}
 use Rattle.mount_model.specs.PlainMount.{PlainMount, Raws}

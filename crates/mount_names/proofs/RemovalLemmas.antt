@@ -4,20 +4,22 @@ use Rattle.std.proofs.lemmas.Bool.{cases_Bool, lt-ltb, le-ltb, ne_eqb, eq-eqb}
 use Rattle.number_map.specs.Numbered.{remove}
 use Rattle.inode_refs.specs.Cached.{Cache, key_at, pins_of}
 use Rattle.inode_refs.specs.declared.node_key.NodeKey.{NodeKey}
-use Rattle.plain_tree.specs.Nodes.{Name, Nodes, children, context_in, is_dir_at}
+use Rattle.plain_tree.specs.Nodes.{Name, Nodes}
+use Rattle.plain_tree.specs.NodesByNumber.{children, context_in, is_dir_at}
 use Rattle.plain_tree.specs.Changes.{dropped, gone}
 use Rattle.plain_tree.specs.Facts.{AgreesBy}
 use Rattle.plain_tree.proofs.AgreeLemmas.{agree_removed}
 use Rattle.disk_tree.specs.DiskTree.{Disk, IsDirAt}
-use Rattle.disk_tree.specs.DiskTree as disk
+use Rattle.disk_tree.specs.EntryChanges as disk
 use Rattle.disk_tree.specs.DiskTree.{children as stored_entries}
 use Rattle.disk_tree.specs.Entries.{number_under}
 use Rattle.mount_model.specs.declared.reply.Refusal.{Refusal}
 use Rattle.mount_model.specs.declared.reply.Refusal.TheVariants.{IsDir, NotDir, NotEmpty}
 use Rattle.mount_model.specs.declared.reply.Reply.TheVariants.{Refused, Done}
-use Rattle.mount_model.specs.PlainMount.{PlainMount, HandleList, has_handle}
+use Rattle.mount_model.specs.PlainMount.{PlainMount, HandleList}
+use Rattle.mount_model.specs.OpenHandles.{has_handle}
 use Rattle.mount_model.specs.Answered.{Answer, refused, done}
-use Rattle.mount_model.specs.NameAnswers.{without_name, answer_to_unlink, answer_to_rmdir}
+use Rattle.mount_model.specs.UnlinkAnswers.{without_name, answer_to_unlink, answer_to_rmdir}
 use Rattle.mount_model.specs.Walk.{PathParts}
 use Rattle.mount_model.specs.WellFormed.{IsWellFormed}
 use Rattle.mount_model.specs.Carried.{IsPath}
@@ -25,8 +27,9 @@ use Rattle.mount_model.specs.declared.call.Op.TheVariants as op
 use Rattle.mount_model.proofs.WellSteps.{step_well}
 use Rattle.mount_state.specs.CachedNames.{NamesStand}
 use Rattle.mount_state.specs.Stored.{stored_node}
-use Rattle.mount_state.specs.StandsFor.{StandsFor, CachesStand}
-use Rattle.mount_state.specs.StandsFor.{plain_kind}
+use Rattle.mount_state.specs.StandsFor.{StandsFor}
+use Rattle.mount_state.specs.CachedKeys.{CachesStand}
+use Rattle.mount_state.specs.CachedKeys.{plain_kind}
 use Rattle.mount_state.specs.declared.state.MountState.{MountState}
 use Rattle.mount_state.proofs.UserLemmas.{pins_tell}
 use Rattle.mount_names.specs.Places.{Entry}

@@ -5,19 +5,22 @@ use Rattle.policy_ctx.specs.declared.policy.KeyId.{KeyId}
 use Rattle.policy_ctx.specs.declared.policy.Policy.{Policy}
 use Rattle.policy_ctx.specs.declared.policy.Context.{Context}
 use Rattle.policy_ctx.specs.Context.{context_bytes}
-use Rattle.policy_ctx.specs.Policy.{policy_bytes, policy_fault}
+use Rattle.policy_ctx.specs.Policy.{policy_bytes}
+use Rattle.policy_ctx.specs.PolicyFaults.{policy_fault}
 use Rattle.number_map.specs.Numbered.{get}
 use Rattle.disk_tree.specs.DiskTree.{IsDirAt}
-use Rattle.user_claims.specs.Claims.{has_claim, is_present}
+use Rattle.user_claims.specs.Claims.{has_claim}
+use Rattle.user_claims.specs.ClaimCounts.{is_present}
 use Rattle.user_claims.proofs.PresentLemmas.{is_present-held}
-use Rattle.plain_tree.specs.Nodes.{children, context_at}
+use Rattle.plain_tree.specs.NodesByNumber.{children, context_at}
 use Rattle.mount_model.specs.declared.call.Op.TheVariants as op
 use Rattle.mount_model.specs.declared.reply.Reply.TheVariants.{Done, Refused}
 use Rattle.mount_model.specs.declared.reply.Refusal.TheVariants.{NoKey, Inval, Exists, NotDir, NotEmpty}
 use Rattle.mount_model.specs.PlainMount.{PlainMount}
 use Rattle.mount_model.specs.Answered.{refused, done, at_node}
 use Rattle.mount_model.specs.Carried.{IsPath}
-use Rattle.mount_model.specs.PolicyAnswers.{context_of, policy_in, may_use, is_same_policy, answer_to_encrypt, answer_to_set_at, answer_to_set_policy}
+use Rattle.mount_model.specs.PolicyAnswers.{may_use, answer_to_encrypt, answer_to_set_at, answer_to_set_policy}
+use Rattle.mount_model.specs.SpelledPolicy.{context_of, policy_in, is_same_policy}
 use Rattle.mount_model.specs.Walk.{PathParts, Walked, walked}
 use Rattle.mount_model.specs.WellFormed.{IsWellFormed}
 use Rattle.mount_model.proofs.PolicyLemmas.{read_back}

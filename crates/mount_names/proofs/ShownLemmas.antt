@@ -10,13 +10,15 @@ use Rattle.name_crypt.specs.Laws.{NamesComeBack, StoredNamesFit}
 use Rattle.name_crypt.specs.Plain.{IsPlain, IsStored}
 use Rattle.name_crypt.specs.StoredName.{plain_name, stored_name}
 use Rattle.name_crypt.specs.NoKeyText.{nokey_text_of}
-use Rattle.plain_tree.specs.Nodes.{Name, context_at}
+use Rattle.plain_tree.specs.Nodes.{Name}
+use Rattle.plain_tree.specs.NodesByNumber.{context_at}
 use Rattle.mount_model.specs.PlainMount.{PlainMount}
 use Rattle.mount_model.specs.Sealed.{node_key, node_start, sealed_name, texts}
 use Rattle.mount_model.specs.States.{is_keyed, shown, shown_under}
 use Rattle.mount_state.specs.Stored.{stored_form}
 use Rattle.mount_names.specs.declared.reading.Reading.TheVariants.{Plain, Keyed, Locked}
-use Rattle.mount_names.specs.Shown.{names_cipher, ShowsAs}
+use Rattle.mount_names.specs.Shown.{ShowsAs}
+use Rattle.mount_names.specs.NameCiphers.{names_cipher}
 
 module _ (m : PlainMount) (n : ℕ) (name : Name) (plain : IsPlain name) where
   pub plain_shows : context_at m.nodes n ≡ None → ShowsAs Plain (stored_form m.raws n (context_at m.nodes n) name) (shown m n name)

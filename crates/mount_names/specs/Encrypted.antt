@@ -4,10 +4,11 @@ use Rattle.number_map.specs.Numbered.{insert}
 use Rattle.policy_ctx.specs.declared.policy.Context.{Context}
 use Rattle.fsc_keys.specs.declared.file_keys.FileKey.{FileKey}
 use Rattle.fsc_keys.specs.declared.file_keys.KeyKind.TheVariants.{Names}
-use Rattle.key_ring.specs.Modes.{Modes, of_kind, with_kind, with_users}
+use Rattle.key_ring.specs.Modes.{Modes, of_kind, with_kind}
+use Rattle.key_ring.specs.ModeUsers.{with_users}
 use Rattle.inode_refs.specs.Cached.{Cache}
-use Rattle.user_claims.specs.Claims.{is_present}
-use Rattle.plain_tree.specs.Nodes.{children}
+use Rattle.user_claims.specs.ClaimCounts.{is_present}
+use Rattle.plain_tree.specs.NodesByNumber.{children}
 use Rattle.mount_model.specs.declared.reply.Reply.{Reply}
 use Rattle.mount_model.specs.PlainMount.{PlainMount}
 use Rattle.mount_model.specs.Answered.{done}

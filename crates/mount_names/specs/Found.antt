@@ -1,13 +1,15 @@
 -- The entry of a directory that is found by a part, as the state has it: with the name as it is stored.
 use Rattle.std.specs.Prelude.{◌≡◌, ℕ, Bool, ◌&&◌, not, List, Option, Some, None, IfSome, option_map, Result, Ok, Err, if◌then◌else◌}
-use Rattle.plain_tree.specs.Nodes.{Name, context_at}
+use Rattle.plain_tree.specs.Nodes.{Name}
+use Rattle.plain_tree.specs.NodesByNumber.{context_at}
 use Rattle.disk_tree.specs.DiskTree.{Disk, children}
 use Rattle.disk_tree.specs.Entries.{number_under}
 use Rattle.mount_model.specs.declared.reply.Refusal.{Refusal}
 use Rattle.mount_model.specs.declared.reply.Refusal.TheVariants.{NoKey, NotFound}
 use Rattle.mount_model.specs.PlainMount.{PlainMount}
 use Rattle.mount_model.specs.States.{is_keyed}
-use Rattle.mount_model.specs.Walk.{PathParts, Walked, found, last_part, parent}
+use Rattle.mount_model.specs.Walk.{PathParts, Walked, found}
+use Rattle.mount_model.specs.EntryPaths.{last_part, parent}
 use Rattle.mount_state.specs.Stored.{stored_form}
 use Rattle.mount_names.specs.Places.{Entry}
 

@@ -1,5 +1,7 @@
+pub mod NameCiphers
 pub mod Shown
 pub mod SameButTree
+pub mod NewPlaces
 pub mod Made
 pub mod Listed
 pub mod Packed

@@ -4,7 +4,7 @@ use Rattle.std.specs.Borrow.{Bor}
 use Rattle.std.specs.List.{AllZip}
 use Rattle.plain_tree.specs.Nodes.{Name}
 use Rattle.disk_tree.specs.Entries.{Entries}
-use Rattle.mount_model.specs.LookAnswers.{in_order}
+use Rattle.mount_model.specs.ListAnswers.{in_order}
 use Rattle.mount_model.specs.declared.limits.TheConstants.{MOST_LISTED}
 use Rattle.mount_model.specs.declared.reply.Reply.{Reply}
 use Rattle.mount_model.specs.declared.reply.Reply.TheVariants.{Names}

@@ -4,15 +4,17 @@ use Rattle.plain_tree.specs.Nodes.{Name}
 use Rattle.mount_model.specs.declared.reply.Reply.{Reply}
 use Rattle.mount_model.specs.PlainMount.{PlainMount}
 use Rattle.mount_model.specs.Answered.{done}
-use Rattle.mount_model.specs.RenameAnswer.{move_refusal, with_moved, answer_to_move_from}
-use Rattle.mount_model.specs.Walk.{PathParts, last_part, parent, is_at_or_above}
+use Rattle.mount_model.specs.RenameAnswer.{with_moved, answer_to_move_from}
+use Rattle.mount_model.specs.MoveRefusal.{move_refusal}
+use Rattle.mount_model.specs.Walk.{PathParts}
+use Rattle.mount_model.specs.EntryPaths.{last_part, parent, is_at_or_above}
 use Rattle.mount_model.specs.WellFormed.{IsWellFormed}
 use Rattle.mount_model.specs.Carried.{IsPath}
 use Rattle.mount_state.specs.StandsFor.{StandsFor}
 use Rattle.mount_state.specs.declared.state.MountState.{MountState}
 use Rattle.mount_names.specs.Places.{Entry, Place}
 use Rattle.mount_state.specs.Given.{IsGivenOrNoMemory, IsRefusedAsDue}
-use Rattle.mount_names.specs.Made.{IsNewName}
+use Rattle.mount_names.specs.NewPlaces.{IsNewName}
 use Rattle.mount_names.specs.Removed.{IsEntryOf, IsFoundBy}
 
 -- ---- where it goes

@@ -1,12 +1,14 @@
 -- What the calls that take a name away leave, at the entry that was found.
 use Rattle.std.specs.Prelude.{◌≡◌, ℕ, true, false, Ok}
-use Rattle.plain_tree.specs.Nodes.{Name, entry}
+use Rattle.plain_tree.specs.Nodes.{Name}
+use Rattle.plain_tree.specs.NodesByNumber.{entry}
 use Rattle.std.specs.Prelude.{Some}
 use Rattle.mount_model.specs.declared.reply.Reply.{Reply}
 use Rattle.mount_model.specs.PlainMount.{PlainMount}
-use Rattle.mount_model.specs.NameAnswers.{without_name, answer_to_unlink, answer_to_rmdir}
+use Rattle.mount_model.specs.UnlinkAnswers.{without_name, answer_to_unlink, answer_to_rmdir}
 use Rattle.mount_model.specs.States.{is_keyed}
-use Rattle.mount_model.specs.Walk.{PathParts, is_root, last_part}
+use Rattle.mount_model.specs.Walk.{PathParts}
+use Rattle.mount_model.specs.EntryPaths.{is_root, last_part}
 use Rattle.mount_model.specs.WellFormed.{IsWellFormed}
 use Rattle.mount_state.specs.StandsFor.{StandsFor}
 use Rattle.mount_state.specs.declared.state.MountState.{MountState}

@@ -2,34 +2,26 @@
 use Rattle.std.specs.Prelude.{◌≡◌, ◌≢◌, ◌≤◌, ℕ, Bool, true, List, [], length, Option, Some, is_some, ◌&&◌}
 use Rattle.byte_words.specs.Bytes.{AreBytes}
 use Rattle.policy_ctx.specs.declared.policy.Context.{Context}
-use Rattle.fsc_keys.specs.Keys.{key_bytes}
 use Rattle.fsc_keys.specs.declared.file_keys.KeyKind.TheVariants.{Names}
-use Rattle.fsc_keys.specs.declared.file_keys.FileKey.{FileKey}
 use Rattle.name_crypt.specs.declared.cipher.NameCipher.{NameCipher}
 use Rattle.name_crypt.specs.declared.limits.TheConstants.{MOST_NAME_BYTES}
 use Rattle.name_crypt.specs.Plain.{IsPlain, IsStored}
 use Rattle.name_crypt.specs.StoredName.{plain_name}
 use Rattle.name_crypt.specs.NoKeyText.{nokey_text_of}
 use Rattle.number_map.specs.Numbered.{get}
-use Rattle.plain_tree.specs.Nodes.{Name, context_at}
-use Rattle.mount_model.specs.PlainMount.{PlainMount, Raws}
-use Rattle.mount_model.specs.Sealed.{node_key, node_start}
+use Rattle.plain_tree.specs.Nodes.{Name}
+use Rattle.plain_tree.specs.NodesByNumber.{context_at}
+use Rattle.mount_model.specs.PlainMount.{PlainMount}
 use Rattle.mount_model.specs.States.{is_keyed, shown}
 use Rattle.mount_state.specs.Contexts.{context_on_disk}
 use Rattle.mount_state.specs.Held as held
 use Rattle.mount_state.specs.Stored.{stored_form}
-use Rattle.mount_state.specs.StandsFor.{StandsFor, plain_kind}
+use Rattle.mount_state.specs.StandsFor.{StandsFor}
+use Rattle.mount_state.specs.CachedKeys.{plain_kind}
 use Rattle.mount_state.specs.declared.state.MountState.{MountState}
 use Rattle.mount_names.specs.declared.reading.Reading.{Reading}
 use Rattle.mount_names.specs.declared.reading.Reading.TheVariants.{Plain, Keyed, Locked}
-
--- the cipher of node n's names under the key
-abbrev pub cipher_with : ℕ → Context → FileKey → NameCipher
-cipher_with n c key = record { key = key_bytes key; start = node_start n c }
-
--- the cipher of the names of node n, which has this context
-abbrev pub names_cipher : Raws → ℕ → Context → NameCipher
-names_cipher raws n c = cipher_with n c (node_key raws c Names)
+use Rattle.mount_names.specs.NameCiphers.{names_cipher}
 
 -- read so, the stored bytes are shown as the name
 abbrev pub ShowsAs : Reading → List ℕ → Name → Type 0

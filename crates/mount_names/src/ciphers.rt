@@ -5,9 +5,10 @@ ghost use Rattle.byte_words.specs.Bytes.{AreBytes};
 ghost use Rattle.disk_tree.specs.DiskTree.{IsDirAt};
 ghost use Rattle.fsc_keys.specs.declared.file_keys.KeyKind.TheVariants.{Names};
 ghost use Rattle.key_ring.specs.Holding.{HoldsClaimedSecrets};
-ghost use Rattle.mount_state.specs.Contexts.{is_of_kind};
+ghost use Rattle.mount_state.specs.StoredKinds.{is_of_kind};
 ghost use Rattle.mount_state.specs.NamesKey.{cached_key, drawn_key};
-ghost use Rattle.mount_names.specs.Shown.{IsCipherOf, cipher_with};
+ghost use Rattle.mount_names.specs.Shown.{IsCipherOf};
+ghost use Rattle.mount_names.specs.NameCiphers.{cipher_with};
 
 use byte_words::slice_is_bytes;
 use fsc_keys::{FileKey, KeyKind};

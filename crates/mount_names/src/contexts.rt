@@ -2,7 +2,7 @@
 
 ghost use Rattle.std.specs.Prelude.{◌≡◌, Some};
 ghost use Rattle.number_map.specs.Numbered.{get};
-ghost use Rattle.plain_tree.specs.Nodes.{context_at};
+ghost use Rattle.plain_tree.specs.NodesByNumber.{context_at};
 ghost use Rattle.mount_model.specs.PlainMount.{PlainMount};
 ghost use Rattle.mount_state.specs.StandsFor.{StandsFor};
 

@@ -2,7 +2,7 @@
 
 ghost use Rattle.std.specs.Prelude.{◌≡◌, ◌+◌, ◌≤◌, List, length, map, IfOk};
 ghost use Rattle.std.specs.List.{AllZip};
-ghost use Rattle.mount_model.specs.LookAnswers.{answer_to_list, page_at};
+ghost use Rattle.mount_model.specs.ListAnswers.{answer_to_list, page_at};
 ghost use Rattle.mount_model.specs.PlainMount.{PlainMount};
 ghost use Rattle.mount_state.specs.Given.{IsGivenOrNoMemory, IsToldOrNoMemory, IsRefusedAsDue};
 ghost use Rattle.mount_state.specs.SameButCaches.{SameButCaches};

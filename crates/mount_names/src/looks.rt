@@ -2,7 +2,8 @@
 
 ghost use Rattle.std.specs.Prelude.{◌≡◌, ◌+◌, ◌<◌, ◌^◌, ◌≤◌, ℕ, Some, length};
 ghost use Rattle.number_map.specs.Numbered.{get};
-ghost use Rattle.plain_tree.specs.Nodes.{Node, context_at};
+ghost use Rattle.plain_tree.specs.Nodes.{Node};
+ghost use Rattle.plain_tree.specs.NodesByNumber.{context_at};
 ghost use Rattle.mount_model.specs.PlainMount.{PlainMount};
 ghost use Rattle.mount_model.specs.LookAnswers as look;
 ghost use Rattle.mount_model.specs.LookAnswers.{answer_to_stat};

@@ -3,7 +3,7 @@
 ghost use Rattle.std.specs.Prelude.{◌≡◌, ◌≤◌, length, take, drop, IfOk};
 ghost use Rattle.std.specs.Ordering.{nat_cmp};
 ghost use Rattle.std.specs.Cmp.Lexicographic.{slice_cmp};
-ghost use Rattle.mount_model.specs.LookAnswers.{in_order};
+ghost use Rattle.mount_model.specs.ListAnswers.{in_order};
 ghost use Rattle.mount_names.specs.Listed.{names_of, page_from};
 
 use item_list::Bytes;

@@ -3,14 +3,17 @@
 ghost use Rattle.std.specs.Prelude.{◌≡◌, ◌+◌, ◌<◌, ◌≤◌, ◌^◌, true, false, Some, is_some, length, nat_le, IfErr, IfOk};
 ghost use Rattle.disk_tree.specs.DiskTree.{IsDirAt};
 ghost use Rattle.number_map.specs.Numbered.{get, len};
-ghost use Rattle.plain_tree.specs.Nodes.{Name, children, entry, is_dir_at};
+ghost use Rattle.plain_tree.specs.Nodes.{Name};
+ghost use Rattle.plain_tree.specs.NodesByNumber.{children, entry, is_dir_at};
 ghost use Rattle.mount_model.specs.Carried.{IsPath};
+ghost use Rattle.mount_model.specs.EncryptedNames as encrypted;
 ghost use Rattle.mount_model.specs.NameAnswers as plain;
 ghost use Rattle.mount_model.specs.PlainMount.{PlainMount};
-ghost use Rattle.mount_model.specs.WellFormed.{IsName};
+ghost use Rattle.mount_model.specs.SoundNodes.{IsName};
 ghost use Rattle.mount_state.specs.SameButCaches.{SameButCaches, StaysFor};
 ghost use Rattle.mount_state.specs.StandsFor.{StandsFor};
-ghost use Rattle.mount_names.specs.Made.{IsAskedIn, IsNewName, IsPlaceAt, IsPlaceOf, IsPlaceRefused, IsRefusedIn};
+ghost use Rattle.mount_names.specs.Made.{IsPlaceRefused, IsRefusedIn};
+ghost use Rattle.mount_names.specs.NewPlaces.{IsAskedIn, IsNewName, IsPlaceAt, IsPlaceOf};
 ghost use Rattle.mount_names.specs.Places.{IsBlank};
 
 use crate::contexts::context_told;
@@ -157,7 +160,7 @@ pub(crate) fn free_place<'a, L: Ledger>(
 // which isn't there itself.
 pub(crate) fn clashes(state: &MountState, place: &Place) -> bool
     ensures { (m : PlainMount) (name : Name) → StandsFor state.now m → IsName name
-        → IsNewName m place.now.dir name place.now → result ≡ plain.clashes m place.now.dir name }
+        → IsNewName m place.now.dir name place.now → result ≡ encrypted.clashes m place.now.dir name }
 {
     match &place.context {
         Some(_context) => shares_text(state, place.dir, place.stored),
@@ -167,7 +170,7 @@ pub(crate) fn clashes(state: &MountState, place: &Place) -> bool
 
 // Whether the directory has a policy whose key no user has claimed.
 fn lacks_key(state: &MountState, context: &Option<Context>) -> bool
-    ensures { (m : PlainMount) → StandsFor state.now m → result ≡ plain.lacks_key m context.now }
+    ensures { (m : PlainMount) → StandsFor state.now m → result ≡ encrypted.lacks_key m context.now }
 {
     match context {
         Some(context) => state.ring.claims().count_of_id(&context.policy.id) == 0,

@@ -1,10 +1,10 @@
 //! The calls that take a name away: of a file or a symlink, and of an empty directory.
 
 ghost use Rattle.std.specs.Prelude.{◌≡◌, ◌+◌, ◌≤◌, true, false, length};
-ghost use Rattle.dentry_cache.specs.Names.{HoldsNoneIn};
+ghost use Rattle.dentry_cache.specs.HeldNames.{HoldsNoneIn};
 ghost use Rattle.mount_model.specs.Carried.{IsPath};
 ghost use Rattle.mount_model.specs.ClaimHistory.{is_refused};
-ghost use Rattle.mount_model.specs.NameAnswers.{answer_to_unlink, answer_to_rmdir};
+ghost use Rattle.mount_model.specs.UnlinkAnswers.{answer_to_unlink, answer_to_rmdir};
 ghost use Rattle.mount_model.specs.PlainMount.{PlainMount};
 ghost use Rattle.mount_state.specs.SameButCaches.{SameButCaches};
 ghost use Rattle.mount_state.specs.StandsFor.{StandsFor};

@@ -2,12 +2,13 @@
 
 ghost use Rattle.std.specs.Prelude.{◌≡◌, ◌+◌, ◌≤◌, true, length, nat_le, None, Some, IfErr, IfOk};
 ghost use Rattle.disk_tree.specs.DiskTree.{IsDirAt};
-ghost use Rattle.plain_tree.specs.Nodes.{Name, children, context_at, is_dir_at};
+ghost use Rattle.plain_tree.specs.Nodes.{Name};
+ghost use Rattle.plain_tree.specs.NodesByNumber.{children, context_at, is_dir_at};
 ghost use Rattle.mount_model.specs.PlainMount.{PlainMount};
-ghost use Rattle.mount_model.specs.RenameAnswer as plain;
-ghost use Rattle.mount_model.specs.WellFormed.{IsName};
+ghost use Rattle.mount_model.specs.MoveRefusal as plain;
+ghost use Rattle.mount_model.specs.SoundNodes.{IsName};
 ghost use Rattle.mount_state.specs.StandsFor.{StandsFor};
-ghost use Rattle.mount_names.specs.Made.{IsNewName};
+ghost use Rattle.mount_names.specs.NewPlaces.{IsNewName};
 ghost use Rattle.mount_names.specs.Removed.{IsEntryOf};
 ghost use Rattle.mount_names.specs.Places.{IsBlank};
 

@@ -25,7 +25,8 @@ use Rattle.dentry_cache.specs.Names.{NameList}
 use Rattle.mount_state.specs.CachedNames.{NamesStand}
 use Rattle.mount_state.specs.Handles.{Handles}
 use Rattle.mount_state.specs.Stored.{stored_node}
-use Rattle.mount_state.specs.StandsFor.{StandsFor, KeysStand, HandlesStand, CachesStand}
+use Rattle.mount_state.specs.StandsFor.{StandsFor, KeysStand, HandlesStand}
+use Rattle.mount_state.specs.CachedKeys.{CachesStand}
 use Rattle.mount_state.specs.declared.state.MountState.{MountState}
 use Rattle.mount_state.specs.Given.{IsGiven}
 use Rattle.mount_state.proofs.WalkLemmas.{same_cache}

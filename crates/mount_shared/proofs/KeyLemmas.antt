@@ -5,7 +5,8 @@ use Rattle.std.proofs.lemmas.Bool.{true≢false}
 use Rattle.call_history.specs.Entries.{entry}
 use Rattle.policy_ctx.specs.declared.policy.KeyId.{KeyId}
 use Rattle.fsc_keys.specs.Keys.{key_id_of}
-use Rattle.user_claims.specs.Claims.{ClaimSet, has_claim, is_present, with_claim, without_claim, without_id}
+use Rattle.user_claims.specs.Claims.{ClaimSet, has_claim, with_claim, without_claim, without_id}
+use Rattle.user_claims.specs.ClaimCounts.{is_present}
 use Rattle.mount_model.specs.declared.call.Call.{Call}
 use Rattle.mount_model.specs.declared.call.Op.{Op}
 use Rattle.mount_model.specs.declared.call.Op.TheVariants.{AddKey, RemoveKey, RemoveKeyAll, KeyStatus}
@@ -15,7 +16,8 @@ use Rattle.mount_model.specs.declared.reply.Refusal.{Refusal}
 use Rattle.mount_model.specs.declared.reply.Refusal.TheVariants.{NoKey, Access, Inval, Quota, NoMemory}
 use Rattle.mount_model.specs.PlainMount.{PlainMount}
 use Rattle.mount_model.specs.Answered.{refused}
-use Rattle.mount_model.specs.KeyAnswers.{removal_told, is_raw_key, added, answer_to_add_key, answer_to_remove_key, answer_to_remove_key_all, answer_to_key_status}
+use Rattle.mount_model.specs.KeyAnswers.{is_raw_key, added, answer_to_add_key, answer_to_key_status}
+use Rattle.mount_model.specs.RemovalAnswers.{removal_told, answer_to_remove_key, answer_to_remove_key_all}
 use Rattle.mount_model.specs.ClaimHistory.{is_refused}
 use Rattle.mount_model.specs.Lawful.{AgreesWith}
 use Rattle.mount_state.specs.Given.{IsGiven, IsGivenOrNoMemory, IsToldOrNoMemory, IsRefusedAsDue}

@@ -2,11 +2,12 @@
 use Rattle.std.proofs.Common.{◌≡◌, ℕ, Bool, true, false, ◌&&◌}
 use Rattle.std.specs.Prelude.{not, ◌==◌, if◌then◌else◌}
 use Rattle.policy_ctx.specs.declared.policy.KeyId.{KeyId}
-use Rattle.user_claims.specs.Claims.{ClaimSet, has_claim, is_present, without_claim}
+use Rattle.user_claims.specs.Claims.{ClaimSet, has_claim, without_claim}
+use Rattle.user_claims.specs.ClaimCounts.{is_present}
 use Rattle.mount_model.specs.declared.call.Op.TheVariants.{RemoveKey, RemoveKeyAll}
 use Rattle.mount_model.specs.declared.reply.Reply.TheVariants.{Removed, Refused}
 use Rattle.mount_model.specs.declared.reply.Refusal.TheVariants.{NoKey, Access}
-use Rattle.mount_model.specs.KeyAnswers.{removal_told}
+use Rattle.mount_model.specs.RemovalAnswers.{removal_told}
 use Rattle.mount_model.specs.Lawful.{TellsBy}
 
 all_gone : (a b : Bool) (others told' busy : Bool)

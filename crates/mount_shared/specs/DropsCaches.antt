@@ -1,7 +1,7 @@
 -- What DropCaches leaves of what is kept for speed alone.
 use Rattle.std.specs.Prelude.{◌≡◌, ⊤, []}
 use Rattle.dentry_cache.specs.Names.{with_pairs}
-use Rattle.inode_refs.specs.Cached.{all_evicted}
+use Rattle.inode_refs.specs.Evictions.{all_evicted}
 use Rattle.mount_model.specs.declared.call.Op.{Op}
 use Rattle.mount_model.specs.declared.call.Op.TheVariants.{DropCaches}
 use Rattle.mount_state.specs.declared.state.MountState.{MountState}

@@ -2,7 +2,7 @@
 use Rattle.std.specs.Prelude.{⊤, ℕ}
 use Rattle.mount_model.specs.declared.call.Op.{Op}
 use Rattle.mount_model.specs.declared.call.Op.TheVariants.{Read}
-use Rattle.mount_model.specs.PlainMount.{node_of}
+use Rattle.mount_model.specs.OpenHandles.{node_of}
 use Rattle.mount_state.specs.declared.state.MountState.{MountState}
 use Rattle.mount_files.specs.Lent.{IsLent}
 use Rattle.mount_files.specs.declared.lent.Lent.{Lent}

@@ -2,6 +2,7 @@ pub mod DropsCaches
 pub mod Groups
 pub mod Lends
 pub mod Made
+pub mod PassLaws
 pub mod PortLaws
 pub mod SerialCalls
 pub mod SharedCalls

@@ -9,7 +9,7 @@ use Rattle.mount_model.specs.declared.reply.Reply.{Reply}
 use Rattle.mount_model.specs.declared.reply.Reply.TheVariants.{Done, Held, Stored, Refused}
 use Rattle.mount_model.specs.declared.reply.Refusal.TheVariants.{BadHandle, NotFound}
 use Rattle.mount_model.specs.KeyReplies.{IsToldOrNoMemory}
-use Rattle.mount_model.specs.PlainMount.{node_of}
+use Rattle.mount_model.specs.OpenHandles.{node_of}
 use Rattle.mount_records.specs.Refusals.{refusal_of}
 use Rattle.mount_state.specs.declared.state.MountState.{MountState}
 

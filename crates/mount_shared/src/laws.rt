@@ -2,7 +2,8 @@
 
 ghost use Rattle.std.specs.Prelude.{◌≡◌, ℕ, Bool, false};
 ghost use Rattle.policy_ctx.specs.declared.policy.KeyId.{KeyId};
-ghost use Rattle.user_claims.specs.Claims.{ClaimSet, is_present, without_claim};
+ghost use Rattle.user_claims.specs.Claims.{ClaimSet, without_claim};
+ghost use Rattle.user_claims.specs.ClaimCounts.{is_present};
 ghost use Rattle.mount_model.specs.Lawful.{TellsBy};
 ghost use Rattle.mount_shared.specs.declared.mount.Mount.{Mount};
 

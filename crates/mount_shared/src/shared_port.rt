@@ -2,7 +2,7 @@
 
 ghost use Rattle.std.specs.Prelude.{◌≡◌, length};
 ghost use Rattle.mount_shared.specs.SharedCalls.{PassCame};
-ghost use Rattle.mount_shared.specs.PortLaws.{PassCame-none, PassCame-on, PassCame-caller};
+ghost use Rattle.mount_shared.specs.PassLaws.{PassCame-none, PassCame-on, PassCame-caller};
 
 use crate::machine::MountMachine;
 use mount_model::{Call, MountPort, Placed, Reply};

@@ -6,12 +6,16 @@ use Rattle.policy_ctx.specs.declared.policy.KeyId.{KeyId}
 use Rattle.policy_ctx.specs.declared.policy.Context.{Context}
 use Rattle.policy_ctx.specs.Context.{id_in}
 use Rattle.number_map.specs.Numbered.{get}
-use Rattle.user_claims.specs.Claims.{ClaimSet, is_present}
-use Rattle.dentry_cache.specs.Names.{Pair, NameList, key_of, is_name, cached, one_more, one_more_refused, HoldsNoMore, HoldsBeside}
+use Rattle.user_claims.specs.Claims.{ClaimSet}
+use Rattle.user_claims.specs.ClaimCounts.{is_present}
+use Rattle.dentry_cache.specs.Names.{Pair, NameList, key_of, is_name, cached}
+use Rattle.dentry_cache.specs.HeldNames.{HoldsNoMore, HoldsBeside}
+use Rattle.dentry_cache.specs.NameChanges.{one_more, one_more_refused}
 use Rattle.dentry_cache.specs.declared.key.NameKey.{NameKey}
 use Rattle.dentry_cache.proofs.NameLemmas.{same_name, Contains-lookup}
-use Rattle.plain_tree.specs.Nodes.{Name, Node, Nodes, Body, Dir, File, Link, children, context_at, is_dir_in, entry}
-use Rattle.plain_tree.specs.Nodes.{is_dir_at as is_plain_dir}
+use Rattle.plain_tree.specs.Nodes.{Name, Node, Nodes, Body, Dir, File, Link}
+use Rattle.plain_tree.specs.NodesByNumber.{children, context_at, is_dir_in, entry}
+use Rattle.plain_tree.specs.NodesByNumber.{is_dir_at as is_plain_dir}
 use Rattle.plain_tree.specs.Facts.{AgreesBy}
 use Rattle.key_ring.specs.Holding.{Holding}
 use Rattle.key_ring.specs.Modes.{Modes}
@@ -21,7 +25,8 @@ use Rattle.disk_tree.specs.Nodes.{IsDir}
 use Rattle.disk_tree.specs.declared.node.StoredNode.{StoredNode}
 use Rattle.disk_tree.specs.declared.node.Body.{Body as StoredBody}
 use Rattle.disk_tree.specs.declared.node.Body.TheVariants as stored
-use Rattle.mount_model.specs.PlainMount.{PlainMount, HandleList, has_handle}
+use Rattle.mount_model.specs.PlainMount.{PlainMount, HandleList}
+use Rattle.mount_model.specs.OpenHandles.{has_handle}
 use Rattle.mount_model.specs.Sealed.{texts}
 use Rattle.mount_model.specs.States as plain
 use Rattle.mount_state.specs.CachedNames.{NamesForget, NamesStand, IsKept, is_dir_body, is_dir_on_disk}
@@ -31,7 +36,8 @@ use Rattle.mount_state.specs.Led.{led_to}
 use Rattle.mount_state.specs.Handles.{Handles}
 use Rattle.mount_state.specs.SameBut.{SameBut, CachedNames}
 use Rattle.mount_state.specs.SameButCaches.{StaysFor}
-use Rattle.mount_state.specs.StandsFor.{TreeStands, KeysStand, HandlesStand, CachesStand}
+use Rattle.mount_state.specs.StandsFor.{TreeStands, KeysStand, HandlesStand}
+use Rattle.mount_state.specs.CachedKeys.{CachesStand}
 use Rattle.mount_state.specs.declared.state.MountState.{MountState}
 use Rattle.mount_state.specs.Stored.{stored_node}
 use Rattle.mount_state.proofs.LedLemmas.{value_found}

@@ -4,12 +4,15 @@ use Rattle.policy_ctx.specs.declared.policy.Context.{Context}
 use Rattle.policy_ctx.specs.Context.{context_bytes}
 use Rattle.number_map.specs.Numbered.{get}
 use Rattle.disk_tree.specs.DiskTree.{Disk}
-use Rattle.plain_tree.specs.Nodes.{Node, context_at}
-use Rattle.plain_tree.specs.Nodes.{context_in as plain_context}
+use Rattle.plain_tree.specs.Nodes.{Node}
+use Rattle.plain_tree.specs.NodesByNumber.{context_at}
+use Rattle.plain_tree.specs.NodesByNumber.{context_in as plain_context}
 use Rattle.mount_model.specs.PlainMount.{PlainMount}
-use Rattle.mount_model.specs.WellFormed.{IsWellFormed, HasRaw}
+use Rattle.mount_model.specs.WellFormed.{IsWellFormed}
+use Rattle.mount_model.specs.SoundNodes.{HasRaw}
 use Rattle.mount_state.specs.Contexts as disk
-use Rattle.mount_state.specs.Contexts.{has_own, has_shared, same_kind, uses_own, uses_mode}
+use Rattle.mount_state.specs.Contexts.{has_own, has_shared, uses_own, uses_mode}
+use Rattle.mount_state.specs.StoredKinds.{same_kind}
 use Rattle.mount_state.specs.StandsFor.{TreeStands}
 use Rattle.mount_state.proofs.StandLemmas.{context_is}
 

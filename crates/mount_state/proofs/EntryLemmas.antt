@@ -6,12 +6,14 @@ use Rattle.name_crypt.specs.Plain.{IsPlain}
 use Rattle.number_map.specs.Numbered.{get}
 use Rattle.disk_tree.specs.DiskTree as disk_tree
 use Rattle.disk_tree.specs.DiskTree.{Disk}
-use Rattle.plain_tree.specs.Nodes.{Name, Body, Dir, File, Link, Node, Children, children, children_in, context_in, context_at, entry}
+use Rattle.plain_tree.specs.Nodes.{Name, Body, Dir, File, Link, Node, Children}
+use Rattle.plain_tree.specs.NodesByNumber.{children, children_in, context_in, context_at, entry}
 use Rattle.plain_tree.specs.Stored.{stored_children, IsNameOf}
 use Rattle.plain_tree.proofs.ChildLemmas.{same_name}
 use Rattle.plain_tree.proofs.StoredLemmas.{searches_agree}
 use Rattle.mount_model.specs.PlainMount.{PlainMount}
-use Rattle.mount_model.specs.WellFormed.{IsWellFormed, IsName}
+use Rattle.mount_model.specs.WellFormed.{IsWellFormed}
+use Rattle.mount_model.specs.SoundNodes.{IsName}
 use Rattle.mount_model.specs.Sealed.{texts}
 use Rattle.mount_model.specs.States.{is_keyed, shown_under, shown}
 use Rattle.mount_model.specs.Walk.{found}

@@ -16,8 +16,9 @@ use Rattle.number_map.proofs.NumberedLemmas.{insert_here, insert_other}
 use Rattle.key_counts.proofs.CountLemmas.{tied}
 use Rattle.key_counts.proofs.ShownLemmas.{get-shown, shown-inserted}
 use Rattle.mount_model.specs.declared.handle.Handle.{Handle}
-use Rattle.mount_model.specs.PlainMount.{HandleList, is_handle, node_of, without_handle, opens_of}
-use Rattle.mount_model.specs.WellFormed.{is_live}
+use Rattle.mount_model.specs.PlainMount.{HandleList}
+use Rattle.mount_model.specs.OpenHandles.{is_handle, node_of, without_handle, opens_of}
+use Rattle.mount_model.specs.SoundHandles.{is_live}
 use Rattle.mount_model.specs.declared.limits.TheConstants.{MOST_HANDLES, MOST_OPENS}
 use Rattle.mount_state.specs.KeptHandles.{pair_cmp, opened_in, IsIndexed}
 use Rattle.mount_state.proofs.LossLemmas.{single_put, fewer_left}

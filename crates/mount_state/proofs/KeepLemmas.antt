@@ -13,7 +13,8 @@ use Rattle.fsc_keys.specs.declared.file_keys.FileKey.{FileKey}
 use Rattle.fsc_keys.specs.Keys.{mode_key_of, file_key_of}
 use Rattle.number_map.specs.Numbered.{get, insert}
 use Rattle.number_map.proofs.NumberedLemmas.{insert_here, insert_other}
-use Rattle.user_claims.specs.Claims.{ClaimSet, is_present}
+use Rattle.user_claims.specs.Claims.{ClaimSet}
+use Rattle.user_claims.specs.ClaimCounts.{is_present}
 use Rattle.key_ring.specs.Modes.{Modes}
 use Rattle.inode_refs.specs.Cached.{Cache, key_at}
 use Rattle.inode_refs.specs.declared.node_key.NodeKey.{NodeKey}
@@ -23,15 +24,19 @@ use Rattle.disk_tree.specs.declared.node.StoredNode.{StoredNode}
 use Rattle.disk_tree.specs.declared.node.Body.{Body}
 use Rattle.disk_tree.specs.declared.node.Body.TheVariants.{Dir, File, Link}
 use Rattle.plain_tree.specs.Nodes as plain
-use Rattle.plain_tree.specs.Nodes.{Node, context_at}
-use Rattle.mount_model.specs.PlainMount.{PlainMount, Raws, HandleList, raw_in, has_handle}
+use Rattle.plain_tree.specs.Nodes.{Node}
+use Rattle.plain_tree.specs.NodesByNumber.{context_at}
+use Rattle.mount_model.specs.PlainMount.{PlainMount, Raws, HandleList, raw_in}
+use Rattle.mount_model.specs.OpenHandles.{has_handle}
 use Rattle.mount_model.specs.Sealed.{raw_for, node_key}
 use Rattle.mount_state.specs.Contexts as disk
-use Rattle.mount_state.specs.Contexts.{has_own, uses_own, is_of_kind}
+use Rattle.mount_state.specs.Contexts.{has_own, uses_own}
+use Rattle.mount_state.specs.StoredKinds.{disk_kind_of, kind_on_disk, is_of_kind}
 use Rattle.mount_state.specs.Discipline.{Forgets}
 use Rattle.mount_model.specs.WellFormed.{IsWellFormed}
 use Rattle.mount_state.specs.Stored.{stored_node}
-use Rattle.mount_state.specs.StandsFor.{TreeStands, CachesStand, plain_kind}
+use Rattle.mount_state.specs.StandsFor.{TreeStands}
+use Rattle.mount_state.specs.CachedKeys.{CachesStand, plain_kind}
 use Rattle.mount_state.proofs.StandLemmas.{context_is}
 use Rattle.mount_state.proofs.ContextLemmas.{id_sized}
 
@@ -63,12 +68,12 @@ module _ (cache : Cache) (node : ℕ) (id : KeyId) (key : FileKey) where
   ]
 
   pub kept_rule : (on_disk : Disk) (claims : ClaimSet) (modes : Modes) (live : HandleList) → Forgets on_disk claims cache modes live
-      → uses_own on_disk node id ≡ true → is_of_kind (disk.kind_on_disk (get on_disk node)) key ≡ true → is_present claims id ≡ true
+      → uses_own on_disk node id ≡ true → is_of_kind (kind_on_disk (get on_disk node)) key ≡ true → is_present claims id ≡ true
       → Forgets on_disk claims (with_key cache node id key) modes live
   kept_rule on_disk claims modes live rule own kind present = record {
     file_keys = record {
       named = each_cached (λ n k. uses_own on_disk n k.id ≡ true) rule.file_keys.named own;
-      kind = each_cached (λ n k. is_of_kind (disk.kind_on_disk (get on_disk n)) k.key ≡ true) rule.file_keys.kind kind;
+      kind = each_cached (λ n k. is_of_kind (kind_on_disk (get on_disk n)) k.key ≡ true) rule.file_keys.kind kind;
       kept = λ n other uses held. still_cached n (rule.file_keys.kept n other uses held);
       forgotten = each_cached (λ n k. (is_present claims k.id || has_handle live n) ≡ true) rule.file_keys.forgotten
           (ap (λ b. b || has_handle live node) present);
@@ -98,25 +103,25 @@ pub own_there : (on_disk : Disk) (node : ℕ) (c : Context) → disk.context_on_
     → c.policy.by_mode ≡ false → uses_own on_disk node c.policy.id ≡ true
 own_there on_disk node c there size own = ap (has_own c.policy.id) there ∙ own_of c size own
 
-pub dir_kind : (o : Option StoredNode) → of_node ⊥ (λ node. IsDir node.body) o → disk.kind_on_disk o ≡ Names
+pub dir_kind : (o : Option StoredNode) → of_node ⊥ (λ node. IsDir node.body) o → kind_on_disk o ≡ Names
 dir_kind None bad = absurd bad
 dir_kind (Some v) is = of_body v.body is
   where
-    of_body : (body : Body) → IsDir body → disk.disk_kind_of body ≡ Names
+    of_body : (body : Body) → IsDir body → disk_kind_of body ≡ Names
     of_body (Dir entries) is = refl
     of_body (File blocks size) is = absurd is
     of_body (Link target) is = refl
 
-pub names_kind : (on_disk : Disk) (node : ℕ) → IsDirAt on_disk node → (raw nonce : List ℕ) → is_of_kind (disk.kind_on_disk (get on_disk node)) (file_key_of raw Names nonce) ≡ true
+pub names_kind : (on_disk : Disk) (node : ℕ) → IsDirAt on_disk node → (raw nonce : List ℕ) → is_of_kind (kind_on_disk (get on_disk node)) (file_key_of raw Names nonce) ≡ true
 names_kind on_disk node dir raw nonce = ap (λ kind. is_of_kind kind (file_key_of raw Names nonce)) (dir_kind (get on_disk node) dir)
 
 -- ---- it is the key of the mount's node
 
-same_kind_in : (raws : Raws) (node : ℕ) (o : Option Node) → disk.kind_on_disk (option_map (stored_node raws node) o) ≡ plain_kind o
+same_kind_in : (raws : Raws) (node : ℕ) (o : Option Node) → kind_on_disk (option_map (stored_node raws node) o) ≡ plain_kind o
 same_kind_in raws node None = refl
 same_kind_in raws node (Some v) = of_body v.body
   where
-    of_body : (body : plain.Body) → disk.kind_on_disk (Some (stored_node raws node (record v { body = body }))) ≡ plain_kind (Some (record v { body = body }))
+    of_body : (body : plain.Body) → kind_on_disk (Some (stored_node raws node (record v { body = body }))) ≡ plain_kind (Some (record v { body = body }))
     of_body (plain.Dir entries) = refl
     of_body (plain.File contents) = refl
     of_body (plain.Link target) = refl
@@ -137,7 +142,7 @@ pub fresh_key : (on_disk : Disk) (next : ℕ) (m : PlainMount) → IsWellFormed 
 fresh_key on_disk next m well tree node context there sized own dir secret added d under =
     let bytes : context_bytes context ≡ context_bytes d = same_bytes _ _ (sym there ∙ context_is on_disk next m well tree node ∙ ap (option_map context_bytes) under) in
     let same : context ≡ d = same_context context d sized (id_sized on_disk next m well tree node (get m.nodes node) refl d under) bytes in
-    let kind : Names ≡ plain_kind (get m.nodes node) = sym (dir_kind (get on_disk node) dir) ∙ ap disk.kind_on_disk (tree.nodes node) ∙ same_kind_in m.raws node (get m.nodes node) in
+    let kind : Names ≡ plain_kind (get m.nodes node) = sym (dir_kind (get on_disk node) dir) ∙ ap kind_on_disk (tree.nodes node) ∙ same_kind_in m.raws node (get m.nodes node) in
     ap (λ (raw : List ℕ). file_key_of raw Names context.nonce) (sym (ap (λ (o : Option (List ℕ)). unwrap_or o []) added))
     ∙ sym (ap (λ b. cond b (mode_key_of (raw_for m.raws context) Names) (file_key_of (raw_for m.raws context) Names context.nonce)) own)
     ∙ ap (λ (c : Context). node_key m.raws c Names) same

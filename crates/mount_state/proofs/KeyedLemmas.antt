@@ -19,31 +19,35 @@ use Rattle.number_map.specs.Numbered.{get}
 use Rattle.name_crypt.specs.Plain.{IsPlain}
 use Rattle.name_crypt.specs.Laws.{NamesStayDistinct}
 use Rattle.name_crypt.specs.StoredName.{stored_name}
-use Rattle.user_claims.specs.Claims.{is_present}
+use Rattle.user_claims.specs.ClaimCounts.{is_present}
 use Rattle.key_ring.specs.Holding.{Holding, secret_of, HoldsClaimedSecrets}
-use Rattle.key_ring.specs.Modes.{Modes, mode_at, users_in}
+use Rattle.key_ring.specs.Modes.{Modes, mode_at}
+use Rattle.key_ring.specs.ModeUsers.{users_in}
 use Rattle.key_ring.specs.declared.mode_key.ModeKey.{ModeKey}
 use Rattle.inode_refs.specs.Cached.{Cache, key_at}
 use Rattle.inode_refs.specs.Ciphers.{names_in}
 use Rattle.inode_refs.specs.declared.node_key.NodeKey.{NodeKey}
-use Rattle.plain_tree.specs.Nodes.{Name, Node, Body, Dir, File, Link, is_dir_in, is_dir_at, children, context_at}
-use Rattle.disk_tree.specs.DiskTree.{Disk, entries_in}
+use Rattle.plain_tree.specs.Nodes.{Name, Node, Body, Dir, File, Link}
+use Rattle.plain_tree.specs.NodesByNumber.{is_dir_in, is_dir_at, children, context_at}
+use Rattle.disk_tree.specs.DiskTree.{Disk, entries_in, children as stored_entries}
 use Rattle.disk_tree.specs.declared.node.StoredNode.{StoredNode}
 use Rattle.disk_tree.specs.Entries.{number_under}
-use Rattle.disk_tree.specs.DiskTree.{children as stored_entries}
-use Rattle.mount_model.specs.PlainMount.{PlainMount, HandleList, has_handle}
+use Rattle.mount_model.specs.PlainMount.{PlainMount, HandleList}
+use Rattle.mount_model.specs.OpenHandles.{has_handle}
 use Rattle.mount_model.specs.Sealed.{raw_for, node_key, node_start, sealed_name, texts}
 use Rattle.mount_model.specs.States.{is_keyed, is_keyed_under, shown, shown_under}
 use Rattle.mount_model.specs.WellFormed.{IsWellFormed}
-use Rattle.mount_state.specs.Contexts.{context_on_disk, has_own, has_shared, uses_own, uses_mode, is_of_kind, same_kind}
-use Rattle.mount_state.specs.Contexts.{kind_on_disk as stored_kind}
+use Rattle.mount_state.specs.Contexts.{context_on_disk, has_own, has_shared, uses_own, uses_mode}
+use Rattle.mount_state.specs.StoredKinds.{is_of_kind, same_kind}
+use Rattle.mount_state.specs.StoredKinds.{kind_on_disk as stored_kind}
 use Rattle.mount_state.specs.Discipline.{Forgets}
 use Rattle.mount_state.specs.Led.{led_to}
 use Rattle.mount_state.specs.NamesKey.{cached_key, drawn_key, key_from}
 use Rattle.mount_state.specs.NamesCipher.{own_names_key, used_mode_key, other_key, IsCipherUnder, LeadsByOther}
 use Rattle.mount_state.specs.NamesCipher.{led_under as led_by_cipher}
 use Rattle.mount_state.specs.Stored.{stored_node, stored_form}
-use Rattle.mount_state.specs.StandsFor.{TreeStands, KeysStand, CachesStand, plain_kind}
+use Rattle.mount_state.specs.StandsFor.{TreeStands, KeysStand}
+use Rattle.mount_state.specs.CachedKeys.{CachesStand, plain_kind}
 use Rattle.mount_state.proofs.LedLemmas.{decided, led_by, name_of_entry}
 use Rattle.mount_state.proofs.StandLemmas.{context_is, id_sized}
 use Rattle.mount_state.proofs.UserLemmas.{some_from, users_from}

@@ -10,7 +10,8 @@ use Rattle.name_crypt.specs.Laws.{StoredNamesFit}
 use Rattle.name_crypt.specs.NoKeyText.{nokey_text_of}
 use Rattle.fsc_keys.specs.Keys.{key_bytes}
 use Rattle.fsc_keys.specs.declared.file_keys.KeyKind.TheVariants.{Names}
-use Rattle.plain_tree.specs.Nodes.{Name, Children, Node, Body, Dir, File, Link, children_of, children_in, context_in, children, context_at}
+use Rattle.plain_tree.specs.Nodes.{Name, Children, Node, Body, Dir, File, Link, children_of}
+use Rattle.plain_tree.specs.NodesByNumber.{children_in, context_in, children, context_at}
 use Rattle.plain_tree.specs.Stored.{stored_children, IsNameOf}
 use Rattle.plain_tree.proofs.StoredLemmas.{searches_agree}
 use Rattle.disk_tree.specs.DiskTree.{Disk, entries_in}
@@ -18,7 +19,8 @@ use Rattle.disk_tree.specs.DiskTree.{children as stored_entries}
 use Rattle.mount_model.specs.PlainMount.{PlainMount, Raws}
 use Rattle.mount_model.specs.Sealed.{node_key, node_start, sealed_name, texts}
 use Rattle.mount_model.specs.States.{is_keyed, is_keyed_under, shown, shown_under}
-use Rattle.mount_model.specs.WellFormed.{IsName, IsWellFormed}
+use Rattle.mount_model.specs.WellFormed.{IsWellFormed}
+use Rattle.mount_model.specs.SoundNodes.{IsName}
 use Rattle.mount_state.specs.Led.{led_to, is_stored, is_text_of}
 use Rattle.mount_state.specs.Stored.{stored_form, stored_node}
 use Rattle.mount_state.specs.StandsFor.{TreeStands}

@@ -4,7 +4,8 @@ use Rattle.std.specs.List.{count_by, find, filter, list_any}
 use Rattle.std.proofs.lemmas.Bool.{cases_Bool, or_parts}
 use Rattle.std.proofs.lemmas.List.Sums.{sum_by-cons, sum_by_push}
 use Rattle.mount_model.specs.declared.handle.Handle.{Handle}
-use Rattle.mount_model.specs.PlainMount.{HandleList, is_handle, node_of, without_handle}
+use Rattle.mount_model.specs.PlainMount.{HandleList}
+use Rattle.mount_model.specs.OpenHandles.{is_handle, node_of, without_handle}
 use Rattle.mount_state.specs.Handles.{users, LosesOne}
 
 abbrev counts : (Handle → Bool) → Handle → ℕ

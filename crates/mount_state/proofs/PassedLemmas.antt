@@ -5,7 +5,8 @@ use Rattle.std.proofs.Math.Numerals.{add-one}
 use Rattle.plain_tree.specs.Nodes.{Name}
 use Rattle.mount_model.specs.declared.reply.Refusal.{Refusal}
 use Rattle.mount_model.specs.PlainMount.{PlainMount}
-use Rattle.mount_model.specs.Walk.{PathParts, Walked, stepped, passed_from, passed_on}
+use Rattle.mount_model.specs.Walk.{PathParts, Walked, stepped}
+use Rattle.mount_model.specs.EntryPaths.{passed_from, passed_on}
 use Rattle.mount_state.specs.Passed.{passes, with_past}
 use Rattle.mount_state.proofs.WalkLemmas.{at_part}
 

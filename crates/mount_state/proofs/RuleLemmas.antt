@@ -9,19 +9,22 @@ use Rattle.policy_ctx.proofs.KeyIdLemmas.{same_id-refl, same_id-eq}
 use Rattle.fsc_keys.specs.declared.file_keys.KeyKind.{KeyKind}
 use Rattle.fsc_keys.specs.declared.file_keys.KeyKind.TheVariants.{Contents, Names}
 use Rattle.number_map.specs.Numbered.{get}
-use Rattle.user_claims.specs.Claims.{is_present}
+use Rattle.user_claims.specs.ClaimCounts.{is_present}
 use Rattle.key_ring.specs.Holding.{Holding, secret_of}
-use Rattle.key_ring.specs.Modes.{Modes, of_kind, mode_at, users_in, users_of, AreUsed, IsUsed}
+use Rattle.key_ring.specs.Modes.{Modes, of_kind, mode_at}
+use Rattle.key_ring.specs.ModeUsers.{users_in, users_of, AreUsed, IsUsed}
 use Rattle.key_ring.specs.declared.mode_key.ModeKey.{ModeKey}
-use Rattle.inode_refs.specs.Cached.{Cache, key_at, pins_of, is_unpinned}
-use Rattle.inode_refs.specs.Cached.{users_of as inode_users}
+use Rattle.inode_refs.specs.Cached.{Cache, key_at, pins_of}
+use Rattle.inode_refs.specs.Evictions.{is_unpinned, users_of as inode_users}
 use Rattle.inode_refs.specs.declared.node_key.NodeKey.{NodeKey}
 use Rattle.inode_refs.proofs.UserLemmas.{one_user}
 use Rattle.inode_refs.proofs.UserLemmas.{some_user as cached_user}
 use Rattle.dentry_cache.specs.Names.{NameList}
 use Rattle.disk_tree.specs.DiskTree.{Disk}
-use Rattle.mount_model.specs.PlainMount.{HandleList, has_handle}
-use Rattle.mount_state.specs.Contexts.{context_on_disk, kind_on_disk, names_id, has_own, has_shared, same_kind, names_key_on_disk, uses_own, uses_mode}
+use Rattle.mount_model.specs.PlainMount.{HandleList}
+use Rattle.mount_model.specs.OpenHandles.{has_handle}
+use Rattle.mount_state.specs.Contexts.{context_on_disk, names_id, has_own, has_shared, names_key_on_disk, uses_own, uses_mode}
+use Rattle.mount_state.specs.StoredKinds.{kind_on_disk, same_kind}
 use Rattle.mount_state.specs.CachedNames.{NamesForget}
 use Rattle.mount_state.specs.Discipline.{Forgets}
 use Rattle.mount_state.specs.Held.{HoldsNothing, is_in_use, is_unlocked, is_unlocked_under}

@@ -6,13 +6,17 @@ use Rattle.policy_ctx.specs.KeyIds.{same_id}
 use Rattle.policy_ctx.specs.Context.{id_in, context_bytes}
 use Rattle.policy_ctx.proofs.Encodings.{id_in-context_bytes}
 use Rattle.number_map.specs.Numbered.{get}
-use Rattle.user_claims.specs.Claims.{ClaimSet, is_present}
-use Rattle.plain_tree.specs.Nodes.{Node, context_at}
-use Rattle.plain_tree.specs.Nodes.{context_in as plain_context}
+use Rattle.user_claims.specs.Claims.{ClaimSet}
+use Rattle.user_claims.specs.ClaimCounts.{is_present}
+use Rattle.plain_tree.specs.Nodes.{Node}
+use Rattle.plain_tree.specs.NodesByNumber.{context_at}
+use Rattle.plain_tree.specs.NodesByNumber.{context_in as plain_context}
 use Rattle.disk_tree.specs.DiskTree.{Disk}
-use Rattle.mount_model.specs.PlainMount.{PlainMount, Raws, HandleList, has_handle}
+use Rattle.mount_model.specs.PlainMount.{PlainMount, Raws, HandleList}
+use Rattle.mount_model.specs.OpenHandles.{has_handle}
 use Rattle.mount_model.specs.States as plain
-use Rattle.mount_model.specs.WellFormed.{IsWellFormed, HasRaw}
+use Rattle.mount_model.specs.WellFormed.{IsWellFormed}
+use Rattle.mount_model.specs.SoundNodes.{HasRaw}
 use Rattle.mount_state.specs.Contexts.{context_on_disk, names_id, names_key_on_disk}
 use Rattle.mount_state.specs.Held.{is_in_use, is_unlocked, is_unlocked_under}
 use Rattle.mount_state.specs.Stored.{stored_node}

@@ -11,7 +11,8 @@ use Rattle.mount_model.specs.PlainMount.{PlainMount}
 use Rattle.mount_state.specs.declared.state.MountState.{MountState}
 use Rattle.mount_state.specs.SameBut.{IsSame}
 use Rattle.mount_state.specs.SameButCaches.{SameButCaches}
-use Rattle.mount_model.specs.Walk.{PathParts, Walked, looked_in, stepped, walked_on, walked_from, walked, parent, parent_parts, last_part}
+use Rattle.mount_model.specs.Walk.{PathParts, Walked, looked_in, stepped, walked_on, walked_from, walked}
+use Rattle.mount_model.specs.EntryPaths.{parent, parent_parts, last_part}
 
 same_part : (a b : Name) → Some a ≡ Some b → a ≡ b
 same_part a b is = cc

@@ -2,8 +2,10 @@
 use Rattle.std.specs.Prelude.{◌≡◌, ℕ, Bool, true, false, Option, Some, None, IsSome, Contains, ◌⊎◌}
 use Rattle.number_map.specs.Numbered.{get}
 use Rattle.user_claims.specs.Claims.{ClaimSet}
-use Rattle.dentry_cache.specs.Names.{Pair, NameList, cached, one_more}
-use Rattle.plain_tree.specs.Nodes.{Name, Nodes, entry}
+use Rattle.dentry_cache.specs.Names.{Pair, NameList, cached}
+use Rattle.dentry_cache.specs.NameChanges.{one_more}
+use Rattle.plain_tree.specs.Nodes.{Name, Nodes}
+use Rattle.plain_tree.specs.NodesByNumber.{entry}
 use Rattle.disk_tree.specs.DiskTree.{Disk}
 use Rattle.disk_tree.specs.declared.node.StoredNode.{StoredNode}
 use Rattle.disk_tree.specs.declared.node.Body.{Body}

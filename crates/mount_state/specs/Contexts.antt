@@ -1,17 +1,13 @@
 -- What the contexts that lie on the disk name: a master key, and whether a node has a key of its own.
-use Rattle.std.specs.Prelude.{ℕ, Bool, true, false, List, Option, Some, None, not, ◌&&◌}
+use Rattle.std.specs.Prelude.{ℕ, Bool, false, List, Option, Some, None, not, ◌&&◌}
 use Rattle.policy_ctx.specs.declared.policy.KeyId.{KeyId}
 use Rattle.policy_ctx.specs.KeyIds.{same_id}
 use Rattle.policy_ctx.specs.Context.{id_in, is_by_mode_in}
 use Rattle.fsc_keys.specs.declared.file_keys.KeyKind.{KeyKind}
-use Rattle.fsc_keys.specs.declared.file_keys.KeyKind.TheVariants.{Contents, Names}
-use Rattle.fsc_keys.specs.declared.file_keys.FileKey.{FileKey}
-use Rattle.fsc_keys.specs.declared.file_keys.FileKey.TheVariants as key
 use Rattle.number_map.specs.Numbered.{get}
 use Rattle.disk_tree.specs.DiskTree.{Disk}
 use Rattle.disk_tree.specs.declared.node.StoredNode.{StoredNode}
-use Rattle.disk_tree.specs.declared.node.Body.{Body}
-use Rattle.disk_tree.specs.declared.node.Body.TheVariants.{Dir, File, Link}
+use Rattle.mount_state.specs.StoredKinds.{kind_on_disk, same_kind}
 
 -- the bytes of the node's context; none where there is no node
 abbrev pub context_on_disk : Option StoredNode → Option (List ℕ)
@@ -30,32 +26,6 @@ has_own id (Some context) = same_id (id_in context) id && not (is_by_mode_in con
 abbrev pub has_shared : KeyId → Option (List ℕ) → Bool
 has_shared id None = false
 has_shared id (Some context) = same_id (id_in context) id && is_by_mode_in context
-
--- ---- kinds
-
--- the contents of a file are enciphered, of a directory its names, of a symlink its target as a name
-abbrev pub disk_kind_of : Body → KeyKind
-disk_kind_of (Dir entries) = Names
-disk_kind_of (File blocks size) = Contents
-disk_kind_of (Link target) = Names
-
-abbrev pub kind_on_disk : Option StoredNode → KeyKind
-kind_on_disk None = Names
-kind_on_disk (Some v) = disk_kind_of v.body
-
-abbrev pub is_of_kind : KeyKind → FileKey → Bool
-is_of_kind Contents (key.Contents bytes) = true
-is_of_kind Contents (key.Names bytes) = false
-is_of_kind Names (key.Contents bytes) = false
-is_of_kind Names (key.Names bytes) = true
-
-abbrev pub same_kind : KeyKind → KeyKind → Bool
-same_kind Contents Contents = true
-same_kind Contents Names = false
-same_kind Names Contents = false
-same_kind Names Names = true
-
--- ---- nodes by number
 
 -- the node's context names the key
 abbrev pub names_key_on_disk : Disk → ℕ → KeyId → Bool

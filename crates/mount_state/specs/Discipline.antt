@@ -5,16 +5,20 @@ use Rattle.std.specs.Prelude.{◌≡◌, ℕ, ◌≤◌, true, length, Some, is_
 use Rattle.policy_ctx.specs.declared.policy.KeyId.{KeyId}
 use Rattle.fsc_keys.specs.declared.file_keys.KeyKind.{KeyKind}
 use Rattle.number_map.specs.Numbered.{get}
-use Rattle.user_claims.specs.Claims.{ClaimSet, is_present}
-use Rattle.key_ring.specs.Modes.{Modes, of_kind, mode_at, users_in}
+use Rattle.user_claims.specs.Claims.{ClaimSet}
+use Rattle.user_claims.specs.ClaimCounts.{is_present}
+use Rattle.key_ring.specs.Modes.{Modes, of_kind, mode_at}
+use Rattle.key_ring.specs.ModeUsers.{users_in}
 use Rattle.key_ring.specs.declared.mode_key.ModeKey.{ModeKey}
 use Rattle.inode_refs.specs.Cached.{Cache, key_at, pins_of}
 use Rattle.inode_refs.specs.declared.node_key.NodeKey.{NodeKey}
 use Rattle.disk_tree.specs.DiskTree.{Disk}
-use Rattle.mount_model.specs.PlainMount.{HandleList, has_handle}
+use Rattle.mount_model.specs.PlainMount.{HandleList}
+use Rattle.mount_model.specs.OpenHandles.{has_handle}
 use Rattle.mount_model.specs.declared.limits.TheConstants.{MOST_HANDLES}
 use Rattle.mount_state.specs.Handles.{handles_on, users}
-use Rattle.mount_state.specs.Contexts.{uses_own, uses_mode, kind_on_disk, is_of_kind}
+use Rattle.mount_state.specs.Contexts.{uses_own, uses_mode}
+use Rattle.mount_state.specs.StoredKinds.{kind_on_disk, is_of_kind}
 
 -- ---- file keys
 

@@ -3,7 +3,8 @@ use Rattle.std.specs.Prelude.{◌≡◌, ℕ, ◌+◌, Bool, [], ◌∷◌, ◌+
 use Rattle.std.specs.List.{count_by}
 use Rattle.std.specs.FinMap as map
 use Rattle.number_map.specs.Numbered.{Numbered, insert}
-use Rattle.mount_model.specs.PlainMount.{HandleList, opens_of, without_handle}
+use Rattle.mount_model.specs.PlainMount.{HandleList}
+use Rattle.mount_model.specs.OpenHandles.{opens_of, without_handle}
 use Rattle.mount_model.specs.declared.limits.TheConstants.{MOST_HANDLES, MOST_OPENS}
 
 pub record Handles : Type 0 where

@@ -5,7 +5,8 @@ use Rattle.policy_ctx.specs.declared.policy.KeyId.{KeyId}
 use Rattle.policy_ctx.specs.KeyIds.{same_id}
 use Rattle.fsc_keys.specs.declared.file_keys.KeyKind.{KeyKind}
 use Rattle.number_map.specs.Numbered.{get}
-use Rattle.user_claims.specs.Claims.{ClaimSet, is_present}
+use Rattle.user_claims.specs.Claims.{ClaimSet}
+use Rattle.user_claims.specs.ClaimCounts.{is_present}
 use Rattle.key_ring.specs.Holding.{Holding, secret_of}
 use Rattle.key_ring.specs.Modes.{Modes, mode_at}
 use Rattle.inode_refs.specs.Cached.{Cache, key_at}
@@ -13,7 +14,8 @@ use Rattle.inode_refs.specs.declared.node_key.NodeKey.{NodeKey}
 use Rattle.dentry_cache.specs.Names.{Pair, NameList}
 use Rattle.policy_ctx.specs.Context.{id_in}
 use Rattle.disk_tree.specs.DiskTree.{Disk}
-use Rattle.mount_model.specs.PlainMount.{HandleList, has_handle}
+use Rattle.mount_model.specs.PlainMount.{HandleList}
+use Rattle.mount_model.specs.OpenHandles.{has_handle}
 use Rattle.mount_model.specs.declared.reply.KeyState.{KeyState}
 use Rattle.mount_model.specs.States.{key_state_by}
 use Rattle.mount_state.specs.Contexts.{names_key_on_disk, context_on_disk}

@@ -6,8 +6,9 @@ use Rattle.std.specs.Ordering.{nat_cmp, ordering_then}
 use Rattle.std.specs.BTreeMap.{BTreeMap, get}
 use Rattle.number_map.specs.Numbered.{Numbered}
 use Rattle.key_counts.specs.Shown.{shown}
-use Rattle.mount_model.specs.PlainMount.{HandleList, is_handle, node_of, opens_of}
-use Rattle.mount_model.specs.WellFormed.{is_live}
+use Rattle.mount_model.specs.PlainMount.{HandleList}
+use Rattle.mount_model.specs.OpenHandles.{is_handle, node_of, opens_of}
+use Rattle.mount_model.specs.SoundHandles.{is_live}
 
 -- the order of the index: by caller, and then by number
 abbrev pub pair_cmp : ℕ × ℕ → ℕ × ℕ → Ordering

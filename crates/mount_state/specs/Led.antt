@@ -4,7 +4,8 @@ use Rattle.std.specs.Str.{bytes_eq}
 use Rattle.policy_ctx.specs.declared.policy.Context.{Context}
 use Rattle.name_crypt.specs.NoKeyText.{nokey_text_of, shown_bytes}
 use Rattle.name_crypt.specs.declared.limits.TheConstants.{LEAST_STORED_BYTES, MOST_NAME_BYTES}
-use Rattle.plain_tree.specs.Nodes.{Name, context_at, is_dir_at}
+use Rattle.plain_tree.specs.Nodes.{Name}
+use Rattle.plain_tree.specs.NodesByNumber.{context_at, is_dir_at}
 use Rattle.mount_model.specs.PlainMount.{PlainMount}
 use Rattle.mount_model.specs.States.{is_keyed}
 use Rattle.mount_model.specs.Walk.{found}

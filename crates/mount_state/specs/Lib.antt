@@ -1,11 +1,13 @@
 pub mod Handles
 pub mod KeptHandles
+pub mod StoredKinds
 pub mod Contexts
 pub mod Discipline
 pub mod Held
 pub mod CachedNames
 pub mod Safe
 pub mod Stored
+pub mod CachedKeys
 pub mod StandsFor
 pub mod Led
 pub mod NamesKey

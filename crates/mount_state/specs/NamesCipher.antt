@@ -16,7 +16,7 @@ use Rattle.disk_tree.specs.Nodes.{entries_of}
 use Rattle.disk_tree.specs.declared.node.Body.{Body}
 use Rattle.name_crypt.specs.StoredName.{stored_name}
 use Rattle.mount_model.specs.Sealed.{node_start}
-use Rattle.mount_state.specs.Contexts.{is_of_kind}
+use Rattle.mount_state.specs.StoredKinds.{is_of_kind}
 use Rattle.mount_state.specs.NamesKey.{drawn_key}
 
 -- the key of names that is cached for the node itself; none under flag 8

@@ -3,7 +3,8 @@ use Rattle.std.specs.Prelude.{ℕ, Bool, Result, Ok, Err, ◌==◌}
 use Rattle.std.specs.List.{list_any}
 use Rattle.mount_model.specs.declared.reply.Refusal.{Refusal}
 use Rattle.mount_model.specs.PlainMount.{PlainMount}
-use Rattle.mount_model.specs.Walk.{PathParts, Walked, passed_from}
+use Rattle.mount_model.specs.Walk.{PathParts, Walked}
+use Rattle.mount_model.specs.EntryPaths.{passed_from}
 
 -- the node is on the walk, or is its first or its last
 abbrev pub passes : PlainMount → ℕ → PathParts → ℕ → Bool

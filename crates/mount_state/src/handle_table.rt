@@ -1,7 +1,7 @@
 //! The open handles of all callers.
 
 ghost use Rattle.std.specs.Prelude.{◌≡◌, IsTrue, IfOk, IfErr, IfSome, OnOk, OnErr, false};
-ghost use Rattle.mount_model.specs.PlainMount.{is_handle, node_of, opens_of};
+ghost use Rattle.mount_model.specs.OpenHandles.{is_handle, node_of, opens_of};
 ghost use Rattle.mount_state.specs.Handles.{no_handles, with_handle, without, is_full, LosesOne};
 
 use super::HandleFault;

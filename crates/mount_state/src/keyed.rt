@@ -11,7 +11,7 @@ ghost use Rattle.name_crypt.specs.Plain.{IsPlain};
 ghost use Rattle.name_crypt.specs.StoredName.{stored_name};
 ghost use Rattle.number_map.specs.Numbered as map;
 ghost use Rattle.mount_model.specs.Sealed.{node_start};
-ghost use Rattle.mount_state.specs.Contexts.{is_of_kind};
+ghost use Rattle.mount_state.specs.StoredKinds.{is_of_kind};
 ghost use Rattle.mount_state.specs.NamesCipher.{IsCipherUnder, LeadsByOther, other_key, own_names_key};
 ghost use Rattle.mount_state.specs.NamesCipher.{used_mode_key};
 ghost use Rattle.mount_state.specs.NamesKey.{drawn_key};

@@ -2,7 +2,7 @@
 
 ghost use Rattle.std.specs.Prelude.{◌≡◌, ◌↔◌, false, None, Some, IfOk, is_some};
 ghost use Rattle.number_map.specs.Numbered as map;
-ghost use Rattle.user_claims.specs.Claims.{is_present};
+ghost use Rattle.user_claims.specs.ClaimCounts.{is_present};
 ghost use Rattle.key_ring.specs.Holding.{secret_of};
 ghost use Rattle.key_ring.specs.Modes.{mode_at};
 ghost use Rattle.fsc_keys.specs.declared.file_keys.KeyKind.{KeyKind};

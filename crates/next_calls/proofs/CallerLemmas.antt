@@ -21,7 +21,7 @@ use Rattle.fsc_commands.specs.CommandSteps.{CommandSteps}
 use Rattle.fsc_commands.proofs.StepsLemmas.{entries_of-append, names_in-append, names_in-shown, names_from-shown}
 use Rattle.fsc_session.specs.Session.{IsRunOfSection, IsRunSoFar, steps_from, section_steps, noted, notes_of_section}
 use Rattle.fsc_session.specs.Meaning.{IsBegunBy}
-use Rattle.fsc_session.specs.Running.{runner_view}
+use Rattle.fsc_session.specs.Runners.{runner_view}
 use Rattle.fsc_session.specs.Stopping as stopping
 use Rattle.fsc_session.proofs.RunLemmas.{drop-at, run_goes_on, run_is_whole, notes_are_whole}
 use Rattle.fsc_session.proofs.StopLemmas.{is_begun}
@@ -29,7 +29,8 @@ use Rattle.fsc_session.proofs.LawLemmas.{next_calls}
 use Rattle.next_calls.specs.NextCalls.{IsNext, EndsSo, replies_of, replies_left}
 use Rattle.next_calls.specs.declared.next.Next.{Next}
 use Rattle.next_calls.specs.declared.next.Next.TheVariants as next
-use Rattle.next_calls.specs.Callers.{CallerView, StandsIn, Awaits, caller_view, steps_of, steps_under_way}
+use Rattle.next_calls.specs.Callers.{CallerView, caller_view, steps_of, steps_under_way}
+use Rattle.next_calls.specs.EntriesSoFar.{StandsIn, Awaits}
 
 -- ---- the call that comes next
 

@@ -7,7 +7,8 @@ use Rattle.mount_model.specs.declared.call.Call.{Call}
 use Rattle.mount_model.specs.declared.reply.Reply.{Reply}
 use Rattle.mount_model.specs.History.{History, MountEntry}
 use Rattle.mount_model.specs.Port.{PlacedCalls}
-use Rattle.scripted_port.specs.Scripted.{ScriptedView, ScriptedCame, scripted, after_call, further_behind, kept_behind}
+use Rattle.scripted_port.specs.Scripted.{ScriptedView, ScriptedCame, scripted, after_call}
+use Rattle.scripted_port.specs.FurtherCalls.{further_behind, kept_behind}
 use Rattle.scripted_port.specs.declared.port.Further.{Further}
 use Rattle.scripted_port.specs.declared.port.Further.TheVariants.{Unasked, Asked, Lost}
 use Rattle.reply_text.specs.Shown.{PlacedShown, ShownEntry, shown_calls}

@@ -5,7 +5,8 @@ ghost use Rattle.call_history.specs.Entries.{entry};
 ghost use Rattle.mount_model.specs.declared.call.Call.{Call};
 ghost use Rattle.mount_model.specs.Port.{PlacedCalls};
 ghost use Rattle.fsc_session.specs.Asking.{AsksRightly};
-ghost use Rattle.next_calls.specs.Callers.{Awaits, GoesOn, IsNearer, StandsIn, WaitingFits};
+ghost use Rattle.next_calls.specs.Callers.{IsNearer, WaitingFits};
+ghost use Rattle.next_calls.specs.EntriesSoFar.{Awaits, GoesOn, StandsIn};
 
 use crate::listing::keep_last_listing;
 use crate::next::{Next, discard, next_call};

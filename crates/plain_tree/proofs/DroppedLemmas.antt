@@ -5,7 +5,9 @@ use Rattle.std.specs.List.{IsDistinct}
 use Rattle.std.specs.Map.{lookup, keys_of}
 use Rattle.number_map.specs.Numbered.{get}
 use Rattle.number_map.proofs.NumberedLemmas.{len_changed, changed_here, changed_other}
-use Rattle.plain_tree.specs.Nodes.{Name, Node, Nodes, children_in, context_in, is_named_in, is_dir_in, without_child, children, context_at, is_named, is_dir_at, entry}
+use Rattle.plain_tree.specs.Nodes.{Name, Node, Nodes}
+use Rattle.plain_tree.specs.BodyChanges.{without_child}
+use Rattle.plain_tree.specs.NodesByNumber.{children_in, context_in, is_named_in, is_dir_in, children, context_at, is_named, is_dir_at, entry}
 use Rattle.plain_tree.specs.Changes.{on_children, named_as, name_taken, dropped}
 use Rattle.plain_tree.specs.Tree.{HasNames, IsTree}
 use Rattle.mount_limits.specs.declared.TheConstants.{MOST_NODES, MOST_CHILDREN}

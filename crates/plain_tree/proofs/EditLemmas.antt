@@ -5,7 +5,9 @@ use Rattle.std.specs.List.{IsDistinct}
 use Rattle.std.specs.Map.{lookup, keys_of}
 use Rattle.number_map.specs.Numbered.{get, changed}
 use Rattle.number_map.proofs.NumberedLemmas.{changed_here, changed_other}
-use Rattle.plain_tree.specs.Nodes.{Name, Children, Body, Dir, File, Link, Node, Nodes, children_of, children_in, context_in, is_named_in, is_dir, is_dir_in, with_children, with_child, without_child, children, context_at, is_named, is_dir_at, entry}
+use Rattle.plain_tree.specs.Nodes.{Name, Children, Body, Dir, File, Link, Node, Nodes, children_of, is_dir}
+use Rattle.plain_tree.specs.BodyChanges.{with_children, with_child, without_child}
+use Rattle.plain_tree.specs.NodesByNumber.{children_in, context_in, is_named_in, is_dir_in, children, context_at, is_named, is_dir_at, entry}
 use Rattle.plain_tree.specs.Changes.{on_children, name_put, name_taken}
 use Rattle.plain_tree.specs.Tree.{HasNames}
 use Rattle.plain_tree.proofs.ChildLemmas.{other_name, cases_name, itself, put_found, put_passed, put_distinct, put_length, taken_other, taken_here, taken_distinct, taken_length, taken_one}

@@ -6,7 +6,9 @@ use Rattle.std.specs.Map.{lookup, keys_of}
 use Rattle.policy_ctx.specs.declared.policy.Context.{Context}
 use Rattle.number_map.specs.Numbered.{get, changed}
 use Rattle.number_map.proofs.NumberedLemmas.{len_changed, changed_other}
-use Rattle.plain_tree.specs.Nodes.{Name, Body, Dir, File, Link, Node, Nodes, children_of, children_in, context_in, is_named_in, is_dir, is_dir_in, with_contents, children, context_at, is_named, is_dir_at, entry}
+use Rattle.plain_tree.specs.Nodes.{Name, Body, Dir, File, Link, Node, Nodes, children_of, is_dir}
+use Rattle.plain_tree.specs.BodyChanges.{with_contents}
+use Rattle.plain_tree.specs.NodesByNumber.{children_in, context_in, is_named_in, is_dir_in, children, context_at, is_named, is_dir_at, entry}
 use Rattle.plain_tree.specs.Changes.{on_contents, with_context, written, encrypted}
 use Rattle.plain_tree.specs.Tree.{HasNames, IsTree}
 use Rattle.mount_limits.specs.declared.TheConstants.{MOST_NODES, MOST_CHILDREN}

@@ -4,7 +4,9 @@ use Rattle.std.proofs.lemmas.Bool.{cases_eq}
 use Rattle.policy_ctx.specs.declared.policy.Context.{Context}
 use Rattle.number_map.specs.Numbered.{get, insert, remove, changed}
 use Rattle.number_map.proofs.NumberedLemmas.{insert_here, insert_other, remove_here, remove_other, changed_here, changed_other}
-use Rattle.plain_tree.specs.Nodes.{Name, Children, Node, Nodes, with_child, without_child, children, is_named, entry}
+use Rattle.plain_tree.specs.Nodes.{Name, Children, Node, Nodes}
+use Rattle.plain_tree.specs.BodyChanges.{with_child, without_child}
+use Rattle.plain_tree.specs.NodesByNumber.{children, is_named, entry}
 use Rattle.plain_tree.specs.Changes.{on_children, named_as, on_contents, with_context, name_put, name_taken, made, dropped, gone, moved, written, encrypted}
 use Rattle.plain_tree.specs.Tree.{IsTree}
 use Rattle.plain_tree.specs.Laws.{IsNew, CanBeMade, CanBeMoved}

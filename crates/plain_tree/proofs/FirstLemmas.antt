@@ -8,7 +8,8 @@ use Rattle.std.specs.FinMap as fin
 use Rattle.std.specs.Ordering.{nat_cmp}
 use Rattle.number_map.specs.Numbered.{empty, get, len}
 use Rattle.number_map.proofs.NumberedLemmas.{insert_here, insert_other, len_added}
-use Rattle.plain_tree.specs.Nodes.{Name, Children, Dir, Node, Nodes, children_in, context_in, is_named_in, is_dir_in, children, is_named, entry}
+use Rattle.plain_tree.specs.Nodes.{Name, Children, Dir, Node, Nodes}
+use Rattle.plain_tree.specs.NodesByNumber.{children_in, context_in, is_named_in, is_dir_in, children, is_named, entry}
 use Rattle.plain_tree.specs.Changes.{first_nodes}
 use Rattle.plain_tree.specs.Tree.{IsReached, IsTree}
 use Rattle.plain_tree.specs.Seals.{Texts, IsSealed}

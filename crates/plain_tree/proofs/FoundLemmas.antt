@@ -2,7 +2,8 @@
 use Rattle.std.proofs.Common.{◌≡◌, ℕ, Bool, true, false, cond, [], ◌∷◌, Option, Some, None, option_map, bytes_eq, inl, inr, refl, sym, ap, ◌∙◌}
 use Rattle.std.proofs.lemmas.Bool.{cases_Bool}
 use Rattle.std.specs.Map.{lookup, lookup_entry}
-use Rattle.plain_tree.specs.Nodes.{Name, Children, Nodes, children, entry}
+use Rattle.plain_tree.specs.Nodes.{Name, Children, Nodes}
+use Rattle.plain_tree.specs.NodesByNumber.{children, entry}
 use Rattle.plain_tree.proofs.ChildLemmas.{itself, same_name}
 
 module _ (test : Name → Bool) where

@@ -5,7 +5,8 @@ use Rattle.std.specs.List.{IsDistinct}
 use Rattle.std.specs.Map.{lookup, keys_of}
 use Rattle.number_map.specs.Numbered.{get, len}
 use Rattle.number_map.proofs.NumberedLemmas.{len_removed, remove_same, remove_here, remove_other}
-use Rattle.plain_tree.specs.Nodes.{Name, Node, Nodes, children_in, context_in, is_named_in, is_dir_in, children, is_named, entry}
+use Rattle.plain_tree.specs.Nodes.{Name, Node, Nodes}
+use Rattle.plain_tree.specs.NodesByNumber.{children_in, context_in, is_named_in, is_dir_in, children, is_named, entry}
 use Rattle.plain_tree.specs.Changes.{gone}
 use Rattle.plain_tree.specs.Tree.{HasNames, IsTree}
 use Rattle.mount_limits.specs.declared.TheConstants.{MOST_CHILDREN}

@@ -5,7 +5,9 @@ use Rattle.std.specs.List.{IsDistinct}
 use Rattle.std.specs.Map.{lookup, keys_of}
 use Rattle.number_map.specs.Numbered.{get, len}
 use Rattle.number_map.proofs.NumberedLemmas.{insert_here, insert_other, len_added, len_changed, changed_other}
-use Rattle.plain_tree.specs.Nodes.{Name, Node, Nodes, children_in, context_in, is_named_in, is_dir_in, with_child, children, is_named, is_dir_at, entry}
+use Rattle.plain_tree.specs.Nodes.{Name, Node, Nodes}
+use Rattle.plain_tree.specs.BodyChanges.{with_child}
+use Rattle.plain_tree.specs.NodesByNumber.{children_in, context_in, is_named_in, is_dir_in, children, is_named, is_dir_at, entry}
 use Rattle.plain_tree.specs.Changes.{on_children, name_put, made}
 use Rattle.plain_tree.specs.Tree.{IsReached, HasRoot, HasRoom, IsTree}
 use Rattle.plain_tree.specs.Laws.{IsNew, CanBeMade}

@@ -3,7 +3,9 @@ use Rattle.std.proofs.Common.{◌≡◌, ◌≢◌, ℕ, ◌+◌, ◌≤◌, tru
 use Rattle.std.proofs.lemmas.Bool.{cases_eq}
 use Rattle.number_map.specs.Numbered.{get, len}
 use Rattle.number_map.proofs.NumberedLemmas.{len_changed}
-use Rattle.plain_tree.specs.Nodes.{Name, Nodes, with_child, without_child, children, context_at, is_named, is_dir_at, entry}
+use Rattle.plain_tree.specs.Nodes.{Name, Nodes}
+use Rattle.plain_tree.specs.BodyChanges.{with_child, without_child}
+use Rattle.plain_tree.specs.NodesByNumber.{children, context_at, is_named, is_dir_at, entry}
 use Rattle.plain_tree.specs.Changes.{on_children, name_taken, moved}
 use Rattle.plain_tree.specs.Tree.{IsReached, IsTree}
 use Rattle.plain_tree.specs.Laws.{CanBeMoved}

@@ -3,7 +3,8 @@ use Rattle.std.proofs.Common.{◌≡◌, ◌≢◌, ℕ, true, [], Some, None, i
 use Rattle.std.proofs.lemmas.Bool.{cases_eq}
 use Rattle.std.specs.Map.{lookup}
 use Rattle.std.specs.Str.{bytes_eq}
-use Rattle.plain_tree.specs.Nodes.{Name, Nodes, children, is_named, entry}
+use Rattle.plain_tree.specs.Nodes.{Name, Nodes}
+use Rattle.plain_tree.specs.NodesByNumber.{children, is_named, entry}
 use Rattle.plain_tree.specs.Tree.{IsReached, IsReachedWithout, HasRoot, HasNames}
 
 -- a node without entries has no name that leads on

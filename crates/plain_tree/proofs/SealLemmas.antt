@@ -5,7 +5,8 @@ use Rattle.std.specs.List.{list_any}
 use Rattle.std.specs.Map.{lookup}
 use Rattle.policy_ctx.specs.declared.policy.Context.{Context}
 use Rattle.number_map.proofs.NumberedLemmas.{changed_other}
-use Rattle.plain_tree.specs.Nodes.{Name, Children, Nodes, context_in, children, context_at, policy_at, entry}
+use Rattle.plain_tree.specs.Nodes.{Name, Children, Nodes}
+use Rattle.plain_tree.specs.NodesByNumber.{context_in, children, context_at, policy_at, entry}
 use Rattle.plain_tree.specs.Changes.{on_contents, with_context, written, encrypted}
 use Rattle.plain_tree.specs.Seals.{Texts, has_text, entry_by_text, IsSealed}
 use Rattle.plain_tree.proofs.ChildLemmas.{itself, same_name, other_name, cases_name}

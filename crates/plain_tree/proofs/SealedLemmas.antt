@@ -2,12 +2,14 @@
 use Rattle.std.proofs.Common.{◌≡◌, ◌≢◌, ℕ, true, false, [], Some, option_map, inl, inr, ◌⊎◌, sym, ap, ◌∙◌}
 use Rattle.policy_ctx.specs.declared.policy.Policy.{Policy}
 use Rattle.policy_ctx.specs.declared.policy.Context.{Context}
-use Rattle.plain_tree.specs.Nodes.{Name, Node, Nodes, children_in, context_in, with_child, children, context_at, policy_at, is_named, entry}
+use Rattle.plain_tree.specs.Nodes.{Name, Node, Nodes}
+use Rattle.plain_tree.specs.BodyChanges.{with_child}
+use Rattle.plain_tree.specs.NodesByNumber.{children_in, context_in, children, context_at, policy_at, is_named, entry}
 use Rattle.plain_tree.specs.Changes.{made, dropped, gone, moved}
 use Rattle.plain_tree.specs.Tree.{IsTree}
 use Rattle.plain_tree.specs.Laws.{IsNew, CanBeMade, CanBeMoved}
 use Rattle.plain_tree.specs.Seals.{Texts, IsSealed}
-use Rattle.plain_tree.specs.SealLaws.{FitsInto, MovesInto}
+use Rattle.plain_tree.specs.FittingNodes.{FitsInto, MovesInto}
 use Rattle.plain_tree.proofs.EditLemmas.{edit_context}
 use Rattle.plain_tree.proofs.ReachedLemmas.{childless}
 use Rattle.plain_tree.proofs.MadeLemmas.{made_here, made_from, made_unled, made_before}

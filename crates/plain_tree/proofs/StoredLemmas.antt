@@ -1,7 +1,8 @@
 -- The entries of a directory as they are stored, and as they are plain.
 use Rattle.std.proofs.Common.{◌≡◌, ℕ, true, false, cond, [], ◌∷◌, Some, is_some, bytes_eq, inl, inr, refl, sym, ap, ◌∙◌}
 use Rattle.std.specs.Map.{lookup}
-use Rattle.plain_tree.specs.Nodes.{Name, Children, without_child}
+use Rattle.plain_tree.specs.Nodes.{Name, Children}
+use Rattle.plain_tree.specs.BodyChanges.{without_child}
 use Rattle.plain_tree.specs.Stored.{stored_children, IsNameOf, SearchesAgree, PutsAgree, RemovalsAgree, StoredFormsDiffer}
 use Rattle.plain_tree.proofs.ChildLemmas.{itself, other_name, cases_name}
 

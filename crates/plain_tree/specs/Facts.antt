@@ -1,7 +1,8 @@
 -- Facts of every node, and of every name, whatever the fact is.
 use Rattle.std.specs.Prelude.{◌≡◌, ℕ, Some, option_map}
 use Rattle.number_map.specs.Numbered.{Numbered, get}
-use Rattle.plain_tree.specs.Nodes.{Name, Node, Nodes, entry}
+use Rattle.plain_tree.specs.Nodes.{Name, Node, Nodes}
+use Rattle.plain_tree.specs.NodesByNumber.{entry}
 
 -- it holds of each node and its number
 abbrev pub EachNode : (ℕ → Node → Type 0) → Nodes → Type 0

@@ -2,7 +2,8 @@
 use Rattle.std.specs.Prelude.{◌≡◌, ◌≢◌, ℕ, ◌+◌, ◌<◌, true, false, List, [], length, Some, None}
 use Rattle.policy_ctx.specs.declared.policy.Context.{Context}
 use Rattle.number_map.specs.Numbered.{len}
-use Rattle.plain_tree.specs.Nodes.{Name, Node, Nodes, children_of, children, is_named, is_dir_at, entry}
+use Rattle.plain_tree.specs.Nodes.{Name, Node, Nodes, children_of}
+use Rattle.plain_tree.specs.NodesByNumber.{children, is_named, is_dir_at, entry}
 use Rattle.plain_tree.specs.Changes.{made, dropped, gone, moved, written, encrypted}
 use Rattle.plain_tree.specs.Tree.{IsTree, IsReached, IsReachedWithout}
 use Rattle.mount_limits.specs.declared.TheConstants.{MOST_NODES, MOST_CHILDREN}

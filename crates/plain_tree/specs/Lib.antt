@@ -1,8 +1,11 @@
 pub mod Nodes
+pub mod BodyChanges
+pub mod NodesByNumber
 pub mod Changes
 pub mod Tree
 pub mod Seals
 pub mod Facts
 pub mod Laws
+pub mod FittingNodes
 pub mod SealLaws
 pub mod Stored

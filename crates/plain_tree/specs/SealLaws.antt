@@ -1,26 +1,14 @@
 -- The laws of seals: each kind of change of a sealed tree leaves it sealed, and a text leads where its
 -- name leads.
-use Rattle.std.specs.Prelude.{◌≡◌, ℕ, false, List, [], Some, None, option_map}
+use Rattle.std.specs.Prelude.{◌≡◌, ℕ, false, List, [], Some, None}
 use Rattle.policy_ctx.specs.declared.policy.Context.{Context}
-use Rattle.plain_tree.specs.Nodes.{Name, Node, Nodes, children, context_at, policy_at, is_named, entry}
+use Rattle.plain_tree.specs.Nodes.{Name, Node, Nodes}
+use Rattle.plain_tree.specs.NodesByNumber.{children, context_at, is_named, entry}
 use Rattle.plain_tree.specs.Changes.{made, dropped, gone, moved, written, encrypted}
 use Rattle.plain_tree.specs.Tree.{IsTree}
 use Rattle.plain_tree.specs.Laws.{IsNew, CanBeMade, CanBeMoved}
-use Rattle.plain_tree.specs.Seals.{Texts, has_text, entry_by_text, IsSealed}
-
--- under a policy the new node has that policy, and no name has the new one's text
-pub record FitsInto (texts : Texts) (nodes : Nodes) (d : ℕ) (name : Name) (v : Node) : Type 0 where
-  pub inherits : (context : Context) → context_at nodes d ≡ Some context
-      → option_map (λ c. c.policy) v.context ≡ Some context.policy
-  pub apart : (context : Context) → context_at nodes d ≡ Some context
-      → has_text texts nodes d context (texts d context name) ≡ false
-
--- the same of a node that is moved; a name that is to go counts among those that are there
-pub record MovesInto (texts : Texts) (nodes : Nodes) (to : ℕ) (new_name : Name) (x : ℕ) : Type 0 where
-  pub inherits : (context : Context) → context_at nodes to ≡ Some context
-      → policy_at nodes x ≡ Some context.policy
-  pub apart : (context : Context) → context_at nodes to ≡ Some context
-      → has_text texts nodes to context (texts to context new_name) ≡ false
+use Rattle.plain_tree.specs.Seals.{Texts, entry_by_text, IsSealed}
+use Rattle.plain_tree.specs.FittingNodes.{FitsInto, MovesInto}
 
 abbrev pub MakingKeepsSeals : Type 0
 MakingKeepsSeals = (texts : Texts) (nodes : Nodes) (next d : ℕ) (name : Name) (v : Node)

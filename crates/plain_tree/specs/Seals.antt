@@ -5,7 +5,8 @@ use Rattle.std.specs.List.{list_any}
 use Rattle.std.specs.Str.{bytes_eq}
 use Rattle.std.specs.Map.{lookup}
 use Rattle.policy_ctx.specs.declared.policy.Context.{Context}
-use Rattle.plain_tree.specs.Nodes.{Name, Nodes, children, context_at, policy_at, entry}
+use Rattle.plain_tree.specs.Nodes.{Name, Nodes}
+use Rattle.plain_tree.specs.NodesByNumber.{children, context_at, policy_at, entry}
 
 -- the text that stands for a name of the directory of this number and context where it can't be read
 abbrev pub Texts : Type 0

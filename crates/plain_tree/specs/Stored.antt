@@ -3,7 +3,8 @@
 use Rattle.std.specs.Prelude.{◌≡◌, ℕ, Bool, true, List, map, is_some}
 use Rattle.std.specs.Str.{bytes_eq}
 use Rattle.std.specs.Map.{lookup}
-use Rattle.plain_tree.specs.Nodes.{Name, Children, with_child, without_child}
+use Rattle.plain_tree.specs.Nodes.{Name, Children}
+use Rattle.plain_tree.specs.BodyChanges.{with_child, without_child}
 
 -- in the same order, leading to the same nodes
 abbrev pub stored_children : (Name → List ℕ) → Children → Children

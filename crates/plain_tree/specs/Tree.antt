@@ -4,7 +4,8 @@ use Rattle.std.specs.List.{IsDistinct}
 use Rattle.std.specs.Map.{keys_of}
 use Rattle.std.specs.Str.{bytes_eq}
 use Rattle.number_map.specs.Numbered.{get, len}
-use Rattle.plain_tree.specs.Nodes.{Name, Nodes, children, context_at, is_named, is_dir_at, entry}
+use Rattle.plain_tree.specs.Nodes.{Name, Nodes}
+use Rattle.plain_tree.specs.NodesByNumber.{children, context_at, is_named, is_dir_at, entry}
 use Rattle.mount_limits.specs.declared.TheConstants.{MOST_NODES, MOST_CHILDREN}
 
 -- reached from the root by names

@@ -10,7 +10,8 @@ use Rattle.policy_ctx.specs.declared.policy.Unit.TheVariants.{Block, U512, U1024
 use Rattle.policy_ctx.specs.declared.policy.Policy.{Policy}
 use Rattle.policy_ctx.specs.declared.policy.Context.{Context}
 use Rattle.policy_ctx.specs.declared.fault.CtxFault.{CtxFault}
-use Rattle.policy_ctx.specs.Policy.{flags_of, policy_bytes, header_fault, are_flags, is_unit_log2, unit_log2}
+use Rattle.policy_ctx.specs.Policy.{flags_of, policy_bytes, unit_log2}
+use Rattle.policy_ctx.specs.PolicyFaults.{header_fault, are_flags, is_unit_log2}
 use Rattle.policy_ctx.specs.Context.{context_bytes, id_in, is_by_mode_in}
 
 -- the padding of a flags byte, and whether it has flag 8

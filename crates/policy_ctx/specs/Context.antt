@@ -6,7 +6,8 @@ use Rattle.policy_ctx.specs.declared.policy.KeyId.{KeyId}
 use Rattle.policy_ctx.specs.declared.policy.Context.{Context}
 use Rattle.policy_ctx.specs.declared.fault.CtxFault.{CtxFault}
 use Rattle.policy_ctx.specs.declared.fault.CtxFault.TheVariants.{Length}
-use Rattle.policy_ctx.specs.Policy.{policy_bytes, header_fault}
+use Rattle.policy_ctx.specs.Policy.{policy_bytes}
+use Rattle.policy_ctx.specs.PolicyFaults.{header_fault}
 
 -- the policy's bytes, and behind them the nonce
 abbrev pub context_bytes : Context → List ℕ

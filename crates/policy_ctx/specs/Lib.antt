@@ -1,4 +1,5 @@
 pub mod KeyIds
+pub mod PolicyFaults
 pub mod Policy
 pub mod Settings
 pub mod Context

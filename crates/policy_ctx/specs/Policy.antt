@@ -1,14 +1,10 @@
 -- The 24 bytes of a policy of version 2, as Linux lays out its `fscrypt_policy_v2`.
-use Rattle.std.specs.Prelude.{ℕ, ◌+◌, Bool, List, ◌∷◌, length, Option, Some, None}
-use Rattle.std.specs.Prelude.{slice_index, ◌==◌, ◌&&◌, ◌||◌, nat_le, not, if◌then◌else◌}
+use Rattle.std.specs.Prelude.{ℕ, ◌+◌, Bool, List, ◌∷◌, if◌then◌else◌}
 use Rattle.policy_ctx.specs.declared.policy.Pad.{Pad}
 use Rattle.policy_ctx.specs.declared.policy.Pad.TheVariants.{P4, P8, P16, P32}
 use Rattle.policy_ctx.specs.declared.policy.Unit.{Unit as DataUnit}
 use Rattle.policy_ctx.specs.declared.policy.Unit.TheVariants.{Block, U512, U1024, U2048, U4096}
 use Rattle.policy_ctx.specs.declared.policy.Policy.{Policy}
-use Rattle.policy_ctx.specs.declared.fault.CtxFault.{CtxFault}
-use Rattle.policy_ctx.specs.declared.fault.CtxFault.TheVariants.{Length, Version, Modes}
-use Rattle.policy_ctx.specs.declared.fault.CtxFault.TheVariants.{Flags, Unit, Reserved}
 
 -- how many bytes a stored name is padded to
 abbrev pub pad_size : Pad → ℕ
@@ -48,26 +44,3 @@ flags_of pad by_mode = pad_flags pad + (if by_mode then 8 else 0)
 -- unit, three reserved bytes, the key's identifier
 abbrev pub policy_bytes : Policy → List ℕ
 policy_bytes p = 2 ∷ 1 ∷ 4 ∷ flags_of p.pad p.by_mode ∷ unit_log2 p.unit ∷ 0 ∷ 0 ∷ 0 ∷ p.id.0
-
--- a padding, with flag 8 or without it, and no other flag
-abbrev pub are_flags : ℕ → Bool
-are_flags flags = nat_le flags 3 || (nat_le 8 flags && nat_le flags 11)
-
--- a unit is a block, or has 2^9 to 2^12 bytes
-abbrev pub is_unit_log2 : ℕ → Bool
-is_unit_log2 log = (log == 0) || (nat_le 9 log && nat_le log 12)
-
--- the first fault of the eight bytes before the identifier
-abbrev pub header_fault : List ℕ → Option CtxFault
-header_fault b =
-    if not (slice_index b 0 == 2) then Some Version else
-    if not ((slice_index b 1 == 1) && (slice_index b 2 == 4)) then Some Modes else
-    if not (are_flags (slice_index b 3)) then Some Flags else
-    if not (is_unit_log2 (slice_index b 4)) then Some Unit else
-    if not ((slice_index b 5 == 0) && ((slice_index b 6 == 0) && (slice_index b 7 == 0)))
-    then Some Reserved else
-    None
-
--- the first fault of the bytes as a policy, where they are none
-abbrev pub policy_fault : List ℕ → Option CtxFault
-policy_fault b = if length b == 24 then header_fault b else Some Length

@@ -3,8 +3,8 @@
 ghost use Rattle.std.specs.Prelude.{◌≡◌, ◌≤◌, length, take, None, Some, IsOk};
 ghost use Rattle.std.specs.Prelude.{IfOk, IfErr, IfSome, IfNone, true, false};
 ghost use Rattle.policy_ctx.specs.Context.{HasSizes, context_bytes, context_fault};
-ghost use Rattle.policy_ctx.specs.Policy.{are_flags, flags_of, header_fault, is_unit_log2};
-ghost use Rattle.policy_ctx.specs.Policy.{policy_bytes, policy_fault, unit_log2};
+ghost use Rattle.policy_ctx.specs.Policy.{flags_of, policy_bytes, unit_log2};
+ghost use Rattle.policy_ctx.specs.PolicyFaults.{are_flags, header_fault, is_unit_log2, policy_fault};
 
 use super::{
     CONTENTS_MODE, CONTEXT_LEN, Context, CtxFault, KeyId, NAMES_MODE, POLICY_LEN, Pad, Policy,

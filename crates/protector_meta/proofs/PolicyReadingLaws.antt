@@ -19,7 +19,8 @@ use Rattle.protector_meta.specs.Reading.{◌>>=◌}
 use Rattle.text_words.specs.Lines.{ended}
 use Rattle.protector_meta.specs.RecordLines.{IsFirstBad, RecordTest, TellsFirstBad, ended_lines}
 use Rattle.byte_words.specs.Bytes.{AreBytesOfLength}
-use Rattle.protector_meta.specs.PolicyText.{IsPolicyFile, IsPolicyRecord, IsWrap, option_lines, options_line, policy_lines, policy_text, version_line, wrap_line}
+use Rattle.protector_meta.specs.PolicyText.{option_lines, options_line, policy_lines, policy_text, version_line, wrap_line}
+use Rattle.protector_meta.specs.PolicyRecords.{IsPolicyFile, IsPolicyRecord, IsWrap}
 use Rattle.protector_meta.specs.PolicyLines.{head_value}
 use Rattle.protector_meta.specs.PolicyReading.{GivesInMemory, behind_id, policy_read, with_wraps, wraps_from}
 use Rattle.text_words.proofs.PieceLemmas.{AreLines, ended-append, ended-from_pieces, is_free_of, pieces_of-ended}

@@ -7,8 +7,9 @@ use Rattle.text_words.specs.Digits.{lower_hex_bytes_of_length}
 use Rattle.text_words.specs.Words.{words_of}
 use Rattle.short_bytes.specs.Label.{label_of}
 use Rattle.short_bytes.proofs.LabelLemmas.{label_of-label, label_of-found}
-use Rattle.protector_meta.specs.PolicyText.{IsWrap, wrap_line}
-use Rattle.protector_meta.specs.PolicyLines.{wrap_of_words, wrap_value}
+use Rattle.protector_meta.specs.PolicyText.{wrap_line}
+use Rattle.protector_meta.specs.PolicyRecords.{IsWrap}
+use Rattle.protector_meta.specs.WrapLines.{wrap_of_words, wrap_value}
 use Rattle.protector_meta.specs.declared.wraps.Wrap.{Wrap}
 use Rattle.text_words.proofs.PieceLemmas.{is_free_of}
 use Rattle.text_words.proofs.WordLemmas.{digits_again, digits_are_free, digits_found}

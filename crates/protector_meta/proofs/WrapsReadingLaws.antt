@@ -15,8 +15,9 @@ use Rattle.protector_meta.specs.declared.wraps.Wrap.{Wrap}
 use Rattle.protector_meta.specs.Wraps.{AreDistinct, AreWraps, adding_fault, is_for, is_listed}
 use Rattle.protector_meta.specs.Reading.{◌>>=◌}
 use Rattle.protector_meta.specs.RecordLines.{Begins, RecordTest}
-use Rattle.protector_meta.specs.PolicyText.{IsWrap, wrap_line}
-use Rattle.protector_meta.specs.PolicyLines.{next_wrap, wrap_value}
+use Rattle.protector_meta.specs.PolicyText.{wrap_line}
+use Rattle.protector_meta.specs.PolicyRecords.{IsWrap}
+use Rattle.protector_meta.specs.WrapLines.{next_wrap, wrap_value}
 use Rattle.protector_meta.specs.PolicyReading.{GivesInMemory, wraps_from}
 use Rattle.text_words.proofs.PieceLemmas.{first_piece}
 use Rattle.protector_meta.proofs.Readers.{Stops, stops_behind, stops_here}

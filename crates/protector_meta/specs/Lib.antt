@@ -9,6 +9,8 @@ pub mod ProtectorLines
 pub mod ProtectorReading
 pub mod Wraps
 pub mod PolicyText
+pub mod PolicyRecords
 pub mod PolicyLines
+pub mod WrapLines
 pub mod PolicyReading
 pub mod Rewrapped

@@ -1,16 +1,12 @@
--- The values on the lines of a policy's record.
-use Rattle.std.specs.Prelude.{ℕ, ◌^◌, Bool, true, false, is_none, List}
+-- The values on the lines of a policy's record, up to its wraps.
+use Rattle.std.specs.Prelude.{ℕ, ◌^◌, Bool, true, false, List}
 use Rattle.std.specs.Prelude.{[], ◌∷◌, codes, Option, Some, None, if◌then◌else◌}
 use Rattle.std.specs.Str.{bytes_eq}
-use Rattle.text_words.specs.Digits.{lower_hex_bytes_of_length}
 use Rattle.text_words.specs.Numbers.{number_below}
 use Rattle.text_words.specs.Words.{words_of}
 use Rattle.policy_ctx.specs.Settings.{pad_of_size, unit_of_log2}
-use Rattle.short_bytes.specs.Label.{label_of}
 use Rattle.protector_meta.specs.declared.policy_file.Options.{Options}
-use Rattle.protector_meta.specs.declared.wraps.Wrap.{Wrap}
 use Rattle.protector_meta.specs.LineValues.{digits_line_value, word_value}
-use Rattle.protector_meta.specs.Wraps.{adding_fault}
 
 -- whether a line of options has its place, which the first line tells by its version
 abbrev pub head_value : List ℕ → Option Bool
@@ -42,23 +38,3 @@ options_of_words _ = None
 -- the options of which a line tells
 unfoldable pub options_value : List ℕ → Option Options
 options_value line = word_value (codes "options ") (λ text. options_of_words (words_of text)) line
-
--- the wrap of which four words tell
-abbrev pub wrap_of_words : List (List ℕ) → Option Wrap
-wrap_of_words (label ∷ iv ∷ key ∷ tag ∷ []) = do
-  protector ← label_of label
-  iv ← lower_hex_bytes_of_length 16 iv
-  key ← lower_hex_bytes_of_length 64 key
-  tag ← lower_hex_bytes_of_length 32 tag
-  let wrap : Wrap = record { protector = protector; iv = iv; key = key; tag = tag } in Some wrap
-wrap_of_words _ = None
-
--- the wrap of which a line tells
-unfoldable pub wrap_value : List ℕ → Option Wrap
-wrap_value line = word_value (codes "wrap ") (λ text. wrap_of_words (words_of text)) line
-
--- the same, where it can be added behind others
-abbrev pub next_wrap : List Wrap → List ℕ → Option Wrap
-next_wrap wraps line = do
-  wrap ← wrap_value line
-  if is_none (adding_fault wrap.protector wraps) then Some wrap else None

@@ -8,7 +8,8 @@ use Rattle.protector_meta.specs.declared.fault.MetaFault.TheVariants.{Bad, NoMem
 use Rattle.protector_meta.specs.declared.wraps.Wrap.{Wrap}
 use Rattle.protector_meta.specs.declared.policy_file.Options.{Options}
 use Rattle.protector_meta.specs.declared.policy_file.PolicyFile.{PolicyFile}
-use Rattle.protector_meta.specs.PolicyLines.{head_value, id_value, next_wrap, options_value}
+use Rattle.protector_meta.specs.PolicyLines.{head_value, id_value, options_value}
+use Rattle.protector_meta.specs.WrapLines.{next_wrap}
 use Rattle.protector_meta.specs.LineValues.{name_line_value}
 use Rattle.protector_meta.specs.Reading.{◌>>=◌, value_at}
 

@@ -1,16 +1,12 @@
 -- The text of a policy's record: its lines, words parted by one space.
-use Rattle.std.specs.Prelude.{ℕ, ◌≡◌, List, [], ◌∷◌, ◌++◌, map, codes, Option, Some, None}
-use Rattle.std.specs.List.{All}
+use Rattle.std.specs.Prelude.{ℕ, List, [], ◌∷◌, ◌++◌, map, codes, Option, Some, None}
 use Rattle.hex.specs.Hex.{encode_lower}
 use Rattle.text_words.specs.Numbers.{decimal_of}
-use Rattle.short_bytes.specs.Label.{IsLabel}
 use Rattle.policy_ctx.specs.Policy.{pad_size, unit_log2}
 use Rattle.protector_meta.specs.declared.wraps.Wrap.{Wrap}
 use Rattle.protector_meta.specs.declared.policy_file.Options.{Options}
 use Rattle.protector_meta.specs.declared.policy_file.PolicyFile.{PolicyFile}
-use Rattle.byte_words.specs.Bytes.{AreBytesOfLength}
 use Rattle.text_words.specs.Lines.{ended}
-use Rattle.protector_meta.specs.Wraps.{AreWraps}
 
 -- the line of a wrap: the label of its protector, and the digits of iv, key and tag
 abbrev pub wrap_line : Wrap → List ℕ
@@ -45,21 +41,3 @@ policy_lines p = head_lines p ++ map wrap_line p.wraps
 -- each of the lines is ended by a line feed
 abbrev pub policy_text : PolicyFile → List ℕ
 policy_text p = ended (policy_lines p)
-
--- what the types of the fields keep of every wrap: all of what a line can spell
-pub record IsWrap (wrap : Wrap) : Type 0 where
-  pub protector : IsLabel wrap.protector
-  pub iv : AreBytesOfLength 16 wrap.iv
-  pub key : AreBytesOfLength 64 wrap.key
-  pub tag : AreBytesOfLength 32 wrap.tag
-
--- and of every policy: all of what a record can spell
-pub record IsPolicyFile (p : PolicyFile) : Type 0 where
-  pub name : IsLabel p.name
-  pub id : AreBytesOfLength 16 p.id.0
-  pub wraps : AreWraps p.wraps
-  pub each : All IsWrap p.wraps
-
--- these are the lines of a policy's record
-abbrev pub IsPolicyRecord : List (List ℕ) → Type 0
-IsPolicyRecord lines = (p : PolicyFile) × (IsPolicyFile p × (lines ≡ policy_lines p))

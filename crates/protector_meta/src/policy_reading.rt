@@ -8,9 +8,10 @@ ghost use Rattle.protector_meta.specs.declared.fault.MetaFault.TheVariants.{Bad,
 ghost use Rattle.protector_meta.specs.declared.wraps.Wrap.{Wrap};
 ghost use Rattle.protector_meta.specs.declared.policy_file.PolicyFile.{PolicyFile};
 ghost use Rattle.protector_meta.specs.RecordLines.{IsFirstBad, TellsFirstBad};
-ghost use Rattle.protector_meta.specs.PolicyText.{IsPolicyFile, IsPolicyRecord, policy_text};
+ghost use Rattle.protector_meta.specs.PolicyText.{policy_text};
+ghost use Rattle.protector_meta.specs.PolicyRecords.{IsPolicyFile, IsPolicyRecord};
 ghost use Rattle.protector_meta.specs.PolicyLines as spec;
-ghost use Rattle.protector_meta.specs.PolicyLines.{next_wrap, wrap_of_words, wrap_value};
+ghost use Rattle.protector_meta.specs.WrapLines.{next_wrap, wrap_of_words, wrap_value};
 ghost use Rattle.protector_meta.specs.PolicyReading.{GivesInMemory, behind_id, policy_read, wraps_from};
 
 use crate::fault::MetaFault;
@@ -179,7 +180,7 @@ fn add_line(wraps: &mut WrapList, line: &[u8], number: u32) -> Result<(), MetaFa
 }
 
 // The wrap of which a line tells.
-#[tactic(auto, unfolding(crate::specs::PolicyLines::wrap_value))]
+#[tactic(auto, unfolding(crate::specs::WrapLines::wrap_value))]
 fn read_wrap(line: &[u8]) -> Option<Wrap>
     ensures { result ≡ wrap_value line.now }
 {

@@ -6,7 +6,8 @@ ghost use Rattle.byte_words.specs.Bytes.{AreBytes};
 ghost use Rattle.hex.specs.Hex.{encode_lower};
 ghost use Rattle.text_words.specs.Lines.{ended};
 ghost use Rattle.protector_meta.specs.PolicyText as spec;
-ghost use Rattle.protector_meta.specs.PolicyText.{IsPolicyFile, IsWrap, option_lines, policy_text, wrap_line};
+ghost use Rattle.protector_meta.specs.PolicyText.{option_lines, policy_text, wrap_line};
+ghost use Rattle.protector_meta.specs.PolicyRecords.{IsPolicyFile, IsWrap};
 
 use crate::lines::{push_digits_line, push_line};
 use crate::policy_file::{Options, PolicyFile};

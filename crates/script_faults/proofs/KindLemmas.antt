@@ -9,16 +9,18 @@ use Rattle.short_bytes.specs.Label.{label_of}
 use Rattle.script_words.specs.Keys.{hex_of_size, hex_or_none, key_ref_of}
 use Rattle.script_words.specs.Numbers.{number_of, number_up_to, pad_of, unit_of}
 use Rattle.script_words.specs.Records.{record_of}
-use Rattle.script_words.specs.Secrets.{secret_of, new_secret_of}
+use Rattle.script_words.specs.Secrets.{secret_of}
+use Rattle.script_words.specs.NewSecrets.{new_secret_of}
 use Rattle.script_words.specs.Word.{target_bytes}
 use Rattle.script_words.specs.Path.{path_of}
 use Rattle.script_lang.specs.Forms.{Form, word, says, optional, if_read}
-use Rattle.script_lang.specs.Verbs.{settings, options}
+use Rattle.script_lang.specs.SettingForms.{settings, options}
 use Rattle.script_lang.specs.Commands.{form_of, command_named}
 use Rattle.script_lang.specs.declared.limits.TheConstants.{MOST_ADDED_BYTES, MOST_WRITTEN_BYTES, MOST_FILLED_BYTES, MOST_PUT_BYTES, POLICY_BYTES}
 use Rattle.script_lang.specs.declared.names.CommandName.{CommandName}
 use Rattle.script_lang.specs.declared.names.CommandName.TheVariants as name
-use Rattle.script_faults.specs.WordKinds.{is_one, are_of, kinds_of}
+use Rattle.script_faults.specs.WordKinds.{kinds_of}
+use Rattle.script_faults.specs.WordTests.{is_one, are_of}
 use Rattle.script_faults.specs.declared.word_kinds.WordKind.{WordKind}
 use Rattle.script_faults.specs.declared.word_kinds.WordKind.TheVariants as kind
 

@@ -2,7 +2,8 @@
 use Rattle.std.specs.Prelude.{ℕ, ◌≡◌, IsTrue, is_some, List, length}
 use Rattle.script_lang.specs.Commands.{command_named}
 use Rattle.script_lang.specs.declared.names.CommandName.{CommandName}
-use Rattle.script_faults.specs.WordKinds.{are_of, kinds_of}
+use Rattle.script_faults.specs.WordKinds.{kinds_of}
+use Rattle.script_faults.specs.WordTests.{are_of}
 
 -- the words of a command are each of their kind, and none is left over
 abbrev pub CommandsHaveWordsOfTheirKinds : Type 0

@@ -1,3 +1,5 @@
+pub mod WordTests
 pub mod WordKinds
+pub mod GrammarFaults
 pub mod LineFaults
 pub mod KindLaws

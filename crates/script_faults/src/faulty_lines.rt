@@ -2,6 +2,7 @@
 
 ghost use Rattle.std.specs.Prelude.{◌≡◌, ◌<◌, ◌^◌, ◌+◌, IfOk, length, if◌then◌else◌};
 ghost use Rattle.std.specs.Result.{result_err};
+ghost use Rattle.script_faults.specs.GrammarFaults as grammar;
 ghost use Rattle.script_faults.specs.LineFaults as spec;
 ghost use Rattle.script_faults.specs.LineFaults.{first_fault};
 ghost use Rattle.script_lang.specs.Sections as sections;
@@ -103,7 +104,7 @@ fn fault_of_said(
 
 // Why a line is outside the grammar that is so.
 fn grammar_fault(alloc: Global, line: &[u8]) -> Result<LineFault, AllocError>
-    ensures { IfOk result (λ fault. fault ≡ spec.grammar_fault line.now) }
+    ensures { IfOk result (λ fault. fault ≡ grammar.grammar_fault line.now) }
 {
     match spelling_fault(line) {
         Some(fault) => Ok(fault),
@@ -113,7 +114,7 @@ fn grammar_fault(alloc: Global, line: &[u8]) -> Result<LineFault, AllocError>
 
 // Bytes that no line of a command may have.
 fn spelling_fault(line: &[u8]) -> Option<LineFault>
-    ensures { result ≡ spec.spelling_fault line.now }
+    ensures { result ≡ grammar.spelling_fault line.now }
 {
     if line.starts_with(&BYTE_ORDER_MARK) {
         return Some(LineFault::ByteOrderMark);
@@ -129,7 +130,7 @@ fn spelling_fault(line: &[u8]) -> Option<LineFault>
 
 // What is amiss with the words of a line.
 fn fault_of_words(alloc: Global, words: &mut Words<'_>) -> Result<LineFault, AllocError>
-    ensures { IfOk result (λ fault. fault ≡ spec.fault_of_words words.old) }
+    ensures { IfOk result (λ fault. fault ≡ grammar.fault_of_words words.old) }
 {
     match words.next() {
         Some(name) => named_fault(alloc, name, words),
@@ -139,7 +140,7 @@ fn fault_of_words(alloc: Global, words: &mut Words<'_>) -> Result<LineFault, All
 
 // What is amiss with a name and the words behind it.
 fn named_fault(alloc: Global, name: &[u8], words: &mut Words<'_>) -> Result<LineFault, AllocError>
-    ensures { IfOk result (λ fault. fault ≡ spec.named_fault name.now words.old) }
+    ensures { IfOk result (λ fault. fault ≡ grammar.named_fault name.now words.old) }
 {
     if name == b"caller".as_slice() {
         return words_fault(alloc, &[WordKind::Number], words);
@@ -156,7 +157,7 @@ fn words_fault(
     kinds: &[WordKind],
     words: &mut Words<'_>,
 ) -> Result<LineFault, AllocError>
-    ensures { IfOk result (λ fault. fault ≡ spec.words_fault 1 kinds.now words.old) }
+    ensures { IfOk result (λ fault. fault ≡ grammar.words_fault 1 kinds.now words.old) }
 {
     let mut left = kinds;
     let mut place: usize = 0;
@@ -182,7 +183,7 @@ fn words_fault(
 
 // What is amiss with a word that is empty, or else what is told.
 fn word_fault(otherwise: LineFault, word: &[u8]) -> LineFault
-    ensures { result ≡ spec.word_fault otherwise word.now }
+    ensures { result ≡ grammar.word_fault otherwise word.now }
 {
     if word.is_empty() {
         return LineFault::SpareSpace;

@@ -1,7 +1,7 @@
 //! Which words are names of commands.
 
 ghost use Rattle.std.specs.Prelude.{◌≡◌};
-ghost use Rattle.script_faults.specs.LineFaults as spec;
+ghost use Rattle.script_faults.specs.GrammarFaults as spec;
 
 use script_lang::CommandName;
 

@@ -2,6 +2,7 @@
 
 ghost use Rattle.std.specs.Prelude.{◌≡◌, IfOk};
 ghost use Rattle.script_faults.specs.WordKinds as spec;
+ghost use Rattle.script_faults.specs.WordTests as tests;
 
 use script_lang::{
     CommandName, MOST_ADDED_BYTES, MOST_FILLED_BYTES, MOST_PUT_BYTES, MOST_WRITTEN_BYTES,
@@ -56,7 +57,7 @@ pub enum WordKind {
 impl WordKind {
     // Whether the word is one of this kind.
     pub(crate) fn is_met(self, alloc: Global, word: &[u8]) -> Result<bool, AllocError>
-        ensures { IfOk result (λ met. met ≡ spec.is_one self word.now) }
+        ensures { IfOk result (λ met. met ≡ tests.is_one self word.now) }
     {
         match self {
             WordKind::Number => Ok(decimal_value(word).is_some()),

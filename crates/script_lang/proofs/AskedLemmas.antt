@@ -7,11 +7,12 @@ use Rattle.short_bytes.specs.Label.{IsLabel, label_of}
 use Rattle.script_words.specs.Keys.{hex_of_size, hex_or_none, key_ref_of, IsKey, AreFewBytes}
 use Rattle.script_words.specs.Numbers.{number_of, number_up_to, IsNumber}
 use Rattle.script_words.specs.Records.{record_of, IsRecord}
-use Rattle.script_words.specs.Secrets.{secret_of, new_secret_of, IsSecret, IsNewSecret}
+use Rattle.script_words.specs.Secrets.{secret_of, IsSecret}
+use Rattle.script_words.specs.NewSecrets.{new_secret_of, IsNewSecret}
 use Rattle.script_words.specs.Word.{IsWord, may_be_target, target_bytes}
 use Rattle.script_words.specs.Path.{IsPath, path_of}
 use Rattle.script_lang.specs.Forms.{Form, word, only, optional, if_read, whole}
-use Rattle.script_lang.specs.Verbs.{settings, options}
+use Rattle.script_lang.specs.SettingForms.{settings, options}
 use Rattle.script_lang.specs.Commands.{form_of, command_named}
 use Rattle.script_lang.specs.Asked.{IsAskable}
 use Rattle.script_lang.specs.declared.limits.TheConstants.{MOST_ADDED_BYTES, MOST_WRITTEN_BYTES, MOST_FILLED_BYTES, MOST_PUT_BYTES, POLICY_BYTES}

@@ -12,10 +12,12 @@ use Rattle.text_words.specs.Lines.{is_line_feed}
 use Rattle.text_words.specs.Numbers.{decimal_of}
 use Rattle.text_words.specs.Words.{words_of, is_space}
 use Rattle.script_lang.specs.Forms.{word, whole}
-use Rattle.script_lang.specs.Names.{name_text, name_in}
+use Rattle.script_lang.specs.Names.{name_text}
+use Rattle.script_lang.specs.VerbNames.{name_in}
 use Rattle.script_words.specs.Numbers.{number_of}
 use Rattle.script_lang.specs.Commands.{command_named, verb_of}
-use Rattle.script_lang.specs.VerbText.{verb_words, verb_text, spaced}
+use Rattle.script_lang.specs.VerbText.{verb_text, spaced}
+use Rattle.script_lang.specs.VerbWords.{verb_words}
 use Rattle.script_lang.specs.Statements.{statement_named, statement_of_words, statement_of}
 use Rattle.script_lang.specs.Writing.{caller_text}
 use Rattle.script_lang.specs.Asked.{IsAskable}

@@ -4,9 +4,10 @@ use Rattle.std.specs.Prelude.{IfSome}
 use Rattle.text_words.specs.Numbers.{decimal_of}
 use Rattle.policy_ctx.specs.declared.policy.Pad.{Pad}
 use Rattle.policy_ctx.specs.declared.policy.Unit.{Unit as DataUnit}
-use Rattle.script_lang.specs.Names.{name_in}
+use Rattle.script_lang.specs.VerbNames.{name_in}
 use Rattle.script_lang.specs.Commands.{command_named}
-use Rattle.script_lang.specs.VerbText.{verb_words, words_of_settings, words_of_unit, words_of_said_settings, words_of_options, words_of_number}
+use Rattle.script_lang.specs.VerbWords.{verb_words}
+use Rattle.script_lang.specs.SettingWords.{words_of_settings, words_of_unit, words_of_said_settings, words_of_options, words_of_number}
 use Rattle.script_words.specs.Numbers.{IsNumber}
 use Rattle.script_lang.specs.Asked.{IsAskable}
 use Rattle.script_lang.specs.declared.limits.TheConstants.{MOST_ADDED_BYTES, MOST_WRITTEN_BYTES, MOST_FILLED_BYTES, MOST_PUT_BYTES, POLICY_BYTES}

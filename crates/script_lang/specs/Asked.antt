@@ -7,7 +7,8 @@ use Rattle.script_words.specs.Path.{IsPath}
 use Rattle.script_words.specs.Keys.{IsKey, AreFewBytes}
 use Rattle.script_words.specs.Numbers.{IsNumber}
 use Rattle.script_words.specs.Records.{IsRecord}
-use Rattle.script_words.specs.Secrets.{IsSecret, IsNewSecret}
+use Rattle.script_words.specs.Secrets.{IsSecret}
+use Rattle.script_words.specs.NewSecrets.{IsNewSecret}
 use Rattle.script_lang.specs.declared.limits.TheConstants.{MOST_ADDED_BYTES, MOST_WRITTEN_BYTES}
 use Rattle.script_lang.specs.declared.limits.TheConstants.{MOST_FILLED_BYTES, MOST_PUT_BYTES, POLICY_BYTES}
 use Rattle.script_lang.specs.declared.verb.Verb.{Verb}

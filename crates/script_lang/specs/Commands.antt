@@ -1,5 +1,5 @@
 -- The table of commands: the words behind each name, and what they say together.
-use Rattle.std.specs.Prelude.{ℕ, ⊤, List, Option}
+use Rattle.std.specs.Prelude.{ℕ, List, Option}
 use Rattle.std.specs.Option.{option_and_then}
 use Rattle.short_bytes.specs.Label.{label_of}
 use Rattle.script_words.specs.Keys.{hex_of_size, key_ref_of}
@@ -8,10 +8,10 @@ use Rattle.script_words.specs.Records.{record_of}
 use Rattle.script_words.specs.Path.{path_of}
 use Rattle.script_lang.specs.Forms.{Form, says, only, whole}
 use Rattle.script_lang.specs.Names.{name_of}
-use Rattle.script_lang.specs.Verbs.{set_policy, set_policy_bytes, symlink}
-use Rattle.script_lang.specs.Verbs.{rename, list, read, write, fill, meta_put}
-use Rattle.script_lang.specs.Sessions.{protector, protector_change, policy_new}
-use Rattle.script_lang.specs.Sessions.{policy_add, policy_drop, unlock, encrypt}
+use Rattle.script_lang.specs.Verbs.{set_policy, set_policy_bytes, symlink, rename, list}
+use Rattle.script_lang.specs.NumberVerbs.{read, write, fill, meta_put}
+use Rattle.script_lang.specs.Sessions.{protector, protector_change, policy_new, policy_add, policy_drop}
+use Rattle.script_lang.specs.Sessions.{unlock, encrypt}
 use Rattle.script_lang.specs.declared.limits.TheConstants.{MOST_ADDED_BYTES}
 use Rattle.script_lang.specs.declared.names.CommandName.{CommandName}
 use Rattle.script_lang.specs.declared.names.CommandName.TheVariants as name
@@ -55,57 +55,6 @@ form_of name.Lock = only verb.Lock label_of
 form_of name.Status = only verb.Status label_of
 form_of name.Encrypt = encrypt
 form_of name.Migrate = only verb.Migrate label_of
-
--- a name that takes a key, and nothing else
-abbrev pub TakesKey : CommandName → Type 0
-TakesKey name.RemoveKey = ⊤
-TakesKey name.RemoveKeyAll = ⊤
-TakesKey name.KeyStatus = ⊤
-TakesKey other = ⊥
-
--- one that takes a path, and nothing else
-abbrev pub TakesPath : CommandName → Type 0
-TakesPath name.GetPolicy = ⊤
-TakesPath name.Mkdir = ⊤
-TakesPath name.Create = ⊤
-TakesPath name.ReadLink = ⊤
-TakesPath name.Unlink = ⊤
-TakesPath name.Rmdir = ⊤
-TakesPath name.Stat = ⊤
-TakesPath name.Open = ⊤
-TakesPath other = ⊥
-
--- one that takes a label, and nothing else
-abbrev pub TakesLabel : CommandName → Type 0
-TakesLabel name.ProtectorLink = ⊤
-TakesLabel name.Lock = ⊤
-TakesLabel name.Status = ⊤
-TakesLabel name.Migrate = ⊤
-TakesLabel other = ⊥
-
--- one that takes several words, which say one call
-abbrev pub TakesCallWords : CommandName → Type 0
-TakesCallWords name.SetPolicy = ⊤
-TakesCallWords name.SetPolicyBytes = ⊤
-TakesCallWords name.Symlink = ⊤
-TakesCallWords name.Rename = ⊤
-TakesCallWords name.List = ⊤
-TakesCallWords name.Read = ⊤
-TakesCallWords name.Write = ⊤
-TakesCallWords name.Fill = ⊤
-TakesCallWords name.MetaPut = ⊤
-TakesCallWords other = ⊥
-
--- one that takes several words, which say the work of a session
-abbrev pub TakesSessionWords : CommandName → Type 0
-TakesSessionWords name.Protector = ⊤
-TakesSessionWords name.ProtectorChange = ⊤
-TakesSessionWords name.PolicyNew = ⊤
-TakesSessionWords name.PolicyAdd = ⊤
-TakesSessionWords name.PolicyDrop = ⊤
-TakesSessionWords name.Unlock = ⊤
-TakesSessionWords name.Encrypt = ⊤
-TakesSessionWords other = ⊥
 
 -- the command of a name and the words behind it
 unfoldable pub command_named : CommandName → List (List ℕ) → Option Verb

@@ -1,8 +1,15 @@
+pub mod VerbNames
 pub mod Names
 pub mod Forms
+pub mod SettingForms
+pub mod NumberVerbs
 pub mod Verbs
 pub mod Sessions
+pub mod NameGroups
 pub mod Commands
+pub mod VerbGroups
+pub mod SettingWords
+pub mod VerbWords
 pub mod VerbText
 pub mod Asked
 pub mod Statements

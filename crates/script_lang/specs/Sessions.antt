@@ -1,10 +1,11 @@
 -- The session commands: behind each name, the words that it takes.
 use Rattle.std.specs.Prelude.{ℕ, List}
 use Rattle.short_bytes.specs.Label.{label_of}
-use Rattle.script_words.specs.Secrets.{secret_of, new_secret_of}
+use Rattle.script_words.specs.Secrets.{secret_of}
+use Rattle.script_words.specs.NewSecrets.{new_secret_of}
 use Rattle.script_words.specs.Path.{path_of}
 use Rattle.script_lang.specs.Forms.{Form, ◌>>=◌, says, word, optional}
-use Rattle.script_lang.specs.Verbs.{settings, options}
+use Rattle.script_lang.specs.SettingForms.{settings, options}
 use Rattle.script_lang.specs.declared.verb.Verb.{Verb}
 use Rattle.script_lang.specs.declared.verb.Verb.TheVariants as verb
 

@@ -5,10 +5,11 @@ ghost use Rattle.script_lang.specs.Forms.{Takes, word, optional};
 ghost use Rattle.script_words.specs.Keys as keys;
 ghost use Rattle.script_words.specs.Numbers as numbers;
 ghost use Rattle.script_words.specs.Records.{record_of};
+ghost use Rattle.script_words.specs.NewSecrets as new_secrets;
 ghost use Rattle.script_words.specs.Secrets as secrets;
 ghost use Rattle.script_words.specs.Word.{target_bytes};
 ghost use Rattle.script_words.specs.Path.{path_of};
-ghost use Rattle.script_lang.specs.Verbs as forms;
+ghost use Rattle.script_lang.specs.SettingForms as forms;
 ghost use Rattle.script_lang.specs.declared.limits.TheConstants.{MOST_ADDED_BYTES, MOST_WRITTEN_BYTES};
 ghost use Rattle.script_lang.specs.declared.limits.TheConstants.{MOST_FILLED_BYTES, MOST_PUT_BYTES};
 ghost use Rattle.script_lang.specs.declared.limits.TheConstants.{POLICY_BYTES};
@@ -152,7 +153,7 @@ impl Words<'_> {
 
     // A new secret.
     pub(crate) fn new_secret(&mut self, alloc: Global) -> Result<NewSecret, Unread>
-        ensures { Takes result (word secrets.new_secret_of self.old) self.new }
+        ensures { Takes result (word new_secrets.new_secret_of self.old) self.new }
     {
         let word = self.next().ok_or(Unread::OutsideGrammar)?;
         read_new_secret(alloc, word)?.ok_or(Unread::OutsideGrammar)

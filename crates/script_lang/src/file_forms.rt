@@ -1,6 +1,7 @@
 //! The commands of more than one word that make one call.
 
 ghost use Rattle.script_lang.specs.Forms.{Takes};
+ghost use Rattle.script_lang.specs.NumberVerbs as number_forms;
 ghost use Rattle.script_lang.specs.Verbs as forms;
 
 use crate::verb::Verb;
@@ -54,7 +55,7 @@ pub(crate) fn list(alloc: Global, words: &mut Words<'_>) -> Result<Verb, Unread>
 }
 
 pub(crate) fn read(words: &mut Words<'_>) -> Result<Verb, Unread>
-    ensures { Takes result (forms.read words.old) words.new }
+    ensures { Takes result (number_forms.read words.old) words.new }
 {
     Ok(Verb::Read {
         handle: words.number()?,
@@ -64,7 +65,7 @@ pub(crate) fn read(words: &mut Words<'_>) -> Result<Verb, Unread>
 }
 
 pub(crate) fn write(alloc: Global, words: &mut Words<'_>) -> Result<Verb, Unread>
-    ensures { Takes result (forms.write words.old) words.new }
+    ensures { Takes result (number_forms.write words.old) words.new }
 {
     Ok(Verb::Write {
         handle: words.number()?,
@@ -74,7 +75,7 @@ pub(crate) fn write(alloc: Global, words: &mut Words<'_>) -> Result<Verb, Unread
 }
 
 pub(crate) fn fill(words: &mut Words<'_>) -> Result<Verb, Unread>
-    ensures { Takes result (forms.fill words.old) words.new }
+    ensures { Takes result (number_forms.fill words.old) words.new }
 {
     Ok(Verb::Fill {
         handle: words.number()?,
@@ -85,7 +86,7 @@ pub(crate) fn fill(words: &mut Words<'_>) -> Result<Verb, Unread>
 }
 
 pub(crate) fn meta_put(alloc: Global, words: &mut Words<'_>) -> Result<Verb, Unread>
-    ensures { Takes result (forms.meta_put words.old) words.new }
+    ensures { Takes result (number_forms.meta_put words.old) words.new }
 {
     Ok(Verb::MetaPut {
         record: words.record()?,

@@ -3,6 +3,7 @@
 ghost use Rattle.std.specs.Prelude.{◌≡◌, option_copied};
 ghost use Rattle.std.specs.List.{find};
 ghost use Rattle.script_lang.specs.Names as spec;
+ghost use Rattle.script_lang.specs.VerbNames.{name_in};
 
 use crate::verb::Verb;
 
@@ -154,7 +155,7 @@ fn name_among<'a>(names: &'a [CommandName], word: &[u8]) -> Option<&'a CommandNa
 impl Verb {
     /// The name of the command.
     pub fn name(&self) -> CommandName
-        ensures { result ≡ spec.name_in self.now }
+        ensures { result ≡ name_in self.now }
     {
         match self {
             Verb::AddKey(_) => CommandName::AddKey,

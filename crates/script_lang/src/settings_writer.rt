@@ -1,8 +1,9 @@
 //! The writer of words that may be left out, and of what a command says of a policy.
 
 ghost use Rattle.std.specs.Prelude.{◌≡◌, OnOk};
-ghost use Rattle.script_lang.specs.VerbText.{behind, words_of_settings, words_of_said_settings};
-ghost use Rattle.script_lang.specs.VerbText.{words_of_number, words_of_options, words_of_unit};
+ghost use Rattle.script_lang.specs.VerbText.{behind};
+ghost use Rattle.script_lang.specs.SettingWords.{words_of_settings, words_of_said_settings};
+ghost use Rattle.script_lang.specs.SettingWords.{words_of_number, words_of_options, words_of_unit};
 
 use crate::verb::{Options, Settings};
 use policy_ctx::Unit;

@@ -1,8 +1,9 @@
 //! The writer of commands: a name, and the words behind it, each behind a space.
 
 ghost use Rattle.std.specs.Prelude.{◌≡◌, ◌++◌, OnOk};
-ghost use Rattle.script_lang.specs.VerbText.{verb_text, verb_words, behind};
-ghost use Rattle.script_lang.specs.VerbText.{BeginsWithPath, BeginsWithLabel, HasNumbers};
+ghost use Rattle.script_lang.specs.VerbText.{verb_text, behind};
+ghost use Rattle.script_lang.specs.VerbWords.{verb_words};
+ghost use Rattle.script_lang.specs.VerbGroups.{BeginsWithPath, BeginsWithLabel, HasNumbers};
 
 use crate::settings_writer::{
     push_said_number, push_said_options, push_said_settings, push_settings,

@@ -3,8 +3,8 @@
 ghost use Rattle.std.specs.Prelude.{◌≡◌, IfOk};
 ghost use Rattle.script_lang.specs.Forms.{Takes, if_read};
 ghost use Rattle.script_lang.specs.Commands.{form_of, verb_of, command_named};
-ghost use Rattle.script_lang.specs.Commands.{TakesKey, TakesPath, TakesLabel};
-ghost use Rattle.script_lang.specs.Commands.{TakesCallWords, TakesSessionWords};
+ghost use Rattle.script_lang.specs.NameGroups.{TakesKey, TakesPath, TakesLabel};
+ghost use Rattle.script_lang.specs.NameGroups.{TakesCallWords, TakesSessionWords};
 
 use crate::file_forms::{
     fill, list, meta_put, read, rename, set_policy, set_policy_bytes, symlink, write,

@@ -13,8 +13,9 @@ use Rattle.script_lang.specs.declared.commands.Section.{Section}
 use Rattle.fsc_commands.specs.Steps.{Steps}
 use Rattle.fsc_commands.specs.Steps.Steps.{Done}
 use Rattle.fsc_session.specs.Asking.{AsksRightly}
-use Rattle.fsc_session.specs.Session.{IsRunOfCaller, IsRunOfSection, notes_of_section, notes_by}
-use Rattle.fsc_session.specs.Running.{RunnerView, runner_view, state_of}
+use Rattle.fsc_session.specs.Session.{IsRunOfSection, notes_of_section}
+use Rattle.fsc_session.specs.ScriptRun.{IsRunOfCaller, notes_by}
+use Rattle.fsc_session.specs.Runners.{RunnerView, runner_view, state_of}
 use Rattle.fsc_session.specs.Rotation.{Waiting, fresh, longest}
 use Rattle.fsc_session.proofs.RunLemmas.{run_is_whole, notes_are_whole}
 use Rattle.script_runs.specs.Callers.{fresh_runners, noted_by, sections_of, shown_by}

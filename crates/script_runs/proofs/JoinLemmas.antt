@@ -3,7 +3,8 @@ use Rattle.std.proofs.Common.{◌≡◌, ℕ, zero, suc, ◌+◌, ◌-◌, ◌<�
 use Rattle.std.specs.Prelude.{slice_get}
 use Rattle.std.proofs.lemmas.Bool.{cases_Bool, leb-true, leb-false}
 use Rattle.std.proofs.lemmas.Option.{slice_get_past}
-use Rattle.turn_lock.specs.Passes.{SharedView, with_other}
+use Rattle.turn_lock.specs.Passes.{SharedView}
+use Rattle.turn_lock.specs.PassParts.{with_other}
 use Rattle.call_history.specs.Entries.{by}
 use Rattle.call_history.proofs.Placing.{by-append}
 use Rattle.reply_text.specs.Shown.{PlacedShown, shown_calls}
@@ -11,7 +12,7 @@ use Rattle.reply_text.specs.declared.notes.Note.{Note}
 use Rattle.mount_model.specs.Port.{PlacedCalls}
 use Rattle.mount_shared.specs.SharedCalls.{MountPass}
 use Rattle.script_lang.specs.declared.commands.Section.{Section}
-use Rattle.fsc_session.specs.Session.{IsRunOfCaller, notes_by}
+use Rattle.fsc_session.specs.ScriptRun.{IsRunOfCaller, notes_by}
 use Rattle.fsc_session.proofs.NoteLemmas.{notes_by-alike, notes_by-append}
 use Rattle.script_runs.specs.Passes.{AreHalves, IsAsBefore, RunFrom, Shows, calls_of}
 

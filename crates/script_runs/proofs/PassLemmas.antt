@@ -4,7 +4,8 @@ use Rattle.std.specs.Prelude.{slice_get, All, ◌==◌}
 use Rattle.std.proofs.Math.Seq.{drop-append_seam, take-append_seam}
 use Rattle.std.proofs.lemmas.List.Elements.{All-take, All-drop}
 use Rattle.std.proofs.lemmas.List.Sums.{sum_by-append}
-use Rattle.turn_lock.specs.Passes.{SharedView, under, over, lower_part, upper_part, first_pass}
+use Rattle.turn_lock.specs.Passes.{SharedView, first_pass}
+use Rattle.turn_lock.specs.PassParts.{under, over, lower_part, upper_part}
 use Rattle.call_history.specs.Entries.{by}
 use Rattle.call_history.proofs.Placing.{by-by_other}
 use Rattle.reply_text.specs.Shown.{PlacedShown, shown_calls}
@@ -15,7 +16,8 @@ use Rattle.mount_model.specs.Port.{PlacedCalls}
 use Rattle.mount_shared.specs.SharedCalls.{MountPass, PassCame}
 use Rattle.script_lang.specs.declared.commands.Section.{Section}
 use Rattle.fsc_session.specs.Asking.{AsksRightly}
-use Rattle.fsc_session.specs.Session.{IsRunOfCaller, IsRunOfSection, notes_of_section, notes_by}
+use Rattle.fsc_session.specs.Session.{IsRunOfSection, notes_of_section}
+use Rattle.fsc_session.specs.ScriptRun.{IsRunOfCaller, notes_by}
 use Rattle.script_runs.specs.Passes.{AreHalves, CanRun, IsAsBefore, RunFrom, Shows, calls_needed, calls_of}
 
 -- ---- before the first call

@@ -15,8 +15,9 @@ use Rattle.script_lang.specs.declared.commands.Section.{Section}
 use Rattle.fsc_commands.specs.Steps.{Steps, Reaches}
 use Rattle.fsc_commands.specs.Steps.Steps.{Done}
 use Rattle.fsc_session.specs.Asking.{AsksRightly}
-use Rattle.fsc_session.specs.Session.{IsRunOfCaller, notes_by, notes_of}
-use Rattle.fsc_session.specs.Running.{RunnerView, Stepped, state_of}
+use Rattle.fsc_session.specs.ScriptRun.{IsRunOfCaller, notes_by, notes_of}
+use Rattle.fsc_session.specs.Running.{Stepped}
+use Rattle.fsc_session.specs.Runners.{RunnerView, state_of}
 use Rattle.fsc_session.specs.Rotation.{Waiting, longest, rotation_steps, round_steps}
 use Rattle.fsc_session.proofs.LawLemmas.{played_from}
 use Rattle.fsc_session.proofs.ShownRuns.{numbered-shown}
@@ -25,7 +26,8 @@ use Rattle.script_runs.specs.InRange.{RangedCame}
 use Rattle.script_runs.specs.RangeLaws.{are_in_range-append}
 use Rattle.script_runs.specs.Rotating.{Rotating, TurnMade}
 use Rattle.script_runs.specs.Runs.{IsRunBefore, IsSerialRun, TellsRun}
-use Rattle.script_runs.specs.Turns.{At, Rotates}
+use Rattle.script_runs.specs.Turns.{Rotates}
+use Rattle.script_runs.specs.MountPlaces.{At}
 use Rattle.script_runs.proofs.TurnLemmas.{rotates_on, turns_in}
 use Rattle.script_runs.proofs.RoundLemmas.{goes_by, stands_on, taken_by}
 use Rattle.script_runs.proofs.CallerLemmas.{alike, noted_all, rotates_first, run_of}

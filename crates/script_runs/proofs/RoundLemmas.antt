@@ -12,10 +12,12 @@ use Rattle.mount_shared.specs.SerialCalls.{SerialView, SerialCame, serial_view}
 use Rattle.script_lang.specs.declared.commands.Section.{Section}
 use Rattle.fsc_commands.specs.Steps.{Steps, Reaches}
 use Rattle.fsc_commands.specs.Steps.Steps.{Done}
-use Rattle.fsc_session.specs.Running.{RunnerView, Stepped, state_of}
+use Rattle.fsc_session.specs.Running.{Stepped}
+use Rattle.fsc_session.specs.Runners.{RunnerView, state_of}
 use Rattle.fsc_session.specs.Rotation.{Waiting, round_steps, rounds_steps}
 use Rattle.fsc_commands.proofs.StepsLemmas.{entries_of-append}
-use Rattle.script_runs.specs.Turns.{At, Goes, InTurn, Rotates, Stands, Taken}
+use Rattle.script_runs.specs.Turns.{InTurn, Rotates, Taken}
+use Rattle.script_runs.specs.MountPlaces.{At, Goes, Stands}
 use Rattle.script_runs.proofs.TurnLemmas.{turns_in}
 
 -- ---- rounds

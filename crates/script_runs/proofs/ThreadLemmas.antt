@@ -1,7 +1,8 @@
 -- Callers in threads on one mount, and the history that they make.
 use Rattle.std.proofs.Common.{◌≡◌, ℕ, ◌+◌, List, [], ◌∷◌, ◌++◌, length, Some, sym, ap, ◌∙◌, subst, arith}
 use Rattle.std.specs.Prelude.{slice_get, All}
-use Rattle.turn_lock.specs.Passes.{SharedView, with_other}
+use Rattle.turn_lock.specs.Passes.{SharedView}
+use Rattle.turn_lock.specs.PassParts.{with_other}
 use Rattle.call_history.specs.Entries.{by, entries_by, numbered}
 use Rattle.reply_text.specs.Ranges.{EntryIsInRange}
 use Rattle.reply_text.specs.Shown.{PlacedShown, shown_calls, shown_history}
@@ -12,7 +13,8 @@ use Rattle.mount_model.specs.Port.{PlacedCalls}
 use Rattle.mount_shared.specs.SharedCalls.{MountPass, PassCame}
 use Rattle.script_lang.specs.declared.commands.Section.{Section}
 use Rattle.fsc_commands.specs.declared.TheConstants.{MOST_CALLS}
-use Rattle.fsc_session.specs.Session.{IsRunOfCaller, IsRunOfSection, notes_of_section, notes_by, notes_of}
+use Rattle.fsc_session.specs.Session.{IsRunOfSection, notes_of_section}
+use Rattle.fsc_session.specs.ScriptRun.{IsRunOfCaller, notes_by, notes_of}
 use Rattle.fsc_session.proofs.NoteLemmas.{notes_by-alike}
 use Rattle.script_runs.specs.InRange.{AreInRange}
 use Rattle.script_runs.specs.Passes.{AreHalves, CanRun, RunFrom, calls_of}

@@ -17,7 +17,8 @@ use Rattle.fsc_commands.specs.Steps.Steps.{Done}
 use Rattle.fsc_commands.specs.Commands.{command_steps}
 use Rattle.fsc_session.specs.Asking.{AsksRightly}
 use Rattle.reply_text.specs.Shown.{PlacedShown, shown_calls}
-use Rattle.fsc_session.specs.Running.{HasRun, RunnerView, StepMakes, state_of}
+use Rattle.fsc_session.specs.Running.{StepMakes}
+use Rattle.fsc_session.specs.Runners.{HasRun, RunnerView, state_of}
 use Rattle.fsc_session.specs.Rotation.{Waiting, waiting, turn_of, turn_steps, round_steps}
 use Rattle.fsc_commands.proofs.StepsLemmas.{entries_of-append, Reaches-on, Reaches-and_then, names_in-append, names_from-shown}
 use Rattle.script_runs.specs.Turns.{InTurn, Rotates, Taken}

@@ -3,7 +3,7 @@ use Rattle.std.specs.Prelude.{ℕ, ◌+◌, List, [], ◌∷◌, ◌++◌, map}
 use Rattle.script_lang.specs.declared.commands.Section.{Section}
 use Rattle.reply_text.specs.Shown.{PlacedShown}
 use Rattle.reply_text.specs.declared.notes.Note.{Note}
-use Rattle.fsc_session.specs.Running.{RunnerView, runner_view}
+use Rattle.fsc_session.specs.Runners.{RunnerView, runner_view}
 
 -- the callers of sections before their first commands, of which the first has the number k
 abbrev pub fresh_runners : ℕ → List Section → List RunnerView

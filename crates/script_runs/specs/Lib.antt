@@ -5,4 +5,5 @@ pub mod RangeLaws
 pub mod Rotating
 pub mod Runs
 pub mod Threaded
+pub mod MountPlaces
 pub mod Turns

@@ -7,7 +7,7 @@ use Rattle.mount_shared.specs.SharedCalls.{MountPass}
 use Rattle.script_lang.specs.declared.commands.Section.{Section}
 use Rattle.reply_text.specs.Shown.{PlacedShown, shown_calls}
 use Rattle.fsc_session.specs.Asking.{AsksRightly}
-use Rattle.fsc_session.specs.Session.{IsRunOfCaller}
+use Rattle.fsc_session.specs.ScriptRun.{IsRunOfCaller}
 
 -- the most calls that the commands of sections make, where each makes so many
 abbrev pub calls_needed : ℕ → List Section → ℕ

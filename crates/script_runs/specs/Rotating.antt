@@ -4,10 +4,11 @@ use Rattle.mount_model.specs.History.{History}
 use Rattle.mount_model.specs.Port.{PlacedCalls}
 use Rattle.script_lang.specs.declared.commands.Section.{Section}
 use Rattle.fsc_commands.specs.Steps.{Steps}
-use Rattle.fsc_session.specs.Running.{RunnerView}
+use Rattle.fsc_session.specs.Runners.{RunnerView}
 use Rattle.fsc_session.specs.Rotation.{Waiting}
 use Rattle.script_runs.specs.InRange.{AreInRange}
-use Rattle.script_runs.specs.Turns.{At, Goes, Rotates, Stands, Taken}
+use Rattle.script_runs.specs.Turns.{Rotates, Taken}
+use Rattle.script_runs.specs.MountPlaces.{At, Goes, Stands}
 
 -- the mount stands after the calls that were told, which are the runners' and in range
 pub record Rotating {M : Type 0} (leads : History → M → Type 0) (seed : List ℕ) (script : List Section)

@@ -8,7 +8,7 @@ use Rattle.reply_text.specs.Shown.{PlacedShown, shown_history}
 use Rattle.reply_text.specs.declared.notes.Note.{Note}
 use Rattle.fsc_commands.specs.Steps.{Reaches}
 use Rattle.fsc_commands.specs.Steps.Steps.{Done}
-use Rattle.fsc_session.specs.Session.{IsRunOf, notes_of}
+use Rattle.fsc_session.specs.ScriptRun.{IsRunOf, notes_of}
 use Rattle.fsc_session.specs.Rotation.{Waiting, rotation_steps}
 use Rattle.fsc_session.specs.Serial.{serial_history}
 

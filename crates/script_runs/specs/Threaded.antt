@@ -4,7 +4,7 @@ use Rattle.mount_shared.specs.SharedCalls.{MountPass}
 use Rattle.script_lang.specs.declared.commands.Section.{Section}
 use Rattle.reply_text.specs.Shown.{PlacedShown}
 use Rattle.reply_text.specs.declared.notes.Note.{Note}
-use Rattle.fsc_session.specs.Session.{notes_by}
+use Rattle.fsc_session.specs.ScriptRun.{notes_by}
 use Rattle.script_runs.specs.InRange.{AreInRange}
 use Rattle.script_runs.specs.Passes.{IsAsBefore, RunFrom, Shows, calls_of}
 

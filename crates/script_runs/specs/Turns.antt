@@ -1,42 +1,15 @@
--- What stands between two turns, while the callers of a script take turns, on one mount or on two.
-use Rattle.std.specs.Prelude.{◌≡◌, ℕ, ◌+◌, min, Bool, List, [], ◌++◌, length, slice_get, Some, None}
-use Rattle.call_history.specs.Entries.{by, numbered}
+-- The runners of a script between two turns, and what a turn makes of one, on one mount or on two.
+use Rattle.std.specs.Prelude.{◌≡◌, ℕ, min, Bool, List, [], ◌++◌, length, slice_get, Some, None}
+use Rattle.call_history.specs.Entries.{by}
 use Rattle.call_history.specs.Placed.{entries_of}
-use Rattle.mount_model.specs.History.{History}
 use Rattle.mount_model.specs.Port.{PlacedCalls}
 use Rattle.script_lang.specs.declared.commands.Section.{Section}
 use Rattle.reply_text.specs.Shown.{shown_calls}
 use Rattle.fsc_commands.specs.Steps.{Steps, Reaches}
 use Rattle.fsc_session.specs.Asking.{AsksRightly}
-use Rattle.fsc_session.specs.Running.{RunnerView, HasRun, StepMakes}
+use Rattle.fsc_session.specs.Running.{StepMakes}
+use Rattle.fsc_session.specs.Runners.{RunnerView, HasRun}
 use Rattle.fsc_session.specs.Rotation.{Waiting}
-
--- ---- the mount
-
--- a machine, and the number of places that were given
-pub record At (M : Type 0) : Type 0 where
-  pub machine : M
-  pub places : ℕ
-
-abbrev pub at : {M : Type 0} → M → ℕ → At M
-at machine places = record { machine = machine; places = places }
-
--- the mount stands after all of its entries so far, whose places count from 0, and so many are given
-pub record Stands {M : Type 0} (leads : History → M → Type 0) (told : PlacedCalls) (mount : At M)
-    : Type 0 where
-  pub placed : told ≡ numbered 0 (entries_of told)
-  pub given : mount.places ≡ length told
-  pub led : leads (entries_of told) mount.machine
-
--- these calls of a caller went to the mount, and their places count on
-pub record Goes {M : Type 0} (leads : History → M → Type 0) (caller : ℕ) (old : At M)
-    (made : PlacedCalls) (new : At M) : Type 0 where
-  pub placed : made ≡ numbered old.places (entries_of made)
-  pub given : new.places ≡ old.places + length made
-  pub own : by caller made ≡ made
-  pub led : (history : History) → leads history old.machine → leads (history ++ entries_of made) new.machine
-
--- ---- the runners
 
 -- runner j is caller j of the script and had so many turns: the calls that it made are a run of the commands
 -- before its next, and it has what is shown of them

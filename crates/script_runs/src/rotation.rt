@@ -5,12 +5,12 @@ ghost use Rattle.script_lang.specs.Spelled.{IsSpelled};
 ghost use Rattle.script_lang.specs.declared.limits.TheConstants.{MOST_CALLERS};
 ghost use Rattle.fsc_commands.specs.Steps.Steps.{Done};
 ghost use Rattle.fsc_session.specs.Asking.{AsksRightly};
-ghost use Rattle.fsc_session.specs.Running.{state_of};
+ghost use Rattle.fsc_session.specs.Runners.{state_of};
 ghost use Rattle.fsc_session.specs.Rotation.{longest, rounds_steps};
 ghost use Rattle.script_runs.specs.Callers.{fresh_runners, noted_by, sections_of, shown_by};
 ghost use Rattle.script_runs.specs.Rotating.{Rotating, TurnMade};
 ghost use Rattle.script_runs.specs.Runs.{IsRunBefore, IsSerialRun, TellsRun};
-ghost use Rattle.script_runs.specs.Turns.{at};
+ghost use Rattle.script_runs.specs.MountPlaces.{at};
 
 use crate::ranged_port::RangedPort;
 use crate::told::Told;

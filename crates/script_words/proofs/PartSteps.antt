@@ -7,7 +7,8 @@ use Rattle.std.specs.Option.{option_map}
 use Rattle.std.proofs.lemmas.Bool.{eqb-true, eqb-false, ne_eqb, le-leb, leb-true}
 use Rattle.std.proofs.lemmas.Bool.Decides.{nat_tests}
 use Rattle.std.proofs.lemmas.List.{at_drop_more, take_more, drop_all}
-use Rattle.script_words.specs.Path.{is_slash, part_of, before_parts, parts_of, few_parts, path_of, part_text, parts_text, path_text, IsPath}
+use Rattle.script_words.specs.Path.{is_slash, part_of, before_parts, parts_of, few_parts, path_of, IsPath}
+use Rattle.script_words.specs.PathText.{part_text, parts_text, path_text}
 use Rattle.script_words.specs.declared.limits.TheConstants.{MOST_PARTS}
 use Rattle.script_words.specs.declared.path.ScriptPart.{ScriptPart}
 use Rattle.script_words.proofs.PathLemmas.{path_of-path_text}

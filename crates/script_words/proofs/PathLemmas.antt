@@ -16,7 +16,8 @@ use Rattle.percent_encoding.proofs.PercentLemmas.{IsEscapeByte, All-percent_enco
 use Rattle.text_words.specs.Numbers.{number_below, decimal_of, is_decimal}
 use Rattle.text_words.proofs.NumberLemmas.{number_below-decimal_of, IsDecimal-decimal_of, test-from_IsDecimal}
 use Rattle.script_words.specs.Word.{IsWord, word_bytes, word_text, passing, is_plain_character}
-use Rattle.script_words.specs.Path.{is_slash, may_be_part, star_number, part_of, before_parts, parts_of, few_parts, path_of, part_text, parts_text, path_text, IsPart, IsPath}
+use Rattle.script_words.specs.Path.{is_slash, may_be_part, star_number, part_of, before_parts, parts_of, few_parts, path_of, IsPart, IsPath}
+use Rattle.script_words.specs.PathText.{part_text, parts_text, path_text}
 use Rattle.script_words.specs.declared.limits.TheConstants.{MOST_PARTS}
 use Rattle.script_words.specs.declared.path.ScriptPart.{ScriptPart}
 use Rattle.script_words.specs.declared.path.ScriptPart.TheVariants.{Given, Star}

@@ -24,9 +24,12 @@ use Rattle.policy_ctx.specs.declared.policy.Unit.TheVariants.{Block, U512, U1024
 use Rattle.script_words.specs.Keys.{key_ref_text, hex_or_none_text}
 use Rattle.script_words.specs.Numbers.{pad_text, unit_text}
 use Rattle.script_words.specs.Records.{record_name, IsRecord}
-use Rattle.script_words.specs.Secrets.{secret_text, new_secret_text, costs_text, cost_text, IsSecret, IsNewSecret}
+use Rattle.script_words.specs.Secrets.{secret_text, IsSecret}
+use Rattle.script_words.specs.NewSecrets.{new_secret_text, IsNewSecret}
+use Rattle.script_words.specs.CostWords.{costs_text, cost_text}
 use Rattle.script_words.specs.Word.{word_text}
-use Rattle.script_words.specs.Path.{part_text, parts_text, path_text, IsPart, IsPath}
+use Rattle.script_words.specs.Path.{IsPart, IsPath}
+use Rattle.script_words.specs.PathText.{part_text, parts_text, path_text}
 use Rattle.script_words.specs.Keys.{IsKey}
 use Rattle.script_words.specs.declared.path.ScriptPart.{ScriptPart}
 use Rattle.script_words.specs.declared.path.ScriptPart.TheVariants.{Given, Star}

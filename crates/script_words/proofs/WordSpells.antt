@@ -21,7 +21,9 @@ use Rattle.fsc_keys.specs.declared.raw_key.TheConstants.{LEAST_RAW_KEY_BYTES, MO
 use Rattle.script_words.specs.Keys.{hex_of_size, hex_or_none, id_of, raw_key_of, key_ref_of, IsKey, AreFewBytes}
 use Rattle.script_words.specs.Numbers.{number_of, at_most, number_up_to, IsNumber}
 use Rattle.script_words.specs.Records.{record_of, IsRecord}
-use Rattle.script_words.specs.Secrets.{raw_secret_of, secret_of, number_and_rest, costs_of, stretched_of, new_secret_of, IsRawSecret, IsSecret, IsNewSecret}
+use Rattle.script_words.specs.Secrets.{raw_secret_of, secret_of, IsRawSecret, IsSecret}
+use Rattle.script_words.specs.NewSecrets.{stretched_of, new_secret_of, IsNewSecret}
+use Rattle.script_words.specs.CostWords.{number_and_rest, costs_of}
 use Rattle.script_words.specs.Word.{IsWord, word_bytes, may_be_target, target_bytes}
 use Rattle.script_words.specs.Path.{IsPath, path_of}
 use Rattle.script_words.specs.declared.limits.TheConstants.{RAW_SECRET_BYTES}

@@ -1,7 +1,10 @@
 pub mod Word
+pub mod PathText
 pub mod Path
 pub mod Keys
 pub mod Numbers
 pub mod Records
+pub mod CostWords
 pub mod Secrets
+pub mod NewSecrets
 pub mod WordLaws

@@ -1,11 +1,11 @@
 -- Paths of a script: `/`, or a `/` before each of 1 to 32 parts.
-use Rattle.std.specs.Prelude.{ℕ, ◌^◌, ◌<◌, ◌≤◌, ◌==◌, not, nat_le, IsTrue, List}
-use Rattle.std.specs.Prelude.{[], ◌∷◌, ◌++◌, length, codes, Option, Some, None, if◌then◌else◌}
+use Rattle.std.specs.Prelude.{ℕ, ◌^◌, ◌<◌, ◌≤◌, ◌==◌, not, nat_le, IsTrue, List, [], ◌∷◌, length, Option}
+use Rattle.std.specs.Prelude.{Some, None, if◌then◌else◌}
 use Rattle.std.specs.List.{All, slice_split}
 use Rattle.std.specs.Option.{option_map, option_or}
-use Rattle.text_words.specs.Numbers.{number_below, decimal_of}
+use Rattle.text_words.specs.Numbers.{number_below}
 pub use Rattle.text_words.specs.Parts.{is_dots, is_slash, is_slash_or_nul, may_be_part}
-use Rattle.script_words.specs.Word.{IsWord, word_bytes, passing, word_text}
+use Rattle.script_words.specs.Word.{IsWord, word_bytes, passing}
 use Rattle.script_words.specs.declared.limits.TheConstants.{MOST_PARTS}
 use Rattle.script_words.specs.declared.path.ScriptPart.{ScriptPart}
 use Rattle.script_words.specs.declared.path.ScriptPart.TheVariants.{Given, Star}
@@ -42,21 +42,6 @@ path_of [] = None
 path_of (first ∷ rest) =
     if not (is_slash first) then None else if length rest == 0 then Some []
     else few_parts (slice_split is_slash rest)
-
--- the text of a part: a star as it was read, a given part as a word
-abbrev pub part_text : ScriptPart → List ℕ
-part_text (Given bytes) = word_text bytes
-part_text (Star number) = 42 ∷ decimal_of number
-
--- a `/` before the text of each part
-abbrev pub parts_text : List ScriptPart → List ℕ
-parts_text [] = []
-parts_text (part ∷ parts) = 47 ∷ (part_text part ++ parts_text parts)
-
--- the text in which a path is written
-unfoldable pub path_text : List ScriptPart → List ℕ
-path_text [] = codes "/"
-path_text (part ∷ parts) = parts_text (part ∷ parts)
 
 -- what a part may be: a word without `/` and NUL that is neither `.` nor `..`, or a star with a number
 -- below 2^32

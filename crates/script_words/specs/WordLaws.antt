@@ -1,7 +1,8 @@
 -- What is written reads back, so distinct words and paths have distinct texts.
 use Rattle.std.specs.Prelude.{◌≡◌, ℕ, List, IsTrue, Some}
 use Rattle.script_words.specs.Word.{IsWord, word_bytes, word_text, may_be_target, target_bytes}
-use Rattle.script_words.specs.Path.{IsPath, path_of, path_text}
+use Rattle.script_words.specs.Path.{IsPath, path_of}
+use Rattle.script_words.specs.PathText.{path_text}
 use Rattle.script_words.specs.declared.path.ScriptPart.{ScriptPart}
 
 -- the text of 1 to 1,000 bytes spells them

@@ -2,6 +2,8 @@
 
 ghost use Rattle.std.specs.Prelude.{◌≡◌, IfOk};
 ghost use Rattle.std.specs.Option.{option_map};
+ghost use Rattle.script_words.specs.CostWords as cost_words;
+ghost use Rattle.script_words.specs.NewSecrets as new_secrets;
 ghost use Rattle.script_words.specs.Secrets as spec;
 
 use crate::places::place_of;
@@ -26,7 +28,7 @@ pub fn read_secret(alloc: Global, word: &[u8]) -> Result<Option<Secret>, AllocEr
 
 /// The new secret that the word tells.
 pub fn read_new_secret(alloc: Global, word: &[u8]) -> Result<Option<NewSecret>, AllocError>
-    ensures { IfOk result (λ secret. secret ≡ spec.new_secret_of word.now) }
+    ensures { IfOk result (λ secret. secret ≡ new_secrets.new_secret_of word.now) }
 {
     if word.starts_with(b"raw:") {
         return Ok(read_raw(&word[4..]).map(NewSecret::Raw));
@@ -45,7 +47,7 @@ fn read_raw(digits: &[u8]) -> Option<[u8; 32]>
 
 // Costs, and the passphrase behind them.
 fn read_stretched(alloc: Global, text: &[u8]) -> Result<Option<NewSecret>, AllocError>
-    ensures { IfOk result (λ secret. secret ≡ spec.stretched_of text.now) }
+    ensures { IfOk result (λ secret. secret ≡ new_secrets.stretched_of text.now) }
 {
     let Some((passes, text)) = number_and_rest(text) else {
         return Ok(None);
@@ -68,7 +70,7 @@ fn read_behind_costs(
     costs: AllowedCosts,
     text: &[u8],
 ) -> Result<Option<NewSecret>, AllocError>
-    ensures { IfOk result (λ secret. secret ≡ spec.behind_costs costs text.now) }
+    ensures { IfOk result (λ secret. secret ≡ new_secrets.behind_costs costs text.now) }
 {
     let passphrase = read_word(alloc, text)?;
     Ok(passphrase.map(|passphrase| NewSecret::Pass { costs, passphrase }))
@@ -76,14 +78,14 @@ fn read_behind_costs(
 
 // The costs, if they are in their ranges.
 fn allowed_costs(passes: u32, kib: u32, lanes: u32) -> Option<AllowedCosts>
-    ensures { result ≡ spec.costs_of passes kib lanes }
+    ensures { result ≡ cost_words.costs_of passes kib lanes }
 {
     AllowedCosts::new(Costs { passes, kib, lanes }).ok()
 }
 
 // A number before the first `:`, and what stands behind it.
 fn number_and_rest(text: &[u8]) -> Option<(u32, &[u8])>
-    ensures { option_map (λ x. (x.0, x.1.now)) result ≡ spec.number_and_rest text.now }
+    ensures { option_map (λ x. (x.0, x.1.now)) result ≡ cost_words.number_and_rest text.now }
 {
     let end = place_of(text, b':');
     if end >= text.len() {

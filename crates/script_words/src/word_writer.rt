@@ -6,9 +6,11 @@ ghost use Rattle.hex.specs.Hex.{encode_lower};
 ghost use Rattle.text_words.specs.Numbers.{decimal_of};
 ghost use Rattle.script_words.specs.Keys.{key_ref_text, hex_or_none_text};
 ghost use Rattle.script_words.specs.Records.{record_name};
-ghost use Rattle.script_words.specs.Secrets.{secret_text, new_secret_text, costs_text, cost_text};
+ghost use Rattle.script_words.specs.Secrets.{secret_text};
+ghost use Rattle.script_words.specs.NewSecrets.{new_secret_text};
+ghost use Rattle.script_words.specs.CostWords.{costs_text, cost_text};
 ghost use Rattle.script_words.specs.Word.{word_text};
-ghost use Rattle.script_words.specs.Path.{path_text};
+ghost use Rattle.script_words.specs.PathText.{path_text};
 
 use crate::key_words::KeyRef;
 use crate::path::{ScriptPath, write_path};

@@ -1,2 +1,3 @@
 pub mod PortLaws
+pub mod FurtherCalls
 pub mod Scripted

@@ -1,15 +1,14 @@
 -- A port that answers listed replies, one after another. Behind them it refuses each call for want of memory,
 -- and keeps the first of these calls.
-use Rattle.std.specs.Prelude.{◌≡◌, ⊤, ℕ, ◌+◌, ◌-◌, Bool, true, false, List, [], ◌∷◌, drop}
+use Rattle.std.specs.Prelude.{◌≡◌, ℕ, ◌+◌, ◌-◌, Bool, List, [], ◌∷◌, drop}
 use Rattle.mount_model.specs.declared.call.Call.{Call}
 use Rattle.mount_model.specs.declared.reply.Reply.{Reply}
 use Rattle.mount_model.specs.declared.reply.Reply.TheVariants.{Refused}
 use Rattle.mount_model.specs.declared.reply.Refusal.TheVariants.{NoMemory}
-use Rattle.mount_model.specs.Fits.{Fits}
 use Rattle.mount_model.specs.History.{MountEntry}
 use Rattle.mount_model.specs.Port.{PlacedCalls}
 use Rattle.scripted_port.specs.declared.port.Further.{Further}
-use Rattle.scripted_port.specs.declared.port.Further.TheVariants.{Unasked, Asked, Lost}
+use Rattle.scripted_port.specs.FurtherCalls.{further_behind}
 
 -- the caller, its calls that are left, the place of the next one, the replies that are left, the next one
 -- first, and what was asked behind them
@@ -23,23 +22,6 @@ pub record ScriptedView : Type 0 where
 abbrev pub scripted : ℕ → ℕ → ℕ → List Reply → Further → ScriptedView
 scripted caller left place replies further =
     record { caller = caller; left = left; place = place; replies = replies; further = further }
-
--- a mount may be asked what was asked
-abbrev pub FurtherFits : Further → Type 0
-FurtherFits (Asked call) = Fits call
-FurtherFits other = ⊤
-
--- what is kept behind a call that no reply is listed for: the first of them, or that there was no memory to
--- keep it
-abbrev pub kept_behind : Further → Call → Bool → Further
-kept_behind Unasked call false = Asked call
-kept_behind Unasked call true = Lost
-kept_behind further call lost = further
-
--- behind a call, where these replies are left before it
-abbrev pub further_behind : List Reply → Further → Call → Bool → Further
-further_behind [] further call lost = kept_behind further call lost
-further_behind (reply ∷ more) further call lost = further
 
 -- the next reply
 abbrev pub next_reply : List Reply → Reply

@@ -2,7 +2,8 @@
 
 ghost use Rattle.std.specs.Prelude.{◌≡◌, ◌+◌, ◌<◌, ◌^◌, Bool, reverse};
 ghost use Rattle.mount_model.specs.Fits.{Fits};
-ghost use Rattle.scripted_port.specs.Scripted.{FurtherFits, ScriptedCame, kept_behind, scripted};
+ghost use Rattle.scripted_port.specs.Scripted.{ScriptedCame, scripted};
+ghost use Rattle.scripted_port.specs.FurtherCalls.{FurtherFits, kept_behind};
 ghost use Rattle.scripted_port.specs.PortLaws.{ScriptedCame-none, ScriptedCame-on, ScriptedCame-caller};
 ghost use Rattle.scripted_port.specs.declared.port.Further.TheVariants.{Unasked};
 
@@ -34,7 +35,8 @@ pub struct ScriptedPort {
 
 impl Model for ScriptedPort {
     ghost use Rattle.std.specs.Prelude.{◌+◌, ◌<◌, ◌^◌, reverse};
-    ghost use Rattle.scripted_port.specs.Scripted.{FurtherFits, ScriptedView, scripted};
+    ghost use Rattle.scripted_port.specs.Scripted.{ScriptedView, scripted};
+    ghost use Rattle.scripted_port.specs.FurtherCalls.{FurtherFits};
 
     ghost Value = { ScriptedView };
 

@@ -17,8 +17,11 @@ use Rattle.reply_text.specs.declared.outcome.Outcome.TheVariants.{BadRecord}
 use Rattle.session_records.specs.declared.loaded.LoadedProtector.{LoadedProtector}
 use Rattle.session_records.specs.declared.loaded.LoadedPolicy.{LoadedPolicy}
 use Rattle.session_records.specs.declared.opened.OpenedPolicy.{OpenedPolicy}
-use Rattle.session_records.specs.MadeRecords.{MadeProtectorsOpen, MadeWrapsOpen, ChangedProtectorsOpen, OpenedPoliciesAreNamed, loaded_again, loaded_changed}
-use Rattle.session_records.specs.Records.{protector_with_key, protector_key_found, policy_key_found, policy_with_key, policy_by, policy_loaded, key_in_wrap}
+use Rattle.session_records.specs.MadeRecords.{MadeProtectorsOpen, MadeWrapsOpen, OpenedPoliciesAreNamed, loaded_again}
+use Rattle.session_records.specs.ChangedRecords.{ChangedProtectorsOpen, loaded_changed}
+use Rattle.session_records.specs.Records.{protector_with_key, policy_with_key, policy_by}
+use Rattle.session_records.specs.RecordKeys.{protector_key_found, policy_key_found, key_in_wrap}
+use Rattle.session_records.specs.LoadedRecords.{policy_loaded}
 
 same_bytes : (bytes : List ℕ) → bytes_eq bytes bytes ≡ true
 same_bytes bytes = (bytes_eq-Decides bytes bytes).1 refl

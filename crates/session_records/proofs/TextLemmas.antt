@@ -22,7 +22,8 @@ use Rattle.protector_meta.specs.declared.protector.ProtectorKind.{ProtectorKind}
 use Rattle.protector_meta.specs.declared.protector.ProtectorKind.TheVariants.{Raw, Pass}
 use Rattle.protector_meta.specs.declared.wraps.Wrap.{Wrap}
 use Rattle.text_words.specs.Lines.{ended}
-use Rattle.protector_meta.specs.PolicyText.{IsPolicyFile, IsWrap, policy_text, wrap_line, options_line, option_lines, version_line}
+use Rattle.protector_meta.specs.PolicyText.{policy_text, wrap_line, options_line, option_lines, version_line}
+use Rattle.protector_meta.specs.PolicyRecords.{IsPolicyFile, IsWrap}
 use Rattle.protector_meta.specs.ProtectorText.{IsKind, IsProtector, kind_text, protector_text}
 
 number_short : (n : ℕ) → n < 10 ^ 10 → length (decimal_of n) ≤ 10

@@ -5,8 +5,9 @@ use Rattle.protector_meta.specs.declared.protector.Protector.{Protector}
 use Rattle.script_words.specs.declared.secrets.NewSecret.{NewSecret}
 use Rattle.script_lang.specs.declared.verb.Options.{Options as SaidOptions}
 use Rattle.session_records.specs.declared.draws.Purpose.TheVariants.{NonceOrKey, Iv, Salt}
-use Rattle.session_records.specs.NewRecords.{first_drawn, options_said}
-use Rattle.session_records.specs.NewRecords.{made_protector, changed_protector, made_policy, made_wrap}
+use Rattle.session_records.specs.Draws.{first_drawn}
+use Rattle.session_records.specs.NewPolicies.{options_said, made_policy, made_wrap}
+use Rattle.session_records.specs.NewProtectors.{made_protector, changed_protector}
 use Rattle.session_records.specs.PolicyRecords.{policy_with}
 
 -- the protector of this label that a new secret opens; its key, the iv and the salt are drawn

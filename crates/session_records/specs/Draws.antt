@@ -31,6 +31,11 @@ drawn_bytes seed caller command purpose = hkdf_sha512 [] seed (draw_info caller 
 unfoldable pub nonce_drawn : List ℕ → ℕ → ℕ → List ℕ
 nonce_drawn seed caller number = take NONCE_BYTES (drawn_bytes seed (caller_byte caller) number NonceOrKey)
 
+-- the first so many of the bytes that a caller's command of this number draws
+unfoldable pub first_drawn : ℕ → List ℕ → ℕ → ℕ → Purpose → List ℕ
+first_drawn count seed caller number purpose =
+    take count (drawn_bytes seed (caller_byte caller) number purpose)
+
 -- draws with one info have one caller, command and purpose, where commands are below 2^32
 abbrev pub DrawsAreDistinct : Type 0
 DrawsAreDistinct =

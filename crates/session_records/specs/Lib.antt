@@ -1,8 +1,13 @@
 pub mod DrawnRecords
 pub mod Draws
 pub mod MadeRecords
-pub mod NewRecords
+pub mod ChangedRecords
+pub mod NewProtectors
+pub mod NewPolicies
 pub mod Outcomes
+pub mod PolicyOptions
 pub mod PolicyRecords
+pub mod LoadedRecords
+pub mod RecordKeys
 pub mod Records
 pub mod Stopped

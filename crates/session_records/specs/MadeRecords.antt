@@ -1,8 +1,7 @@
 -- What a session makes opens again.
 use Rattle.std.specs.Prelude.{◌≡◌, ℕ, List, Some, Ok}
-use Rattle.fsc_keys.specs.Keys.{key_id_of, descriptor_of}
+use Rattle.fsc_keys.specs.Keys.{key_id_of}
 use Rattle.mount_model.specs.declared.reply.Reply.{Reply}
-use Rattle.protector_meta.specs.declared.protector.Protector.{Protector}
 use Rattle.script_words.specs.declared.secrets.NewSecret.{NewSecret}
 use Rattle.script_words.specs.declared.secrets.NewSecret.TheVariants as new
 use Rattle.script_words.specs.declared.secrets.Secret.{Secret}
@@ -10,8 +9,10 @@ use Rattle.script_words.specs.declared.secrets.Secret.TheVariants as old
 use Rattle.session_records.specs.declared.loaded.LoadedProtector.{LoadedProtector}
 use Rattle.session_records.specs.declared.opened.OpenedPolicy.{OpenedPolicy}
 use Rattle.session_records.specs.declared.opened.OpenedProtector.{OpenedProtector}
-use Rattle.session_records.specs.NewRecords.{made_protector, changed_protector, made_wrap}
-use Rattle.session_records.specs.Records.{protector_by, key_in_wrap, policy_opened}
+use Rattle.session_records.specs.NewPolicies.{made_wrap}
+use Rattle.session_records.specs.NewProtectors.{made_protector}
+use Rattle.session_records.specs.Records.{protector_by, policy_opened}
+use Rattle.session_records.specs.RecordKeys.{key_in_wrap}
 
 -- what is said later of a secret that was new once
 abbrev pub secret_again : NewSecret → Secret
@@ -38,19 +39,6 @@ abbrev pub MadeWrapsOpen : Type 0
 MadeWrapsOpen =
     (protector key iv policy_key : List ℕ)
     → key_in_wrap (key_id_of policy_key) key (Some (made_wrap protector key iv policy_key)) ≡ Ok policy_key
-
--- the same protector as it is loaded at a version, once it got another secret
-abbrev pub loaded_changed : ℕ → Protector → List ℕ → NewSecret → List ℕ → List ℕ → LoadedProtector
-loaded_changed version old key secret iv salt =
-    record { version = version; protector = changed_protector old key secret iv salt }
-
--- a protector that got another secret opens with it, to the key that it had
-abbrev pub ChangedProtectorsOpen : Type 0
-ChangedProtectorsOpen =
-    (version : ℕ) (old : Protector) (key : List ℕ) (secret : NewSecret) (iv salt : List ℕ)
-    → descriptor_of key ≡ old.descriptor
-    → (let loaded : LoadedProtector = loaded_changed version old key secret iv salt in
-    protector_by (secret_again secret) (Ok loaded) ≡ Ok (opened_again loaded key))
 
 -- the key of a policy that was opened has the identifier that its record tells
 abbrev pub OpenedPoliciesAreNamed : Type 0

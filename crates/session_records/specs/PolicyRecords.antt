@@ -1,20 +1,11 @@
--- What a session makes of a policy's record, and what directories get under it.
-use Rattle.std.specs.Prelude.{◌++◌, false, List, ℕ, [], ◌∷◌, Option, Some, None, Result, Ok, Err, ⊤}
-use Rattle.policy_ctx.specs.declared.policy.Pad.{Pad}
-use Rattle.policy_ctx.specs.declared.policy.Policy.{Policy as NodePolicy}
-use Rattle.policy_ctx.specs.declared.policy.Unit.{Unit as DataUnit}
-use Rattle.protector_meta.specs.declared.policy_file.Options.{Options}
+-- What a session makes of the wraps in a policy's record.
+use Rattle.std.specs.Prelude.{◌++◌, List, ℕ, [], ◌∷◌, Option, Some, None, Result, Ok, Err, ⊤}
 use Rattle.protector_meta.specs.declared.policy_file.PolicyFile.{PolicyFile}
 use Rattle.protector_meta.specs.declared.wraps.Wrap.{Wrap}
 use Rattle.protector_meta.specs.declared.wraps.WrapFault.{WrapFault}
 use Rattle.protector_meta.specs.Wraps.{adding_fault, dropping_fault, wraps_without}
 use Rattle.reply_text.specs.declared.outcome.Outcome.{Outcome}
-use Rattle.reply_text.specs.declared.outcome.Outcome.TheVariants.{Current}
-use Rattle.script_lang.specs.declared.verb.Settings.{Settings}
-use Rattle.session_records.specs.NewRecords.{usual_options}
 use Rattle.session_records.specs.Outcomes.{outcome_of_wraps}
-
--- ---- its wraps
 
 -- a value, unless a list of wraps refuses
 abbrev pub unless_refused : {A : Type 0} → Option WrapFault → A → Result A Outcome
@@ -34,40 +25,3 @@ abbrev pub policy_without : List ℕ → PolicyFile → Result PolicyFile Outcom
 policy_without protector policy =
     unless_refused (dropping_fault protector policy.wraps)
     (record policy { wraps = wraps_without protector policy.wraps })
-
--- ---- its options
-
--- a policy of version 1 with the usual options; one that has options stays as it is
-abbrev pub with_options : PolicyFile → Option Options → Result PolicyFile Outcome
-with_options policy (Some options) = Err Current
-with_options policy None = Ok (record policy { options = Some usual_options })
-
--- the options of a record; one of version 1 has the usual ones
-abbrev pub record_options : Option Options → Options
-record_options None = usual_options
-record_options (Some options) = options
-
--- the padding that is said, and else the record's
-abbrev pub pad_for : Options → Option Settings → Pad
-pad_for options None = options.pad
-pad_for options (Some settings) = settings.pad
-
--- the unit of this choice, and else the record's
-abbrev pub unit_or : Options → Option DataUnit → DataUnit
-unit_or options None = options.unit
-unit_or options (Some unit) = unit
-
--- the unit that is said, and else the record's
-abbrev pub unit_for : Options → Option Settings → DataUnit
-unit_for options None = options.unit
-unit_for options (Some settings) = unit_or options settings.unit
-
--- what a directory gets that is encrypted under a policy: each node has keys of its own
-abbrev pub node_policy : PolicyFile → Option Settings → NodePolicy
-node_policy policy settings =
-    record {
-      pad = pad_for (record_options policy.options) settings;
-      unit = unit_for (record_options policy.options) settings;
-      by_mode = false;
-      id = policy.id;
-    }

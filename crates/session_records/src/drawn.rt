@@ -1,7 +1,7 @@
 //! What a command draws for the records that it makes: each length and purpose is said once.
 
 ghost use Rattle.std.specs.Prelude.{◌≡◌, ◌≤◌, length};
-ghost use Rattle.session_records.specs.NewRecords.{first_drawn};
+ghost use Rattle.session_records.specs.Draws.{first_drawn};
 
 use crate::draws::{Purpose, caller_byte, draw};
 use crate::turn::Turn;
@@ -43,7 +43,7 @@ pub(crate) fn salt_drawn(seed: &[u8; 32], turn: Turn) -> [u8; 16]
 }
 
 // Fills `out` with the first of the bytes that the command draws for this purpose.
-#[tactic(auto, unfolding(crate::specs::NewRecords::first_drawn))]
+#[tactic(auto, unfolding(crate::specs::Draws::first_drawn))]
 fn fill_drawn(seed: &[u8; 32], turn: Turn, purpose: Purpose, out: &mut [u8])
     requires { length out.old ≤ 64 }
     ensures { out.new ≡ first_drawn (length out.old) seed.now turn.caller turn.number purpose }

@@ -4,9 +4,10 @@ ghost use Rattle.std.specs.Prelude.{◌≡◌, length, Some, Ok, IfOk};
 ghost use Rattle.fsc_keys.specs.Keys.{key_id_of};
 ghost use Rattle.fsc_keys.specs.declared.raw_key.TheConstants.{MOST_RAW_KEY_BYTES};
 ghost use Rattle.key_wrap.specs.Wrapping.{opened_secret};
-ghost use Rattle.script_words.specs.Secrets.{IsNewSecret};
+ghost use Rattle.script_words.specs.NewSecrets.{IsNewSecret};
 ghost use Rattle.session_records.specs.DrawnRecords as spec;
-ghost use Rattle.session_records.specs.NewRecords.{first_drawn, new_wrapping_key};
+ghost use Rattle.session_records.specs.Draws.{first_drawn};
+ghost use Rattle.session_records.specs.NewProtectors.{new_wrapping_key};
 ghost use Rattle.session_records.specs.PolicyRecords.{room_for};
 
 use crate::drawn::{iv_drawn, key_drawn, policy_key_drawn, salt_drawn};

@@ -3,7 +3,7 @@
 ghost use Rattle.std.specs.Prelude.{◌≡◌};
 ghost use Rattle.protector_meta.specs.PolicyReading.{policy_read};
 ghost use Rattle.protector_meta.specs.ProtectorReading.{protector_read};
-ghost use Rattle.session_records.specs.Records as spec;
+ghost use Rattle.session_records.specs.LoadedRecords as spec;
 ghost use Rattle.session_records.specs.Stopped.{Gives};
 
 use crate::outcomes::outcome_of_other;

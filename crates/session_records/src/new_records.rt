@@ -3,10 +3,11 @@
 ghost use Rattle.std.specs.Prelude.{◌≡◌, Some, IfOk};
 ghost use Rattle.fsc_keys.specs.Keys.{descriptor_of};
 ghost use Rattle.key_wrap.specs.Wrapping.{opened_secret, wrapped_secret};
-ghost use Rattle.script_words.specs.Secrets.{IsNewSecret};
+ghost use Rattle.script_words.specs.NewSecrets.{IsNewSecret};
 ghost use Rattle.session_records.specs.MadeRecords.{MadeProtectorsOpen, MadeWrapsOpen};
-ghost use Rattle.session_records.specs.MadeRecords.{ChangedProtectorsOpen, OpenedPoliciesAreNamed};
-ghost use Rattle.session_records.specs.NewRecords as spec;
+ghost use Rattle.session_records.specs.MadeRecords.{OpenedPoliciesAreNamed};
+ghost use Rattle.session_records.specs.ChangedRecords.{ChangedProtectorsOpen};
+ghost use Rattle.session_records.specs.NewProtectors as spec;
 
 use argon_kdf::Stretch;
 use byte_words::wipe;

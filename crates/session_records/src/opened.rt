@@ -6,6 +6,7 @@ ghost use Rattle.argon_kdf.specs.declared.limits.TheConstants.{MOST_TEXT_BYTES};
 ghost use Rattle.fsc_keys.specs.Keys.{key_id_of};
 ghost use Rattle.fsc_keys.specs.declared.raw_key.TheConstants.{MOST_RAW_KEY_BYTES};
 ghost use Rattle.script_words.specs.Secrets.{IsSecret};
+ghost use Rattle.session_records.specs.RecordKeys as keys;
 ghost use Rattle.session_records.specs.Records as spec;
 ghost use Rattle.session_records.specs.Stopped.{Gives, IfNoMemory};
 
@@ -115,8 +116,8 @@ fn wrapping_key<S: Stretch>(
 ) -> Result<[u8; 32], Stop>
     requires ready { S.ready stretches.now }
     requires secret { IsSecret secret.now }
-    ensures value { Gives result (spec.wrapping_key secret.now kind.now) }
-    ensures memory { IfNoMemory result (spec.IsStretched secret.now kind.now) }
+    ensures value { Gives result (keys.wrapping_key secret.now kind.now) }
+    ensures memory { IfNoMemory result (keys.IsStretched secret.now kind.now) }
 {
     match secret {
         Secret::Raw(raw) => match kind {
@@ -158,7 +159,7 @@ fn stretched<S: Stretch>(
 // The key of a protector under a wrapping key: `WrongKey` exactly where the tag differs, `BadRecord` where
 // the key isn't the one that the record's descriptor tells.
 fn protector_key(protector: &Protector, wrapping: &[u8; 32]) -> Result<[u8; 32], Outcome>
-    ensures { result ≡ spec.protector_key protector.now wrapping.now }
+    ensures { result ≡ keys.protector_key protector.now wrapping.now }
 {
     let mut key = [0; 32];
     if unwrap(
@@ -182,7 +183,7 @@ fn protector_key(protector: &Protector, wrapping: &[u8; 32]) -> Result<[u8; 32],
 // The key of a policy, through the protector of this label with this key. It has 64 bytes, and its identifier
 // is the one in the policy's record.
 fn policy_key(policy: &PolicyFile, label: &Label, key: &[u8; 32]) -> Result<RawKey, Outcome>
-    ensures value { result ≡ spec.policy_key policy.now label.now key.now }
+    ensures value { result ≡ keys.policy_key policy.now label.now key.now }
     ensures identified { IfOk result (λ raw. key_id_of raw ≡ policy.now.id) }
     ensures whole { IfOk result (λ raw. length raw ≡ MOST_RAW_KEY_BYTES) }
 {
@@ -193,7 +194,7 @@ fn policy_key(policy: &PolicyFile, label: &Label, key: &[u8; 32]) -> Result<RawK
 }
 
 fn key_in_wrap(id: &KeyId, wrap: &Wrap, key: &[u8; 32]) -> Result<RawKey, Outcome>
-    ensures value { result ≡ spec.key_in_wrap id.now key.now (Some wrap.now) }
+    ensures value { result ≡ keys.key_in_wrap id.now key.now (Some wrap.now) }
     ensures identified { IfOk result (λ raw. key_id_of raw ≡ id.now) }
     ensures whole { IfOk result (λ raw. length raw ≡ MOST_RAW_KEY_BYTES) }
 {

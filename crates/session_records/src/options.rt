@@ -1,8 +1,8 @@
 //! The options of policies' records, and what directories get under them.
 
 ghost use Rattle.std.specs.Prelude.{◌≡◌};
-ghost use Rattle.session_records.specs.NewRecords as new;
-ghost use Rattle.session_records.specs.PolicyRecords as spec;
+ghost use Rattle.session_records.specs.NewPolicies as new;
+ghost use Rattle.session_records.specs.PolicyOptions as spec;
 
 use policy_ctx::{Pad, Policy, Unit};
 use protector_meta::{Options, PolicyFile};

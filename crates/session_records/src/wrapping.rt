@@ -4,7 +4,7 @@ ghost use Rattle.std.specs.Prelude.{◌≡◌, length, Some, None, IfOk};
 ghost use Rattle.fsc_keys.specs.declared.raw_key.TheConstants.{MOST_RAW_KEY_BYTES};
 ghost use Rattle.key_wrap.specs.Wrapping.{opened_secret};
 ghost use Rattle.protector_meta.specs.Wraps.{adding_fault};
-ghost use Rattle.session_records.specs.NewRecords as new;
+ghost use Rattle.session_records.specs.NewPolicies as new;
 ghost use Rattle.session_records.specs.PolicyRecords as spec;
 
 use crate::outcomes::outcome_of_wraps;

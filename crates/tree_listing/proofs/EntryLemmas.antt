@@ -5,7 +5,7 @@ use Rattle.std.proofs.lemmas.List.{drop_all}
 use Rattle.text_words.specs.Lines.{pieces_of}
 use Rattle.image_lines.specs.Lines.{entry_told, block_told}
 use Rattle.image_lines.specs.Nodes.{IsRestOf}
-use Rattle.image_lines.specs.Reading.{entries_at, blocks_at}
+use Rattle.image_lines.specs.Told.{entries_at, blocks_at}
 use Rattle.image_lines.proofs.RoundLemmas.{dropped, shorter}
 
 -- behind the end of a text there is nothing

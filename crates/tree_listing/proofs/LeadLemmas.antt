@@ -13,7 +13,7 @@ use Rattle.disk_tree.specs.Entries.{Entries}
 use Rattle.disk_tree.specs.Nodes.{entries_of}
 use Rattle.image_lines.specs.Image.{Image, ImageNode, numbers_of, all_entries, children_of}
 use Rattle.image_lines.specs.Rules.{BeginsWithRoot, HasGoodChildren, IsImage}
-use Rattle.tree_listing.specs.Listing.{PlacedEntry, placed_in, placed_entries, entry_to, IsReached}
+use Rattle.tree_listing.specs.PlacedEntries.{PlacedEntry, placed_in, placed_entries, entry_to, IsReached}
 use Rattle.tree_listing.proofs.Members.{In, in_flat, in_from_flat, in_map, in_from_map, in_from_contains, found_in, find_own, holds_in}
 
 abbrev child_of : PlacedEntry → ℕ

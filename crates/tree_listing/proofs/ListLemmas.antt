@@ -8,7 +8,8 @@ use Rattle.image_lines.specs.ImageText.{ended}
 use Rattle.tree_listing.specs.ListingText.{ListedNode, line_text, listing_text}
 use Rattle.tree_listing.specs.declared.walk.Way.{Way}
 use Rattle.tree_listing.specs.declared.walk.Way.TheVariants.{Nowhere, AtRoot, By}
-use Rattle.tree_listing.specs.Walk.{AreWays, IsWayAt, IsWayTo, WritesAt, is_nowhere, line_by}
+use Rattle.tree_listing.specs.WayLines.{WritesAt, line_by}
+use Rattle.tree_listing.specs.Ways.{AreWays, IsWayAt, IsWayTo, is_nowhere}
 
 take_next : {A : Type 0} (xs : List A) (i : ℕ) (x : A) → slice_get xs i ≡ Some x → take (i + 1) xs ≡ take i xs ++ x ∷ []
 take_next [] i x is = absurd (cc is)

@@ -15,11 +15,13 @@ use Rattle.image_lines.specs.Lines.{entry_told}
 use Rattle.std.specs.List.{before_first}
 use Rattle.std.proofs.lemmas.List.{drop_all}
 use Rattle.text_words.specs.Lines.{is_line_feed}
-use Rattle.image_lines.specs.Rules.{IsBody, IsEntry, IsImage, IsNode}
-use Rattle.tree_listing.specs.Listing.{entry_to, place_seen}
+use Rattle.image_lines.specs.Rules.{IsImage}
+use Rattle.image_lines.specs.NodeRules.{IsBody, IsEntry, IsNode}
+use Rattle.tree_listing.specs.Listing.{place_seen}
+use Rattle.tree_listing.specs.PlacedEntries.{entry_to}
 use Rattle.tree_listing.specs.ListingText.{place_text}
 use Rattle.tree_listing.specs.Sights.{sight_of, word_seen}
-use Rattle.tree_listing.specs.Walk.{IsLedBy, entry_at}
+use Rattle.tree_listing.specs.Ways.{IsLedBy, entry_at}
 use Rattle.tree_listing.proofs.Members.{In, holds_in, contains_from_in}
 use Rattle.tree_listing.proofs.LeadLemmas.{entry_to_from}
 

@@ -14,14 +14,15 @@ use Rattle.disk_tree.specs.Entries.{Entries}
 use Rattle.disk_tree.specs.Nodes.{entries_of}
 use Rattle.image_lines.specs.Image.{Image, ImageNode, numbers_of}
 use Rattle.image_lines.specs.Rules.{BeginsWithRoot, HasGoodChildren, IsImage}
-use Rattle.image_lines.specs.Places.{IsIndexOf}
-use Rattle.image_lines.specs.Reading.{body_at}
+use Rattle.image_lines.specs.Marks.{IsIndexOf}
+use Rattle.image_lines.specs.Told.{body_at}
 use Rattle.image_lines.specs.declared.node_line.NodeKind.{NodeKind}
 use Rattle.image_lines.specs.declared.node_line.NodeKind.TheVariants.{File, Link}
-use Rattle.tree_listing.specs.Listing.{IsReached}
+use Rattle.tree_listing.specs.PlacedEntries.{IsReached}
 use Rattle.tree_listing.specs.declared.walk.Way.{Way}
 use Rattle.tree_listing.specs.declared.walk.Way.TheVariants.{Nowhere, AtRoot, By}
-use Rattle.tree_listing.specs.Walk.{AreFollowed, AreFound, AreWays, HasEntries, IsFollowed, IsLedBy, IsWayTo, is_among, is_nowhere}
+use Rattle.tree_listing.specs.Walk.{AreFollowed, AreFound, HasEntries, IsFollowed, is_among}
+use Rattle.tree_listing.specs.Ways.{AreWays, IsLedBy, IsWayTo, is_nowhere}
 use Rattle.tree_listing.proofs.Members.{In, in_back, in_from_contains, contains_from_in, among_from_in, in_from_among, holds_in, get_from_in}
 use Rattle.image_lines.specs.ImageText.{image_text}
 use Rattle.image_lines.specs.Lines.{entry_told}

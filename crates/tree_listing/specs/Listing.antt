@@ -1,37 +1,12 @@
 -- The listing of an image, for somebody who has a raw key, or none.
-use Rattle.std.specs.Prelude.{◌≡◌, ◌↔◌, ◌==◌, ℕ, Bool, IsTrue, List, length, map, filter, Option, Some}
-use Rattle.std.specs.List.{find, flat_map}
+use Rattle.std.specs.Prelude.{◌≡◌, ◌↔◌, ℕ, Bool, IsTrue, List, length, map, filter, Option}
 use Rattle.std.specs.Option.{option_map}
-use Rattle.disk_tree.specs.Nodes.{entries_of}
 use Rattle.disk_tree.specs.declared.node.Body.{Body}
 use Rattle.disk_tree.specs.declared.node.Body.TheVariants as stored
 use Rattle.image_lines.specs.Image.{Image, ImageNode}
 use Rattle.tree_listing.specs.Sights.{sight_of, word_seen, digest_seen}
 use Rattle.tree_listing.specs.ListingText.{ListedBody, Dir, File, Link, ListedNode, listing_text}
-
--- ---- where entries lead
-
--- an entry with the directory that has it
-abbrev pub PlacedEntry : Type 0
-PlacedEntry = ImageNode × (List ℕ × ℕ)
-
-abbrev pub placed_in : ImageNode → List PlacedEntry
-placed_in dir = map (λ e. (dir, e)) (entries_of dir.body)
-
-abbrev pub placed_entries : Image → List PlacedEntry
-placed_entries image = flat_map placed_in image
-
--- the entry that leads to node n: in an image there is at most one
-abbrev pub entry_to : Image → ℕ → Option PlacedEntry
-entry_to image n = find (λ placed. placed.1.1 == n) (placed_entries image)
-
--- reached from the root by entries
-pub data IsReached (image : Image) : ℕ → Type 0 where
-  root : IsReached image 0
-  step : (n : ℕ) (placed : PlacedEntry) → entry_to image n ≡ Some placed → IsReached image placed.0.number
-      → IsReached image n
-
--- ---- how nodes are listed
+use Rattle.tree_listing.specs.PlacedEntries.{PlacedEntry, entry_to, IsReached}
 
 -- the parent's number, and the name as who sees the parent reads it
 abbrev pub place_seen : Option (List ℕ) → PlacedEntry → ℕ × List ℕ

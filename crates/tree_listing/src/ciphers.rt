@@ -4,7 +4,7 @@ ghost use Rattle.std.specs.Prelude.{◌≡◌, ◌↔◌, [], true, Some, IsErr,
 ghost use Rattle.fsc_keys.specs.declared.file_keys.KeyKind.TheVariants.{Contents, Names};
 ghost use Rattle.fsc_keys.specs.Keys.{key_bytes, key_kind};
 ghost use Rattle.data_crypt.specs.Ciphers.{cipher_seal, seal_by};
-ghost use Rattle.tree_listing.specs.Sights.{name_under, seal_in};
+ghost use Rattle.tree_listing.specs.DrawnKeys.{name_under, seal_in};
 
 use crate::reader::{Reader, start_in, unit_in};
 use data_crypt::FileCipher;

@@ -6,8 +6,8 @@ ghost use Rattle.mount_limits.specs.declared.TheConstants.{MOST_FILE_BYTES};
 ghost use Rattle.text_words.specs.Lines.{pieces_of};
 ghost use Rattle.data_crypt.specs.Blocks.{read_contents};
 ghost use Rattle.data_crypt.specs.Ciphers.{seal_by};
-ghost use Rattle.image_lines.specs.Reading.{blocks_at};
-ghost use Rattle.image_lines.specs.Rules.{blocks_for};
+ghost use Rattle.image_lines.specs.Told.{blocks_at};
+ghost use Rattle.image_lines.specs.NodeRules.{blocks_for};
 ghost use Rattle.tree_listing.specs.Sights.{digest_seen, sight_of};
 
 use crate::ciphers::fill;

@@ -5,7 +5,7 @@ ghost use Rattle.std.specs.List.{before_first};
 ghost use Rattle.text_words.specs.Lines.{is_line_feed, pieces_of};
 ghost use Rattle.image_lines.specs.Lines.{entry_told};
 ghost use Rattle.image_lines.specs.Nodes.{IsRestOf};
-ghost use Rattle.image_lines.specs.Reading.{entries_at};
+ghost use Rattle.image_lines.specs.Told.{entries_at};
 
 use image_lines::{EntryLine, read_entry_line};
 use text_words::next_line;

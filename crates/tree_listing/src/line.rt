@@ -7,11 +7,12 @@ ghost use Rattle.text_words.specs.Numbers.{decimal_of};
 ghost use Rattle.image_lines.specs.Image.{ImageNode};
 ghost use Rattle.image_lines.specs.ImageText.{image_text};
 ghost use Rattle.image_lines.specs.Nodes.{node_in};
-ghost use Rattle.image_lines.specs.Rules.{IsNode};
-ghost use Rattle.tree_listing.specs.Listing.{body_seen, entry_to, listed, place_seen};
+ghost use Rattle.image_lines.specs.NodeRules.{IsNode};
+ghost use Rattle.tree_listing.specs.Listing.{body_seen, listed, place_seen};
+ghost use Rattle.tree_listing.specs.PlacedEntries.{entry_to};
 ghost use Rattle.tree_listing.specs.ListingText.{body_text, digest_text, line_text, place_text};
-ghost use Rattle.tree_listing.specs.Walk as spec;
-ghost use Rattle.tree_listing.specs.Walk.{IsWayTo};
+ghost use Rattle.tree_listing.specs.Ways as spec;
+ghost use Rattle.tree_listing.specs.Ways.{IsWayTo};
 
 use crate::digest::digest_shown;
 use crate::entries::entry_count;

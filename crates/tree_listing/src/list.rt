@@ -3,7 +3,8 @@
 ghost use Rattle.std.specs.Prelude.{◌≡◌, ◌<◌, IfOk, OnOk, length};
 ghost use Rattle.std.specs.Option.{option_map};
 ghost use Rattle.tree_listing.specs.Listing.{IsListing, listed};
-ghost use Rattle.tree_listing.specs.Walk.{IsWayAt, WritesAt};
+ghost use Rattle.tree_listing.specs.WayLines.{WritesAt};
+ghost use Rattle.tree_listing.specs.Ways.{IsWayAt};
 
 use crate::line::push_line;
 use crate::reader::Reader;

@@ -5,8 +5,8 @@ ghost use Rattle.byte_words.specs.Bytes.{AreBytes};
 ghost use Rattle.policy_ctx.specs.Context.{id_in};
 ghost use Rattle.policy_ctx.specs.KeyIds.{same_id};
 ghost use Rattle.fsc_keys.specs.Keys.{key_bytes, key_id_of, key_kind};
-ghost use Rattle.tree_listing.specs.Sights as spec;
-ghost use Rattle.tree_listing.specs.Sights.{key_in};
+ghost use Rattle.tree_listing.specs.DrawnKeys as spec;
+ghost use Rattle.tree_listing.specs.DrawnKeys.{key_in};
 
 use fsc_keys::{FileKey, KeyId, PreparedKey};
 use policy_ctx::{CONTEXT_LEN, POLICY_LEN, Unit, id_in, is_by_mode};

@@ -4,8 +4,9 @@ ghost use Rattle.std.specs.Prelude.{◌≡◌, ◌<◌, [], ◌∷◌, true, IfO
 ghost use Rattle.text_words.specs.Lines.{pieces_of};
 ghost use Rattle.image_lines.specs.ImageText.{image_text};
 ghost use Rattle.image_lines.specs.Nodes.{IsRestOf};
-ghost use Rattle.image_lines.specs.Reading.{entries_at};
-ghost use Rattle.tree_listing.specs.Walk.{AreFound, AreWaysToReached, GoesOn, HasEntries, IsFollowed, IsLedBy, IsWalk, is_among};
+ghost use Rattle.image_lines.specs.Told.{entries_at};
+ghost use Rattle.tree_listing.specs.Walk.{AreFound, GoesOn, HasEntries, IsFollowed, IsWalk, is_among};
+ghost use Rattle.tree_listing.specs.Ways.{AreWaysToReached, IsLedBy};
 
 use crate::entries::first_entry;
 use image_lines::{Image, NodeKind};

@@ -3,7 +3,8 @@
 ghost use Rattle.std.specs.Prelude.{◌≡◌, ◌≤◌, ◌++◌, ◌∷◌, ◌-◌, true, length, is_some, OnOk};
 ghost use Rattle.name_crypt.specs.declared.limits.TheConstants.{LEAST_STORED_BYTES};
 ghost use Rattle.name_crypt.specs.NoKeyText.{nokey_text_of};
-ghost use Rattle.tree_listing.specs.Sights.{name_under, sight_of, word_or_text, word_seen};
+ghost use Rattle.tree_listing.specs.Sights.{sight_of, word_or_text, word_seen};
+ghost use Rattle.tree_listing.specs.DrawnKeys.{name_under};
 
 use crate::ciphers::decipher;
 use crate::reader::Reader;

@@ -17,7 +17,8 @@ use Rattle.call_history.proofs.Placing.{by-append, by-cons_own, by-cons_other, e
 use Rattle.call_history.proofs.Placing.{entries_by-more_other}
 use Rattle.turn_lock.specs.declared.view.View.{View}
 use Rattle.turn_lock.specs.Standing.{Standing, standing}
-use Rattle.turn_lock.specs.Turns.{TurnState, Owns, Knows, Kept, all_left}
+use Rattle.turn_lock.specs.Turns.{TurnState, Kept}
+use Rattle.turn_lock.specs.Views.{Owns, Knows, all_left}
 use Rattle.turn_lock.specs.Steps.{Seated, tried, counted, counted_view, released}
 use Rattle.turn_lock.proofs.Views.{at_written, only, each_set, alone, apart_set, left_set}
 

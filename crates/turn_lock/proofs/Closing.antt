@@ -11,7 +11,8 @@ use Rattle.call_history.specs.Prefix.{IsPrefix}
 use Rattle.call_history.specs.Entries.{History, by, entries_by}
 use Rattle.turn_lock.specs.declared.view.View.{View}
 use Rattle.turn_lock.specs.Standing.{Standing, standing}
-use Rattle.turn_lock.specs.Turns.{TurnState, Owns, Knows, Kept}
+use Rattle.turn_lock.specs.Turns.{TurnState, Kept}
+use Rattle.turn_lock.specs.Views.{Owns, Knows}
 use Rattle.turn_lock.proofs.Shares.{by_not_own, by_past}
 use Rattle.turn_lock.proofs.Views.{at_same}
 

@@ -10,9 +10,10 @@ use Rattle.call_history.specs.Entries.{History, PlacedList, by, entries_by}
 use Rattle.call_history.proofs.Prefixes.{IsPrefix-nil, IsPrefix_shorter}
 use Rattle.call_history.proofs.Placing.{by-append}
 use Rattle.turn_lock.specs.declared.view.View.{View}
-use Rattle.turn_lock.specs.Passes.{under, over}
+use Rattle.turn_lock.specs.PassParts.{under, over}
 use Rattle.turn_lock.specs.Standing.{Standing}
-use Rattle.turn_lock.specs.Turns.{TurnState, Owns, Knows, Kept, spent_view}
+use Rattle.turn_lock.specs.Turns.{TurnState, Kept}
+use Rattle.turn_lock.specs.Views.{Owns, Knows, spent_view}
 use Rattle.turn_lock.specs.Steps.{Seated, looked, lower_view, upper_view, joined_view}
 use Rattle.turn_lock.proofs.Calls.{unchanged}
 use Rattle.turn_lock.proofs.Shares.{by-under, by-over, by_not_own, by_past, by_mine, length-mine}

@@ -9,7 +9,7 @@ use Rattle.call_history.specs.Prefix.{IsPrefix}
 use Rattle.call_history.specs.Entries.{History, PlacedList, by, numbered, entries_by}
 use Rattle.call_history.proofs.Prefixes.{IsPrefix-refl, IsPrefix_shorter}
 use Rattle.call_history.proofs.Placing.{by-append, by-by_other, length-numbered}
-use Rattle.turn_lock.specs.Passes.{under, over, longer}
+use Rattle.turn_lock.specs.PassParts.{under, over, longer}
 use Rattle.turn_lock.specs.Steps.{shorter}
 
 module _ {X : Type 0} (p q : X → Bool) where

@@ -6,7 +6,7 @@ use Rattle.call_history.specs.declared.entry.Entry.{Entry}
 use Rattle.call_history.specs.Entries.{History, PlacedList, by, entries_by}
 use Rattle.call_history.proofs.Placing.{by-append, by-cons_own}
 use Rattle.turn_lock.specs.declared.view.View.{View}
-use Rattle.turn_lock.specs.Turns.{Owns}
+use Rattle.turn_lock.specs.Views.{Owns}
 use Rattle.turn_lock.specs.Steps.{Seated, counted_view, lower_view, upper_view, joined_view}
 use Rattle.turn_lock.specs.Seats.{IsPass}
 use Rattle.turn_lock.proofs.Shares.{by-under, by-under_none, by-over, by-over_none, by_not_own, by_past}

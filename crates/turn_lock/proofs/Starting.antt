@@ -8,7 +8,8 @@ use Rattle.call_history.specs.Entries.{History}
 use Rattle.call_history.proofs.Prefixes.{IsPrefix-refl}
 use Rattle.turn_lock.specs.declared.view.View.{View}
 use Rattle.turn_lock.specs.Standing.{standing}
-use Rattle.turn_lock.specs.Turns.{Knows, Kept, AreApart, first_view}
+use Rattle.turn_lock.specs.Turns.{Kept}
+use Rattle.turn_lock.specs.Views.{Knows, AreApart, first_view}
 
 module _ {V C R : Type 0} (leads : History C R → V → Type 0) (numbers allowance : ℕ) where
   knows : Knows numbers [] 0 0 0 (first_view {C = C} {R = R} numbers allowance)

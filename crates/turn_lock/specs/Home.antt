@@ -6,7 +6,8 @@ use Rattle.call_history.specs.Entries.{History, by, entries_by}
 use Rattle.call_history.specs.Prefix.{IsPrefix}
 use Rattle.turn_lock.specs.declared.view.View.{View}
 use Rattle.turn_lock.specs.Standing.{Standing}
-use Rattle.turn_lock.specs.Turns.{TurnState, Owns}
+use Rattle.turn_lock.specs.Turns.{TurnState}
+use Rattle.turn_lock.specs.Views.{Owns}
 
 -- The value is at home and may stand after this history, which is lawful and as long as the count. The
 -- history begins with what each seat has seen, and has of each caller the entries that its seat has.

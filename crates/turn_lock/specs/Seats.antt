@@ -6,7 +6,7 @@ use Rattle.call_history.specs.Entries.{by}
 use Rattle.turn_lock.specs.declared.view.View.{View}
 use Rattle.turn_lock.specs.Passes.{PassView}
 use Rattle.turn_lock.specs.Steps.{Seated}
-use Rattle.turn_lock.specs.Turns.{Owns}
+use Rattle.turn_lock.specs.Views.{Owns}
 
 module _ {C R : Type 0} where
   -- what contracts see of a seat

@@ -7,7 +7,7 @@ use Rattle.call_history.specs.Entries.{History, numbered, by, entries_by}
 use Rattle.call_history.specs.Prefix.{IsPrefix}
 use Rattle.turn_lock.specs.declared.view.View.{View}
 use Rattle.turn_lock.specs.Standing.{Standing}
-use Rattle.turn_lock.specs.Passes.{under, over, longer}
+use Rattle.turn_lock.specs.PassParts.{under, over, longer}
 
 -- what a seat knows, and the slots in its hand
 abbrev pub Seated : Type 0 → Type 0 → Type 0 → Type 0

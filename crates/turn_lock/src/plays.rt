@@ -1,6 +1,6 @@
 //! What each atomic step on the table tells the seat that makes it.
 ghost use Rattle.std.specs.Prelude.{ℕ};
-ghost use Rattle.turn_lock.specs.Turns.{spent_view};
+ghost use Rattle.turn_lock.specs.Views.{spent_view};
 ghost use Rattle.turn_lock.specs.Steps.{tried, counted, released, looked};
 ghost use Rattle.turn_lock.specs.Steps.{lower_view, upper_view, joined_view};
 

@@ -4,7 +4,7 @@ ghost use Rattle.call_history.specs.declared.TheConstants.{MOST_PLACES};
 ghost use Rattle.call_history.specs.Entries.{by, entry, entries_by, IsComplete};
 ghost use Rattle.call_history.specs.Prefix.{IsPrefix};
 ghost use Rattle.turn_lock.specs.Passes.{past_of, merged_entries, first_pass, IsMadeAt};
-ghost use Rattle.turn_lock.specs.Passes.{lower_part, upper_part, with_other};
+ghost use Rattle.turn_lock.specs.PassParts.{lower_part, upper_part, with_other};
 
 use crate::held::Held;
 use crate::machine::{At, Machine, Worn};

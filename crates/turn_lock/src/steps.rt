@@ -4,7 +4,7 @@ ghost use Rattle.std.specs.Prelude.{false, [], ◌∷◌, ◌++◌, length, Some
 ghost use Rattle.call_history.specs.declared.TheConstants.{MOST_PLACES};
 ghost use Rattle.call_history.specs.Prefix.{IsPrefix};
 ghost use Rattle.call_history.specs.Entries.{by, entries_by, entry};
-ghost use Rattle.turn_lock.specs.Turns.{Owns};
+ghost use Rattle.turn_lock.specs.Views.{Owns};
 ghost use Rattle.turn_lock.specs.Steps.{counted_view, lower_view, upper_view, joined_view};
 
 use crate::held::Held;

@@ -1,5 +1,6 @@
 //! The table with the turn (word 0), the count of calls (word 1) and the value's slot.
-ghost use Rattle.turn_lock.specs.Turns.{Kept, first_view};
+ghost use Rattle.turn_lock.specs.Turns.{Kept};
+ghost use Rattle.turn_lock.specs.Views.{first_view};
 
 use crate::held::Held;
 use crate::machine::Machine;

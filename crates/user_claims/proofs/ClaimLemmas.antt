@@ -12,9 +12,8 @@ use Rattle.std.specs.FinMap.{len-insert, len-remove, len-empty, empty_of_len, sa
 use Rattle.policy_ctx.specs.declared.policy.KeyId.{KeyId}
 use Rattle.policy_ctx.specs.KeyIds.{same_id}
 use Rattle.policy_ctx.proofs.KeyIdLemmas.{same_id-refl, same_id-eq, same_id-symm}
-use Rattle.user_claims.specs.Claims.{Claim, ClaimSet, claim_cmp, no_claims, has_claim, claims_of_user}
-use Rattle.user_claims.specs.Claims.{claims_on_id, count_of_user, count_of_id, with_claim, without_claim}
-use Rattle.user_claims.specs.Claims.{without_id}
+use Rattle.user_claims.specs.Claims.{Claim, ClaimSet, claim_cmp, no_claims, has_claim, with_claim, without_claim, without_id}
+use Rattle.user_claims.specs.ClaimCounts.{claims_of_user, claims_on_id, count_of_user, count_of_id}
 use Rattle.user_claims.proofs.SubMaps.{get-part, part-insert, part-insert_other, part-remove}
 use Rattle.user_claims.proofs.SubMaps.{part-remove_other, part_all, contains-part}
 use Rattle.user_claims.proofs.ClaimOrder.{claim_cmp_total, claim_cmp-IsAntisymmetric}

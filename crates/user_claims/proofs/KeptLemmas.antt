@@ -10,8 +10,8 @@ use Rattle.std.specs.FinMap.{nat_cmp-IsAntisymmetric, get-empty, get-insert, con
 use Rattle.std.specs.BTreeMap.{BTreeMap, get, is_at, Updates, IsEmpty}
 use Rattle.std.specs.BTreeSet as sorted
 use Rattle.policy_ctx.specs.declared.policy.KeyId.{KeyId}
-use Rattle.user_claims.specs.Claims.{Claim, ClaimSet, id_cmp, claim_cmp, no_claims, has_claim, with_claim}
-use Rattle.user_claims.specs.Claims.{without_claim, count_of_user, count_of_id}
+use Rattle.user_claims.specs.Claims.{Claim, ClaimSet, id_cmp, claim_cmp, no_claims, has_claim, with_claim, without_claim}
+use Rattle.user_claims.specs.ClaimCounts.{count_of_user, count_of_id}
 use Rattle.user_claims.specs.Counted.{set_of, IsCounted}
 use Rattle.key_counts.specs.Counted.{counted}
 use Rattle.user_claims.proofs.ClaimOrder.{claim_cmp_total, id_cmp_total, id_cmp-IsAntisymmetric, id_ties}

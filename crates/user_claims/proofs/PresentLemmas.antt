@@ -10,9 +10,8 @@ use Rattle.std.proofs.lemmas.Bool.{cond-false, eqb-true, eq-eqb}
 use Rattle.std.specs.FinMap.{contains_key, len, entries, contains_key-keys, len-entries, len-remove}
 use Rattle.policy_ctx.specs.declared.policy.KeyId.{KeyId}
 use Rattle.policy_ctx.specs.KeyIds.{same_id}
-use Rattle.user_claims.specs.Claims.{Claim, ClaimSet, claim_cmp, no_claims, has_claim, claims_of_user}
-use Rattle.user_claims.specs.Claims.{claims_on_id, count_of_user, count_of_id, is_present, with_claim}
-use Rattle.user_claims.specs.Claims.{without_claim, without_id}
+use Rattle.user_claims.specs.Claims.{Claim, ClaimSet, claim_cmp, no_claims, has_claim, with_claim, without_claim, without_id}
+use Rattle.user_claims.specs.ClaimCounts.{claims_of_user, claims_on_id, count_of_user, count_of_id, is_present}
 use Rattle.user_claims.proofs.ClaimOrder.{claim_cmp_total, claim_cmp-IsAntisymmetric}
 use Rattle.user_claims.proofs.SubMaps.{contains-part}
 use Rattle.policy_ctx.proofs.KeyIdLemmas.{same_id-eq, same_id-refl, same_id-symm}

@@ -5,7 +5,8 @@ use Rattle.std.specs.Ordering.{nat_cmp}
 use Rattle.std.specs.BTreeMap.{BTreeMap, get}
 use Rattle.policy_ctx.specs.declared.policy.KeyId.{KeyId}
 use Rattle.key_counts.specs.Counted.{counted}
-use Rattle.user_claims.specs.Claims.{Claim, ClaimSet, id_cmp, count_of_user, count_of_id}
+use Rattle.user_claims.specs.Claims.{Claim, ClaimSet, id_cmp}
+use Rattle.user_claims.specs.ClaimCounts.{count_of_user, count_of_id}
 
 -- the set that the claims in the list are
 abbrev pub set_of : List Claim → ClaimSet

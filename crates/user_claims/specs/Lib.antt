@@ -1,2 +1,3 @@
 pub mod Claims
+pub mod ClaimCounts
 pub mod Counted

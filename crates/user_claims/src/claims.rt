@@ -2,8 +2,8 @@
 
 ghost use Rattle.std.specs.Prelude.{◌≡◌, ◌+◌, ◌<◌, ◌^◌, ℕ, true, false, IsTrue, ◌↔◌};
 ghost use Rattle.std.specs.Prelude.{IsOk, IsErrOf, IfErr, IfSome, IfNone, OnOk, OnErr};
-ghost use Rattle.user_claims.specs.Claims.{IsOverQuota, no_claims, has_claim, count_of_user, count_of_id};
-ghost use Rattle.user_claims.specs.Claims.{with_claim, without_claim, without_id};
+ghost use Rattle.user_claims.specs.Claims.{no_claims, has_claim, with_claim, without_claim, without_id};
+ghost use Rattle.user_claims.specs.ClaimCounts.{IsOverQuota, count_of_user, count_of_id};
 
 use super::{ClaimFault, KeyId};
 use key_counts as counts;

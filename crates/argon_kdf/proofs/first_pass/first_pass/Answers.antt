@@ -1,6 +1,7 @@
 use Rattle.std.proofs.Common.{◌≡◌, [], ◌∷◌, ◌++◌, refl, ap, ◌∙◌, arith, length-set, get_or-set_other}
 use Rattle.argon_kdf.specs.Shapes.{shape}
-use Rattle.argon_kdf.specs.Slices.{block_at, segments_of, slices_of}
+use Rattle.argon_kdf.specs.Slices.{segments_of, slices_of}
+use Rattle.argon_kdf.specs.SeenBlocks.{block_at}
 use Rattle.argon_kdf.specs.Tables.{empty_table}
 use Rattle.argon_kdf.specs.Filling.{with_slices}
 use Rattle.argon_kdf.proofs.SliceLemmas.{block_none, slices_append, slices_more}

@@ -2,7 +2,8 @@ use Rattle.std.proofs.Common.{◌≡◌, ℕ, ◌≤◌, ◌<◌, length, slice_
 use Rattle.argon_kdf.specs.Shapes.{place, shape}
 use Rattle.argon_kdf.specs.Tables.{empty_table}
 use Rattle.argon_kdf.specs.Filling.{with_slices}
-use Rattle.argon_kdf.specs.Slices.{HasSlices, block_at, slices_of}
+use Rattle.argon_kdf.specs.Slices.{HasSlices, slices_of}
+use Rattle.argon_kdf.specs.SeenBlocks.{block_at}
 use Rattle.argon_kdf.specs.Memory.{Shows}
 use Rattle.argon_kdf.specs.Segments.{IsRoom}
 use Rattle.argon_kdf.proofs.first_pass.first_pass.Given as goal

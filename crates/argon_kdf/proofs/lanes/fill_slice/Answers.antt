@@ -5,7 +5,8 @@ use Rattle.std.specs.declared.vec.Vec.{Vec}
 use Rattle.std.specs.declared.alloc.Global.{Global}
 use Rattle.argon_kdf.specs.Blocks.{zero_block}
 use Rattle.argon_kdf.specs.Shapes.{Shape, shape}
-use Rattle.argon_kdf.specs.Slices.{IsSlice, IsWhole, IsWholeBut, block_at, segments_of, slices_of}
+use Rattle.argon_kdf.specs.Slices.{IsSlice, IsWhole, IsWholeBut, segments_of, slices_of}
+use Rattle.argon_kdf.specs.SeenBlocks.{block_at}
 use Rattle.argon_kdf.specs.Filling.{with_places}
 use Rattle.argon_kdf.proofs.AloneLemmas.{Shows_placed}
 use Rattle.argon_kdf.proofs.SegmentLemmas.{Begun_start}

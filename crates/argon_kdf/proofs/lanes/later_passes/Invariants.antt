@@ -1,6 +1,7 @@
 use Rattle.std.proofs.Common.{ℕ, List}
 use Rattle.argon_kdf.specs.Shapes.{place, shape}
-use Rattle.argon_kdf.specs.Slices.{IsWhole, block_at, slices_of}
+use Rattle.argon_kdf.specs.Slices.{IsWhole, slices_of}
+use Rattle.argon_kdf.specs.SeenBlocks.{block_at}
 use Rattle.argon_kdf.specs.Filling.{with_passes}
 use Rattle.argon_kdf.specs.Memory.{Shows}
 use Rattle.argon_kdf.proofs.lanes.later_passes.Given as goal

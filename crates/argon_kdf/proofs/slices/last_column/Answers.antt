@@ -1,7 +1,8 @@
 use Rattle.std.proofs.Common.{◌≡◌, ◌∙◌, ℕ, ◌-◌, sym, ap, arith}
 use Rattle.argon_kdf.specs.Blocks.{zero_block}
 use Rattle.argon_kdf.specs.Shapes.{columns, shape}
-use Rattle.argon_kdf.specs.Slices.{block_at, slices_of}
+use Rattle.argon_kdf.specs.Slices.{slices_of}
+use Rattle.argon_kdf.specs.SeenBlocks.{block_at}
 use Rattle.argon_kdf.proofs.SliceLemmas.{has_slice, slice_low}
 use Rattle.argon_kdf.proofs.Standing.{Shows_read}
 use Rattle.argon_kdf.proofs.Steps.{lanes_xored_none, lanes_xored_next}

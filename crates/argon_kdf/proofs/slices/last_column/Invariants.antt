@@ -1,6 +1,7 @@
 use Rattle.std.proofs.Common.{◌≡◌, ◌-◌}
 use Rattle.argon_kdf.specs.Shapes.{columns, place, shape}
-use Rattle.argon_kdf.specs.Slices.{block_at, slices_of}
+use Rattle.argon_kdf.specs.Slices.{slices_of}
+use Rattle.argon_kdf.specs.SeenBlocks.{block_at}
 use Rattle.argon_kdf.specs.Tables.{Table}
 use Rattle.argon_kdf.specs.Argon2id.{lanes_xored}
 use Rattle.argon_kdf.specs.Memory.{Shows}

@@ -1,5 +1,6 @@
 use Rattle.std.proofs.Common.{ℕ, List, ap, ◌∙◌, sym}
-use Rattle.blake2_core.specs.Compression.{compressed, folded, rounds, work_vector}
+use Rattle.blake2_core.specs.Compression.{compressed, folded, work_vector}
+use Rattle.blake2_core.specs.Mixing.{rounds}
 use Rattle.blake2_core.proofs.Rounds.{rounds_start, rounds_step}
 use Rattle.blake2_core.proofs.compression.compress.Goals as goal
 

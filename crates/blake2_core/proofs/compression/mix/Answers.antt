@@ -1,5 +1,5 @@
 use Rattle.std.proofs.Common.{refl}
-use Rattle.blake2_core.specs.Compression.{mixed}
+use Rattle.blake2_core.specs.Mixing.{mixed}
 use Rattle.blake2_core.proofs.compression.mix.Goals as goal
 
 pub returns : goal.returns

@@ -1,5 +1,5 @@
 use Rattle.std.proofs.Common.{refl}
-use Rattle.blake2_core.specs.Compression.{mixed_round}
+use Rattle.blake2_core.specs.Mixing.{mixed_round}
 use Rattle.blake2_core.proofs.compression.mix_round.Goals as goal
 
 pub returns : goal.returns

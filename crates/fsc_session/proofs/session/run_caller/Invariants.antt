@@ -1,5 +1,5 @@
 use Rattle.std.proofs.Common.{◌≡◌, ◌≤◌, ◌+◌, ◌*◌}
-use Rattle.fsc_session.specs.Running.{RanSoFar}
+use Rattle.fsc_session.specs.PortRuns.{RanSoFar}
 use Rattle.fsc_session.proofs.session.run_caller.Given as goal
 
 abbrev pub invariant-commands : goal.invariant-commands

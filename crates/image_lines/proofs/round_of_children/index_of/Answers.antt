@@ -1,6 +1,7 @@
 use Rattle.std.proofs.Common.{rules, sym, subst}
 use Rattle.std.proofs.lemmas.List.Sorted.{answers_always}
-use Rattle.image_lines.specs.Places.{IsIndexOf, numbers_at}
+use Rattle.image_lines.specs.Places.{numbers_at}
+use Rattle.image_lines.specs.Marks.{IsIndexOf}
 use Rattle.image_lines.proofs.SearchLemmas.{searched}
 use Rattle.image_lines.proofs.round_of_children.index_of.Goals as goal
 

@@ -7,7 +7,7 @@ use Rattle.std.specs.Option.{option_copied_mut}
 use Rattle.policy_ctx.specs.declared.policy.KeyId.{KeyId}
 use Rattle.user_claims.specs.Claims.{id_cmp}
 use Rattle.key_ring.specs.declared.mode_key.ModeKey.{ModeKey}
-use Rattle.key_ring.specs.Modes.{with_users}
+use Rattle.key_ring.specs.ModeUsers.{with_users}
 use Rattle.key_ring.specs.KeptModes.{ModeBox, modes_of}
 use Rattle.key_ring.proofs.ModeLemmas.{held_more, held_first, mode_kept}
 use Rattle.key_ring.proofs.mode_keys.hold_in.Goals as goal

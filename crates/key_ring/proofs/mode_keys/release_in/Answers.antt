@@ -2,7 +2,7 @@ use Rattle.std.proofs.Common.{◌≡◌, ◌-◌, ◌≤◌, None, IsSome, refl,
 use Rattle.std.specs.Box.{with_value}
 use Rattle.std.specs.Option.{option_copied_mut, option_map_or}
 use Rattle.key_ring.specs.declared.mode_key.ModeKey.{ModeKey}
-use Rattle.key_ring.specs.Modes.{users_in}
+use Rattle.key_ring.specs.ModeUsers.{users_in}
 use Rattle.key_ring.specs.KeptModes.{ModeBox, modes_of}
 use Rattle.key_ring.proofs.ModeLemmas.{left_fewer, left_none, mode_kept}
 use Rattle.key_ring.proofs.mode_keys.release_in.Goals as goal

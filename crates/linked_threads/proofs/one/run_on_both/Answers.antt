@@ -5,7 +5,8 @@ use Rattle.fsc_commands.specs.declared.TheConstants.{MOST_CALLS}
 use Rattle.fsc_session.specs.Session.{IsRunOfSection, notes_of_section}
 use Rattle.mount_links.specs.declared.step.LinkStep.{LinkStep}
 use Rattle.mount_links.specs.Linked.{own_parts, far_parts}
-use Rattle.mount_links.specs.LinkCalls.{LinkView, link_view, load_shown}
+use Rattle.mount_links.specs.LinkCalls.{LinkView, link_view}
+use Rattle.mount_links.specs.ShownParts.{load_shown}
 use Rattle.script_runs.specs.Passes.{calls_needed}
 use Rattle.linked_threads.specs.Threaded.{both}
 use Rattle.linked_threads.proofs.OneLemmas.{odd_runs}

@@ -3,14 +3,14 @@ use Rattle.call_history.specs.Entries.{by}
 use Rattle.call_history.specs.Placed.{entries_of}
 use Rattle.reply_text.specs.Shown.{shown_history}
 use Rattle.fsc_commands.specs.Steps.Steps.{Done}
-use Rattle.fsc_session.specs.Running.{state_of}
+use Rattle.fsc_session.specs.Runners.{state_of}
 use Rattle.fsc_session.specs.Rotation.{fresh, longest, rounds_steps}
 use Rattle.fsc_session.proofs.Asked.{spelled-few, spelled-asked}
 use Rattle.linked_turns.specs.LinkedRuns.{TellsLinkedRun}
 use Rattle.linked_turns.specs.Callers.{even_shown, fresh_views, odd_shown, runners_of, view_of}
 use Rattle.script_runs.specs.Callers as runs
 use Rattle.script_runs.specs.Callers.{noted_by, shown_by}
-use Rattle.script_runs.specs.Turns.{at}
+use Rattle.script_runs.specs.MountPlaces.{at}
 use Rattle.script_runs.proofs.CallerLemmas.{fresh_sections, fresh_states}
 use Rattle.script_runs.proofs.RoundLemmas.{written_back}
 use Rattle.linked_turns.specs.Turns.{Rotating, sections_of, states_of}

@@ -1,7 +1,7 @@
 use Rattle.std.proofs.Common.{◌≡◌, ◌+◌, ◌-◌, length, map, take, drop}
-use Rattle.fsc_session.specs.Running.{state_of}
+use Rattle.fsc_session.specs.Runners.{state_of}
 use Rattle.fsc_session.specs.Rotation.{round_steps, rounds_steps}
-use Rattle.script_runs.specs.Turns.{at}
+use Rattle.script_runs.specs.MountPlaces.{at}
 use Rattle.script_runs.proofs.TurnLemmas.{turns_in}
 use Rattle.linked_turns.specs.Callers.{runners_of}
 use Rattle.linked_turns.specs.Turns.{Rotating, sections_of, states_of}

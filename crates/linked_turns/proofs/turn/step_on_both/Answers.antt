@@ -2,7 +2,7 @@ use Rattle.std.proofs.Common.{[], ◌*◌, ap, ◌∙◌}
 use Rattle.mount_shared.specs.SerialCalls.{serial_view}
 use Rattle.fsc_commands.specs.declared.TheConstants.{MOST_CALLS}
 use Rattle.mount_links.specs.LinkCalls.{link_view}
-use Rattle.script_runs.specs.Turns.{at}
+use Rattle.script_runs.specs.MountPlaces.{at}
 use Rattle.linked_turns.proofs.StepLemmas.{odd_turn, ok_then}
 use Rattle.linked_turns.proofs.turn.step_on_both.Goals as goal
 

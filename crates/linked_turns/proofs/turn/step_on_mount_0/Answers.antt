@@ -1,7 +1,7 @@
 use Rattle.std.proofs.Common.{refl, ap, ◌∙◌}
 use Rattle.mount_shared.specs.SerialCalls.{serial_view}
 use Rattle.fsc_commands.specs.declared.TheConstants.{MOST_CALLS}
-use Rattle.script_runs.specs.Turns.{at}
+use Rattle.script_runs.specs.MountPlaces.{at}
 use Rattle.linked_turns.proofs.StepLemmas.{even_turn}
 use Rattle.linked_turns.proofs.turn.step_on_mount_0.Goals as goal
 

@@ -1,5 +1,6 @@
 use Rattle.std.proofs.Common.{refl, sym, ap, ◌∙◌}
-use Rattle.mount_model.specs.PlainMount.{HandleList, node_of}
+use Rattle.mount_model.specs.PlainMount.{HandleList}
+use Rattle.mount_model.specs.OpenHandles.{node_of}
 use Rattle.mount_files.proofs.ClosingLemmas.{pins_due, in_use, keys_are, names_are, disk_now_is, rule_left, names_forget, safe_left}
 use Rattle.mount_files.proofs.CloseStands.{closed_stands}
 use Rattle.mount_files.proofs.closes.close_on.Goals as goal

@@ -1,11 +1,12 @@
 use Rattle.std.proofs.Common.{◌≤◌, None, refl, sym, ap, subst, ◌∙◌}
-use Rattle.key_ring.specs.Modes.{Modes, of_kind, users_in}
+use Rattle.key_ring.specs.Modes.{Modes, of_kind}
+use Rattle.key_ring.specs.ModeUsers.{users_in}
 use Rattle.inode_refs.specs.Cached.{Cache}
 use Rattle.inode_refs.proofs.CacheLemmas.{at_ok}
 use Rattle.mount_state.specs.Discipline.{Forgets}
 use Rattle.mount_state.specs.Handles.{Handles}
 use Rattle.mount_state.specs.Safe.{IsSafe}
-use Rattle.mount_state.specs.StandsFor.{CachesStand}
+use Rattle.mount_state.specs.CachedKeys.{CachesStand}
 use Rattle.mount_files.proofs.CachedRules.{names_opened}
 use Rattle.mount_files.proofs.ModeCounts.{held, released, held_back, held_some}
 use Rattle.mount_files.proofs.PinnedLemmas.{modes_fit, shared_opened, opened_with, safe_opened, shared_caches}

@@ -1,5 +1,6 @@
 use Rattle.std.proofs.Common.{rules, ap, ◌∙◌}
-use Rattle.user_claims.specs.Claims.{ClaimSet, is_present}
+use Rattle.user_claims.specs.Claims.{ClaimSet}
+use Rattle.user_claims.specs.ClaimCounts.{is_present}
 use Rattle.user_claims.proofs.PresentLemmas.{is_present-without_id_other}
 use Rattle.mount_state.proofs.FirstLemmas.{none_remembered}
 use Rattle.mount_keys.proofs.EvictionLemmas.{evicted_rule}

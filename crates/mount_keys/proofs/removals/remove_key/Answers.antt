@@ -1,5 +1,6 @@
 use Rattle.std.proofs.Common.{◌≡◌, Bool, true, false, not, ◌&&◌, refl, sym, ap, ◌∙◌}
-use Rattle.user_claims.specs.Claims.{ClaimSet, has_claim, is_present}
+use Rattle.user_claims.specs.Claims.{ClaimSet, has_claim}
+use Rattle.user_claims.specs.ClaimCounts.{is_present}
 use Rattle.key_ring.proofs.RingLemmas.{absent_at_zero}
 use Rattle.mount_model.specs.declared.reply.Reply.TheVariants.{Removed}
 use Rattle.mount_state.specs.Held.{is_in_use}

@@ -1,8 +1,10 @@
 use Rattle.std.proofs.Common.{rules, ◌≡◌, ◌≤◌, cond, not, ◌&&◌, [], sym, ap, ◌∙◌, arith}
-use Rattle.user_claims.specs.Claims.{ClaimSet, is_present, count_of_id}
+use Rattle.user_claims.specs.Claims.{ClaimSet}
+use Rattle.user_claims.specs.ClaimCounts.{is_present, count_of_id}
 use Rattle.user_claims.proofs.PresentLemmas.{is_present-some, is_present-held, is_present-without_claim_other}
 use Rattle.dentry_cache.specs.Names.{with_pairs}
-use Rattle.inode_refs.specs.Cached.{Cache, evicted}
+use Rattle.inode_refs.specs.Cached.{Cache}
+use Rattle.inode_refs.specs.Evictions.{evicted}
 use Rattle.key_ring.proofs.RingLemmas.{absent_at_zero}
 use Rattle.mount_state.proofs.FirstLemmas.{none_remembered}
 use Rattle.mount_keys.proofs.EvictionLemmas.{left_rule, left_names, evicted_rule}

@@ -1,5 +1,5 @@
 use Rattle.std.proofs.Common.{[], ◌∷◌, ◌++◌, ap, sym, ◌∙◌, append_assoc}
-use Rattle.mount_links.specs.LinkCalls.{load_shown}
+use Rattle.mount_links.specs.ShownParts.{load_shown}
 use Rattle.mount_links.specs.Linked.{own_part}
 use Rattle.mount_links.proofs.on_both.put_parts.Goals as goal
 

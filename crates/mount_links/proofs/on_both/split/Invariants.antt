@@ -1,6 +1,6 @@
 -- What is put, and the parts of the calls that are left, are the parts of all.
 use Rattle.std.proofs.Common.{◌≡◌, ◌++◌}
-use Rattle.mount_links.specs.LinkCalls.{load_shown}
+use Rattle.mount_links.specs.ShownParts.{load_shown}
 use Rattle.mount_links.specs.Linked as spec
 use Rattle.mount_links.proofs.on_both.split.Given as goal
 

@@ -1,6 +1,6 @@
 use Rattle.std.proofs.Common.{◌≡◌, false, inl, inr, sym, ◌∙◌}
 use Rattle.std.proofs.lemmas.Bool.{cases_Bool, true≢false}
-use Rattle.plain_tree.specs.Nodes.{is_dir_at}
+use Rattle.plain_tree.specs.NodesByNumber.{is_dir_at}
 use Rattle.mount_names.proofs.ReadLemmas.{dir_lies}
 use Rattle.mount_names.proofs.CipherLemmas.{link_present, secret_there, drawn_cipher_is}
 use Rattle.mount_names.proofs.ciphers.cipher_of.Goals as goal

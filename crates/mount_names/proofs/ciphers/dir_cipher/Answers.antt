@@ -1,10 +1,10 @@
 use Rattle.std.proofs.Common.{rules, ◌≡◌, Some, None, ap, ◌∙◌}
 use Rattle.fsc_keys.specs.declared.file_keys.FileKey.{FileKey}
 use Rattle.fsc_keys.specs.declared.file_keys.KeyKind.TheVariants.{Names}
-use Rattle.mount_state.specs.Contexts.{is_of_kind}
+use Rattle.mount_state.specs.StoredKinds.{is_of_kind}
 use Rattle.mount_state.specs.NamesKey.{cached_key}
 use Rattle.mount_state.proofs.KeyedLemmas.{cached_is, is_names_key, some_key}
-use Rattle.mount_names.specs.Shown.{cipher_with}
+use Rattle.mount_names.specs.NameCiphers.{cipher_with}
 use Rattle.mount_names.proofs.ReadLemmas.{dir_read}
 use Rattle.mount_names.proofs.CipherLemmas.{drawn_cipher_is}
 use Rattle.mount_names.proofs.ciphers.dir_cipher.Goals as goal

@@ -1,5 +1,5 @@
 use Rattle.mount_model.specs.Walk.{walked}
-use Rattle.mount_model.specs.LookAnswers.{page_at}
+use Rattle.mount_model.specs.ListAnswers.{page_at}
 use Rattle.mount_names.proofs.GivenLemmas.{told_at, due_at}
 use Rattle.mount_names.proofs.ListedLemmas.{page_leaves}
 use Rattle.mount_names.proofs.listings.list.Goals as goal

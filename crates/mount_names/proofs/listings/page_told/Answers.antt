@@ -1,7 +1,7 @@
 use Rattle.std.proofs.Common.{◌≡◌, sym, ap, subst, ◌∙◌, inl}
 use Rattle.disk_tree.specs.Entries.{Entries}
 use Rattle.mount_model.specs.Answered.{Answer}
-use Rattle.mount_model.specs.LookAnswers.{page_of}
+use Rattle.mount_model.specs.ListAnswers.{page_of}
 use Rattle.mount_names.specs.Listed.{TellsPage}
 use Rattle.mount_names.proofs.ListedLemmas.{dir_there, entries_there, page_is, at_dir}
 use Rattle.mount_names.proofs.PlaceLemmas.{dir_names}

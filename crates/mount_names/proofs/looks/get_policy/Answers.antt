@@ -1,4 +1,4 @@
-use Rattle.plain_tree.specs.Nodes.{context_at}
+use Rattle.plain_tree.specs.NodesByNumber.{context_at}
 use Rattle.mount_model.specs.PolicyAnswers.{policy_told}
 use Rattle.mount_model.specs.Walk.{walked}
 use Rattle.mount_names.proofs.GivenLemmas.{policy_leaves, given_at}

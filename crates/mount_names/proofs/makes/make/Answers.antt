@@ -2,7 +2,8 @@ use Rattle.std.proofs.Common.{◌≡◌, ◌+◌, true, Option, option_map, refl
 use Rattle.policy_ctx.specs.declared.policy.Context.{Context}
 use Rattle.policy_ctx.specs.Context.{context_bytes}
 use Rattle.number_map.specs.Numbered.{insert}
-use Rattle.disk_tree.specs.DiskTree.{Disk, entered}
+use Rattle.disk_tree.specs.DiskTree.{Disk}
+use Rattle.disk_tree.specs.EntryChanges.{entered}
 use Rattle.disk_tree.specs.declared.node.StoredNode.{StoredNode}
 use Rattle.mount_state.specs.Discipline.{Forgets}
 use Rattle.mount_state.specs.Safe.{IsSafe}

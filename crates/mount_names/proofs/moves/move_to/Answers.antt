@@ -1,8 +1,9 @@
 use Rattle.std.proofs.Common.{◌≡◌, refl, inl, sym, subst}
 use Rattle.std.specs.Prelude.{IfSome}
-use Rattle.disk_tree.specs.DiskTree.{children, moved}
+use Rattle.disk_tree.specs.DiskTree.{children}
+use Rattle.disk_tree.specs.EntryChanges.{moved}
 use Rattle.disk_tree.specs.Entries.{number_under}
-use Rattle.dentry_cache.specs.Names.{HoldsNone}
+use Rattle.dentry_cache.specs.HeldNames.{HoldsNone}
 use Rattle.mount_state.proofs.CachedLemmas.{forget_fewer}
 use Rattle.mount_names.specs.Found.{IsEntryOn}
 use Rattle.mount_names.specs.Places.{Entry, Place}

@@ -1,5 +1,5 @@
 use Rattle.mount_model.specs.RenameAnswer.{answer_to_move_from}
-use Rattle.mount_model.specs.Walk.{last_part}
+use Rattle.mount_model.specs.EntryPaths.{last_part}
 use Rattle.mount_names.proofs.GivenLemmas.{refused_so, due_refused, due_done, given_by}
 use Rattle.mount_names.proofs.MoveLemmas.{moved_is, moved_well, after_moving}
 use Rattle.mount_names.proofs.moves.rename_entry.Goals as goal

@@ -1,7 +1,7 @@
 use Rattle.std.proofs.Common.{◌≡◌, Ok, Some, subst, ◌∙◌}
 use Rattle.mount_model.specs.Answered.{refused}
 use Rattle.mount_model.specs.RenameAnswer.{answer_to_move_from}
-use Rattle.mount_model.specs.Walk.{parent, is_at_or_above}
+use Rattle.mount_model.specs.EntryPaths.{parent, is_at_or_above}
 use Rattle.mount_state.specs.Passed.{with_past}
 use Rattle.mount_names.specs.Places.{Entry}
 use Rattle.mount_names.proofs.MoveLemmas.{walk_led, walk_passed, walk_stopped, refused_walk, told_there, why_there}

@@ -1,5 +1,5 @@
 use Rattle.std.proofs.Common.{◌≡◌, ◌+◌, length, take, drop, nat_lt, ap, ◌∙◌}
-use Rattle.mount_model.specs.LookAnswers.{in_order}
+use Rattle.mount_model.specs.ListAnswers.{in_order}
 use Rattle.mount_model.specs.declared.limits.TheConstants.{MOST_LISTED}
 use Rattle.mount_model.specs.declared.reply.Reply.TheVariants.{Names}
 use Rattle.mount_names.specs.Listed.{names_of}

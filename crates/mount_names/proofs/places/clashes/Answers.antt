@@ -1,6 +1,6 @@
 use Rattle.std.proofs.Common.{rules, ◌≡◌, Some, None, sym, ap, subst, ◌∙◌}
-use Rattle.mount_model.specs.NameAnswers.{clashes, has_text_of}
-use Rattle.mount_names.specs.Made.{IsNewName}
+use Rattle.mount_model.specs.EncryptedNames.{clashes, has_text_of}
+use Rattle.mount_names.specs.NewPlaces.{IsNewName}
 use Rattle.mount_names.specs.Places.{Place}
 use Rattle.mount_names.proofs.PlaceLemmas.{name_plain}
 use Rattle.mount_names.proofs.places.clashes.Goals as goal

@@ -3,7 +3,7 @@ use Rattle.disk_tree.specs.DiskTree.{entries_in}
 use Rattle.disk_tree.specs.Entries.{number_under}
 use Rattle.mount_state.specs.Stored.{stored_form}
 use Rattle.mount_state.proofs.ContextLemmas.{same_some}
-use Rattle.plain_tree.specs.Nodes.{entry}
+use Rattle.plain_tree.specs.NodesByNumber.{entry}
 use Rattle.mount_names.specs.Found.{form_in}
 use Rattle.mount_names.proofs.FoundLemmas.{keyed_entry}
 use Rattle.mount_names.proofs.PlaceLemmas.{dir_names, name_plain}

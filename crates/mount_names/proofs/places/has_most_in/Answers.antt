@@ -1,5 +1,5 @@
 use Rattle.std.proofs.Common.{◌≡◌, length, Option, sym, ap, ◌∙◌}
-use Rattle.plain_tree.specs.Nodes.{children}
+use Rattle.plain_tree.specs.NodesByNumber.{children}
 use Rattle.disk_tree.specs.DiskTree.{entries_in}
 use Rattle.disk_tree.specs.declared.node.StoredNode.{StoredNode}
 use Rattle.mount_names.proofs.LenLemmas.{entries_len}

@@ -1,7 +1,7 @@
 use Rattle.std.proofs.Common.{Ok, sym, ap, subst, ◌∙◌}
 use Rattle.mount_model.specs.Walk.{Walked}
 use Rattle.plain_tree.specs.Nodes.{Name}
-use Rattle.mount_names.specs.Made.{IsPlaceOf}
+use Rattle.mount_names.specs.NewPlaces.{IsPlaceOf}
 use Rattle.mount_names.proofs.PlaceLemmas.{some_parts, dir_here, name_here, refused_here, err_then, ok_then}
 use Rattle.mount_names.proofs.places.place_at.Goals as goal
 

@@ -4,8 +4,8 @@ use Rattle.policy_ctx.specs.Context.{context_bytes}
 use Rattle.number_map.specs.Numbered.{changed}
 use Rattle.disk_tree.specs.DiskTree.{Disk}
 use Rattle.disk_tree.specs.Nodes.{with_context}
-use Rattle.plain_tree.specs.Nodes.{children}
-use Rattle.mount_model.specs.PlainMount.{has_handle}
+use Rattle.plain_tree.specs.NodesByNumber.{children}
+use Rattle.mount_model.specs.OpenHandles.{has_handle}
 use Rattle.mount_model.specs.Answered.{Answer}
 use Rattle.mount_model.specs.WellFormed.{IsWellFormed}
 use Rattle.mount_model.specs.PolicyAnswers.{may_use}

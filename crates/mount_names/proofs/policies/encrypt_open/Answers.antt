@@ -4,7 +4,7 @@ use Rattle.policy_ctx.specs.Context.{context_bytes}
 use Rattle.number_map.specs.Numbered.{changed}
 use Rattle.disk_tree.specs.DiskTree.{Disk}
 use Rattle.disk_tree.specs.Nodes.{with_context}
-use Rattle.mount_model.specs.PlainMount.{has_handle}
+use Rattle.mount_model.specs.OpenHandles.{has_handle}
 use Rattle.mount_state.specs.Handles.{handles_on}
 use Rattle.mount_state.specs.Safe.{IsSafe}
 use Rattle.mount_state.proofs.UserLemmas.{pins_tell}

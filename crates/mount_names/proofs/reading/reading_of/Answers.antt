@@ -1,7 +1,7 @@
 use Rattle.std.proofs.Common.{◌≡◌, Some, None, sym, ◌∙◌}
 use Rattle.mount_state.proofs.ContextLemmas.{same_some}
 use Rattle.mount_names.proofs.ShownLemmas.{plain_shows, locked_shows, keyed_shows}
-use Rattle.mount_names.specs.Shown.{names_cipher}
+use Rattle.mount_names.specs.NameCiphers.{names_cipher}
 use Rattle.mount_names.proofs.reading.reading_of.Goals as goal
 
 pub returns-in_default : goal.returns-in_default

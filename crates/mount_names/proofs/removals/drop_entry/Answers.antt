@@ -1,11 +1,11 @@
 use Rattle.std.proofs.Common.{◌≡◌, refl, ap, subst, ◌∙◌}
 use Rattle.std.specs.Prelude.{IfSome}
 use Rattle.number_map.specs.Numbered.{remove}
-use Rattle.inode_refs.specs.Cached.{Cache}
-use Rattle.inode_refs.specs.Cached.{pins_of}
-use Rattle.disk_tree.specs.DiskTree.{children, dropped}
+use Rattle.inode_refs.specs.Cached.{Cache, pins_of}
+use Rattle.disk_tree.specs.DiskTree.{children}
+use Rattle.disk_tree.specs.EntryChanges.{dropped}
 use Rattle.disk_tree.specs.Entries.{number_under}
-use Rattle.dentry_cache.specs.Names.{HoldsNone}
+use Rattle.dentry_cache.specs.HeldNames.{HoldsNone}
 use Rattle.mount_state.proofs.CachedLemmas.{forget_fewer}
 use Rattle.mount_names.specs.Places.{Entry}
 use Rattle.mount_names.proofs.CachedRules.{dropped_names, gone_names, names_on}

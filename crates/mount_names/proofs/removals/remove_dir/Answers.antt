@@ -4,11 +4,11 @@ use Rattle.disk_tree.specs.DiskTree.{of_node, entries_in}
 use Rattle.disk_tree.specs.Nodes.{IsDir}
 use Rattle.disk_tree.specs.declared.node.StoredNode.{StoredNode}
 use Rattle.mount_model.specs.declared.reply.Refusal.TheVariants.{Inval, NotDir, NotEmpty}
-use Rattle.mount_model.specs.NameAnswers.{without_name, answer_to_rmdir}
+use Rattle.mount_model.specs.UnlinkAnswers.{without_name, answer_to_rmdir}
 use Rattle.number_map.specs.Numbered.{get}
 use Rattle.mount_names.specs.Places.{Entry}
-use Rattle.dentry_cache.specs.Names.{HoldsNoneIn}
-use Rattle.mount_model.specs.Walk.{is_root}
+use Rattle.dentry_cache.specs.HeldNames.{HoldsNoneIn}
+use Rattle.mount_model.specs.EntryPaths.{is_root}
 use Rattle.mount_model.specs.Walk.{found as led_by}
 use Rattle.mount_state.proofs.CachedLemmas.{stand_fewer}
 use Rattle.mount_names.proofs.CachedStands.{found_by}

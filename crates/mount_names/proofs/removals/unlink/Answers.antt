@@ -1,7 +1,7 @@
 use Rattle.std.proofs.Common.{false}
 use Rattle.mount_model.specs.declared.reply.Refusal.TheVariants.{IsDir}
-use Rattle.mount_model.specs.NameAnswers.{answer_to_unlink}
-use Rattle.mount_model.specs.Walk.{is_root}
+use Rattle.mount_model.specs.UnlinkAnswers.{answer_to_unlink}
+use Rattle.mount_model.specs.EntryPaths.{is_root}
 use Rattle.mount_names.proofs.FoundLemmas.{end_refused}
 use Rattle.mount_names.proofs.PlaceLemmas.{some_parts}
 use Rattle.mount_names.proofs.RemovalLemmas.{unlinked, unlink_well, refused_given}

@@ -2,10 +2,11 @@ use Rattle.std.proofs.Common.{false, cond, sym, ap, subst, ◌∙◌}
 use Rattle.std.proofs.lemmas.Bool.{false≢true}
 use Rattle.mount_model.specs.declared.reply.Refusal.TheVariants.{IsDir}
 use Rattle.mount_model.specs.Answered.{refused, done}
-use Rattle.mount_model.specs.NameAnswers.{without_name, answer_to_unlink}
+use Rattle.mount_model.specs.UnlinkAnswers.{without_name, answer_to_unlink}
 use Rattle.disk_tree.specs.DiskTree.{IsDirAt}
 use Rattle.mount_names.specs.Places.{Entry}
-use Rattle.mount_model.specs.Walk.{is_root, found}
+use Rattle.mount_model.specs.Walk.{found}
+use Rattle.mount_model.specs.EntryPaths.{is_root}
 use Rattle.mount_names.proofs.CachedRules.{no_names_of}
 use Rattle.mount_names.proofs.CachedStands.{found_by}
 use Rattle.mount_names.proofs.FoundLemmas.{end_at, end_is}

@@ -1,6 +1,6 @@
 use Rattle.std.proofs.Common.{rules, ◌≡◌, ℕ, Some, List, ap, subst, ◌∙◌}
 use Rattle.name_crypt.specs.declared.cipher.NameCipher.{NameCipher}
-use Rattle.mount_names.specs.Shown.{names_cipher}
+use Rattle.mount_names.specs.NameCiphers.{names_cipher}
 use Rattle.mount_state.proofs.ContextLemmas.{same_some}
 use Rattle.mount_names.proofs.ShownLemmas.{sealed_under}
 use Rattle.mount_names.proofs.stored_names.sealed_anew.Goals as goal

@@ -2,7 +2,8 @@ use Rattle.std.proofs.Common.{◌≡◌, ℕ, false, List, Option, ap, ◌∙◌
 use Rattle.policy_ctx.specs.declared.policy.Context.{Context}
 use Rattle.plain_tree.specs.Nodes.{Link}
 use Rattle.disk_tree.specs.declared.node.Body.TheVariants as stored
-use Rattle.mount_model.specs.NameAnswers.{lacks_key, inherited}
+use Rattle.mount_model.specs.NewNodes.{inherited}
+use Rattle.mount_model.specs.EncryptedNames.{lacks_key}
 use Rattle.mount_state.specs.Stored.{stored_form}
 use Rattle.mount_state.proofs.ContextLemmas.{same_some}
 use Rattle.mount_names.proofs.LinkLemmas.{inherits_key}

@@ -1,8 +1,8 @@
 use Rattle.std.proofs.Common.{rules, ◌≡◌, ℕ, Some, None, List, Option, sym, ap, ◌∙◌}
 use Rattle.policy_ctx.specs.declared.policy.Context.{Context}
-use Rattle.mount_model.specs.NameAnswers.{lacks_key}
+use Rattle.mount_model.specs.EncryptedNames.{lacks_key}
 use Rattle.mount_state.specs.Stored.{stored_form}
-use Rattle.mount_names.specs.Shown.{names_cipher}
+use Rattle.mount_names.specs.NameCiphers.{names_cipher}
 use Rattle.mount_state.proofs.ContextLemmas.{same_some}
 use Rattle.mount_names.proofs.ShownLemmas.{sealed_by}
 use Rattle.mount_names.proofs.LinkLemmas.{coming_cipher}

@@ -1,5 +1,5 @@
 use Rattle.std.proofs.Common.{◌≡◌, length, ◌∙◌}
-use Rattle.plain_tree.specs.Nodes.{children}
+use Rattle.plain_tree.specs.NodesByNumber.{children}
 use Rattle.mount_names.proofs.LenLemmas.{entries_len}
 use Rattle.mount_names.proofs.targets.has_most_entries.Goals as goal
 

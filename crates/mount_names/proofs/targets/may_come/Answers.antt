@@ -1,6 +1,6 @@
 use Rattle.std.proofs.Common.{◌≡◌, sym, ap, ◌∙◌}
-use Rattle.plain_tree.specs.Nodes.{context_at}
-use Rattle.mount_model.specs.RenameAnswer.{may_hold}
+use Rattle.plain_tree.specs.NodesByNumber.{context_at}
+use Rattle.mount_model.specs.MoveRefusal.{may_hold}
 use Rattle.mount_names.specs.Places.{Entry, Place}
 use Rattle.mount_names.proofs.MoveLemmas.{may_stay}
 use Rattle.mount_names.proofs.targets.may_come.Goals as goal

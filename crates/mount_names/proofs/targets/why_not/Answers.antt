@@ -1,5 +1,5 @@
 use Rattle.std.proofs.Common.{◌≡◌, sym, ◌∙◌}
-use Rattle.mount_model.specs.RenameAnswer.{is_full_elsewhere}
+use Rattle.mount_model.specs.MoveRefusal.{is_full_elsewhere}
 use Rattle.mount_names.proofs.MoveLemmas.{below_itself, other_policy, clash_there, full_there, nothing_against}
 use Rattle.mount_names.proofs.targets.why_not.Goals as goal
 

@@ -3,7 +3,7 @@ use Rattle.mount_model.specs.declared.reply.Reply.TheVariants.{Done, Refused}
 use Rattle.mount_model.specs.declared.reply.Refusal.TheVariants.{BadHandle}
 use Rattle.mount_files.specs.Lent.{reply_of}
 use Rattle.mount_model.specs.declared.call.Op.TheVariants.{OpenNode, Read, Write, Close}
-use Rattle.mount_model.specs.PlainMount.{node_of}
+use Rattle.mount_model.specs.OpenHandles.{node_of}
 use Rattle.mount_files.specs.Opened.{ClosesOne}
 use Rattle.mount_shared.proofs.FileLemmas.{read_given, close_told, close_sure}
 use Rattle.mount_shared.proofs.MadeLemmas.{itself, all_kept, made_given, made_given_or_none}

@@ -1,9 +1,9 @@
 use Rattle.std.proofs.Common.{is_some, inl, inr, sym, ap, subst, ◌∙◌}
 use Rattle.number_map.specs.Numbered.{get}
 use Rattle.inode_refs.specs.Cached.{Cache}
-use Rattle.mount_state.specs.Contexts.{kind_on_disk, is_of_kind}
+use Rattle.mount_state.specs.StoredKinds.{kind_on_disk, is_of_kind}
 use Rattle.mount_state.specs.Discipline.{Forgets}
-use Rattle.mount_state.specs.StandsFor.{CachesStand}
+use Rattle.mount_state.specs.CachedKeys.{CachesStand}
 use Rattle.mount_state.proofs.KeepLemmas.{kept_rule, kept_stand, own_there, names_kind, fresh_key, either_cache}
 use Rattle.mount_state.proofs.keeps.keep_key.Goals as goal
 

@@ -2,7 +2,7 @@
 use Rattle.std.proofs.Common.{rules, ◌≡◌, Some, refl, sym, subst, ◌∙◌}
 use Rattle.dentry_cache.specs.Names.{key_of}
 use Rattle.disk_tree.specs.DiskTree.{Disk, IsDirAt}
-use Rattle.plain_tree.specs.Nodes.{entry}
+use Rattle.plain_tree.specs.NodesByNumber.{entry}
 use Rattle.mount_state.proofs.CachedLemmas.{forget_beside, stand_beside, fewer_names_stand, pair_of, keyed_led, dir_told, dir_stands}
 use Rattle.mount_state.proofs.StandLemmas.{keyed_stands}
 use Rattle.mount_state.proofs.names.number_kept.Goals as goal

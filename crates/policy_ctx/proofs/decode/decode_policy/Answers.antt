@@ -1,6 +1,7 @@
 use Rattle.std.proofs.Common.{◌≡◌, take, IfOk, [], ap, subst, ◌∙◌, arith}
 use Rattle.std.proofs.lemmas.List.{take_all}
-use Rattle.policy_ctx.specs.Policy.{policy_bytes, header_fault}
+use Rattle.policy_ctx.specs.Policy.{policy_bytes}
+use Rattle.policy_ctx.specs.PolicyFaults.{header_fault}
 use Rattle.policy_ctx.proofs.Encodings.{read_policy_is, header_fault-policy_bytes}
 use Rattle.policy_ctx.proofs.decode.decode_policy.Goals as goal
 

@@ -1,7 +1,8 @@
 -- Each call writes its lines.
 use Rattle.std.proofs.Common.{◌∙◌, ◌++◌, ◌∷◌, [], ap, append-nil, arith, subst}
 use Rattle.std.specs.List.{All, flat_map}
-use Rattle.protector_meta.specs.PolicyText.{IsWrap, wrap_line}
+use Rattle.protector_meta.specs.PolicyText.{wrap_line}
+use Rattle.protector_meta.specs.PolicyRecords.{IsWrap}
 use Rattle.protector_meta.specs.Wraps.{AreWraps}
 use Rattle.protector_meta.proofs.PolicyReadingLaws.{written}
 use Rattle.protector_meta.proofs.policy_text.encode_policy_file.Goals as goal

@@ -1,6 +1,7 @@
 use Rattle.std.proofs.Common.{◌≡◌, ◌++◌, ◌∷◌, [], take}
 use Rattle.std.specs.List.{AllByRecursion, flat_map}
-use Rattle.protector_meta.specs.PolicyText.{IsWrap, wrap_line}
+use Rattle.protector_meta.specs.PolicyText.{wrap_line}
+use Rattle.protector_meta.specs.PolicyRecords.{IsWrap}
 use Rattle.protector_meta.proofs.policy_text.push_wraps.Given as goal
 
 abbrev pub invariant-wraps : goal.invariant-wraps

@@ -1,5 +1,5 @@
 use Rattle.std.proofs.Common.{◌≡◌, ◌+◌, length}
-use Rattle.script_faults.specs.LineFaults as spec
+use Rattle.script_faults.specs.GrammarFaults as spec
 use Rattle.script_faults.proofs.faulty_lines.words_fault.Given as goal
 
 -- what is left decides

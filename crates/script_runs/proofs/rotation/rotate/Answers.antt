@@ -3,14 +3,14 @@ use Rattle.call_history.specs.Entries.{by}
 use Rattle.call_history.specs.Placed.{entries_of}
 use Rattle.reply_text.specs.Shown.{shown_history}
 use Rattle.fsc_commands.specs.Steps.Steps.{Done}
-use Rattle.fsc_session.specs.Running.{RunnerView, state_of}
-use Rattle.fsc_session.specs.Session.{notes_of}
+use Rattle.fsc_session.specs.Runners.{RunnerView, state_of}
+use Rattle.fsc_session.specs.ScriptRun.{notes_of}
 use Rattle.fsc_session.specs.Rotation.{fresh, longest, rounds_steps}
 use Rattle.fsc_session.proofs.Asked.{spelled-few, spelled-asked}
 use Rattle.script_runs.specs.Callers.{fresh_runners, noted_by, sections_of, shown_by}
 use Rattle.script_runs.specs.Rotating.{Rotating}
 use Rattle.script_runs.specs.Runs.{IsSerialRun}
-use Rattle.script_runs.specs.Turns.{at}
+use Rattle.script_runs.specs.MountPlaces.{at}
 use Rattle.script_runs.proofs.CallerLemmas.{fresh_sections, fresh_states}
 use Rattle.script_runs.proofs.RotationLemmas.{before_all, is_serial, told_history, noted_history}
 use Rattle.script_runs.proofs.RoundLemmas.{written_back}

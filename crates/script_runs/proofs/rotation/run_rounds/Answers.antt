@@ -1,7 +1,7 @@
 use Rattle.std.proofs.Common.{◌+◌, ◌-◌, map, get_or, refl, ◌∙◌, arith}
 use Rattle.std.proofs.lemmas.Option.{slice_get-get_or}
 use Rattle.std.proofs.lemmas.List.{length-set, length-map}
-use Rattle.fsc_session.specs.Running.{state_of}
+use Rattle.fsc_session.specs.Runners.{state_of}
 use Rattle.fsc_session.specs.Rotation.{rounds_steps}
 use Rattle.script_runs.specs.Callers.{sections_of}
 use Rattle.script_runs.proofs.RotationLemmas.{goes_on, retold}

@@ -1,9 +1,9 @@
 use Rattle.std.proofs.Common.{◌≡◌, ◌+◌, ◌-◌, length, map, take, drop}
-use Rattle.fsc_session.specs.Running.{state_of}
+use Rattle.fsc_session.specs.Runners.{state_of}
 use Rattle.fsc_session.specs.Rotation.{round_steps, rounds_steps}
 use Rattle.script_runs.specs.Callers.{sections_of}
 use Rattle.script_runs.specs.Rotating.{Rotating}
-use Rattle.script_runs.specs.Turns.{at}
+use Rattle.script_runs.specs.MountPlaces.{at}
 use Rattle.script_runs.proofs.TurnLemmas.{turns_in}
 use Rattle.script_runs.proofs.rotation.run_rounds.Given as goal
 

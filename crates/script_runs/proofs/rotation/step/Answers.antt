@@ -1,7 +1,7 @@
 use Rattle.std.proofs.Common.{ap, ◌∙◌}
 use Rattle.mount_shared.specs.SerialCalls.{SerialView, serial_view}
 use Rattle.fsc_commands.specs.declared.TheConstants.{MOST_CALLS}
-use Rattle.script_runs.specs.Turns.{at}
+use Rattle.script_runs.specs.MountPlaces.{at}
 use Rattle.script_runs.proofs.RotationLemmas.{turn_by}
 use Rattle.script_runs.proofs.rotation.step.Goals as goal
 

@@ -1,5 +1,5 @@
 use Rattle.std.proofs.Common.{◌++◌, ap₂, sym, ◌∙◌}
-use Rattle.fsc_session.specs.Running.{RunnerView}
+use Rattle.fsc_session.specs.Runners.{RunnerView}
 use Rattle.script_runs.proofs.CallerLemmas.{noted_by-more, shown_by-more}
 use Rattle.script_runs.proofs.rotation.told_by.Goals as goal
 

@@ -1,7 +1,7 @@
 use Rattle.std.proofs.Common.{◌∙◌, ap, sym, arith, take_all}
 use Rattle.std.proofs.lemmas.Bool.{eqb-false}
 use lib.Utf8.{encode}
-use Rattle.script_words.specs.Path.{parts_text}
+use Rattle.script_words.specs.PathText.{parts_text}
 use Rattle.script_words.proofs.PartSteps.{path_text-of_none, path_text-nonempty, parts_text-more}
 use Rattle.script_words.proofs.path.path_text.Goals as goal
 

@@ -1,5 +1,5 @@
 use Rattle.std.proofs.Common.{◌≡◌, take, string_bytes}
-use Rattle.script_words.specs.Path.{parts_text}
+use Rattle.script_words.specs.PathText.{parts_text}
 use Rattle.script_words.proofs.path.path_text.Given as goal
 
 -- the parts so far are written

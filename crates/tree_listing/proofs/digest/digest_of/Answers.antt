@@ -1,7 +1,7 @@
 use Rattle.std.proofs.Common.{◌≡◌, ◌<◌, ◌*◌, ◌++◌, [], length, take, ◌∷◌, refl, sym, ap, ◌∙◌, arith}
 use Rattle.sha2.specs.Sha256.{sha256}
 use Rattle.image_lines.proofs.NodeLemmas.{nothing_left}
-use Rattle.image_lines.specs.Reading.{blocks_at}
+use Rattle.image_lines.specs.Told.{blocks_at}
 use Rattle.text_words.specs.Lines.{pieces_of}
 use Rattle.byte_words.specs.Blocks.{first_blocks}
 use Rattle.data_crypt.specs.Blocks.{read_block}

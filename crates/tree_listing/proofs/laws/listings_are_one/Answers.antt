@@ -2,7 +2,8 @@ use Rattle.std.proofs.Common.{◌≡◌, ℕ, Bool, true, List, Option, map, sym
 use Rattle.std.specs.Prelude.{filter, ◌↔◌}
 use Rattle.std.proofs.lemmas.Bool.{cases_Bool}
 use Rattle.image_lines.specs.Image.{Image, ImageNode}
-use Rattle.tree_listing.specs.Listing.{IsListing, IsReached, listed}
+use Rattle.tree_listing.specs.Listing.{IsListing, listed}
+use Rattle.tree_listing.specs.PlacedEntries.{IsReached}
 use Rattle.tree_listing.specs.ListingText.{listing_text}
 use Rattle.tree_listing.proofs.laws.listings_are_one.Goals as goal
 

@@ -1,5 +1,5 @@
 use Rattle.std.proofs.Common.{◌∙◌, ap, inl, inr, arith}
-use Rattle.tree_listing.specs.Walk.{entry_at}
+use Rattle.tree_listing.specs.Ways.{entry_at}
 use Rattle.tree_listing.proofs.PlaceLemmas.{past_end}
 use Rattle.tree_listing.proofs.line.entry_at.Goals as goal
 

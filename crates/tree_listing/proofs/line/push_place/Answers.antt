@@ -2,7 +2,7 @@ use Rattle.std.proofs.Common.{◌++◌, ◌∷◌, List, ℕ, sym, ap, ◌∙◌
 use Rattle.std.proofs.lemmas.Result.{on_ok_weaker}
 use Rattle.text_words.specs.Numbers.{decimal_of}
 use Rattle.tree_listing.specs.Sights.{sight_of, word_seen}
-use Rattle.tree_listing.specs.Walk.{IsWayTo}
+use Rattle.tree_listing.specs.Ways.{IsWayTo}
 use Rattle.std.proofs.Common.{true}
 use Rattle.tree_listing.proofs.PlaceLemmas.{dir_there, name_long, place_is, pieces_joined}
 use Rattle.tree_listing.proofs.line.push_place.Goals as goal

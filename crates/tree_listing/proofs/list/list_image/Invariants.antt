@@ -1,6 +1,6 @@
 use Rattle.std.proofs.Common.{◌≡◌, ℕ, Bool}
 use Rattle.tree_listing.specs.Listing.{listed}
-use Rattle.tree_listing.specs.Walk.{AreWays}
+use Rattle.tree_listing.specs.Ways.{AreWays}
 use Rattle.tree_listing.proofs.ListLemmas.{listing_to}
 use Rattle.tree_listing.proofs.list.list_image.Given as goal
 

@@ -1,7 +1,7 @@
 use Rattle.std.proofs.lemmas.List.Elements.{recursion_from_All}
 use Rattle.std.proofs.lemmas.Result.{on_ok_weaker}
 use Rattle.image_lines.specs.Nodes.{node_in}
-use Rattle.image_lines.specs.Rules.{IsNode}
+use Rattle.image_lines.specs.NodeRules.{IsNode}
 use Rattle.tree_listing.specs.Listing.{listed}
 use Rattle.tree_listing.proofs.Members.{holds_in, in_from_get}
 use Rattle.tree_listing.proofs.ListLemmas.{true_way, written}

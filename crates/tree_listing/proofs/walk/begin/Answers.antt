@@ -2,9 +2,10 @@ use Rattle.std.proofs.Common.{◌≡◌, [], ◌∷◌, ◌++◌, List, ℕ, len
 use Rattle.std.specs.Prelude.{All, count_by}
 use Rattle.std.proofs.lemmas.List.{length-replicate, get_or-replicate}
 use Rattle.std.proofs.lemmas.List.Elements.{All-cons, All-nil}
-use Rattle.tree_listing.specs.Listing.{IsReached}
+use Rattle.tree_listing.specs.PlacedEntries.{IsReached}
 use Rattle.tree_listing.specs.declared.walk.Way.TheVariants.{Nowhere, AtRoot}
-use Rattle.tree_listing.specs.Walk.{AreWays, is_among, is_nowhere}
+use Rattle.tree_listing.specs.Walk.{is_among}
+use Rattle.tree_listing.specs.Ways.{AreWays, is_nowhere}
 use Rattle.tree_listing.proofs.LeadLemmas.{root_not_led}
 use Rattle.tree_listing.proofs.WalkLemmas.{ways_more, no_ways, count_less, count_all, root_first, index_within}
 use Rattle.tree_listing.proofs.walk.begin.Goals as goal

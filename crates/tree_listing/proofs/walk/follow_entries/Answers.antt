@@ -3,8 +3,9 @@ use Rattle.std.proofs.lemmas.List.Elements.{All-append, All-cons, All-nil}
 use Rattle.text_words.specs.Lines.{pieces_of}
 use Rattle.disk_tree.specs.Entries.{Entries}
 use Rattle.image_lines.specs.ImageText.{image_text}
-use Rattle.image_lines.specs.Reading.{entries_at}
-use Rattle.tree_listing.specs.Walk.{AreFound, IsLedBy, is_among}
+use Rattle.image_lines.specs.Told.{entries_at}
+use Rattle.tree_listing.specs.Walk.{AreFound, is_among}
+use Rattle.tree_listing.specs.Ways.{IsLedBy}
 use Rattle.tree_listing.proofs.WalkLemmas.{led_by, rest_within, among_more, found_more}
 use Rattle.tree_listing.proofs.walk.follow_entries.Goals as goal
 

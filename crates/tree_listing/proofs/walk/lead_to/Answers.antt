@@ -2,8 +2,9 @@ use Rattle.std.proofs.Common.{◌≡◌, [], ◌∷◌, length, set, get_or, ref
 use Rattle.std.specs.Prelude.{All}
 use Rattle.image_lines.specs.Image.{numbers_of}
 use Rattle.tree_listing.specs.declared.walk.Way.TheVariants.{Nowhere, By}
-use Rattle.tree_listing.specs.Listing.{IsReached}
-use Rattle.tree_listing.specs.Walk.{AreWays, is_among}
+use Rattle.tree_listing.specs.PlacedEntries.{IsReached}
+use Rattle.tree_listing.specs.Walk.{is_among}
+use Rattle.tree_listing.specs.Ways.{AreWays}
 use Rattle.tree_listing.proofs.Members.{In, among_from_in}
 use Rattle.tree_listing.proofs.LeadLemmas.{entry_to_from, child_there}
 use Rattle.tree_listing.proofs.WalkLemmas.{ways_more, count_less, reached_more, was_found, index_within}

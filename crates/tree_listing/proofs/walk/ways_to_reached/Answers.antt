@@ -1,6 +1,6 @@
 use Rattle.std.proofs.Common.{◌≡◌, length, subst, arith}
 use Rattle.std.proofs.lemmas.List.Elements.{recursion_from_All}
-use Rattle.tree_listing.specs.Listing.{IsReached}
+use Rattle.tree_listing.specs.PlacedEntries.{IsReached}
 use Rattle.tree_listing.specs.Walk.{AreFollowed, is_among}
 use Rattle.tree_listing.proofs.Members.{holds_in, in_from_among}
 use Rattle.tree_listing.proofs.WalkLemmas.{all_found}

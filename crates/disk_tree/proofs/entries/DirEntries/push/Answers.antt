@@ -3,7 +3,8 @@ use Rattle.std.proofs.Common.{◌≡◌, ℕ, ◌+◌, Bool, cond, Some, List, [
 use Rattle.std.specs.Map.{values_of}
 use Rattle.std.specs.Str.{bytes_eq}
 use Rattle.byte_words.specs.Bytes.{AreBytes}
-use Rattle.disk_tree.specs.Indexed.{indexed, IsIndexed}
+use Rattle.disk_tree.specs.Indexed.{IsIndexed}
+use Rattle.disk_tree.specs.NameIndex.{indexed}
 use Rattle.disk_tree.proofs.IndexLemmas.{doubled_IsIndexed, put_IsIndexed, undone_IsIndexed, undone_last}
 use Rattle.disk_tree.proofs.entries.DirEntries.push.Goals as goal
 

@@ -1,7 +1,8 @@
 -- The node that is added has no blocks, and an entry is none; where nothing is added, all stays.
 use Rattle.std.proofs.Common.{◌≡◌, sym, ap, ◌∙◌}
 use Rattle.number_map.specs.Numbered.{insert, get}
-use Rattle.disk_tree.specs.DiskTree.{Disk, block_total, entered}
+use Rattle.disk_tree.specs.DiskTree.{Disk, block_total}
+use Rattle.disk_tree.specs.EntryChanges.{entered}
 use Rattle.disk_tree.proofs.ResultLemmas.{on_ok_so, on_err_so, either_way}
 use Rattle.disk_tree.proofs.DiskLemmas.{entered_total}
 use Rattle.disk_tree.proofs.tree.DiskTree.add_named.Goals as goal

@@ -3,7 +3,8 @@ use Rattle.std.proofs.Common.{◌≡◌, ℕ, Option, Some, IfSome, false, refl,
 use Rattle.number_map.specs.Numbered.{changed}
 use Rattle.disk_tree.specs.Entries.{number_under, without_entry}
 use Rattle.disk_tree.specs.Nodes.{on_body, with_entries, named_as}
-use Rattle.disk_tree.specs.DiskTree.{children, dropped}
+use Rattle.disk_tree.specs.DiskTree.{children}
+use Rattle.disk_tree.specs.EntryChanges.{dropped}
 use Rattle.disk_tree.proofs.DiskLemmas.{same_total, entries_keep, nothing_dropped}
 use Rattle.disk_tree.proofs.tree.DiskTree.drop_entry.Goals as goal
 

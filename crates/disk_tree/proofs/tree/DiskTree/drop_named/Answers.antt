@@ -4,7 +4,8 @@ use Rattle.number_map.specs.Numbered.{changed, remove}
 use Rattle.number_map.proofs.NumberedLemmas.{removed_after_change}
 use Rattle.disk_tree.specs.Entries.{number_under, without_entry}
 use Rattle.disk_tree.specs.Nodes.{on_body, with_entries, named_as}
-use Rattle.disk_tree.specs.DiskTree.{Disk, children, dropped, block_total, blocks_in}
+use Rattle.disk_tree.specs.DiskTree.{Disk, children, block_total, blocks_in}
+use Rattle.disk_tree.specs.EntryChanges.{dropped}
 use Rattle.disk_tree.proofs.DiskLemmas.{same_total, entries_keep, nothing_dropped, removed_total}
 use Rattle.disk_tree.proofs.tree.DiskTree.drop_named.Goals as goal
 

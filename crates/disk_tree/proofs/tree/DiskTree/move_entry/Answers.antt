@@ -3,7 +3,8 @@ use Rattle.std.proofs.Common.{◌≡◌, ℕ, Option, Some, IfSome, sym, ap, sub
 use Rattle.number_map.specs.Numbered.{changed}
 use Rattle.disk_tree.specs.Entries.{number_under, with_entry, without_entry}
 use Rattle.disk_tree.specs.Nodes.{on_body, with_entries}
-use Rattle.disk_tree.specs.DiskTree.{children, moved}
+use Rattle.disk_tree.specs.DiskTree.{children}
+use Rattle.disk_tree.specs.EntryChanges.{moved}
 use Rattle.disk_tree.proofs.DiskLemmas.{same_total, entries_keep, moved_either}
 use Rattle.disk_tree.proofs.tree.DiskTree.move_entry.Goals as goal
 

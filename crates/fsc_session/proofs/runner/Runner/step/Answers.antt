@@ -3,7 +3,8 @@ use Rattle.std.specs.Prelude.{slice_get}
 use Rattle.std.proofs.lemmas.Option.{slice_get_past}
 use Rattle.fsc_session.specs.Asking.{AsksRightly}
 use Rattle.mount_model.specs.Port.{PlacedCalls}
-use Rattle.fsc_session.specs.Running.{HasRun, Stepped, runner_view, spent_if}
+use Rattle.fsc_session.specs.Running.{Stepped}
+use Rattle.fsc_session.specs.Runners.{HasRun, runner_view, spent_if}
 use Rattle.fsc_session.specs.Stopping.{next_steps}
 use Rattle.fsc_commands.specs.Made.{Begun}
 use Rattle.fsc_commands.proofs.BegunLemmas.{made_begins}

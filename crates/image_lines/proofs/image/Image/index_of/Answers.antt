@@ -2,7 +2,8 @@ use Rattle.std.proofs.Common.{sym, ap, ◌∙◌, subst}
 use Rattle.std.specs.List.Sorted.{IsStrictlySortedBy}
 use Rattle.std.specs.Ordering.{nat_cmp}
 use Rattle.image_lines.specs.Image.{numbers_of}
-use Rattle.image_lines.specs.Places.{DoRise, IsIndexOf, numbers_at}
+use Rattle.image_lines.specs.Places.{DoRise, numbers_at}
+use Rattle.image_lines.specs.Marks.{IsIndexOf}
 use Rattle.image_lines.proofs.Answered.{same_numbers}
 use Rattle.image_lines.proofs.NodeLemmas.{is_image}
 use Rattle.image_lines.proofs.image.Image.index_of.Goals as goal

@@ -1,5 +1,6 @@
 use Rattle.std.proofs.Common.{◌≡◌, eqb, not, rules, ap, sym, subst, ◌∙◌}
-use Rattle.inode_refs.specs.Cached.{Cache, KeyMap, all_evicted, is_unpinned, pins_at, users_of}
+use Rattle.inode_refs.specs.Cached.{Cache, KeyMap, pins_at}
+use Rattle.inode_refs.specs.Evictions.{all_evicted, is_unpinned, users_of}
 use Rattle.inode_refs.specs.Kept.{keys_of, pins_in}
 use Rattle.inode_refs.specs.Users.{AreCounted}
 use Rattle.inode_refs.proofs.CacheLemmas.{kept_by, left_by_node}

@@ -4,7 +4,8 @@ use Rattle.std.specs.Ordering.{nat_cmp}
 use Rattle.std.proofs.lemmas.Map.Keys.{IsDistinct-from_sorted}
 use Rattle.policy_ctx.specs.KeyIds.{same_id}
 use Rattle.inode_refs.specs.declared.node_key.NodeKey.{NodeKey}
-use Rattle.inode_refs.specs.Cached.{Cache, KeyMap, evicted, pins_at, is_unpinned, has_id, users_of}
+use Rattle.inode_refs.specs.Cached.{Cache, KeyMap, pins_at}
+use Rattle.inode_refs.specs.Evictions.{evicted, is_unpinned, has_id, users_of}
 use Rattle.inode_refs.specs.Kept.{keys_of, pins_in}
 use Rattle.inode_refs.specs.Users.{AreCounted}
 use Rattle.inode_refs.proofs.CacheLemmas.{kept_by, left_by_key}

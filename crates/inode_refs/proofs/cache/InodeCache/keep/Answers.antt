@@ -1,7 +1,8 @@
 use Rattle.std.proofs.Common.{eqb, ◌≡◌, true, inl, inr, sym, ap, ◌∙◌}
 use Rattle.std.proofs.lemmas.Bool.{eq-eqb}
 use Rattle.inode_refs.specs.declared.node_key.NodeKey.{NodeKey}
-use Rattle.inode_refs.specs.Cached.{Cache, is_unpinned, users_of}
+use Rattle.inode_refs.specs.Cached.{Cache}
+use Rattle.inode_refs.specs.Evictions.{is_unpinned, users_of}
 use Rattle.inode_refs.specs.Kept.{keys_of, pins_in}
 use Rattle.inode_refs.proofs.UserLemmas.{users_kept_unpinned, counted_alike, either}
 use Rattle.inode_refs.proofs.cache.InodeCache.keep.Goals as goal

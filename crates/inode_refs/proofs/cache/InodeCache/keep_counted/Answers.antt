@@ -2,9 +2,11 @@ use Rattle.std.proofs.Common.{◌≡◌, ℕ, ◌+◌, false, Option, Some, None
 use Rattle.std.specs.FinMap as map
 use Rattle.policy_ctx.specs.declared.policy.KeyId.{KeyId}
 use Rattle.inode_refs.specs.declared.node_key.NodeKey.{NodeKey}
-use Rattle.inode_refs.specs.Cached.{Cache, is_unpinned, users_of}
+use Rattle.inode_refs.specs.Cached.{Cache}
+use Rattle.inode_refs.specs.Evictions.{is_unpinned, users_of}
 use Rattle.inode_refs.specs.Kept.{keys_of, pins_in}
-use Rattle.inode_refs.specs.Users.{id_at, one_for}
+use Rattle.inode_refs.specs.Users.{one_for}
+use Rattle.inode_refs.specs.KeyUsers.{id_at}
 use Rattle.inode_refs.proofs.CacheLemmas.{at_ok, at_err}
 use Rattle.inode_refs.proofs.UserLemmas.{users_kept, users_dropped, user_pinned, has_key, counted_for, counted_alike, from_ok}
 use Rattle.inode_refs.proofs.cache.InodeCache.keep_counted.Goals as goal

@@ -1,12 +1,13 @@
 use Rattle.std.proofs.Common.{◌≡◌, ℕ, ◌+◌, Option, refl, sym, ap, subst, ◌∙◌}
 use Rattle.policy_ctx.specs.declared.policy.KeyId.{KeyId}
 use Rattle.inode_refs.specs.declared.node_key.NodeKey.{NodeKey}
-use Rattle.inode_refs.specs.Cached.{Cache, pins_at, pins_of, with_pins, given, users_of}
+use Rattle.inode_refs.specs.Cached.{Cache, pins_at, pins_of, with_pins, given}
+use Rattle.inode_refs.specs.Evictions.{users_of}
 use Rattle.inode_refs.specs.Kept.{keys_of, pins_in}
-use Rattle.inode_refs.specs.Users.{coming, one_for}
+use Rattle.inode_refs.specs.Users.{one_for, HasPins}
+use Rattle.inode_refs.specs.KeyUsers.{coming}
 use Rattle.inode_refs.proofs.CacheLemmas.{at_ok, at_err}
 use Rattle.inode_refs.proofs.UserLemmas.{users_pinned, counted_for, counted_alike}
-use Rattle.inode_refs.specs.Users.{HasPins}
 use Rattle.inode_refs.proofs.PinLemmas.{HasPins-with_pins, pins_back}
 use Rattle.inode_refs.proofs.cache.InodeCache.pin.Goals as goal
 

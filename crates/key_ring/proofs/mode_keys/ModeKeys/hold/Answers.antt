@@ -1,5 +1,6 @@
 use Rattle.std.proofs.Common.{◌+◌, ◌<◌, ◌^◌, sym, subst}
-use Rattle.key_ring.specs.Modes.{ModeMap, Modes, AreUsed, users_of, with_users}
+use Rattle.key_ring.specs.Modes.{ModeMap, Modes}
+use Rattle.key_ring.specs.ModeUsers.{AreUsed, users_of, with_users}
 use Rattle.key_ring.specs.KeptModes.{modes_of}
 use Rattle.key_ring.proofs.ModeLemmas.{AreUsed-held_contents, AreUsed-held_names}
 use Rattle.key_ring.proofs.RingLemmas.{by_either}

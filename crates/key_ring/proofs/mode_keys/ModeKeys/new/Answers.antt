@@ -1,5 +1,5 @@
 use Rattle.std.proofs.Common.{[], sym, subst}
-use Rattle.key_ring.specs.Modes.{AreUsed}
+use Rattle.key_ring.specs.ModeUsers.{AreUsed}
 use Rattle.key_ring.specs.KeptModes.{modes_of}
 use Rattle.key_ring.proofs.ModeLemmas.{AreUsed-none}
 use Rattle.key_ring.proofs.mode_keys.ModeKeys.new.Goals as goal

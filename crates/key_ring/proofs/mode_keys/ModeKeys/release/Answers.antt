@@ -1,5 +1,6 @@
 use Rattle.std.proofs.Common.{sym, subst}
-use Rattle.key_ring.specs.Modes.{ModeMap, AreUsed}
+use Rattle.key_ring.specs.Modes.{ModeMap}
+use Rattle.key_ring.specs.ModeUsers.{AreUsed}
 use Rattle.key_ring.specs.KeptModes.{modes_of}
 use Rattle.key_ring.proofs.ModeLemmas.{AreUsed-left_contents, AreUsed-left_names}
 use Rattle.key_ring.proofs.mode_keys.ModeKeys.release.Goals as goal

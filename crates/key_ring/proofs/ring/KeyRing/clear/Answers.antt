@@ -1,5 +1,5 @@
 use Rattle.std.proofs.Common.{sym, ap, ◌∙◌, subst}
-use Rattle.user_claims.specs.Claims.{is_present}
+use Rattle.user_claims.specs.ClaimCounts.{is_present}
 use Rattle.user_claims.proofs.PresentLemmas.{is_present-without_id, is_present-without_id_other}
 use Rattle.key_ring.specs.Holding.{SecretMap, HoldsClaimedSecrets}
 use Rattle.key_ring.specs.Kept.{secrets_of}

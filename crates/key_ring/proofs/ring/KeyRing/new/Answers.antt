@@ -1,6 +1,7 @@
 use Rattle.std.proofs.Common.{is_some, sym, ap, ◌∙◌}
 use Rattle.std.specs.FinMap as map
-use Rattle.user_claims.specs.Claims.{id_cmp, is_present}
+use Rattle.user_claims.specs.Claims.{id_cmp}
+use Rattle.user_claims.specs.ClaimCounts.{is_present}
 use Rattle.user_claims.proofs.PresentLemmas.{is_present-none}
 use Rattle.key_ring.specs.Kept.{secrets_of}
 use Rattle.key_ring.proofs.ring.KeyRing.new.Goals as goal

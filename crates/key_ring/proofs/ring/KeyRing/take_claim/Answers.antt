@@ -1,5 +1,6 @@
 use Rattle.std.proofs.Common.{◌≡◌, true, sym, ap, ◌∙◌, subst}
-use Rattle.user_claims.specs.Claims.{ClaimSet, has_claim, is_present}
+use Rattle.user_claims.specs.Claims.{ClaimSet, has_claim}
+use Rattle.user_claims.specs.ClaimCounts.{is_present}
 use Rattle.user_claims.proofs.PresentLemmas.{is_present-without_claim_other}
 use Rattle.key_ring.specs.Holding.{Holding, SecretMap, HoldsClaimedSecrets}
 use Rattle.key_ring.specs.Kept.{secrets_of}

@@ -3,7 +3,8 @@ use Rattle.std.specs.Ordering.{eq_by_cmp}
 use Rattle.std.specs.BTreeMap as tree
 use Rattle.number_map.specs.Numbered.{Numbered}
 use Rattle.inode_refs.proofs.CacheLemmas.{at_ok, at_err}
-use Rattle.mount_model.specs.PlainMount.{HandleList, opens_of}
+use Rattle.mount_model.specs.PlainMount.{HandleList}
+use Rattle.mount_model.specs.OpenHandles.{opens_of}
 use Rattle.mount_state.specs.Handles.{Handles, with_handle}
 use Rattle.mount_state.specs.KeptHandles.{pair_cmp, opened_in, IsIndexed}
 use Rattle.mount_state.proofs.HandleLemmas.{opens_seen, opened_more, opened_same, index_same, index_put, index_undone, below_most}

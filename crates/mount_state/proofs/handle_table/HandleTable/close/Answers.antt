@@ -1,6 +1,7 @@
 use Rattle.std.proofs.Common.{rules, ◌≡◌, not, IfSome, sym, ap, ◌∙◌, subst}
 use Rattle.std.proofs.lemmas.Fn.{filter_same}
-use Rattle.mount_model.specs.PlainMount.{HandleList, is_handle, node_of, without_handle}
+use Rattle.mount_model.specs.PlainMount.{HandleList}
+use Rattle.mount_model.specs.OpenHandles.{is_handle, node_of, without_handle}
 use Rattle.mount_state.specs.Handles.{Handles, without, LosesOne}
 use Rattle.mount_state.specs.KeptHandles.{opened_in, IsIndexed}
 use Rattle.mount_state.proofs.LossLemmas.{loses_one}

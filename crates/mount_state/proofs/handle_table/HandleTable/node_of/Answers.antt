@@ -1,5 +1,5 @@
 use Rattle.std.proofs.Common.{ap, ◌∙◌}
-use Rattle.mount_model.specs.PlainMount.{node_of}
+use Rattle.mount_model.specs.OpenHandles.{node_of}
 use Rattle.mount_state.specs.Handles.{Handles}
 use Rattle.mount_state.proofs.handle_table.HandleTable.node_of.Goals as goal
 

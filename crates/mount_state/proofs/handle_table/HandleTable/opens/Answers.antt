@@ -1,5 +1,5 @@
 use Rattle.std.proofs.Common.{ap, ◌∙◌}
-use Rattle.mount_model.specs.PlainMount.{opens_of}
+use Rattle.mount_model.specs.OpenHandles.{opens_of}
 use Rattle.mount_state.specs.Handles.{Handles}
 use Rattle.mount_state.proofs.HandleLemmas.{opens_seen}
 use Rattle.mount_state.proofs.handle_table.HandleTable.opens.Goals as goal

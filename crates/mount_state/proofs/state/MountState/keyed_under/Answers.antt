@@ -1,7 +1,7 @@
 use Rattle.std.proofs.Common.{◌||◌, sym, ap, ◌∙◌}
 use Rattle.policy_ctx.specs.declared.policy.KeyId.{KeyId}
-use Rattle.user_claims.specs.Claims.{is_present}
-use Rattle.mount_model.specs.PlainMount.{has_handle}
+use Rattle.user_claims.specs.ClaimCounts.{is_present}
+use Rattle.mount_model.specs.OpenHandles.{has_handle}
 use Rattle.mount_state.proofs.UserLemmas.{pins_tell}
 use Rattle.mount_state.proofs.state.MountState.keyed_under.Goals as goal
 

@@ -1,5 +1,5 @@
 use Rattle.std.proofs.Common.{subst}
-use Rattle.next_calls.specs.Callers.{GoesOn}
+use Rattle.next_calls.specs.EntriesSoFar.{GoesOn}
 use Rattle.next_calls.proofs.caller.Caller.go_on.Goals as goal
 
 pub returns-clause-awaits : goal.returns-clause-awaits

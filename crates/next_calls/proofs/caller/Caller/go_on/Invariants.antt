@@ -1,6 +1,6 @@
 use Rattle.std.proofs.Common.{◌≡◌, ◌-◌, length}
 use Rattle.mount_model.specs.Port.{PlacedCalls}
-use Rattle.next_calls.specs.Callers.{StandsIn}
+use Rattle.next_calls.specs.EntriesSoFar.{StandsIn}
 use Rattle.next_calls.proofs.caller.Caller.go_on.Given as goal
 
 abbrev pub invariant-commands : goal.invariant-commands

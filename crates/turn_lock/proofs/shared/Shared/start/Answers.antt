@@ -1,6 +1,7 @@
 use Rattle.std.proofs.Common.{[], ◌∷◌, ◌++◌, Some, sym, ap, ◌∙◌, subst}
 use Rattle.atomic_table.specs.Table.{opening}
-use Rattle.turn_lock.specs.Turns.{Kept, first_view}
+use Rattle.turn_lock.specs.Turns.{Kept}
+use Rattle.turn_lock.specs.Views.{first_view}
 use Rattle.turn_lock.proofs.Starting.{starts_kept}
 use Rattle.turn_lock.proofs.shared.Shared.start.Goals as goal
 

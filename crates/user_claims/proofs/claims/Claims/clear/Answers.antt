@@ -1,5 +1,6 @@
 use Rattle.std.proofs.Common.{◌<◌, sym, ap, ◌∙◌, subst}
-use Rattle.user_claims.specs.Claims.{without_id, count_of_id}
+use Rattle.user_claims.specs.Claims.{without_id}
+use Rattle.user_claims.specs.ClaimCounts.{count_of_id}
 use Rattle.user_claims.proofs.ClaimLemmas.{without_id-without_claim, without_id-none, count_of_id-fewer}
 use Rattle.user_claims.proofs.claims.Claims.clear.Goals as goal
 

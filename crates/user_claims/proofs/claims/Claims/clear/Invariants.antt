@@ -1,5 +1,6 @@
 use Rattle.std.proofs.Common.{◌≡◌}
-use Rattle.user_claims.specs.Claims.{without_id, count_of_id}
+use Rattle.user_claims.specs.Claims.{without_id}
+use Rattle.user_claims.specs.ClaimCounts.{count_of_id}
 use Rattle.user_claims.proofs.claims.Claims.clear.Given as goal
 
 abbrev pub invariant-loop-uid : goal.invariant-loop-uid

@@ -1,7 +1,8 @@
 use Rattle.std.proofs.Common.{sym, ap, ◌∙◌, subst}
 use Rattle.std.specs.Cmp.{nat_cmp_total}
 use Rattle.std.specs.FinMap.{nat_cmp-IsAntisymmetric}
-use Rattle.user_claims.specs.Claims.{ClaimSet, has_claim, with_claim, count_of_user, count_of_id}
+use Rattle.user_claims.specs.Claims.{ClaimSet, has_claim, with_claim}
+use Rattle.user_claims.specs.ClaimCounts.{count_of_user, count_of_id}
 use Rattle.user_claims.specs.Counted.{set_of, IsCounted}
 use Rattle.key_counts.proofs.CountLemmas.{undone}
 use Rattle.user_claims.proofs.ClaimOrder.{id_cmp_total, id_cmp-IsAntisymmetric}

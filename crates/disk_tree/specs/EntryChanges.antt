@@ -1,0 +1,22 @@
+-- What becomes of the disk when an entry comes, goes or moves.
+use Rattle.std.specs.Prelude.{ℕ, true, false, List}
+use Rattle.number_map.specs.Numbered.{changed}
+use Rattle.disk_tree.specs.Entries.{with_entry, without_entry}
+use Rattle.disk_tree.specs.Nodes.{with_entries, on_body, named_as}
+use Rattle.disk_tree.specs.DiskTree.{Disk}
+
+-- the entry is in the directory, and its node is named
+abbrev pub entered : Disk → ℕ → List ℕ → ℕ → Disk
+entered disk dir name number =
+    changed (changed disk dir (on_body (with_entries (with_entry name number)))) number (named_as true)
+
+-- the entry is gone, and its node has no name
+abbrev pub dropped : Disk → ℕ → List ℕ → ℕ → Disk
+dropped disk dir name number =
+    changed (changed disk dir (on_body (with_entries (without_entry name)))) number (named_as false)
+
+-- the entry is gone from the one directory and stands last in the other, or in the same one
+abbrev pub moved : Disk → ℕ → List ℕ → ℕ → List ℕ → ℕ → Disk
+moved disk dir name to new_name number =
+    changed (changed disk dir (on_body (with_entries (without_entry name)))) to
+    (on_body (with_entries (with_entry new_name number)))

@@ -1,0 +1,48 @@
+-- What is made of the words behind the first one of a reply, where it has several.
+use Rattle.std.specs.Prelude.{ℕ, List, [], map}
+use Rattle.mount_model.specs.declared.reply.Reply.{Reply}
+use Rattle.mount_model.specs.declared.reply.Reply.TheVariants as reply
+use Rattle.percent_encoding.specs.Percent.{percent_decode}
+use Rattle.entry_reader.specs.Forms.{Form, says, ◌>>=◌, word}
+use Rattle.entry_reader.specs.Fields.{number_in, bytes_in, flag_in, users_in}
+use Rattle.entry_reader.specs.Names.{state_in, kind_in}
+
+abbrev pub removed : Form Reply
+removed = do
+  others ← word flag_in
+  busy ← word flag_in
+  says (reply.Removed others busy)
+
+abbrev pub status : Form Reply
+status = do
+  state ← word state_in
+  by_self ← word flag_in
+  users ← word users_in
+  says (reply.Status state by_self users)
+
+-- the bytes of each word that is left
+abbrev pub words_left : Form (List (List ℕ))
+words_left = λ words. (map percent_decode words, [])
+
+-- the number of names is not needed
+abbrev pub names : Form Reply
+names = do
+  count ← word (λ text. text)
+  more ← word flag_in
+  names ← words_left
+  says (reply.Names names more)
+
+abbrev pub stat : Form Reply
+stat = do
+  kind ← word kind_in
+  node ← word number_in
+  size ← word number_in
+  encrypted ← word flag_in
+  keyed ← word flag_in
+  says (reply.Stat kind node size encrypted keyed)
+
+abbrev pub held : Form Reply
+held = do
+  version ← word number_in
+  bytes ← word bytes_in
+  says (reply.Held version bytes)

@@ -1,0 +1,37 @@
+-- How a run ends by what the source gave, where nothing is written; and what was read where there is no
+-- memory. Came says by which calls of the source.
+use Rattle.std.specs.Prelude.{◌≡◌, ◌⊎◌, ℕ, List, Result, Err}
+use Rattle.fsc_outside.specs.declared.input.InputLimits.{InputLimits}
+use Rattle.fsc_outside.specs.Input.{ReadTooMuch}
+use Rattle.fsc_outside.specs.WholeTexts.{ReadWhole}
+use Rattle.fsc_outside.specs.Reading.{ReadInVain, ReadPart}
+use Rattle.fsc_outside.specs.Reads.{ReadCall}
+use Rattle.fsc_tool.specs.Outside.{Outside}
+
+-- nothing was written, and no seed asked for
+pub record EndsEarly (a b : Outside) : Type 0 where
+  pub unwritten : b.sink ≡ a.sink
+  pub unasked : b.seeds ≡ a.seeds
+
+-- a call of the source failed, which was the last
+pub record EndsReadFault (limits : InputLimits) (Came : List ReadCall → Type 0) (a b : Outside) : Type 0 where
+  pub early : EndsEarly a b
+  pub part : ReadPart limits Came a.source b.source
+
+-- the source gave more than the limits allow
+pub record EndsTooLong (limits : InputLimits) (Came : List ReadCall → Type 0) (a b : Outside) : Type 0 where
+  pub early : EndsEarly a b
+  pub much : ReadTooMuch limits Came a.source b.source
+
+-- the line is the one at fault where the input is read so
+pub record EndsBadLine {A : Type 0} (limits : InputLimits) (read_as : List ℕ → Result A ℕ)
+    (Came : List ReadCall → Type 0) (line : ℕ) (a b : Outside) : Type 0 where
+  pub early : EndsEarly a b
+  pub input : List ℕ
+  pub read : ReadWhole limits Came a.source b.source input
+  pub bad : read_as input ≡ Err line
+
+-- a text was read whole, or begun
+abbrev pub ReadSome : InputLimits → (List ReadCall → Type 0) → Outside → Outside → Type 0
+ReadSome limits Came a b = ReadInVain limits Came a.source b.source
+    ⊎ ((input : List ℕ) × ReadWhole limits Came a.source b.source input)

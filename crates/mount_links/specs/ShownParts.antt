@@ -1,0 +1,22 @@
+-- What a log shows of the calls on both mounts.
+use Rattle.std.specs.Prelude.{◌≡◌, ℕ, List}
+use Rattle.mount_model.specs.declared.call.Op.TheVariants.{MetaLoad}
+use Rattle.mount_model.specs.Port.{PlacedCalls}
+use Rattle.reply_text.specs.Calls.{call_text}
+use Rattle.reply_text.specs.Shown.{shown_calls}
+use Rattle.reply_text.specs.declared.shown.Shown.{Shown}
+use Rattle.script_words.specs.Records.{record_name}
+use Rattle.script_words.specs.declared.record_words.Record.TheVariants.{Protector}
+use Rattle.mount_links.specs.declared.step.LinkStep.{LinkStep}
+use Rattle.mount_links.specs.Linked.{own_parts, far_parts}
+use Rattle.mount_links.specs.LinkCalls.{load_call}
+
+-- what a log shows of that, by what it shows of the call
+abbrev pub load_shown : List ℕ → Shown → Shown
+load_shown label shown =
+    record { uid = shown.uid; words = call_text (MetaLoad (record_name (Protector label))) }
+
+-- what is shown of the calls on both mounts is told by what is shown of the caller's calls, and their steps
+pub record ShowsBoth (steps : List LinkStep) (calls : PlacedCalls) : Type 0 where
+  pub on_own : own_parts load_shown steps (shown_calls calls) ≡ shown_calls (own_parts load_call steps calls)
+  pub on_far : far_parts steps (shown_calls calls) ≡ shown_calls (far_parts steps calls)

@@ -1,0 +1,36 @@
+-- The calls that take names away: what each answers, its refusals in the order in which they are tried, and
+-- the mount that it leaves.
+use Rattle.std.specs.Prelude.{ℕ, length, not, ◌==◌, if◌then◌else◌}
+use Rattle.plain_tree.specs.Nodes.{Name, Nodes}
+use Rattle.plain_tree.specs.NodesByNumber.{children, is_dir_at}
+use Rattle.plain_tree.specs.Changes.{dropped, gone}
+use Rattle.mount_model.specs.declared.reply.Refusal.TheVariants.{Inval, NotDir, IsDir, NotEmpty}
+use Rattle.mount_model.specs.PlainMount.{PlainMount}
+use Rattle.mount_model.specs.OpenHandles.{has_handle}
+use Rattle.mount_model.specs.Walk.{PathParts, found}
+use Rattle.mount_model.specs.EntryPaths.{is_root, last_part, parent}
+use Rattle.mount_model.specs.Answered.{Answer, refused, done, at_node, at_entry}
+
+abbrev pub left_by : PlainMount → Nodes → ℕ → Nodes
+left_by m nodes x = if has_handle m.handles x then nodes else gone nodes x
+
+-- the mount without the name for x; x itself goes where no handle is open on it
+abbrev pub without_name : PlainMount → ℕ → Name → ℕ → PlainMount
+without_name m d name x = record m { nodes = left_by m (dropped m.nodes d name x) x }
+
+abbrev pub answer_to_unlink : PlainMount → PathParts → Answer
+answer_to_unlink m path =
+    if is_root path then refused m IsDir else
+    at_node m (parent m path) λ d.
+    at_entry m (found m d (last_part path)) λ name x.
+    if is_dir_at m.nodes x then refused m IsDir else
+    done (without_name m d name x)
+
+abbrev pub answer_to_rmdir : PlainMount → PathParts → Answer
+answer_to_rmdir m path =
+    if is_root path then refused m Inval else
+    at_node m (parent m path) λ d.
+    at_entry m (found m d (last_part path)) λ name x.
+    if not (is_dir_at m.nodes x) then refused m NotDir else
+    if not (length (children m.nodes x) == 0) then refused m NotEmpty else
+    done (without_name m d name x)
