@@ -32,7 +32,7 @@ module _ {C R : Type 0} where
   inserted x [] = x ∷ []
   inserted x (y ∷ ys) = if nat_le x.0 y.0 then x ∷ y ∷ ys else y ∷ inserted x ys
 
-  -- the same entries in order of place
+  -- the same entries in order of place, those of one place as they stood
   abbrev pub in_order : PlacedList C R → PlacedList C R
   in_order [] = []
   in_order (x ∷ xs) = inserted x (in_order xs)

@@ -1,4 +1,5 @@
--- What is cached, in whatever order: whether names came, and whether a name or a directory has none.
+-- What is cached, in whatever order: that it is no more than before, and that a name, or each name of a
+-- directory, is not.
 use Rattle.std.specs.Prelude.{◌≡◌, ℕ, false, List, Contains, ◌⊎◌}
 use Rattle.dentry_cache.specs.Names.{Pair, NameList, is_name, is_in}
 

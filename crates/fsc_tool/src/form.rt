@@ -3,9 +3,8 @@
 ghost use Rattle.std.specs.Prelude.{◌≡◌, ◌∷◌, [], map, string_bytes};
 ghost use Rattle.fsc_tool.specs.ReplayForms as spec;
 ghost use Rattle.fsc_tool.specs.Forms.{form_of, generated_behind, generated_of, inspected_of};
-ghost use Rattle.fsc_tool.specs.ReplayForms.{linked_of, replay_of};
+ghost use Rattle.fsc_tool.specs.ReplayForms.{linked_of, replay_of, seed_given, seeding_of};
 ghost use Rattle.fsc_tool.specs.Forms.{without_threads};
-ghost use Rattle.fsc_tool.specs.ReplayForms.{seed_given, seeding_of};
 
 use crate::seed::wipe_seeding;
 use byte_words::wipe;

@@ -10,11 +10,6 @@ use Rattle.key_wrap.specs.CounterMode.{counter_mode}
 unfoldable pub stretched_key : List ℕ → List ℕ
 stretched_key key = hkdf_sha256 [] key [] 64
 
--- the two keys that it has
-pub record TwoKeys : Type 0 where
-  pub cipher : List ℕ
-  pub tag_key : List ℕ
-
 -- the first 32 bytes encipher
 unfoldable pub cipher_key : List ℕ → List ℕ
 cipher_key key = take 32 (stretched_key key)
@@ -22,6 +17,11 @@ cipher_key key = take 32 (stretched_key key)
 -- the last 32 authenticate
 unfoldable pub tag_key : List ℕ → List ℕ
 tag_key key = drop 32 (stretched_key key)
+
+-- room for both keys, as the code holds them: other bytes may stand in it too, such as zeros
+pub record TwoKeys : Type 0 where
+  pub cipher : List ℕ
+  pub tag_key : List ℕ
 
 -- AES-256 in counter mode, which enciphers and deciphers
 unfoldable pub ciphered : List ℕ → List ℕ → List ℕ → List ℕ

@@ -36,11 +36,9 @@ use Rattle.mount_state.specs.CachedNames.{NamesStand}
 use Rattle.mount_state.specs.Handles.{Handles}
 use Rattle.mount_state.specs.Stored.{stored_node}
 use Rattle.mount_state.specs.StandsFor.{StandsFor, TreeStands}
-use Rattle.mount_state.specs.CachedKeys.{CachesStand}
-use Rattle.mount_state.specs.CachedKeys.{plain_kind}
+use Rattle.mount_state.specs.CachedKeys.{CachesStand, plain_kind}
 use Rattle.mount_state.specs.declared.state.MountState.{MountState}
-use Rattle.mount_files.specs.Closed.{is_lasting, disk_left, modes_left_by, names_left}
-use Rattle.mount_files.specs.Closed.{is_named_in as is_named_on}
+use Rattle.mount_files.specs.Closed.{is_lasting, disk_left, modes_left_by, names_left, is_named_in as is_named_on}
 use Rattle.mount_files.specs.Opened.{SameButClosed, ClosesOne}
 use Rattle.mount_files.proofs.CachedRules.{fewer_names}
 use Rattle.mount_files.proofs.ClosedLemmas.{left_was}

@@ -34,8 +34,7 @@ use Rattle.mount_state.specs.Discipline.{Forgets}
 use Rattle.mount_state.specs.Held.{is_unlocked, is_unlocked_under}
 use Rattle.mount_state.specs.Stored.{stored_node}
 use Rattle.mount_state.specs.StandsFor.{TreeStands, KeysStand}
-use Rattle.mount_state.specs.CachedKeys.{plain_kind}
-use Rattle.mount_state.specs.CachedKeys.{plain_kind_of}
+use Rattle.mount_state.specs.CachedKeys.{plain_kind, plain_kind_of}
 use Rattle.mount_state.proofs.StandLemmas.{context_is, id_sized}
 use Rattle.mount_state.proofs.UserLemmas.{some_from, users_from}
 use Rattle.mount_files.specs.Needs.{IsOwnNeed, IsSharedNeed}

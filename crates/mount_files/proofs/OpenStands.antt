@@ -27,12 +27,9 @@ use Rattle.mount_model.specs.WellFormed.{IsWellFormed}
 use Rattle.mount_model.proofs.OpenLemmas.{opened_well}
 use Rattle.mount_model.proofs.WalkLemmas.{walked_reached}
 use Rattle.mount_state.specs.Given.{IsGivenOrNoMemory}
-use Rattle.dentry_cache.specs.Names.{NameList}
-use Rattle.mount_state.specs.CachedNames.{NamesStand}
-use Rattle.mount_state.specs.Handles.{Handles, is_full}
-use Rattle.dentry_cache.specs.Names.{NameList}
-use Rattle.mount_state.specs.CachedNames.{NamesStand}
-use Rattle.mount_state.specs.Handles.{with_handle as with_new}
+use Rattle.dentry_cache.specs.Names.{NameList, NameList}
+use Rattle.mount_state.specs.CachedNames.{NamesStand, NamesStand}
+use Rattle.mount_state.specs.Handles.{Handles, is_full, with_handle as with_new}
 use Rattle.mount_state.specs.SameButCaches.{SameButCaches}
 use Rattle.mount_state.specs.Stored.{stored_node, stored_body}
 use Rattle.mount_state.specs.StandsFor.{StandsFor, TreeStands, HandlesStand}

@@ -26,8 +26,7 @@ use Rattle.mount_state.specs.Contexts.{uses_mode}
 use Rattle.mount_state.specs.Discipline.{Forgets}
 use Rattle.mount_state.specs.Handles.{Handles, is_full, users, with_handle}
 use Rattle.mount_state.specs.Safe.{IsSafe}
-use Rattle.mount_state.specs.CachedKeys.{CachesStand}
-use Rattle.mount_state.specs.CachedKeys.{plain_kind}
+use Rattle.mount_state.specs.CachedKeys.{CachesStand, plain_kind}
 use Rattle.mount_files.specs.Needs.{IsOwnNeed, IsSharedNeed}
 use Rattle.mount_files.proofs.HandleCounts.{one_if, pins_here}
 use Rattle.mount_files.proofs.ModeCounts.{held, each_held}

@@ -15,15 +15,13 @@ use Rattle.data_crypt.proofs.ChainLemmas.{count-with_bytes}
 use Rattle.plain_tree.specs.Nodes.{Node, Body, Dir, File, Link, Nodes, contents_of}
 use Rattle.plain_tree.specs.Facts.{AgreesBy}
 use Rattle.policy_ctx.specs.declared.policy.Context.{Context}
-use Rattle.disk_tree.specs.DiskTree.{Disk, blocks_in, file_blocks}
-use Rattle.disk_tree.specs.DiskTree.{block_total as disk_total}
+use Rattle.disk_tree.specs.DiskTree.{Disk, blocks_in, file_blocks, block_total as disk_total}
 use Rattle.disk_tree.specs.Nodes.{blocks_of}
 use Rattle.disk_tree.specs.declared.node.StoredNode.{StoredNode}
 use Rattle.file_disk.specs.Bodies.{ExceedsDisk, end_block}
 use Rattle.mount_model.specs.PlainMount.{PlainMount, Raws}
 use Rattle.mount_model.specs.FileAnswers.{contents_at, lacks_blocks_for}
-use Rattle.mount_model.specs.Blocks.{block_total}
-use Rattle.mount_model.specs.Blocks.{block_count as plain_count}
+use Rattle.mount_model.specs.Blocks.{block_total, block_count as plain_count}
 use Rattle.mount_state.specs.Stored.{stored_node, stored_body, contents_seal}
 use Rattle.mount_state.specs.StandsFor.{StandsFor}
 use Rattle.mount_state.specs.declared.state.MountState.{MountState}

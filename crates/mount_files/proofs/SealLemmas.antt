@@ -25,8 +25,7 @@ use Rattle.mount_model.specs.PlainMount.{PlainMount, HandleList}
 use Rattle.mount_model.specs.OpenHandles.{has_handle}
 use Rattle.mount_model.specs.Sealed.{raw_for, node_key}
 use Rattle.mount_state.specs.Contexts.{context_on_disk, has_shared, uses_mode}
-use Rattle.mount_state.specs.StoredKinds.{same_kind}
-use Rattle.mount_state.specs.StoredKinds.{kind_on_disk as stored_kind}
+use Rattle.mount_state.specs.StoredKinds.{same_kind, kind_on_disk as stored_kind}
 use Rattle.mount_state.specs.Discipline.{Forgets}
 use Rattle.mount_state.specs.Stored.{stored_node, contents_seal}
 use Rattle.mount_state.specs.StandsFor.{StandsFor}

@@ -12,8 +12,7 @@ use Rattle.mount_model.specs.declared.reply.Refusal.TheVariants.{NoKey, Access}
 use Rattle.mount_model.specs.PlainMount.{PlainMount}
 use Rattle.mount_model.specs.States as plain
 use Rattle.mount_model.specs.Answered.{Answer, refused}
-use Rattle.mount_model.specs.RemovalAnswers.{is_absent, removal_told, removed, all_removed}
-use Rattle.mount_model.specs.RemovalAnswers.{answer_to_remove_key, answer_to_remove_key_all}
+use Rattle.mount_model.specs.RemovalAnswers.{is_absent, removal_told, removed, all_removed, answer_to_remove_key, answer_to_remove_key_all}
 use Rattle.mount_model.proofs.CaseLemmas.{at_remove_key, at_remove_key_all}
 use Rattle.mount_state.specs.Held.{is_in_use}
 use Rattle.mount_state.specs.StandsFor.{StandsFor}

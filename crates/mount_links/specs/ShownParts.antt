@@ -11,7 +11,7 @@ use Rattle.mount_links.specs.declared.step.LinkStep.{LinkStep}
 use Rattle.mount_links.specs.Linked.{own_parts, far_parts}
 use Rattle.mount_links.specs.LinkCalls.{load_call}
 
--- what a log shows of that, by what it shows of the call
+-- what a log shows of the loading of a protector's record, for the user of what it shows of a call
 abbrev pub load_shown : List ℕ → Shown → Shown
 load_shown label shown =
     record { uid = shown.uid; words = call_text (MetaLoad (record_name (Protector label))) }

@@ -42,7 +42,8 @@ answer_to_read m caller handle offset len =
     if nat_lt MOST_READ_BYTES len then refused m TooBig else
     told m (content_of m n offset len)
 
--- so do the contents of file n, once the bytes are written
+-- the contents of file n, once the bytes are written, would need more blocks than are free beside those that
+-- they have
 abbrev pub lacks_blocks_for : PlainMount → ℕ → ℕ → List ℕ → Bool
 lacks_blocks_for m n offset bytes =
     lacks_blocks m (contents_at m.nodes n) (with_bytes offset bytes (contents_at m.nodes n))

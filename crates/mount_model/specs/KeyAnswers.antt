@@ -1,6 +1,6 @@
 -- The calls that add a key and tell its status: what each answers, its refusals in the order in which
--- they are tried, and the mount that it leaves. They are tried by the claims alone, and by whether
--- something open needs the key, which is `busy` here.
+-- they are tried, and the mount that it leaves. They are tried by the raw key and the claims alone; in a
+-- status `busy` is whether something open needs the key.
 use Rattle.std.specs.Prelude.{ℕ, Bool, List, length, not, ◌&&◌, nat_le, if◌then◌else◌}
 use Rattle.policy_ctx.specs.declared.policy.KeyId.{KeyId}
 use Rattle.fsc_keys.specs.Keys.{key_id_of}

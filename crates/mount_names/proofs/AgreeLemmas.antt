@@ -6,8 +6,7 @@ use Rattle.number_map.specs.Numbered.{get, insert, changed}
 use Rattle.number_map.proofs.NumberedLemmas.{insert_other, changed_through, changed_inserted}
 use Rattle.plain_tree.specs.Nodes.{Name, Children, Body, Dir, File, Link, Node, Nodes, children_of}
 use Rattle.plain_tree.specs.BodyChanges.{with_child, without_child, with_children}
-use Rattle.plain_tree.specs.NodesByNumber.{children_in, children, context_at}
-use Rattle.plain_tree.specs.NodesByNumber.{context_in as plain_context}
+use Rattle.plain_tree.specs.NodesByNumber.{children_in, children, context_at, context_in as plain_context}
 use Rattle.plain_tree.specs.Changes.{on_children, named_as, name_put, name_taken, made, dropped}
 use Rattle.plain_tree.specs.Facts.{AgreesBy}
 use Rattle.plain_tree.specs.Stored.{IsNameOf}

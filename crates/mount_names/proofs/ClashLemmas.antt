@@ -16,8 +16,7 @@ use Rattle.plain_tree.specs.NodesByNumber.{children, context_at, entry}
 use Rattle.plain_tree.specs.Stored.{IsNameOf}
 use Rattle.plain_tree.proofs.ChildLemmas.{same_name}
 use Rattle.plain_tree.proofs.StoredLemmas.{name_behind, name_front, searches_agree}
-use Rattle.disk_tree.specs.DiskTree.{Disk}
-use Rattle.disk_tree.specs.DiskTree.{children as stored_entries}
+use Rattle.disk_tree.specs.DiskTree.{Disk, children as stored_entries}
 use Rattle.mount_model.specs.PlainMount.{PlainMount}
 use Rattle.mount_model.specs.Sealed.{node_key, node_start, sealed_name, texts}
 use Rattle.mount_model.specs.EncryptedNames.{clashes, has_text_of}

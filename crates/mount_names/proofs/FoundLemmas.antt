@@ -13,8 +13,7 @@ use Rattle.plain_tree.specs.Stored.{stored_children, IsNameOf}
 use Rattle.plain_tree.proofs.ChildLemmas.{itself, other_name, same_name, cases_name}
 use Rattle.plain_tree.proofs.FoundLemmas.{found_entry, found_passes}
 use Rattle.plain_tree.proofs.StoredLemmas.{name_behind, name_front, searches_agree}
-use Rattle.disk_tree.specs.DiskTree.{Disk}
-use Rattle.disk_tree.specs.DiskTree.{children as stored_entries}
+use Rattle.disk_tree.specs.DiskTree.{Disk, children as stored_entries}
 use Rattle.disk_tree.specs.Entries.{number_under}
 use Rattle.mount_model.specs.declared.reply.Refusal.{Refusal}
 use Rattle.mount_model.specs.declared.reply.Refusal.TheVariants.{NoKey, NotFound}

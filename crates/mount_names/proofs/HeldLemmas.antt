@@ -19,8 +19,7 @@ use Rattle.mount_state.specs.Contexts.{context_on_disk, has_own, has_shared, use
 use Rattle.mount_state.specs.StoredKinds.{kind_on_disk, same_kind, is_of_kind}
 use Rattle.mount_state.specs.Discipline.{Forgets}
 use Rattle.mount_state.specs.Handles.{users}
-use Rattle.mount_state.specs.CachedKeys.{CachesStand}
-use Rattle.mount_state.specs.CachedKeys.{plain_kind}
+use Rattle.mount_state.specs.CachedKeys.{CachesStand, plain_kind}
 
 -- ---- users of nodes that have handles
 

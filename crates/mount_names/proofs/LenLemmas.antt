@@ -8,8 +8,7 @@ use Rattle.number_map.specs.Numbered.{Numbered, get, entries, len}
 use Rattle.number_map.proofs.AgreementLemmas.{agree_entries}
 use Rattle.plain_tree.specs.Facts.{AgreesBy}
 use Rattle.plain_tree.specs.NodesByNumber.{children, context_at}
-use Rattle.disk_tree.specs.DiskTree.{Disk}
-use Rattle.disk_tree.specs.DiskTree.{children as stored_entries}
+use Rattle.disk_tree.specs.DiskTree.{Disk, children as stored_entries}
 use Rattle.mount_model.specs.PlainMount.{PlainMount}
 use Rattle.mount_model.specs.WellFormed.{IsWellFormed}
 use Rattle.mount_state.specs.Stored.{stored_form, stored_node}

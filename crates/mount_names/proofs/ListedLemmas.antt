@@ -15,11 +15,10 @@ use Rattle.plain_tree.specs.Stored.{IsNameOf, stored_children}
 use Rattle.plain_tree.proofs.ChildLemmas.{same_name}
 use Rattle.plain_tree.proofs.StoredLemmas.{name_behind, name_front}
 use Rattle.number_map.specs.Numbered.{get}
-use Rattle.disk_tree.specs.DiskTree.{Disk, IsDirAt, of_node, entries_in}
+use Rattle.disk_tree.specs.DiskTree.{Disk, IsDirAt, of_node, entries_in, children as stored_entries}
 use Rattle.disk_tree.specs.Nodes.{IsDir, entries_of}
 use Rattle.disk_tree.specs.declared.node.StoredNode.{StoredNode}
 use Rattle.disk_tree.specs.declared.node.Body.TheVariants as stored
-use Rattle.disk_tree.specs.DiskTree.{children as stored_entries}
 use Rattle.disk_tree.specs.Entries.{Entries}
 use Rattle.mount_model.specs.ListAnswers.{put_in_order, in_order, page_of, page_at}
 use Rattle.mount_model.specs.declared.reply.Reply.{Reply}

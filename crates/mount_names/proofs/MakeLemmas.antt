@@ -37,8 +37,7 @@ use Rattle.mount_model.proofs.WellSteps.{step_well}
 use Rattle.data_crypt.specs.Blocks.{Seal, stored_blocks, blocks_by, block_count}
 use Rattle.mount_state.specs.Stored.{stored_body, stored_node}
 use Rattle.mount_state.specs.StandsFor.{StandsFor}
-use Rattle.mount_state.specs.CachedKeys.{CachesStand}
-use Rattle.mount_state.specs.CachedKeys.{plain_kind_of, plain_kind}
+use Rattle.mount_state.specs.CachedKeys.{CachesStand, plain_kind_of, plain_kind}
 use Rattle.mount_state.specs.declared.state.MountState.{MountState}
 use Rattle.mount_names.specs.Places.{Place}
 use Rattle.mount_state.specs.Given.{IsGivenOrNoMemory, IsRefusedAsDue}

@@ -8,11 +8,9 @@ use Rattle.plain_tree.specs.Changes.{on_children, name_taken, moved}
 use Rattle.plain_tree.specs.BodyChanges.{without_child}
 use Rattle.plain_tree.specs.Facts.{AgreesBy}
 use Rattle.plain_tree.proofs.ChildLemmas.{itself}
-use Rattle.disk_tree.specs.DiskTree.{Disk}
+use Rattle.disk_tree.specs.DiskTree.{Disk, children as stored_entries}
 use Rattle.disk_tree.specs.EntryChanges as disk
-use Rattle.disk_tree.specs.DiskTree.{children as stored_entries}
-use Rattle.disk_tree.specs.Entries.{number_under}
-use Rattle.disk_tree.specs.Entries.{without_entry}
+use Rattle.disk_tree.specs.Entries.{number_under, without_entry}
 use Rattle.disk_tree.specs.Nodes.{on_body, with_entries}
 use Rattle.policy_ctx.specs.declared.policy.Context.{Context}
 use Rattle.policy_ctx.specs.declared.policy.Policy.{Policy}
@@ -26,9 +24,8 @@ use Rattle.mount_model.specs.PlainMount.{PlainMount}
 use Rattle.mount_model.specs.Answered.{Answer, refused, done, done_unless, at_node}
 use Rattle.mount_model.specs.States.{is_keyed}
 use Rattle.mount_model.specs.EncryptedNames.{clashes}
-use Rattle.mount_model.specs.RenameAnswer.{with_moved}
+use Rattle.mount_model.specs.RenameAnswer.{with_moved, answer_to_move_from, answer_to_rename}
 use Rattle.mount_model.specs.MoveRefusal.{may_hold, has_policy, is_full_elsewhere, move_refusal}
-use Rattle.mount_model.specs.RenameAnswer.{answer_to_move_from, answer_to_rename}
 use Rattle.mount_model.specs.Walk.{PathParts, Walked}
 use Rattle.mount_model.specs.EntryPaths.{is_root, last_part, parent, is_at_or_above}
 use Rattle.mount_model.specs.WellFormed.{IsWellFormed}
@@ -38,8 +35,7 @@ use Rattle.mount_model.proofs.WellSteps.{step_well}
 use Rattle.mount_state.specs.CachedNames.{NamesForget, NamesStand}
 use Rattle.mount_state.specs.Stored.{stored_node, stored_form}
 use Rattle.mount_state.specs.StandsFor.{StandsFor}
-use Rattle.mount_state.specs.CachedKeys.{CachesStand}
-use Rattle.mount_state.specs.CachedKeys.{plain_kind}
+use Rattle.mount_state.specs.CachedKeys.{CachesStand, plain_kind}
 use Rattle.mount_state.specs.declared.state.MountState.{MountState}
 use Rattle.mount_names.specs.Places.{Entry, Place}
 use Rattle.mount_names.specs.Found.{IsEntryOn, entry_end}

@@ -1,10 +1,9 @@
 -- A state whose disk lies as other nodes do, and that is the same else, stands for the mount with them.
 use Rattle.std.proofs.Common.{◌≡◌, ℕ, Bool, false, Option, Some, refl, sym, ap, subst, ◌∙◌}
 use Rattle.plain_tree.specs.Nodes.{Name, Children, Body, Dir, File, Link, Node, Nodes}
-use Rattle.plain_tree.specs.BodyChanges.{with_children}
+use Rattle.plain_tree.specs.BodyChanges.{with_children, with_child, without_child}
 use Rattle.plain_tree.specs.NodesByNumber.{context_in}
 use Rattle.plain_tree.specs.Changes.{on_children, name_taken, dropped, moved, named_as}
-use Rattle.plain_tree.specs.BodyChanges.{with_child, without_child}
 use Rattle.plain_tree.specs.Facts.{AgreesBy}
 use Rattle.number_map.specs.Numbered.{get}
 use Rattle.key_ring.specs.Holding.{Holding, secret_of}
@@ -15,8 +14,7 @@ use Rattle.mount_model.specs.PlainMount.{PlainMount}
 use Rattle.mount_model.specs.WellFormed.{IsWellFormed}
 use Rattle.mount_state.specs.Stored.{stored_node}
 use Rattle.mount_state.specs.StandsFor.{StandsFor}
-use Rattle.mount_state.specs.CachedKeys.{CachesStand}
-use Rattle.mount_state.specs.CachedKeys.{plain_kind_of, plain_kind}
+use Rattle.mount_state.specs.CachedKeys.{CachesStand, plain_kind_of, plain_kind}
 use Rattle.mount_state.specs.declared.state.MountState.{MountState}
 use Rattle.mount_names.specs.SameButTree.{SameButTree}
 use Rattle.mount_names.proofs.EditLemmas.{read_changed}

@@ -9,9 +9,8 @@ use Rattle.plain_tree.specs.NodesByNumber.{children, context_in, is_dir_at}
 use Rattle.plain_tree.specs.Changes.{dropped, gone}
 use Rattle.plain_tree.specs.Facts.{AgreesBy}
 use Rattle.plain_tree.proofs.AgreeLemmas.{agree_removed}
-use Rattle.disk_tree.specs.DiskTree.{Disk, IsDirAt}
+use Rattle.disk_tree.specs.DiskTree.{Disk, IsDirAt, children as stored_entries}
 use Rattle.disk_tree.specs.EntryChanges as disk
-use Rattle.disk_tree.specs.DiskTree.{children as stored_entries}
 use Rattle.disk_tree.specs.Entries.{number_under}
 use Rattle.mount_model.specs.declared.reply.Refusal.{Refusal}
 use Rattle.mount_model.specs.declared.reply.Refusal.TheVariants.{IsDir, NotDir, NotEmpty}
@@ -28,8 +27,7 @@ use Rattle.mount_model.proofs.WellSteps.{step_well}
 use Rattle.mount_state.specs.CachedNames.{NamesStand}
 use Rattle.mount_state.specs.Stored.{stored_node}
 use Rattle.mount_state.specs.StandsFor.{StandsFor}
-use Rattle.mount_state.specs.CachedKeys.{CachesStand}
-use Rattle.mount_state.specs.CachedKeys.{plain_kind}
+use Rattle.mount_state.specs.CachedKeys.{CachesStand, plain_kind}
 use Rattle.mount_state.specs.declared.state.MountState.{MountState}
 use Rattle.mount_state.proofs.UserLemmas.{pins_tell}
 use Rattle.mount_names.specs.Places.{Entry}

@@ -5,9 +5,8 @@ use Rattle.plain_tree.specs.NodesByNumber.{is_dir_at}
 use Rattle.mount_model.specs.declared.reply.Refusal.{Refusal}
 use Rattle.mount_model.specs.PlainMount.{PlainMount}
 use Rattle.mount_model.specs.Answered.{refused}
-use Rattle.mount_model.specs.NameAnswers.{is_long_target}
+use Rattle.mount_model.specs.NameAnswers.{is_long_target, answer_to_make_in, answer_to_make}
 use Rattle.mount_model.specs.NewNodes.{inherited}
-use Rattle.mount_model.specs.NameAnswers.{answer_to_make_in, answer_to_make}
 use Rattle.mount_model.specs.Walk.{PathParts}
 use Rattle.mount_model.specs.WellFormed.{IsWellFormed}
 use Rattle.mount_model.specs.SoundNodes.{IsName}

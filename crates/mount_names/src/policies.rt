@@ -17,8 +17,7 @@ ghost use Rattle.mount_state.specs.Contexts.{context_on_disk};
 ghost use Rattle.mount_state.specs.Given.{IsGivenOrNoMemory, IsRefusedAsDue};
 ghost use Rattle.mount_state.specs.SameButCaches.{SameButCaches};
 ghost use Rattle.mount_state.specs.StandsFor.{StandsFor};
-ghost use Rattle.mount_names.specs.Encrypted.{EncryptsAt, EncryptsOpen, SetsAt};
-ghost use Rattle.mount_names.specs.Encrypted.{keys_with, modes_with};
+ghost use Rattle.mount_names.specs.Encrypted.{EncryptsAt, EncryptsOpen, SetsAt, keys_with, modes_with};
 ghost use Rattle.mount_names.specs.SameButTree.{SameButPolicies};
 
 use crate::ciphers::drawn_key;

@@ -14,8 +14,7 @@ use Rattle.dentry_cache.specs.NameChanges.{one_more, one_more_refused}
 use Rattle.dentry_cache.specs.declared.key.NameKey.{NameKey}
 use Rattle.dentry_cache.proofs.NameLemmas.{same_name, Contains-lookup}
 use Rattle.plain_tree.specs.Nodes.{Name, Node, Nodes, Body, Dir, File, Link}
-use Rattle.plain_tree.specs.NodesByNumber.{children, context_at, is_dir_in, entry}
-use Rattle.plain_tree.specs.NodesByNumber.{is_dir_at as is_plain_dir}
+use Rattle.plain_tree.specs.NodesByNumber.{children, context_at, is_dir_in, entry, is_dir_at as is_plain_dir}
 use Rattle.plain_tree.specs.Facts.{AgreesBy}
 use Rattle.key_ring.specs.Holding.{Holding}
 use Rattle.key_ring.specs.Modes.{Modes}
@@ -29,8 +28,7 @@ use Rattle.mount_model.specs.PlainMount.{PlainMount, HandleList}
 use Rattle.mount_model.specs.OpenHandles.{has_handle}
 use Rattle.mount_model.specs.Sealed.{texts}
 use Rattle.mount_model.specs.States as plain
-use Rattle.mount_state.specs.CachedNames.{NamesForget, NamesStand, IsKept, is_dir_body, is_dir_on_disk}
-use Rattle.mount_state.specs.CachedNames.{is_dir_node as is_stored_dir}
+use Rattle.mount_state.specs.CachedNames.{NamesForget, NamesStand, IsKept, is_dir_body, is_dir_on_disk, is_dir_node as is_stored_dir}
 use Rattle.mount_state.specs.Held.{is_unlocked, is_unlocked_under}
 use Rattle.mount_state.specs.Led.{led_to}
 use Rattle.mount_state.specs.Handles.{Handles}

@@ -5,8 +5,7 @@ use Rattle.policy_ctx.specs.Context.{context_bytes}
 use Rattle.number_map.specs.Numbered.{get}
 use Rattle.disk_tree.specs.DiskTree.{Disk}
 use Rattle.plain_tree.specs.Nodes.{Node}
-use Rattle.plain_tree.specs.NodesByNumber.{context_at}
-use Rattle.plain_tree.specs.NodesByNumber.{context_in as plain_context}
+use Rattle.plain_tree.specs.NodesByNumber.{context_at, context_in as plain_context}
 use Rattle.mount_model.specs.PlainMount.{PlainMount}
 use Rattle.mount_model.specs.WellFormed.{IsWellFormed}
 use Rattle.mount_model.specs.SoundNodes.{HasRaw}

@@ -38,13 +38,11 @@ use Rattle.mount_model.specs.Sealed.{raw_for, node_key, node_start, sealed_name,
 use Rattle.mount_model.specs.States.{is_keyed, is_keyed_under, shown, shown_under}
 use Rattle.mount_model.specs.WellFormed.{IsWellFormed}
 use Rattle.mount_state.specs.Contexts.{context_on_disk, has_own, has_shared, uses_own, uses_mode}
-use Rattle.mount_state.specs.StoredKinds.{is_of_kind, same_kind}
-use Rattle.mount_state.specs.StoredKinds.{kind_on_disk as stored_kind}
+use Rattle.mount_state.specs.StoredKinds.{is_of_kind, same_kind, kind_on_disk as stored_kind}
 use Rattle.mount_state.specs.Discipline.{Forgets}
 use Rattle.mount_state.specs.Led.{led_to}
 use Rattle.mount_state.specs.NamesKey.{cached_key, drawn_key, key_from}
-use Rattle.mount_state.specs.NamesCipher.{own_names_key, used_mode_key, other_key, IsCipherUnder, LeadsByOther}
-use Rattle.mount_state.specs.NamesCipher.{led_under as led_by_cipher}
+use Rattle.mount_state.specs.NamesCipher.{own_names_key, used_mode_key, other_key, IsCipherUnder, LeadsByOther, led_under as led_by_cipher}
 use Rattle.mount_state.specs.Stored.{stored_node, stored_form}
 use Rattle.mount_state.specs.StandsFor.{TreeStands, KeysStand}
 use Rattle.mount_state.specs.CachedKeys.{CachesStand, plain_kind}

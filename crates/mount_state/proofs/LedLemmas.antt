@@ -14,8 +14,7 @@ use Rattle.plain_tree.specs.Nodes.{Name, Children, Node, Body, Dir, File, Link, 
 use Rattle.plain_tree.specs.NodesByNumber.{children_in, context_in, children, context_at}
 use Rattle.plain_tree.specs.Stored.{stored_children, IsNameOf}
 use Rattle.plain_tree.proofs.StoredLemmas.{searches_agree}
-use Rattle.disk_tree.specs.DiskTree.{Disk, entries_in}
-use Rattle.disk_tree.specs.DiskTree.{children as stored_entries}
+use Rattle.disk_tree.specs.DiskTree.{Disk, entries_in, children as stored_entries}
 use Rattle.mount_model.specs.PlainMount.{PlainMount, Raws}
 use Rattle.mount_model.specs.Sealed.{node_key, node_start, sealed_name, texts}
 use Rattle.mount_model.specs.States.{is_keyed, is_keyed_under, shown, shown_under}

@@ -9,8 +9,7 @@ use Rattle.number_map.specs.Numbered.{get}
 use Rattle.user_claims.specs.Claims.{ClaimSet}
 use Rattle.user_claims.specs.ClaimCounts.{is_present}
 use Rattle.plain_tree.specs.Nodes.{Node}
-use Rattle.plain_tree.specs.NodesByNumber.{context_at}
-use Rattle.plain_tree.specs.NodesByNumber.{context_in as plain_context}
+use Rattle.plain_tree.specs.NodesByNumber.{context_at, context_in as plain_context}
 use Rattle.disk_tree.specs.DiskTree.{Disk}
 use Rattle.mount_model.specs.PlainMount.{PlainMount, Raws, HandleList}
 use Rattle.mount_model.specs.OpenHandles.{has_handle}

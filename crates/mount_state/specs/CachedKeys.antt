@@ -1,4 +1,5 @@
--- When cached keys stand for a mount: they are what its raw keys and nodes give.
+-- The kind of key that a node of a mount has, and when cached keys stand for the mount: they are what its raw
+-- keys and nodes give.
 use Rattle.std.specs.Prelude.{◌≡◌, ℕ, [], Option, Some, None}
 use Rattle.std.specs.Option.{unwrap_or}
 use Rattle.policy_ctx.specs.declared.policy.KeyId.{KeyId}
@@ -16,6 +17,7 @@ use Rattle.plain_tree.specs.NodesByNumber.{context_at}
 use Rattle.mount_model.specs.PlainMount.{PlainMount, raw_in}
 use Rattle.mount_model.specs.Sealed.{node_key}
 
+-- the kind of key of a node, by what it is
 abbrev pub plain_kind_of : Body → KeyKind
 plain_kind_of (Dir children) = Names
 plain_kind_of (File contents) = Contents

@@ -1,4 +1,4 @@
--- The kind of key that a node has by what lies on the disk.
+-- The kind of key that a node has by what lies on the disk, and whether a key or a kind is that one.
 use Rattle.std.specs.Prelude.{Bool, true, false, Option, Some, None}
 use Rattle.fsc_keys.specs.declared.file_keys.KeyKind.{KeyKind}
 use Rattle.fsc_keys.specs.declared.file_keys.KeyKind.TheVariants.{Contents, Names}

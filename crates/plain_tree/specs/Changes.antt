@@ -4,8 +4,7 @@ use Rattle.std.specs.Prelude.{ℕ, Bool, true, false, List, [], None, Some}
 use Rattle.policy_ctx.specs.declared.policy.Context.{Context}
 use Rattle.number_map.specs.Numbered.{empty, insert, changed, remove}
 use Rattle.plain_tree.specs.Nodes.{Name, Dir, Node, Nodes, Children}
-use Rattle.plain_tree.specs.BodyChanges.{with_child}
-use Rattle.plain_tree.specs.BodyChanges.{without_child, with_children, with_contents}
+use Rattle.plain_tree.specs.BodyChanges.{with_child, without_child, with_children, with_contents}
 
 -- ---- changes of one node
 

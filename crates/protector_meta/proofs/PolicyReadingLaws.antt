@@ -7,7 +7,7 @@ use Rattle.std.specs.Cmp.Lexicographic.{same_text}
 use Rattle.std.proofs.lemmas.List.Elements.{All-from_recursion, recursion_from_All}
 use Rattle.std.proofs.lemmas.Option.{same_Some}
 use Rattle.hex.specs.Hex.{encode_lower}
-use Rattle.text_words.specs.Lines.{pieces_of}
+use Rattle.text_words.specs.Lines.{pieces_of, ended}
 use Rattle.short_bytes.specs.Label.{IsLabel}
 use Rattle.protector_meta.specs.declared.fault.MetaFault.{MetaFault}
 use Rattle.protector_meta.specs.declared.fault.MetaFault.TheVariants.{Bad, NoMemory}
@@ -16,7 +16,6 @@ use Rattle.protector_meta.specs.declared.policy_file.Options.{Options}
 use Rattle.protector_meta.specs.declared.policy_file.PolicyFile.{PolicyFile}
 use Rattle.protector_meta.specs.Wraps.{AreWraps}
 use Rattle.protector_meta.specs.Reading.{◌>>=◌}
-use Rattle.text_words.specs.Lines.{ended}
 use Rattle.protector_meta.specs.RecordLines.{IsFirstBad, RecordTest, TellsFirstBad, ended_lines}
 use Rattle.byte_words.specs.Bytes.{AreBytesOfLength}
 use Rattle.protector_meta.specs.PolicyText.{option_lines, options_line, policy_lines, policy_text, version_line, wrap_line}

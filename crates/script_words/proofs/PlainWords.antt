@@ -21,7 +21,7 @@ use Rattle.policy_ctx.specs.declared.policy.Pad.{Pad}
 use Rattle.policy_ctx.specs.declared.policy.Pad.TheVariants.{P4, P8, P16, P32}
 use Rattle.policy_ctx.specs.declared.policy.Unit.{Unit as DataUnit}
 use Rattle.policy_ctx.specs.declared.policy.Unit.TheVariants.{Block, U512, U1024, U2048, U4096}
-use Rattle.script_words.specs.Keys.{key_ref_text, hex_or_none_text}
+use Rattle.script_words.specs.Keys.{key_ref_text, hex_or_none_text, IsKey}
 use Rattle.script_words.specs.Numbers.{pad_text, unit_text}
 use Rattle.script_words.specs.Records.{record_name, IsRecord}
 use Rattle.script_words.specs.Secrets.{secret_text, IsSecret}
@@ -30,7 +30,6 @@ use Rattle.script_words.specs.CostWords.{costs_text, cost_text}
 use Rattle.script_words.specs.Word.{word_text}
 use Rattle.script_words.specs.Path.{IsPart, IsPath}
 use Rattle.script_words.specs.PathText.{part_text, parts_text, path_text}
-use Rattle.script_words.specs.Keys.{IsKey}
 use Rattle.script_words.specs.declared.path.ScriptPart.{ScriptPart}
 use Rattle.script_words.specs.declared.path.ScriptPart.TheVariants.{Given, Star}
 use Rattle.script_words.specs.declared.key_words.KeyRef.{KeyRef}

@@ -25,14 +25,13 @@ use Rattle.policy_ctx.specs.declared.policy.Pad.TheVariants.{P4, P8, P16, P32}
 use Rattle.policy_ctx.specs.declared.policy.Unit.{Unit as DataUnit}
 use Rattle.policy_ctx.specs.declared.policy.Unit.TheVariants.{Block, U512, U1024, U2048, U4096}
 use Rattle.fsc_keys.specs.declared.raw_key.TheConstants.{LEAST_RAW_KEY_BYTES, MOST_RAW_KEY_BYTES}
-use Rattle.script_words.specs.Keys.{hex_of_size, hex_or_none, key_ref_of, key_ref_text, hex_or_none_text}
+use Rattle.script_words.specs.Keys.{hex_of_size, hex_or_none, key_ref_of, key_ref_text, hex_or_none_text, IsKey}
 use Rattle.script_words.specs.Numbers.{number_of, at_most, number_up_to, pad_of, unit_of, pad_text, unit_text}
 use Rattle.script_words.specs.Records.{record_of, record_name, IsRecord}
 use Rattle.script_words.specs.Secrets.{secret_of, secret_text, IsSecret}
 use Rattle.script_words.specs.NewSecrets.{stretched_of, new_secret_of, new_secret_text, IsNewSecret}
 use Rattle.script_words.specs.CostWords.{is_colon, number_and_rest, costs_of, costs_text}
 use Rattle.script_words.specs.Word.{word_bytes, word_text}
-use Rattle.script_words.specs.Keys.{IsKey}
 use Rattle.script_words.specs.declared.limits.TheConstants.{RAW_SECRET_BYTES}
 use Rattle.script_words.specs.declared.key_words.KeyRef.{KeyRef}
 use Rattle.script_words.specs.declared.key_words.KeyRef.TheVariants.{Id, Raw}

@@ -2,10 +2,8 @@
 
 ghost use Rattle.std.specs.Prelude.{◌≡◌, Some, List, IfOk, OnOk, ◌++◌, string_bytes};
 ghost use Rattle.std.specs.List.{slice_split};
-ghost use Rattle.script_words.specs.Path.{IsPath, part_of, path_of};
-ghost use Rattle.script_words.specs.PathText.{path_text};
-ghost use Rattle.script_words.specs.Path.{is_slash, few_parts, star_number};
-ghost use Rattle.script_words.specs.PathText.{part_text};
+ghost use Rattle.script_words.specs.Path.{IsPath, part_of, path_of, is_slash, few_parts, star_number};
+ghost use Rattle.script_words.specs.PathText.{path_text, part_text};
 
 use crate::limits::MOST_PARTS;
 use crate::word::{append_word, read_word};

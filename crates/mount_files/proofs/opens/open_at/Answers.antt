@@ -1,10 +1,9 @@
 use Rattle.std.proofs.Common.{rules, ◌≡◌, ℕ, false, true, Some, sym, ap, ◌∙◌}
 use Rattle.number_map.specs.Numbered.{Numbered, get}
-use Rattle.mount_model.specs.OpenAnswers.{is_link_at, is_out_of_handles}
+use Rattle.mount_model.specs.OpenAnswers.{is_link_at, is_out_of_handles, open_told}
 use Rattle.mount_model.specs.OpenHandles.{opens_of}
 use Rattle.mount_model.specs.declared.reply.Reply.TheVariants.{Opened}
 use Rattle.mount_model.specs.States.{is_keyed}
-use Rattle.mount_model.specs.OpenAnswers.{open_told}
 use Rattle.mount_files.proofs.OpenStands.{link_lies, out_stands, told_opened, open_well, opened_stands, opened_given}
 use Rattle.mount_files.proofs.opens.open_at.Goals as goal
 
