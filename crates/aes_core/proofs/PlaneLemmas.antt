@@ -1,15 +1,15 @@
 -- Planes of bits of eight blocks: gates by truth tables, and steps that are the same on each block.
-use Rattle.std.proofs.Common.{◌≡◌, ℕ, zero, suc, ◌+◌, ◌-◌, ◌%◌, ◌^◌, ◌<◌, List, [], ◌∷◌, map, get_or, length, min, replicate, refl, ap, sym, ◌∙◌, arith, true}
+use Rattle.std.proofs.Common.{◌≡◌, ℕ, zero, suc, ◌+◌, ◌%◌, ◌<◌, List, [], ◌∷◌, map, get_or, length, min, refl, ap, sym, ◌∙◌, arith, true}
 use Rattle.std.proofs.lemmas.Bool.{eqb-true}
-use Rattle.std.proofs.lemmas.Nat.{xor_block, and_block}
-use Rattle.std.proofs.lemmas.Nat.Bits.{bit_at-lt, bit_at_xor, bit_at_and}
-use Rattle.std.specs.Prelude.{bit_and, bit_xor, nat_eq, slice_index}
+use Rattle.std.proofs.lemmas.Nat.{xor_block, and_block, or_block}
+use Rattle.std.proofs.lemmas.Nat.Bits.{bit_at-lt, bit_at_xor, bit_at_and, bit_at_or}
+use Rattle.std.specs.Prelude.{bit_and, bit_or, bit_xor, nat_eq, slice_index, max}
 use Rattle.std.specs.Int.{bit_at}
 use Rattle.std.specs.List.{range_with_len}
 use Rattle.std.specs.Simd.Lanes.{zip2}
 use Rattle.byte_words.specs.Tables.{all_from}
 use Rattle.byte_words.proofs.TableLemmas.{all_from-at}
-use Rattle.aes_core.specs.Planes.{packed, vector_of, plane, AllBlocks, AllBits}
+use Rattle.aes_core.specs.Planes.{vector_of, plane, AllBlocks, AllBits}
 use Rattle.aes_core.proofs.BitLemmas.{Bitwise, joined}
 
 xor_Bitwise : Bitwise bit_xor
@@ -72,6 +72,25 @@ and_gate {t} {u} {s} {r} {a} {b} made left right = record {
   is = planes_joined bit_and and_Bitwise (bit_at t) (bit_at u) s r a b (bit_at-lt t) (bit_at-lt u) made left.is right.is ∙ (λ i. plane (λ x. and_bit t u x i) s);
 }
 
+or_Bitwise : Bitwise bit_or
+or_Bitwise = record { none = refl; lowest = λ a b r s low small. or_block 1 a b r s low small }
+
+or_of_bits : (u v : ℕ) → u < 2 → v < 2 → bit_or u v ≡ max u v
+or_of_bits zero zero low small = refl
+or_of_bits zero (suc zero) low small = refl
+or_of_bits (suc zero) zero low small = refl
+or_of_bits (suc zero) (suc zero) low small = refl
+or_of_bits u (suc (suc v)) low small = absurd (omega arith)
+or_of_bits (suc (suc u)) v low small = absurd (omega arith)
+
+or_bit : (t u x : ℕ) → bit_or (bit_at t x) (bit_at u x) ≡ bit_at (bit_or t u) x
+or_bit t u x = or_of_bits (bit_at t x) (bit_at u x) (bit_at-lt t x) (bit_at-lt u x) ∙ sym (bit_at_or t u x)
+
+pub or_gate : {t u : ℕ} {s : ℕ → List ℕ} {r a b : List ℕ} → r ≡ zip2 bit_or a b → Carries s t a → Carries s u b → Carries s (bit_or t u) r
+or_gate {t} {u} {s} {r} {a} {b} made left right = record {
+  is = planes_joined bit_or or_Bitwise (bit_at t) (bit_at u) s r a b (bit_at-lt t) (bit_at-lt u) made left.is right.is ∙ (λ i. plane (λ x. or_bit t u x i) s);
+}
+
 -- ---- planes that are the same at every byte
 
 pub plane_same : (f g : ℕ → ℕ) (s : ℕ → List ℕ) → AllBlocks s → all_from (λ x. nat_eq (f x) (g x)) 0 256 ≡ true → plane f s ≡ plane g s
@@ -81,24 +100,6 @@ plane_same f g s blocks all =
     let low : slice_index (s b) p < 256 = (blocks b).bytes p in
     eqb-true _ _ (all_from-at (λ x. nat_eq (f x) (g x)) 0 256 (slice_index (s b) p) all (omega arith) (omega arith)) in
     (λ i. vector_of (λ b p. at b p i))
-
--- a vector of ones
-abbrev pub all_ones : ℕ
-all_ones = 2 ^ 256 - 1
-
-ones_everywhere : (s : ℕ → List ℕ) → replicate 16 255 ≡ plane (λ x. 1) s
-unfolding plane vector_of packed
-ones_everywhere s = refl
-
-all_ones_right : all_from (λ x. nat_eq 1 (bit_at all_ones x)) 0 256 ≡ true
-unfolding all_from
-all_ones_right = refl
-
-ones_plane : (s : ℕ → List ℕ) → AllBlocks s → replicate 16 255 ≡ plane (bit_at all_ones) s
-ones_plane s blocks = ones_everywhere s ∙ plane_same (λ x. 1) (bit_at all_ones) s blocks all_ones_right
-
-pub not_gate : {t : ℕ} {s : ℕ → List ℕ} {r a : List ℕ} → AllBlocks s → r ≡ zip2 bit_xor a (replicate 16 255) → Carries s t a → Carries s (bit_xor t all_ones) r
-not_gate {t} {s} {r} {a} blocks made left = xor_gate made left (record { is = ones_plane s blocks })
 
 -- ---- the xor of two families of blocks
 
@@ -113,8 +114,8 @@ pub xor_blocks : (k : ℕ) (s t : ℕ → List ℕ) (r a b : List ℕ) → AllBl
     a ≡ plane (λ x. bit_at x k) s → b ≡ plane (λ x. bit_at x k) t → r ≡ plane (λ x. bit_at x k) (λ b. zip2 bit_xor (s b) (t b))
 unfolding plane
 xor_blocks k s t r a b sb tb made left right =
-    let each : (b p : ℕ) → bit_xor (bit_at (slice_index (s b) p) k) (bit_at (slice_index (t b) p) k) ≡ bit_at (slice_index (zip2 bit_xor (s b) (t b)) p) k = λ b p.
+    let state_map : (b p : ℕ) → bit_xor (bit_at (slice_index (s b) p) k) (bit_at (slice_index (t b) p) k) ≡ bit_at (slice_index (zip2 bit_xor (s b) (t b)) p) k = λ b p.
     xor_bit (slice_index (s b) p) (slice_index (t b) p) k ∙ ap (λ x. bit_at x k) (xor_at (s b) (t b) p ((sb b).size ∙ sym (tb b).size)) in
     made ∙ (λ i. zip2 bit_xor (left i) (right i))
     ∙ vectors_joined bit_xor xor_Bitwise (λ b p. bit_at (slice_index (s b) p) k) (λ b p. bit_at (slice_index (t b) p) k) (λ b p. bit_at-lt (slice_index (s b) p) k) (λ b p. bit_at-lt (slice_index (t b) p) k)
-    ∙ (λ i. vector_of (λ b p. each b p i))
+    ∙ (λ i. vector_of (λ b p. state_map b p i))

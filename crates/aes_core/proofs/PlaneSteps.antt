@@ -1,4 +1,4 @@
--- What a round does to planes: turns of rows, sums, products by x and round keys, each the same on all
+-- What a round does to planes: rows, sums, products by x and round keys, each the same on all
 -- eight blocks.
 use Rattle.std.proofs.Common.{◌≡◌, ℕ, zero, suc, ◌+◌, ◌*◌, ◌%◌, ◌^◌, ◌<◌, true, cond, List, [], ◌∷◌, map, get_or, length, replicate, refl, ap, sym, ◌∙◌, arith, Fits, w8}
 use Rattle.std.proofs.lemmas.List.{length-map}
@@ -13,39 +13,46 @@ use Rattle.std.specs.Simd.Lanes.{zip2, Each1}
 use lib.Lanes.{sel_l, top}
 use Rattle.byte_words.specs.Tables.{all_from}
 use Rattle.byte_words.proofs.TableLemmas.{all_from-at}
-use Rattle.aes_core.specs.Field.{times_x}
-use Rattle.aes_core.specs.Lanes.{row_on, round_key}
 use Rattle.byte_words.specs.Bytes.{AreBytes}
+use Rattle.aes_core.specs.Field.{times_x}
+use Rattle.aes_core.specs.Lanes.{round_key}
 use Rattle.aes_core.specs.Laws.{IsBlock}
+use Rattle.aes_core.specs.Steps.{cell}
+use Rattle.aes_core.specs.UnshiftedRows.{unshifted_row, unshifted_mix}
 use Rattle.aes_core.specs.Planes.{packed, vector_of, plane, AllBlocks}
-use Rattle.aes_core.specs.Steps.{cell, shift_rows, inverse_shift_rows}
+use Rattle.aes_core.specs.MiddleRounds.{state_map}
 use Rattle.aes_core.proofs.ByteTables.{times_x-lt}
 use Rattle.aes_core.proofs.LaneLemmas.{of_sixteen}
 use Rattle.aes_core.proofs.PlaneLemmas.{xor_functions, plane_same}
 use Rattle.aes_core.proofs.StateLemmas.{bytes_from, state_of-IsBlock}
 
--- ---- rows turn in each block as they turn in a plane
+-- ---- rows are found in each block as they are found in a plane
 
-pub rows_shifted : (k : ℕ) (s : ℕ → List ℕ) (v r : List ℕ) → v ≡ plane (λ x. bit_at x k) s → r ≡ shift_rows v → r ≡ plane (λ x. bit_at x k) (λ b. shift_rows (s b))
-unfolding plane vector_of shift_rows
-rows_shifted k s v r is made = made ∙ ap shift_rows is
+pub next_row_of_plane : (n k : ℕ) (s : ℕ → List ℕ) (v r : List ℕ) → n < 4 → v ≡ plane (λ x. bit_at x k) s → r ≡ unshifted_row 1 n v → r ≡ plane (λ x. bit_at x k) (λ b. unshifted_row 1 n (s b))
+unfolding plane vector_of unshifted_row
+next_row_of_plane zero k s v r low is made = made ∙ ap (λ w. unshifted_row 1 0 w) is
+next_row_of_plane (suc zero) k s v r low is made = made ∙ ap (λ w. unshifted_row 1 1 w) is
+next_row_of_plane (suc (suc zero)) k s v r low is made = made ∙ ap (λ w. unshifted_row 1 2 w) is
+next_row_of_plane (suc (suc (suc zero))) k s v r low is made = made ∙ ap (λ w. unshifted_row 1 3 w) is
+next_row_of_plane (suc (suc (suc (suc n)))) k s v r low is made = absurd (omega arith)
 
-pub rows_shifted_back : (k : ℕ) (s : ℕ → List ℕ) (v r : List ℕ) → v ≡ plane (λ x. bit_at x k) s → r ≡ inverse_shift_rows v → r ≡ plane (λ x. bit_at x k) (λ b. inverse_shift_rows (s b))
-unfolding plane vector_of inverse_shift_rows
-rows_shifted_back k s v r is made = made ∙ ap inverse_shift_rows is
-
-pub row_turned : (n k : ℕ) (s : ℕ → List ℕ) (v r : List ℕ) → n < 3 → v ≡ plane (λ x. bit_at x k) s → r ≡ row_on n v → r ≡ plane (λ x. bit_at x k) (λ b. row_on n (s b))
-unfolding plane vector_of row_on
-row_turned zero k s v r low is made = made ∙ ap (λ w. row_on 0 w) is
-row_turned (suc zero) k s v r low is made = made ∙ ap (λ w. row_on 1 w) is
-row_turned (suc (suc zero)) k s v r low is made = made ∙ ap (λ w. row_on 2 w) is
-row_turned (suc (suc (suc n))) k s v r low is made = absurd (omega arith)
+pub second_row_of_plane : (n k : ℕ) (s : ℕ → List ℕ) (v r : List ℕ) → n < 4 → v ≡ plane (λ x. bit_at x k) s → r ≡ unshifted_row 2 n v → r ≡ plane (λ x. bit_at x k) (λ b. unshifted_row 2 n (s b))
+unfolding plane vector_of unshifted_row
+second_row_of_plane zero k s v r low is made = made ∙ ap (λ w. unshifted_row 2 0 w) is
+second_row_of_plane (suc zero) k s v r low is made = made ∙ ap (λ w. unshifted_row 2 1 w) is
+second_row_of_plane (suc (suc zero)) k s v r low is made = made ∙ ap (λ w. unshifted_row 2 2 w) is
+second_row_of_plane (suc (suc (suc zero))) k s v r low is made = made ∙ ap (λ w. unshifted_row 2 3 w) is
+second_row_of_plane (suc (suc (suc (suc n)))) k s v r low is made = absurd (omega arith)
 
 -- ---- blocks that are made of blocks
 
-pub row_on-IsBlock : (n : ℕ) (s : List ℕ) → IsBlock s → IsBlock (row_on n s)
-unfolding row_on
-row_on-IsBlock n s block = state_of-IsBlock (λ r c. cell s (r + n) c) (λ r c. block.bytes _)
+pub unshifted_row-IsBlock : (m n : ℕ) (s : List ℕ) → IsBlock s → IsBlock (unshifted_row m n s)
+unfolding unshifted_row
+unshifted_row-IsBlock m n s block = state_of-IsBlock (λ r c. cell s (r + m) (c + m * (n + 1))) (λ r c. block.bytes _)
+
+pub state_map-IsBlock : (f : ℕ → ℕ) → ((x : ℕ) → x < 256 → f x < 256) → (s : List ℕ) → IsBlock s → IsBlock (state_map f s)
+unfolding state_map
+state_map-IsBlock f small s block = state_of-IsBlock (λ r c. f (cell s r c)) (λ r c. small (cell s r c) (block.bytes _))
 
 xor_bytes-lt : (xs ys : List ℕ) → ((i : ℕ) → get_or xs i 0 < 256) → ((i : ℕ) → get_or ys i 0 < 256) → (i : ℕ) → get_or (zip2 bit_xor xs ys) i 0 < 256
 xor_bytes-lt [] ys xb yb i = omega arith
@@ -69,6 +76,15 @@ times_x-IsBlock s block = record {
   size = length-map s times_x ∙ block.size;
   bytes = times_x_bytes-lt s block.bytes;
 }
+
+pub unshifted_mix-IsBlock : (n : ℕ) (s : List ℕ) → IsBlock s → IsBlock (unshifted_mix n s)
+unfolding unshifted_mix
+unshifted_mix-IsBlock n s block =
+    let next : List ℕ = unshifted_row 1 n s in
+    let next_block : IsBlock next = unshifted_row-IsBlock 1 n s block in
+    let sum : List ℕ = zip2 bit_xor s next in
+    let sum_block : IsBlock sum = xor-IsBlock s next block next_block in
+    xor-IsBlock (zip2 bit_xor (map times_x sum) next) (unshifted_row 2 n sum) (xor-IsBlock (map times_x sum) next (times_x-IsBlock sum sum_block) next_block) (unshifted_row-IsBlock 2 n sum sum_block)
 
 -- ---- the product by x: a plane comes from the one below, or from it and the highest
 

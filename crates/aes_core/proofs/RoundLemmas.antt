@@ -2,8 +2,8 @@
 use Rattle.std.proofs.Common.{◌≡◌, ℕ, zero, suc, ◌+◌, ◌-◌, ◌/◌, ◌%◌, ◌<◌, Bool, true, false, List, [], ◌∷◌, ◌++◌, length, get_or, refl, ap, ◌∙◌, arith}
 use Rattle.std.proofs.lemmas.Nat.{xor_of_8}
 use Rattle.std.specs.Prelude.{bit_xor, nat_eq, if◌then◌else◌}
-use Rattle.aes_core.specs.Aes.{state_after, encrypted_with, rounds_undone, decrypted_with, encrypted_block, decrypted_block}
 use Rattle.byte_words.specs.Bytes.{AreBytes}
+use Rattle.aes_core.specs.Aes.{state_after, encrypted_with, rounds_undone, decrypted_with, encrypted_block, decrypted_block}
 use Rattle.aes_core.specs.Laws.{IsBlock}
 use Rattle.aes_core.specs.RoundKeys.{word_of, word_byte, power_of_x, round_constant, changed_word, next_word, key_schedule, round_keys}
 use Rattle.aes_core.specs.Steps.{substitute_bytes, shift_rows, mix_columns, inverse_substitute_bytes, inverse_shift_rows, inverse_mix_columns, add_round_key}

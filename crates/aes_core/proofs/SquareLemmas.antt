@@ -60,8 +60,8 @@ pub by_planes : (made : List ℕ → List ℕ) (blocks bits rounds back : List (
 by_planes made blocks bits rounds back size keeps given turn cipher turn_back b low =
     let s : ℕ → List ℕ = λ b. get_or blocks (b % 8) [] in
     let all : AllBlocks s = λ b. given (b % 8) (mod_below b 8 (omega arith)) in
-    let turned = turn (λ r k p. bit_at (slice_index (s r) p) k) (λ r k p. bit_at-lt (slice_index (s r) p) k) (blocks_are blocks size given) in
-    let passed = cipher s all (turned ∙ sym (planes_are s)) in
+    let rotated_rows = turn (λ r k p. bit_at (slice_index (s r) p) k) (λ r k p. bit_at-lt (slice_index (s r) p) k) (blocks_are blocks size given) in
+    let passed = cipher s all (rotated_rows ∙ sym (planes_are s)) in
     let turned_back = turn_back (λ k b p. bit_at (slice_index (made (s b)) p) k) (λ k b p. bit_at-lt (slice_index (made (s b)) p) k) (passed ∙ planes_are (λ b. made (s b))) in
     let same : b % 8 ≡ b = omega arith in
     ap (λ v. get_or v b []) turned_back ∙ row_is (λ b. made (s b)) b low (keeps (s b) (all b)) ∙ ap (λ k. made (get_or blocks k [])) same

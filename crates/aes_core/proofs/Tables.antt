@@ -1,18 +1,11 @@
 -- What is known by a look at each byte. The facts over all bytes are computed.
-use Rattle.std.proofs.Common.{◌≡◌, ℕ, ◌*◌, ◌/◌, ◌%◌, ◌^◌, ◌<◌, refl, arith}
+use Rattle.std.proofs.Common.{◌≡◌, ℕ, ◌*◌, ◌%◌, ◌^◌, ◌<◌, refl, arith}
 use Rattle.std.proofs.lemmas.Bool.{eqb-true}
-use Rattle.std.specs.Prelude.{true, bit_xor, nat_eq}
+use Rattle.std.specs.Prelude.{true, nat_eq}
 use Rattle.byte_words.specs.Tables.{all_from}
 use Rattle.byte_words.proofs.TableLemmas.{all_from-at}
 use Rattle.aes_core.specs.Field.{times_x, sum_with_product, field_product, product_of_squares, field_inverse}
 use Rattle.aes_core.specs.RoundKeys.{power_of_x}
-
-times_x_right : all_from (λ b. nat_eq (bit_xor (b * 2 % 256) (b / 128 * 27)) (times_x b)) 0 256 ≡ true
-unfolding all_from times_x
-times_x_right = refl
-
-pub times_x_is : (b : ℕ) → b < 256 → bit_xor (b * 2 % 256) (b / 128 * 27) ≡ times_x b
-times_x_is b low = eqb-true _ _ (all_from-at (λ k. nat_eq (bit_xor (k * 2 % 256) (k / 128 * 27)) (times_x k)) 0 256 b times_x_right (omega arith) (omega arith))
 
 inverse_right : all_from (λ b. nat_eq (field_product b (field_inverse b)) 1) 1 255 ≡ true
 unfolding all_from times_x sum_with_product field_product product_of_squares field_inverse

@@ -1,11 +1,11 @@
 -- Decryption counted by the rounds that are done.
 use Rattle.std.proofs.Common.{◌≡◌, ℕ, zero, suc, ◌-◌, ◌≤◌, List, refl, ap, sym, ◌∙◌, arith}
-use Rattle.aes_core.specs.Aes.{state_after, encrypted_with, rounds_undone, decrypted_with}
 use Rattle.byte_words.specs.Bytes.{AreBytes}
+use Rattle.aes_core.specs.Aes.{rounds_undone, decrypted_with}
 use Rattle.aes_core.specs.Laws.{IsBlock}
-use Rattle.aes_core.specs.Steps.{substitute_bytes, shift_rows, inverse_substitute_bytes, inverse_shift_rows, inverse_mix_columns, add_round_key}
+use Rattle.aes_core.specs.Steps.{inverse_substitute_bytes, inverse_shift_rows, inverse_mix_columns, add_round_key}
 use Rattle.aes_core.proofs.InverseLemmas.{add_round_key-IsBlock, inverse_mix_columns-IsBlock}
-use Rattle.aes_core.proofs.RoundLemmas.{moved-IsBlock, moved_back-IsBlock, state_after-IsBlock, rounds_undone-IsBlock}
+use Rattle.aes_core.proofs.RoundLemmas.{moved_back-IsBlock}
 
 -- the state after n rounds of decryption
 unfoldable pub undone_after : List ℕ → List ℕ → ℕ → List ℕ
@@ -31,12 +31,3 @@ left_after w block (suc n) low =
 pub undone_whole : (w block : List ℕ) → add_round_key w 0 (inverse_substitute_bytes (inverse_shift_rows (undone_after w block 13))) ≡ decrypted_with w block
 unfolding rounds_undone
 undone_whole w block = left_after w block 13 (omega arith)
-
-pub encrypted_with-IsBlock : (w block : List ℕ) → AreBytes w → IsBlock block → IsBlock (encrypted_with w block)
-unfolding encrypted_with
-encrypted_with-IsBlock w block keys is = add_round_key-IsBlock w 14 (shift_rows (substitute_bytes (state_after w block 13))) keys
-    (moved-IsBlock (state_after w block 13) (state_after-IsBlock w block 13 keys is))
-
-pub decrypted_with-IsBlock : (w block : List ℕ) → AreBytes w → IsBlock block → IsBlock (decrypted_with w block)
-unfolding decrypted_with
-decrypted_with-IsBlock w block keys is = rounds_undone-IsBlock w (add_round_key w 14 block) 13 keys (add_round_key-IsBlock w 14 block keys is)

@@ -1,10 +1,14 @@
 pub mod Aes
+pub mod Basis
 pub mod Field
 pub mod Groups
+pub mod KeyPlanes
 pub mod Lanes
 pub mod Laws
+pub mod MiddleRounds
 pub mod Planes
 pub mod RoundKeys
 pub mod Shuffles
 pub mod Steps
 pub mod Substitution
+pub mod UnshiftedRows

@@ -3,28 +3,32 @@
 //! one block, and by gates on planes of bits for eight.
 #![tactic(auto)]
 
+mod basis;
 mod eight;
 mod inverse_substitution_circuit;
 mod key_schedule;
 mod plane_rounds;
 mod rounds;
+mod shuffle_tables;
 mod shuffles;
 mod substitution_circuit;
 mod transposition;
+mod unshifted_rows;
 mod vectors;
 mod zero_key;
 
 ghost use Rattle.std.specs.Prelude.{◌≡◌, ◌<◌, List, [], ℕ, length, replicate, slice_index_or, take};
 ghost use Rattle.aes_core.specs.Aes.{decrypted_block, encrypted_block};
+ghost use Rattle.aes_core.specs.Basis.{forward_keys, inverse_keys};
+ghost use Rattle.aes_core.specs.KeyPlanes.{key_planes};
 ghost use Rattle.aes_core.specs.Laws.{DecryptionUndoes, DecryptsToBlocks, EncryptionUndoes};
 ghost use Rattle.aes_core.specs.Laws.{EncryptsToBlocks, InverseIsOne, MakesSixteen};
 ghost use Rattle.aes_core.specs.RoundKeys.{round_keys};
 
-use crate::rounds::{
-    RoundKeys, add_round_key, inverse_mix_columns, inverse_shift_rows, inverse_substitute_bytes,
-    mix_columns, shift_rows, substitute_bytes,
-};
-use crate::zero_key::round_keys_of_zeros;
+use crate::basis::{PreparedKeys, write_forward_keys, write_inverse_keys};
+pub use crate::plane_rounds::{KEY_PLANE_BYTES, KeyPlanes};
+use crate::rounds::RoundKeys;
+use crate::zero_key::{forward_keys_of_zeros, inverse_keys_of_zeros, round_keys_of_zeros};
 use byte_words::wipe;
 use std::marker::Model;
 use std::simd::prelude::*;
@@ -37,6 +41,9 @@ use std::simd::prelude::*;
 pub struct Aes256 {
     // The key itself is the first 32 bytes.
     schedule: RoundKeys,
+    // The keys of the rounds 1 to 13 as single blocks are encrypted and decrypted with them.
+    forward: PreparedKeys,
+    inverse: PreparedKeys,
 }
 
 impl Model for Aes256 {
@@ -44,7 +51,8 @@ impl Model for Aes256 {
 
     ghost view = { λ a. take 32 a.schedule };
 
-    ghost invariant = { λ a. a.schedule ≡ round_keys (take 32 a.schedule) };
+    ghost invariant = { λ a. (a.schedule ≡ round_keys (take 32 a.schedule))
+        × (a.forward ≡ forward_keys a.schedule) × (a.inverse ≡ inverse_keys a.schedule) };
 }
 
 impl Aes256 {
@@ -52,9 +60,9 @@ impl Aes256 {
     pub fn new(key: &[u8; 32]) -> Aes256
         ensures { result ≡ key.now }
     {
-        let mut schedule = [0; 240];
-        key_schedule::write_round_keys(&mut schedule, key);
-        Aes256 { schedule }
+        let mut cipher = Aes256::zeros();
+        cipher.set(key);
+        cipher
     }
 
     /// The key of 32 zeros: room for another.
@@ -63,6 +71,8 @@ impl Aes256 {
     {
         Aes256 {
             schedule: round_keys_of_zeros(),
+            forward: forward_keys_of_zeros(),
+            inverse: inverse_keys_of_zeros(),
         }
     }
 
@@ -72,6 +82,8 @@ impl Aes256 {
         ensures { self.new ≡ key.now }
     {
         key_schedule::write_round_keys(&mut self.schedule, key);
+        write_forward_keys(&mut self.forward, &self.schedule);
+        write_inverse_keys(&mut self.inverse, &self.schedule);
     }
 
     /// Overwrites the key and its round keys where they stand. It is then the key of 32 zeros.
@@ -79,36 +91,25 @@ impl Aes256 {
         ensures { self.new ≡ replicate 32 0 }
     {
         wipe(&mut self.schedule);
+        wipe(&mut self.forward);
+        wipe(&mut self.inverse);
         self.schedule = round_keys_of_zeros();
+        self.forward = forward_keys_of_zeros();
+        self.inverse = inverse_keys_of_zeros();
     }
 
     /// The block encrypted (FIPS 197, 5.1).
     pub fn encrypt_block(&self, block: [u8; 16]) -> [u8; 16]
         ensures { result ≡ encrypted_block self.now block }
     {
-        let mut state = add_round_key(&self.schedule, 0, u8x16::from_array(block));
-        'rounds: for done in 0..13 {
-            let mixed = mix_columns(shift_rows(substitute_bytes(state)));
-            state = add_round_key(&self.schedule, done + 1, mixed);
-        }
-        add_round_key(&self.schedule, 14, shift_rows(substitute_bytes(state))).to_array()
+        basis::encrypt(&self.schedule, &self.forward, u8x16::from_array(block)).to_array()
     }
 
     /// The block decrypted (FIPS 197, 5.3).
     pub fn decrypt_block(&self, block: [u8; 16]) -> [u8; 16]
         ensures { result ≡ decrypted_block self.now block }
     {
-        let mut state = add_round_key(&self.schedule, 14, u8x16::from_array(block));
-        'rounds: for done in 0..13 {
-            let moved_back = inverse_substitute_bytes(inverse_shift_rows(state));
-            state = inverse_mix_columns(add_round_key(&self.schedule, 13 - done, moved_back));
-        }
-        add_round_key(
-            &self.schedule,
-            0,
-            inverse_substitute_bytes(inverse_shift_rows(state)),
-        )
-        .to_array()
+        basis::decrypt(&self.schedule, &self.inverse, u8x16::from_array(block)).to_array()
     }
 
     /// Eight blocks encrypted, each in the lanes of one vector, byte by byte.
@@ -116,7 +117,11 @@ impl Aes256 {
         ensures { (b : ℕ) → b < 8
             → slice_index_or result b [] ≡ encrypted_block self.now (slice_index_or blocks b []) }
     {
-        eight::encrypt_eight(&self.schedule, blocks)
+        let mut planes = [0; KEY_PLANE_BYTES];
+        self.write_key_planes(&mut planes);
+        let encrypted = eight::encrypt_eight(&self.schedule, &planes, blocks);
+        wipe(&mut planes);
+        encrypted
     }
 
     /// Eight blocks decrypted, each in the lanes of one vector, byte by byte.
@@ -124,7 +129,37 @@ impl Aes256 {
         ensures { (b : ℕ) → b < 8
             → slice_index_or result b [] ≡ decrypted_block self.now (slice_index_or blocks b []) }
     {
-        eight::decrypt_eight(&self.schedule, blocks)
+        let mut planes = [0; KEY_PLANE_BYTES];
+        self.write_key_planes(&mut planes);
+        let decrypted = eight::decrypt_eight(&self.schedule, &planes, blocks);
+        wipe(&mut planes);
+        decrypted
+    }
+
+    /// Writes the planes of the round keys, with which any number of eights is encrypted and decrypted. They
+    /// are as secret as the key: the caller wipes them after the last use.
+    pub fn write_key_planes(&self, planes: &mut KeyPlanes)
+        ensures { planes.new ≡ key_planes (round_keys self.now) }
+    {
+        plane_rounds::write_key_planes(planes, &self.schedule);
+    }
+
+    /// `encrypt_eight`, with the planes of the round keys as `write_key_planes` wrote them.
+    pub fn encrypt_eight_with(&self, planes: &KeyPlanes, blocks: [u8x16; 8]) -> [u8x16; 8]
+        requires { planes.now ≡ key_planes (round_keys self.now) }
+        ensures { (b : ℕ) → b < 8
+            → slice_index_or result b [] ≡ encrypted_block self.now (slice_index_or blocks b []) }
+    {
+        eight::encrypt_eight(&self.schedule, planes, blocks)
+    }
+
+    /// `decrypt_eight`, with the planes of the round keys as `write_key_planes` wrote them.
+    pub fn decrypt_eight_with(&self, planes: &KeyPlanes, blocks: [u8x16; 8]) -> [u8x16; 8]
+        requires { planes.now ≡ key_planes (round_keys self.now) }
+        ensures { (b : ℕ) → b < 8
+            → slice_index_or result b [] ≡ decrypted_block self.now (slice_index_or blocks b []) }
+    {
+        eight::decrypt_eight(&self.schedule, planes, blocks)
     }
 }
 

@@ -4,42 +4,12 @@
 ghost use Rattle.std.specs.Prelude.{◌≡◌, ◌≤◌, map};
 ghost use Rattle.aes_core.specs.Field.{times_x};
 ghost use Rattle.aes_core.specs.Lanes.{round_key, row_on};
-ghost use Rattle.aes_core.specs.Steps.{add_round_key, inverse_mix_columns, inverse_shift_rows};
-ghost use Rattle.aes_core.specs.Steps.{inverse_substitute_bytes, mix_columns, shift_rows, substitute_bytes};
+ghost use Rattle.aes_core.specs.Steps.{add_round_key, inverse_mix_columns, mix_columns};
 
-use crate::shuffles::{inverse_substitute, substitute};
 use crate::vectors::xor;
 use std::simd::prelude::*;
 
 pub(crate) type RoundKeys = [u8; 240];
-
-#[inline(always)]
-pub(crate) fn substitute_bytes(state: u8x16) -> u8x16
-    ensures { result ≡ substitute_bytes state }
-{
-    substitute(state)
-}
-
-#[inline(always)]
-pub(crate) fn inverse_substitute_bytes(state: u8x16) -> u8x16
-    ensures { result ≡ inverse_substitute_bytes state }
-{
-    inverse_substitute(state)
-}
-
-#[inline(always)]
-pub(crate) fn shift_rows(state: u8x16) -> u8x16
-    ensures { result ≡ shift_rows state }
-{
-    state.swizzle([0, 5, 10, 15, 4, 9, 14, 3, 8, 13, 2, 7, 12, 1, 6, 11])
-}
-
-#[inline(always)]
-pub(crate) fn inverse_shift_rows(state: u8x16) -> u8x16
-    ensures { result ≡ inverse_shift_rows state }
-{
-    state.swizzle([0, 13, 10, 7, 4, 1, 14, 11, 8, 5, 2, 15, 12, 9, 6, 3])
-}
 
 // The product of each byte by x in the field of bytes.
 #[inline(always)]

@@ -1,18 +1,18 @@
 //! The S-box on eight blocks in planes of bits, as the circuit of Boyar and Peralta ("A new
 //! combinational logic minimization technique with applications to cryptology", 2010), whose names the
-//! gates have.
+//! gates have. The constant of the S-box is added with the round keys, which saves its four complements.
 
 ghost use Rattle.std.specs.Prelude.{◌≡◌, ℕ, List};
+ghost use Rattle.aes_core.specs.MiddleRounds.{state_map, substitute_without_constant};
 ghost use Rattle.aes_core.specs.Planes.{AllBlocks, planes};
-ghost use Rattle.aes_core.specs.Steps.{substitute_bytes};
 
 use crate::transposition::Square;
-use crate::vectors::{and, not, xor};
+use crate::vectors::{and, xor};
 
 #[inline(always)]
 pub(crate) fn substitute_planes(state: Square) -> Square
     ensures { (s : ℕ → List ℕ) → AllBlocks s → state ≡ planes s
-        → result ≡ planes (λ b. substitute_bytes (s b)) }
+        → result ≡ planes (λ b. state_map substitute_without_constant (s b)) }
 {
     let [u7, u6, u5, u4, u3, u2, u1, u0] = state;
     let y14 = xor(u3, u5);
@@ -128,5 +128,5 @@ pub(crate) fn substitute_planes(state: Square) -> Square
     let s6 = xor(tc10, tc18);
     let s7 = xor(z12, tc18);
     let s4 = xor(tc14, s3);
-    [not(s7), not(s6), s5, s4, s3, not(s2), not(s1), s0]
+    [s7, s6, s5, s4, s3, s2, s1, s0]
 }

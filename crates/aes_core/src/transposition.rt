@@ -19,13 +19,9 @@ fn exchange_fours(first: u8x16, second: u8x16) -> (u8x16, u8x16)
     ensures upper { (f g : ℕ → ℕ → ℕ) → AllBits f → AllBits g → first ≡ vector_of f → second ≡ vector_of g
         → result.1 ≡ vector_of (upper_bits 4 f g) }
 {
-    let low = u8x16::splat(0x0f);
-    let high = u8x16::splat(0xf0);
     let by = u8x16::splat(4);
-    (
-        (first & low) | ((second & low) << by),
-        ((first & high) >> by) | (second & high),
-    )
+    let differing = ((first >> by) ^ second) & u8x16::splat(0x0f);
+    (first ^ (differing << by), second ^ differing)
 }
 
 // The upper bits of each 4 of the first for the lower of the second, two at a time.
@@ -36,13 +32,9 @@ fn exchange_pairs(first: u8x16, second: u8x16) -> (u8x16, u8x16)
     ensures upper { (f g : ℕ → ℕ → ℕ) → AllBits f → AllBits g → first ≡ vector_of f → second ≡ vector_of g
         → result.1 ≡ vector_of (upper_bits 2 f g) }
 {
-    let low = u8x16::splat(0x33);
-    let high = u8x16::splat(0xcc);
     let by = u8x16::splat(2);
-    (
-        (first & low) | ((second & low) << by),
-        ((first & high) >> by) | (second & high),
-    )
+    let differing = ((first >> by) ^ second) & u8x16::splat(0x33);
+    (first ^ (differing << by), second ^ differing)
 }
 
 // The upper bits of each 2 of the first for the lower of the second, one at a time.
@@ -53,13 +45,9 @@ fn exchange_singles(first: u8x16, second: u8x16) -> (u8x16, u8x16)
     ensures upper { (f g : ℕ → ℕ → ℕ) → AllBits f → AllBits g → first ≡ vector_of f → second ≡ vector_of g
         → result.1 ≡ vector_of (upper_bits 1 f g) }
 {
-    let low = u8x16::splat(0x55);
-    let high = u8x16::splat(0xaa);
     let by = u8x16::splat(1);
-    (
-        (first & low) | ((second & low) << by),
-        ((first & high) >> by) | (second & high),
-    )
+    let differing = ((first >> by) ^ second) & u8x16::splat(0x55);
+    (first ^ (differing << by), second ^ differing)
 }
 
 // Bit k of lane p of row r becomes bit r of lane p of row k.

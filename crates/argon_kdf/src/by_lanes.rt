@@ -10,9 +10,9 @@ use crate::lanes::later_passes;
 use crate::layout::Layout;
 use crate::limits::{LEAST_SALT_BYTES, MOST_TEXT_BYTES};
 use crate::slices::{last_column, reserved_slices};
-use crate::wiping::{wipe_block, wipe_slices};
+use crate::wiping::wipe_slices;
 use crate::{Costs, Texts};
-use byte_words::wipe;
+use byte_words::{wipe, wipe_words};
 use std::alloc::{AllocError, Global};
 use std::thread::Threads;
 
@@ -48,6 +48,6 @@ pub fn argon2id_lanes<R: Threads + Sync>(
     let mut last = last_column(layout, &memory);
     wipe_slices(&mut memory);
     write_tag(&last, tag);
-    wipe_block(&mut last);
+    wipe_words(&mut last);
     Ok(())
 }

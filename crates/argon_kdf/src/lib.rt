@@ -9,7 +9,7 @@ ghost use Rattle.argon_kdf.specs.Argon2id.{argon2id_tag};
 
 use block::{Block, ZERO_BLOCK};
 pub use by_lanes::argon2id_lanes;
-use byte_words::wipe;
+use byte_words::{wipe, wipe_words};
 pub use costs::{CostFault, Costs};
 use digest::{first_digest, write_tag};
 use fill::{fill, last_column};
@@ -21,7 +21,7 @@ pub use limits::{
 use std::alloc::{AllocError, Global};
 pub use stretch::{LaneStretch, PlainStretch, Stretch};
 pub use texts::Texts;
-use wiping::{wipe_block, wipe_blocks};
+use wiping::wipe_blocks;
 
 mod block;
 mod block_bytes;
@@ -79,6 +79,6 @@ pub fn argon2id(
     let mut last = last_column(layout, &memory);
     wipe_blocks(&mut memory);
     write_tag(&last, tag);
-    wipe_block(&mut last);
+    wipe_words(&mut last);
     Ok(())
 }

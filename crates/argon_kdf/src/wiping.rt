@@ -7,21 +7,6 @@ ghost use Rattle.argon_kdf.specs.Slices.{segments_of, slices_of, zero_segments, 
 use crate::block::{Block, ZERO_BLOCK};
 use crate::slices::Segments;
 
-// Writes zeros over the block. It may be an array that is about to go, of which a compiler would take the
-// stores out: so the call is never inlined, and leads through a search of which LLVM doesn't know that it
-// ends, as `wipe` of bytes does.
-#[inline(never)]
-pub(crate) fn wipe_block(block: &mut Block)
-    ensures { block.new ≡ zero_block }
-{
-    'zeros: for i in 0..128 {
-        if block[i] != 0 {
-            *block = ZERO_BLOCK;
-            return;
-        }
-    }
-}
-
 // Writes zeros over every block. They stand in a vector, whose memory is given back by a call that the
 // compiler doesn't see through: so the stores stay.
 pub(crate) fn wipe_blocks(memory: &mut [Block])

@@ -3,6 +3,7 @@ pub mod BlockLemmas
 pub mod ContentsLemmas
 pub mod InPlace
 pub mod NumberLemmas
+pub mod SameLemmas
 pub mod TableLemmas
 pub mod WordLemmas
 pub mod XorLemmas

@@ -1,8 +1,9 @@
 //! What the ciphers and hashes say of bytes: xor of lists, cutting into blocks, filling with zeros,
-//! numbers written as bytes, and contents that are written and read. The words stand in specs/, what
-//! is known of them in proofs/.
+//! numbers written as bytes, and contents that are written and read; and the wipe and the comparison of
+//! secrets. The definitions are in specs/, their lemmas in proofs/.
 #![tactic(auto)]
 
+mod comparison;
 mod wiping;
 mod words;
 
@@ -11,7 +12,8 @@ ghost use Rattle.byte_words.specs.Bytes.{AreBytes};
 ghost use Rattle.byte_words.specs.Laws.{ContentsGrow, OtherBytesStay, WrittenBytesAreRead};
 ghost use Rattle.byte_words.specs.Xor.{xor_bytes};
 
-pub use wiping::wipe;
+pub use comparison::is_same;
+pub use wiping::{wipe, wipe_words};
 pub use words::{read_word, write_words};
 
 /// Xors `other` into `target`, byte by byte. Both have the same length, in bytes.

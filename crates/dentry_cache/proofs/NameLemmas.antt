@@ -4,6 +4,7 @@ use Rattle.std.specs.List.{filter, find, IsDistinct}
 use Rattle.std.specs.Map.{lookup, lookup_entry, remove_entry, keys_of}
 use Rattle.std.specs.Option.{option_map_or}
 use Rattle.std.proofs.lemmas.Bool.{eqb-true, eq-eqb}
+use Rattle.std.proofs.lemmas.List.{length-take}
 use Rattle.std.proofs.lemmas.Slice.Eq.{bytes_eq-Decides}
 use Rattle.lru.specs.LruCache.{LruCache, lru_cache, put_entries}
 use Rattle.lru.proofs.Splits.{Contains-cons}
@@ -112,6 +113,11 @@ kept_beside old new dir name number is = λ pair held.
       | inl same ↦ inr (sym same)
       | inr later ↦ inl (Contains-remove_entry (is_name dir name) old.pairs pair (Contains-take (MOST_CACHED_NAMES - 1) _ pair later))
     ]
+
+pub kept_few : (old new : NameList) (dir : ℕ) (name : List ℕ) (number : ℕ) → new ≡ kept old dir name number → length new.pairs ≤ MOST_CACHED_NAMES
+kept_few old new dir name number is =
+    subst (λ (n : NameList). length n.pairs ≤ MOST_CACHED_NAMES) (sym is)
+    (omega (arith, length-take (MOST_CACHED_NAMES - 1) (remove_entry (is_name dir name) old.pairs)))
 
 -- ---- forget
 

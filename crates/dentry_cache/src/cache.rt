@@ -5,6 +5,7 @@ ghost use Rattle.std.specs.List.{find};
 ghost use Rattle.dentry_cache.specs.Names.{no_names, with_pairs, key_of, cached, is_in};
 ghost use Rattle.dentry_cache.specs.NameChanges.{used, kept, one_more_refused, forgotten, dir_forgotten};
 ghost use Rattle.dentry_cache.specs.HeldNames.{HoldsNoMore, HoldsBeside, HoldsNone, HoldsNoneIn};
+ghost use Rattle.dentry_cache.specs.declared.limits.TheConstants.{MOST_CACHED_NAMES};
 
 use crate::key::NameKey;
 use crate::limits::{MOST_CACHED_NAME_BYTES, MOST_CACHED_NAMES};
@@ -90,6 +91,7 @@ impl NameCache {
         ensures found { OnOk result (cached self.new dir name.now ≡ Some number) }
         ensures refused { OnErr result (self.new ≡ one_more_refused self.old) }
         ensures beside { HoldsBeside self.old self.new (key_of dir name.now, number) }
+        ensures few { length self.new.pairs ≤ MOST_CACHED_NAMES }
     {
         // That there are at most so many.
         let _few = self.pairs.len();
@@ -109,8 +111,11 @@ impl NameCache {
         ensures none { HoldsNone self.new dir name.now }
         ensures no_more { HoldsNoMore self.old self.new }
     {
-        // That no two pairs have one name.
-        let _apart = self.pairs.len();
+        // An empty cache is frequent, and a key has 264 bytes. A length says too that no two pairs have one name.
+        let count = self.pairs.len();
+        if count == 0 {
+            return;
+        }
         let _gone = self.pairs.pop_entry(&NameKey::of(dir, name));
     }
 

@@ -1,13 +1,11 @@
 -- The entries of a directory by place and by name, after each change.
-use Rattle.std.proofs.Common.{◌≡◌, ◌≢◌, ◌↔◌, ℕ, ◌+◌, ◌-◌, ◌<◌, Bool, true, false, cond, ◌||◌, Option, Some, None, List, [], ◌∷◌, ◌++◌, IsSome, IfSome, IfNone, length, slice_get, not, inl, inr, refl, sym, ap, subst, ◌∙◌, arith, Less, Greater, option_map}
-use Rattle.std.proofs.lemmas.Bool.{cases_Bool, cond-true, cond-false}
-use Rattle.std.proofs.lemmas.List.{length-append}
-use Rattle.std.proofs.lemmas.List.Elements.{recursion_from_All}
+use Rattle.std.proofs.Common.{◌≡◌, ◌≢◌, ℕ, ◌+◌, ◌<◌, Bool, true, false, cond, ◌||◌, Option, Some, None, List, [], ◌∷◌, ◌++◌, not, inl, inr, refl, sym, ap, subst, ◌∙◌, arith, Less, Greater, option_map, nat_eq}
+use Rattle.std.proofs.lemmas.Bool.{cases_Bool, cond-true, cond-false, eqb-true, eq-eqb}
 use Rattle.std.proofs.lemmas.Map.{lookup-remove_entry}
 use Rattle.std.proofs.lemmas.Map.Keys.{sorted_head, sorted_tail, IsDistinct-head, IsDistinct-tail, IsDistinct-cons, IsDistinct-push}
-use Rattle.std.specs.Cmp.{nat_cmp_is, ranked}
-use Rattle.std.specs.Cmp.Lexicographic.{bytes_decides, nat_list_eq_equiv}
-use Rattle.std.specs.List.{All, AllByRecursion, IsDistinct, list_any}
+use Rattle.std.specs.Cmp.{nat_cmp_is, ranked, nat_eq_equiv}
+use Rattle.std.specs.Cmp.Lexicographic.{bytes_decides}
+use Rattle.std.specs.List.{AllByRecursion, IsDistinct, list_any}
 use Rattle.std.specs.List.Sorted.{IsStrictlySortedBy}
 use Rattle.std.specs.Map.{lookup, remove_entry, keys_of, values_of}
 use Rattle.std.specs.Ordering.{nat_cmp, match_ordering}
@@ -16,8 +14,9 @@ use Rattle.std.specs.BTreeMap.{is_at, insert_entry}
 use Rattle.byte_words.specs.Bytes.{AreBytes}
 use Rattle.number_map.proofs.NumberTests.{tied, untied}
 use Rattle.disk_tree.specs.Entries.{Entries, HaveByteNames, number_under, without_entry}
-use Rattle.disk_tree.specs.Indexed.{Ordered, by_name, newest_place, oldest, AreBelow, IsIndexed}
-use Rattle.disk_tree.specs.NameIndex.{Index, indexed}
+use Rattle.disk_tree.specs.Indexed.{Ordered, by_hash, oldest, hashed, AreBelow, IsIndexed}
+use Rattle.disk_tree.specs.NameIndex.{Index, hash_of, indexed}
+use Rattle.number_map.specs.Rising.{value_at}
 
 -- ---- by name and in order
 
@@ -72,13 +71,138 @@ values_without name (e ∷ es) =
       | false ↦ ap (λ rest. e.1 ∷ rest) (values_without name es)
     ]
 
-names_without : (name : List ℕ) (es : Ordered) → by_name (without_first name es) ≡ remove_entry (bytes_eq name) (by_name es)
-unfolding without_first
-names_without name [] = refl
-names_without name (e ∷ es) =
-    elim (bytes_eq name e.1.0) as (λ b. by_name (cond b es (e ∷ without_first name es)) ≡ cond b (by_name es) ((e.1.0, (e.0, e.1.1)) ∷ remove_entry (bytes_eq name) (by_name es))) [
-      | true ↦ refl
-      | false ↦ ap (λ rest. (e.1.0, (e.0, e.1.1)) ∷ rest) (names_without name es)
+-- ---- by hash
+
+-- no name has a hash that none has
+none_hashed : (es : Ordered) (name : List ℕ) → AllByRecursion (λ y. nat_eq (hash_of name) y ≡ false) (keys_of (by_hash es)) → oldest es name ≡ None
+none_hashed [] name all = refl
+none_hashed (e ∷ es) name all =
+    elim (cases_Bool (bytes_eq name e.1.0)) as (λ _. oldest (e ∷ es) name ≡ None) [
+      | inl same ↦
+          let equal : name ≡ e.1.0 = (bytes_decides name e.1.0).0 same in
+          let hash : nat_eq (hash_of name) (hash_of e.1.0) ≡ true = eq-eqb (hash_of name) (hash_of e.1.0) (ap hash_of equal) in
+          let other : nat_eq (hash_of name) (hash_of e.1.0) ≡ false = all.0 in
+          absurd (cc)
+      | inr differ ↦ ap (λ b. cond b (Some (e.0, e.1.1)) (oldest es name)) differ ∙ none_hashed es name all.1
+    ]
+
+none_later : (e : ℕ × (List ℕ × ℕ)) (es : Ordered) (name : List ℕ) → IsDistinct nat_eq (keys_of (by_hash (e ∷ es))) → nat_eq (hash_of name) (hash_of e.1.0) ≡ true → oldest es name ≡ None
+none_later e es name apart same =
+    let hash : hash_of name ≡ hash_of e.1.0 = eqb-true (hash_of name) (hash_of e.1.0) same in
+    let head : AllByRecursion (λ y. nat_eq (hash_of e.1.0) y ≡ false) (keys_of (by_hash es)) = IsDistinct-head nat_eq (hash_of e.1.0) (keys_of (by_hash es)) apart in
+    none_hashed es name (subst (λ (h : ℕ). AllByRecursion (λ y. nat_eq h y ≡ false) (keys_of (by_hash es))) (sym hash) head)
+
+differs : (name other : List ℕ) → nat_eq (hash_of name) (hash_of other) ≡ false → bytes_eq name other ≡ false
+differs name other apart =
+    elim (cases_Bool (bytes_eq name other)) [
+      | inl same ↦
+          let equal : name ≡ other = (bytes_decides name other).0 same in
+          let hash : nat_eq (hash_of name) (hash_of other) ≡ true = eq-eqb (hash_of name) (hash_of other) (ap hash_of equal) in
+          absurd (cc)
+      | inr differ ↦ differ
+    ]
+
+same_hash : (name other : List ℕ) → bytes_eq name other ≡ true → nat_eq (hash_of name) (hash_of other) ≡ true
+same_hash name other same = eq-eqb (hash_of name) (hash_of other) (ap hash_of ((bytes_decides name other).0 same))
+
+-- where hashes are apart, the oldest entry of a name is that of its hash
+oldest_hashed : (es : Ordered) (name : List ℕ) (place number : ℕ) → IsDistinct nat_eq (keys_of (by_hash es)) → oldest es name ≡ Some (place, number) → hashed es (hash_of name) ≡ Some (place, number)
+oldest_hashed [] name place number apart found = absurd (cc)
+oldest_hashed (e ∷ es) name place number apart found =
+    elim (cases_Bool (bytes_eq name e.1.0)) [
+      | inl same ↦
+          ap (λ b. cond b (Some (e.0, e.1.1)) (hashed es (hash_of name))) (same_hash name e.1.0 same)
+          ∙ sym (ap (λ b. cond b (Some (e.0, e.1.1)) (oldest es name)) same) ∙ found
+      | inr differ ↦
+          let later : oldest es name ≡ Some (place, number) = sym (ap (λ b. cond b (Some (e.0, e.1.1)) (oldest es name)) differ) ∙ found in
+          elim (cases_Bool (nat_eq (hash_of name) (hash_of e.1.0))) [
+            | inl also ↦ let none : oldest es name ≡ None = none_later e es name apart also in absurd (cc)
+            | inr other ↦
+                ap (λ b. cond b (Some (e.0, e.1.1)) (hashed es (hash_of name))) other
+                ∙ oldest_hashed es name place number (IsDistinct-tail nat_eq (hash_of e.1.0) (keys_of (by_hash es)) apart) later
+          ]
+    ]
+
+-- a hash that none has is no name's
+pub unhashed : (es : Ordered) (name : List ℕ) → hashed es (hash_of name) ≡ None → oldest es name ≡ None
+unhashed [] name none = refl
+unhashed (e ∷ es) name none =
+    elim (cases_Bool (nat_eq (hash_of name) (hash_of e.1.0))) as (λ _. oldest (e ∷ es) name ≡ None) [
+      | inl same ↦
+          let some : Some (e.0, e.1.1) ≡ None = sym (ap (λ b. cond b (Some (e.0, e.1.1)) (hashed es (hash_of name))) same) ∙ none in
+          absurd (cc)
+      | inr other ↦
+          ap (λ b. cond b (Some (e.0, e.1.1)) (oldest es name)) (differs name e.1.0 other)
+          ∙ unhashed es name (sym (ap (λ b. cond b (Some (e.0, e.1.1)) (hashed es (hash_of name))) other) ∙ none)
+    ]
+
+first_place : (e : ℕ × (List ℕ × ℕ)) (es : Ordered) (hash place number : ℕ) → nat_eq hash (hash_of e.1.0) ≡ true → hashed (e ∷ es) hash ≡ Some (place, number) → (e.0 ≡ place) × (e.1.1 ≡ number)
+first_place e es hash place number same found =
+    let here : Some (e.0, e.1.1) ≡ Some (place, number) = sym (ap (λ b. cond b (Some (e.0, e.1.1)) (hashed es hash)) same) ∙ found in
+    (ap (λ (o : Option (ℕ × ℕ)). elim o [ None ↦ 0 | Some p ↦ p.0 ]) here, ap (λ (o : Option (ℕ × ℕ)). elim o [ None ↦ 0 | Some p ↦ p.1 ]) here)
+
+later_hashed : (e : ℕ × (List ℕ × ℕ)) (es : Ordered) (hash place number : ℕ) → nat_eq hash (hash_of e.1.0) ≡ false → hashed (e ∷ es) hash ≡ Some (place, number) → hashed es hash ≡ Some (place, number)
+later_hashed e es hash place number other found = sym (ap (λ b. cond b (Some (e.0, e.1.1)) (hashed es hash)) other) ∙ found
+
+hashed_above : (low : ℕ) (es : Ordered) (hash place number : ℕ) → AllByRecursion (λ y. nat_cmp low y ≡ Less) (keys_of es) → hashed es hash ≡ Some (place, number) → nat_cmp low place ≡ Less
+hashed_above low [] hash place number all found = absurd (cc)
+hashed_above low (e ∷ es) hash place number all found =
+    elim (cases_Bool (nat_eq hash (hash_of e.1.0))) [
+      | inl same ↦ sym (ap (nat_cmp low) (first_place e es hash place number same found).0) ∙ all.0
+      | inr other ↦ hashed_above low es hash place number all.1 (later_hashed e es hash place number other found)
+    ]
+
+later_above : (e : ℕ × (List ℕ × ℕ)) (es : Ordered) (hash place number : ℕ) → IsStrictlySortedBy nat_cmp (keys_of (e ∷ es)) → hashed es hash ≡ Some (place, number) → (place ≢ e.0)
+later_above e es hash place number rising found =
+    let above : nat_cmp e.0 place ≡ Less = hashed_above e.0 es hash place number (sorted_head nat_cmp e.0 (keys_of es) rising) found in
+    let lower : e.0 < place = ranked e.0 place Less (sym above) in
+    λ same. omega arith
+
+-- the place that is told of a hash has an entry
+pub hashed_there : (es : Ordered) (hash place number : ℕ) → IsStrictlySortedBy nat_cmp (keys_of es) → hashed es hash ≡ Some (place, number) → (value_at es place ≢ None)
+hashed_there [] hash place number rising found none = absurd (cc)
+hashed_there (e ∷ es) hash place number rising found none =
+    elim (cases_Bool (nat_eq hash (hash_of e.1.0))) [
+      | inl same ↦
+          let some : Some e.1 ≡ None = sym (ap (λ b. cond b (Some e.1) (value_at es place)) (tied place e.0 (sym (first_place e es hash place number same found).0))) ∙ none in
+          absurd (cc)
+      | inr other ↦
+          let later = later_hashed e es hash place number other found in
+          hashed_there es hash place number (sorted_tail nat_cmp e.0 (keys_of es) rising) later
+          (sym (ap (λ b. cond b (Some e.1) (value_at es place)) (untied place e.0 (later_above e es hash place number rising later))) ∙ none)
+    ]
+
+-- what the entry at that place is called tells whether it is the name's
+pub oldest_is : (es : Ordered) (name : List ℕ) (place number : ℕ) (entry : List ℕ × ℕ) → IsStrictlySortedBy nat_cmp (keys_of es) → IsDistinct nat_eq (keys_of (by_hash es)) → hashed es (hash_of name) ≡ Some (place, number) → value_at es place ≡ Some entry → oldest es name ≡ cond (bytes_eq name entry.0) (Some (place, number)) None
+oldest_is [] name place number entry rising apart found got = absurd (cc)
+oldest_is (e ∷ es) name place number entry rising apart found got =
+    elim (cases_Bool (nat_eq (hash_of name) (hash_of e.1.0))) [
+      | inl same ↦
+          let here = first_place e es (hash_of name) place number same found in
+          let one : Some e.1 ≡ Some entry = sym (ap (λ b. cond b (Some e.1) (value_at es place)) (tied place e.0 (sym here.0))) ∙ got in
+          let is : e.1 ≡ entry = cc in
+          ap (cond (bytes_eq name e.1.0) (Some (e.0, e.1.1))) (none_later e es name apart same)
+          ∙ (λ i. cond (bytes_eq name e.1.0) (Some (here.0 i, here.1 i)) None)
+          ∙ ap (λ (x : List ℕ × ℕ). cond (bytes_eq name x.0) (Some (place, number)) None) is
+      | inr other ↦
+          let later = later_hashed e es (hash_of name) place number other found in
+          ap (λ b. cond b (Some (e.0, e.1.1)) (oldest es name)) (differs name e.1.0 other)
+          ∙ oldest_is es name place number entry (sorted_tail nat_cmp e.0 (keys_of es) rising) (IsDistinct-tail nat_eq (hash_of e.1.0) (keys_of (by_hash es)) apart) later
+          (sym (ap (λ b. cond b (Some e.1) (value_at es place)) (untied place e.0 (later_above e es (hash_of name) place number rising later))) ∙ got)
+    ]
+
+hashes_without : (es : Ordered) (hash place number : ℕ) → IsStrictlySortedBy nat_cmp (keys_of es) → hashed es hash ≡ Some (place, number) → by_hash (remove_entry (is_at (nat_cmp place)) es) ≡ remove_entry (nat_eq hash) (by_hash es)
+hashes_without [] hash place number rising found = absurd (cc)
+hashes_without (e ∷ es) hash place number rising found =
+    elim (cases_Bool (nat_eq hash (hash_of e.1.0))) [
+      | inl same ↦
+          ap (λ b. by_hash (cond b es (e ∷ remove_entry (is_at (nat_cmp place)) es))) (tied place e.0 (sym (first_place e es hash place number same found).0))
+          ∙ sym (ap (λ b. cond b (by_hash es) ((hash_of e.1.0, (e.0, e.1.1)) ∷ remove_entry (nat_eq hash) (by_hash es))) same)
+      | inr other ↦
+          let later = later_hashed e es hash place number other found in
+          ap (λ b. by_hash (cond b es (e ∷ remove_entry (is_at (nat_cmp place)) es))) (untied place e.0 (later_above e es hash place number rising later))
+          ∙ ap (λ rest. (hash_of e.1.0, (e.0, e.1.1)) ∷ rest) (hashes_without es hash place number (sorted_tail nat_cmp e.0 (keys_of es) rising) later)
+          ∙ sym (ap (λ b. cond b (by_hash es) ((hash_of e.1.0, (e.0, e.1.1)) ∷ remove_entry (nat_eq hash) (by_hash es))) other)
     ]
 
 module _ {K X : Type 0} (test : K → Bool) where
@@ -102,22 +226,23 @@ module _ (order now : Ordered) (name : List ℕ) (place number : ℕ) (rising : 
   pub removed_values : values_of now ≡ without_entry name (values_of order)
   removed_values = ap values_of (gone ∙ place_finds order name place number rising found) ∙ values_without name order
 
-  removed_names : by_name now ≡ remove_entry (bytes_eq name) (by_name order)
-  removed_names = ap by_name (gone ∙ place_finds order name place number rising found) ∙ names_without name order
-
   pub removed_ranged : HaveByteNames (values_of order) → HaveByteNames (values_of now)
   removed_ranged ranged = let P : Entries → Type 0 = λ es. HaveByteNames es in subst P (sym removed_values) (all_without (bytes_eq name) AreBytes (values_of order) ranged)
 
   pub removed_below : (next : ℕ) → AreBelow next order → AreBelow next now
   removed_below next below = let P : Ordered → Type 0 = λ o. AreBelow next o in subst P (sym gone) (all_without (is_at (nat_cmp place)) (λ p. nat_cmp p next ≡ Less) order below)
 
-  pub removed_apart : IsDistinct bytes_eq (keys_of (by_name order)) → IsDistinct bytes_eq (keys_of (by_name now))
-  removed_apart apart = let P : List (List ℕ × (ℕ × ℕ)) → Type 0 = λ es. IsDistinct bytes_eq (keys_of es) in subst P (sym removed_names) (distinct_without (bytes_eq name) bytes_eq (by_name order) apart)
+module _ (order now : Ordered) (hash place number : ℕ) (rising : IsStrictlySortedBy nat_cmp (keys_of order)) (found : hashed order hash ≡ Some (place, number)) (gone : now ≡ remove_entry (is_at (nat_cmp place)) order) where
+  removed_hashes : by_hash now ≡ remove_entry (nat_eq hash) (by_hash order)
+  removed_hashes = ap by_hash gone ∙ hashes_without order hash place number rising found
 
-  pub removed_oldest : IsDistinct bytes_eq (keys_of (by_name order)) → (other : List ℕ) → oldest now other ≡ cond (bytes_eq name other) None (oldest order other)
-  removed_oldest apart other =
-      ap (lookup (bytes_eq other)) removed_names
-      ∙ lookup-remove_entry nat_list_eq_equiv (bytes_eq name) (λ x y same. nat_list_eq_equiv.congr name x y same) other (by_name order) apart
+  pub removed_apart : IsDistinct nat_eq (keys_of (by_hash order)) → IsDistinct nat_eq (keys_of (by_hash now))
+  removed_apart apart = let P : List (ℕ × (ℕ × ℕ)) → Type 0 = λ es. IsDistinct nat_eq (keys_of es) in subst P (sym removed_hashes) (distinct_without (nat_eq hash) nat_eq (by_hash order) apart)
+
+  pub removed_hashed : IsDistinct nat_eq (keys_of (by_hash order)) → (other : ℕ) → hashed now other ≡ cond (nat_eq hash other) None (hashed order other)
+  removed_hashed apart other =
+      ap (lookup (nat_eq other)) removed_hashes
+      ∙ lookup-remove_entry nat_eq_equiv (nat_eq hash) (λ x y same. nat_eq_equiv.congr hash x y same) other (by_hash order) apart
 
 -- ---- an entry is put behind the others
 
@@ -144,33 +269,6 @@ gone_last (e ∷ es) place v below =
 pub undone_last : (es put now : Ordered) (place : ℕ) (v : List ℕ × ℕ) → AreBelow place es → put ≡ es ++ (place, v) ∷ [] → now ≡ remove_entry (is_at (nat_cmp place)) put → now ≡ es
 undone_last es put now place v below is gone = gone ∙ ap (remove_entry (is_at (nat_cmp place))) is ∙ gone_last es place v below
 
--- what was put last is at the end
-last_got : {X : Type 0} (xs : List X) (x : X) → slice_get (xs ++ x ∷ []) (length xs) ≡ Some x
-last_got [] x = refl
-last_got (y ∷ ys) x = last_got ys x
-
--- nothing goes where nothing is
-without_none : {K X : Type 0} (test : K → Bool) (es : List (K × X)) → (0 < length es → ⊥) → es ≡ remove_entry test es
-without_none test [] none = refl
-without_none test (e ∷ es) none = absurd (none (omega arith))
-
--- the newest entry is taken from the end
-module _ (es now : Ordered) (place : ℕ) (newest : Bool) (told : newest ≡ true ↔ (newest_place es ≡ Some place)) (is_newest : newest ≡ true) where
-  popped_some : (e : ℕ × (List ℕ × ℕ)) → es ≡ now ++ e ∷ [] → All (λ q. nat_cmp q e.0 ≡ Less) (keys_of now) → now ≡ remove_entry (is_at (nat_cmp place)) es
-  popped_some e is below =
-      let end : length es - 1 ≡ length now = omega (arith, ap length is, length-append now (e ∷ [])) in
-      let got : slice_get es (length es - 1) ≡ Some e = ap (slice_get es) end ∙ ap (λ (l : Ordered). slice_get l (length now)) is ∙ last_got now e in
-      let at_end : Some e.0 ≡ Some place = sym (ap (option_map (λ (p : ℕ × (List ℕ × ℕ)). p.0)) got) ∙ told.0 is_newest in
-      let same : e.0 ≡ place = ap (λ (o : Option ℕ). elim o [ None ↦ 0 | Some p ↦ p ]) at_end in
-      sym (ap (λ (p : ℕ). remove_entry (is_at (nat_cmp p)) es) (sym same)
-      ∙ ap (remove_entry (is_at (nat_cmp e.0))) is
-      ∙ gone_last now e.0 e.1 (recursion_from_All (λ q. nat_cmp q e.0 ≡ Less) (keys_of now) below))
-
-  pub popped_last : (popped : Option (ℕ × (List ℕ × ℕ))) → (0 < length es → IsSome popped) → IfSome popped (λ e. es ≡ now ++ e ∷ []) →
-      IfSome popped (λ e. All (λ q. nat_cmp q e.0 ≡ Less) (keys_of now)) → IfNone popped (now ≡ es) → now ≡ remove_entry (is_at (nat_cmp place)) es
-  popped_last None some is below kept = kept ∙ without_none (is_at (nat_cmp place)) es (λ more. let no : IsSome {T = ℕ × (List ℕ × ℕ)} None = some more in absurd (cc))
-  popped_last (Some e) some is below kept = popped_some e is below
-
 still_below : (x next : ℕ) → nat_cmp x next ≡ Less → nat_cmp x (next + 1) ≡ Less
 still_below x next less =
     let lower : x < next = ranked x next Less (sym less) in
@@ -196,9 +294,9 @@ put_ranged es now place number name is bytes ranged =
     let P : Entries → Type 0 = λ es. HaveByteNames es in
     subst P (sym (put_values es now place number name is)) (ranged_pushed (values_of es) name number ranged bytes)
 
-names_pushed : (es : Ordered) (place number : ℕ) (name : List ℕ) → by_name (es ++ (place, (name, number)) ∷ []) ≡ by_name es ++ (name, (place, number)) ∷ []
-names_pushed [] place number name = refl
-names_pushed (e ∷ es) place number name = ap (λ rest. (e.1.0, (e.0, e.1.1)) ∷ rest) (names_pushed es place number name)
+hashes_pushed : (es : Ordered) (place number : ℕ) (name : List ℕ) → by_hash (es ++ (place, (name, number)) ∷ []) ≡ by_hash es ++ (hash_of name, (place, number)) ∷ []
+hashes_pushed [] place number name = refl
+hashes_pushed (e ∷ es) place number name = ap (λ rest. (hash_of e.1.0, (e.0, e.1.1)) ∷ rest) (hashes_pushed es place number name)
 
 module _ {K X : Type 0} (test : K → Bool) (k : K) (v : X) where
   absent_any : (es : List (K × X)) → lookup test es ≡ None → list_any test (keys_of es) ≡ false
@@ -229,28 +327,28 @@ keys_pushed : {K X : Type 0} (es : List (K × X)) (k : K) (v : X) → keys_of (e
 keys_pushed [] k v = refl
 keys_pushed (e ∷ es) k v = ap (λ rest. e.0 ∷ rest) (keys_pushed es k v)
 
-module _ (es now : Ordered) (place number : ℕ) (name : List ℕ) (is : now ≡ es ++ (place, (name, number)) ∷ []) (absent : oldest es name ≡ None) where
-  put_names : by_name now ≡ by_name es ++ (name, (place, number)) ∷ []
-  put_names = ap by_name is ∙ names_pushed es place number name
+module _ (es now : Ordered) (place number : ℕ) (name : List ℕ) (is : now ≡ es ++ (place, (name, number)) ∷ []) (absent : hashed es (hash_of name) ≡ None) where
+  put_hashes : by_hash now ≡ by_hash es ++ (hash_of name, (place, number)) ∷ []
+  put_hashes = ap by_hash is ∙ hashes_pushed es place number name
 
-  pub put_apart : IsDistinct bytes_eq (keys_of (by_name es)) → IsDistinct bytes_eq (keys_of (by_name now))
+  pub put_apart : IsDistinct nat_eq (keys_of (by_hash es)) → IsDistinct nat_eq (keys_of (by_hash now))
   put_apart apart =
-      let P : List (List ℕ) → Type 0 = λ names. IsDistinct bytes_eq names in
-      subst P (sym (ap keys_of put_names ∙ keys_pushed (by_name es) name (place, number)))
-      (IsDistinct-push nat_list_eq_equiv (keys_of (by_name es)) name apart (absent_any (bytes_eq name) name (place, number) (by_name es) absent))
+      let P : List ℕ → Type 0 = λ hashes. IsDistinct nat_eq hashes in
+      subst P (sym (ap keys_of put_hashes ∙ keys_pushed (by_hash es) (hash_of name) (place, number)))
+      (IsDistinct-push nat_eq_equiv (keys_of (by_hash es)) (hash_of name) apart (absent_any (nat_eq (hash_of name)) (hash_of name) (place, number) (by_hash es) absent))
 
-  pub put_oldest : (other : List ℕ) → oldest now other ≡ cond (bytes_eq name other) (Some (place, number)) (oldest es other)
-  put_oldest other =
-      ap (lookup (bytes_eq other)) put_names
-      ∙ elim (cases_Bool (bytes_eq name other)) as (λ _. lookup (bytes_eq other) (by_name es ++ (name, (place, number)) ∷ []) ≡ cond (bytes_eq name other) (Some (place, number)) (oldest es other)) [
+  pub put_hashed : (other : ℕ) → hashed now other ≡ cond (nat_eq (hash_of name) other) (Some (place, number)) (hashed es other)
+  put_hashed other =
+      ap (lookup (nat_eq other)) put_hashes
+      ∙ elim (cases_Bool (nat_eq (hash_of name) other)) as (λ _. lookup (nat_eq other) (by_hash es ++ (hash_of name, (place, number)) ∷ []) ≡ cond (nat_eq (hash_of name) other) (Some (place, number)) (hashed es other)) [
         | inl same ↦
-            let equal : name ≡ other = (bytes_decides name other).0 same in
-            let flipped : bytes_eq other name ≡ true = nat_list_eq_equiv.symm other name ∙ same in
-            found_last (bytes_eq other) name (place, number) (by_name es) flipped (ap (oldest es) (sym equal) ∙ absent)
-            ∙ sym (cond-true (bytes_eq name other) (Some (place, number)) (oldest es other) same)
+            let equal : hash_of name ≡ other = eqb-true (hash_of name) other same in
+            let flipped : nat_eq other (hash_of name) ≡ true = nat_eq_equiv.symm other (hash_of name) ∙ same in
+            found_last (nat_eq other) (hash_of name) (place, number) (by_hash es) flipped (ap (hashed es) (sym equal) ∙ absent)
+            ∙ sym (cond-true (nat_eq (hash_of name) other) (Some (place, number)) (hashed es other) same)
         | inr differ ↦
-            found_other (bytes_eq other) name (place, number) (by_name es) (nat_list_eq_equiv.symm other name ∙ differ)
-            ∙ sym (cond-false (bytes_eq name other) (Some (place, number)) (oldest es other) differ)
+            found_other (nat_eq other) (hash_of name) (place, number) (by_hash es) (nat_eq_equiv.symm other (hash_of name) ∙ differ)
+            ∙ sym (cond-false (nat_eq (hash_of name) other) (Some (place, number)) (hashed es other) differ)
       ]
 
 -- ---- the whole
@@ -273,35 +371,36 @@ module _ (order now : Ordered) (index after : Index) (next : ℕ) (doubled : Boo
     named = λ d name. absurd (cc);
   }
 
-  -- a new name
-  pub named_IsIndexed : (later number : ℕ) (name : List ℕ) → AreBytes name → doubled ≡ false → indexed index name ≡ None → later ≡ next + 1 → now ≡ order ++ (next, (name, number)) ∷ [] →
-      ((other : List ℕ) → indexed after other ≡ cond (bytes_eq name other) (Some (next, number)) (indexed index other)) → IsIndexed now after later doubled
+  -- a new hash
+  pub named_IsIndexed : (later number : ℕ) (name : List ℕ) → AreBytes name → doubled ≡ false → indexed index (hash_of name) ≡ None → later ≡ next + 1 → now ≡ order ++ (next, (name, number)) ∷ [] →
+      ((other : ℕ) → indexed after other ≡ cond (nat_eq (hash_of name) other) (Some (next, number)) (indexed index other)) → IsIndexed now after later doubled
   named_IsIndexed later number name bytes single lacks more put told =
-      let absent : oldest order name ≡ None = sym (is.named single name) ∙ lacks in
+      let absent : hashed order (hash_of name) ≡ None = sym (is.named single (hash_of name)) ∙ lacks in
       record {
         rising = rising;
         ranged = put_ranged order now next number name put bytes is.ranged;
         below = let P : ℕ → Ordered → Type 0 = λ n o. AreBelow n o in subst (λ (o : Ordered). P later o) (sym put) (subst (λ (n : ℕ). P n (order ++ (next, (name, number)) ∷ [])) (sym more) (pushed_below order next (name, number) is.below));
         apart = λ d. put_apart order now next number name put absent (is.apart d);
-        named = λ d other. told other ∙ ap (cond (bytes_eq name other) (Some (next, number))) (is.named d other) ∙ sym (put_oldest order now next number name put absent other);
+        named = λ d other. told other ∙ ap (cond (nat_eq (hash_of name) other) (Some (next, number))) (is.named d other) ∙ sym (put_hashed order now next number name put absent other);
       }
 
   -- either, as the index tells
-  pub put_IsIndexed : (later number : ℕ) (name : List ℕ) (alone : Bool) → AreBytes name → doubled ≡ false → later ≡ next + 1 → now ≡ order ++ (next, (name, number)) ∷ [] → (alone ≡ true → indexed index name ≡ None) →
-      (alone ≡ true → (other : List ℕ) → indexed after other ≡ cond (bytes_eq name other) (Some (next, number)) (indexed index other)) → IsIndexed now after later (not alone)
+  pub put_IsIndexed : (later number : ℕ) (name : List ℕ) (alone : Bool) → AreBytes name → doubled ≡ false → later ≡ next + 1 → now ≡ order ++ (next, (name, number)) ∷ [] → (alone ≡ true → indexed index (hash_of name) ≡ None) →
+      ((other : ℕ) → indexed after other ≡ cond (nat_eq (hash_of name) other) (Some (next, number)) (indexed index other)) → IsIndexed now after later (not alone)
   put_IsIndexed later number name true bytes single more put lacks told =
-      subst (λ (d : Bool). IsIndexed now after later d) single (named_IsIndexed later number name bytes single (lacks refl) more put (told refl))
+      subst (λ (d : Bool). IsIndexed now after later d) single (named_IsIndexed later number name bytes single (lacks refl) more put told)
   put_IsIndexed later number name false bytes single more put lacks told = doubled_IsIndexed later number name bytes more put
 
   -- a name that goes
   pub dropped_IsIndexed : (name : List ℕ) (place number : ℕ) → oldest order name ≡ Some (place, number) → now ≡ remove_entry (is_at (nat_cmp place)) order →
-      (IsSome (indexed index name) → (other : List ℕ) → indexed after other ≡ cond (bytes_eq name other) None (indexed index other)) → IsIndexed now after next doubled
+      ((other : ℕ) → indexed after other ≡ cond (nat_eq (hash_of name) other) None (indexed index other)) → IsIndexed now after next doubled
   dropped_IsIndexed name place number found gone told = record {
     rising = rising;
     ranged = removed_ranged order now name place number is.rising found gone is.ranged;
     below = removed_below order now name place number is.rising found gone next is.below;
-    apart = λ d. removed_apart order now name place number is.rising found gone (is.apart d);
-    named = λ d other. told (subst IsSome (sym (is.named d name ∙ found)) refl) other ∙ ap (cond (bytes_eq name other) None) (is.named d other) ∙ sym (removed_oldest order now name place number is.rising found gone (is.apart d) other);
+    apart = λ d. removed_apart order now (hash_of name) place number is.rising (oldest_hashed order name place number (is.apart d) found) gone (is.apart d);
+    named = λ d other. told other ∙ ap (cond (nat_eq (hash_of name) other) None) (is.named d other)
+        ∙ sym (removed_hashed order now (hash_of name) place number is.rising (oldest_hashed order name place number (is.apart d) found) gone (is.apart d) other);
   }
 
 -- an entry that finds no room in the index goes again

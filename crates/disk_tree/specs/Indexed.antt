@@ -1,5 +1,5 @@
--- How the entries of a directory lie in memory: in the order in which they were made, and by name.
-use Rattle.std.specs.Prelude.{◌≡◌, ℕ, ◌-◌, Bool, false, List, map, length, slice_get, Option, option_map}
+-- How the entries of a directory are stored: in the order in which they were made, and by the hash of the name.
+use Rattle.std.specs.Prelude.{◌≡◌, ℕ, nat_eq, Bool, false, List, map, Option}
 use Rattle.std.specs.Str.{bytes_eq}
 use Rattle.std.specs.Ordering.{nat_cmp}
 use Rattle.std.specs.declared.cmp.Ordering.TheVariants.{Less}
@@ -7,7 +7,7 @@ use Rattle.std.specs.List.{AllByRecursion, IsDistinct}
 use Rattle.std.specs.List.Sorted.{IsStrictlySortedBy}
 use Rattle.std.specs.Map.{lookup, keys_of, values_of}
 use Rattle.disk_tree.specs.Entries.{HaveByteNames}
-use Rattle.disk_tree.specs.NameIndex.{Index, indexed}
+use Rattle.disk_tree.specs.NameIndex.{Index, hash_of, indexed}
 
 -- each entry under its place
 abbrev pub Ordered : Type 0
@@ -17,23 +17,27 @@ Ordered = List (ℕ × (List ℕ × ℕ))
 abbrev pub by_name : Ordered → List (List ℕ × (ℕ × ℕ))
 by_name order = map (λ e. (e.1.0, (e.0, e.1.1))) order
 
--- the place of the newest entry
-abbrev pub newest_place : Ordered → Option ℕ
-newest_place order = option_map (λ e. e.0) (slice_get order (length order - 1))
-
 -- the oldest entry of this name
 abbrev pub oldest : Ordered → List ℕ → Option (ℕ × ℕ)
 oldest order name = lookup (bytes_eq name) (by_name order)
+
+-- the entries, each with its place, under the hashes of their names
+abbrev pub by_hash : Ordered → List (ℕ × (ℕ × ℕ))
+by_hash order = map (λ e. (hash_of e.1.0, (e.0, e.1.1))) order
+
+-- the oldest entry whose name has this hash
+abbrev pub hashed : Ordered → ℕ → Option (ℕ × ℕ)
+hashed order hash = lookup (nat_eq hash) (by_hash order)
 
 -- every place is below this one
 abbrev pub AreBelow : ℕ → Ordered → Type 0
 AreBelow next order = AllByRecursion (λ place. nat_cmp place next ≡ Less) (keys_of order)
 
--- places rise, and names are bytes; as long as no name and no hash was doubled, names are apart and the
+-- places rise, and names are bytes; as long as no hash of a name was doubled, the hashes are apart and the
 -- index has each
 pub record IsIndexed (order : Ordered) (index : Index) (next : ℕ) (doubled : Bool) : Type 0 where
   pub rising : IsStrictlySortedBy nat_cmp (keys_of order)
   pub below : AreBelow next order
   pub ranged : HaveByteNames (values_of order)
-  pub apart : doubled ≡ false → IsDistinct bytes_eq (keys_of (by_name order))
-  pub named : doubled ≡ false → (name : List ℕ) → indexed index name ≡ oldest order name
+  pub apart : doubled ≡ false → IsDistinct nat_eq (keys_of (by_hash order))
+  pub named : doubled ≡ false → (hash : ℕ) → indexed index hash ≡ hashed order hash

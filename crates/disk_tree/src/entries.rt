@@ -3,29 +3,28 @@ ghost use Rattle.std.specs.Prelude.{◌≡◌, [], length, OnOk, OnErr};
 ghost use Rattle.disk_tree.specs.Entries.{HaveByteNames, number_under, with_entry, without_entry};
 
 use crate::held_index::{HeldIndex, oldest_of};
-use crate::name_index::{Order, add_last, drop_place, next_place};
+use crate::name_index::{Order, add_last, drop_place, hash_of, next_place};
 use item_list::Bytes;
-use number_map::Rank;
+use number_map::{RisingMap, Values};
 use std::alloc::{AllocError, Global};
-use std::collections::BTreeMap;
-use std::collections::btree_map::Values;
 use std::marker::Model;
 
 /// The entries of a directory, in the order in which they were made. In contracts it is the list of
 /// pairs of a stored name and a node's number.
 ///
-/// Names are found by their hash: a look-up takes a time that doesn't grow with the length, and a new
-/// entry and a removal take that and the logarithm of the length, for the entry's place; now and then a
-/// new entry makes the index grow, and moves all of it. The hash has a fixed seed, so whoever picks the
-/// names can make them collide, and then a search goes over those that do. From the first two on that
-/// have one name, or one hash of 64 bits, it goes over all, at most the 4,096 entries of a directory.
+/// Names are found by their hash. A look-up takes a time that doesn't grow with the length; so do a new
+/// entry and a removal, but that a new entry sometimes makes the row or the index grow, which moves all of
+/// it, and that a removal drops the empty slots once they are more than half. Once older entries were
+/// removed, an entry's place is found by halving. The hash has a fixed seed, so a user who picks the names
+/// can make them collide, and then a search goes over those that do. After the first two that have one name,
+/// or one hash of 64 bits, it goes over all, at most the 4,096 entries of a directory.
 pub struct DirEntries {
     order: Order,
     index: HeldIndex,
     // Above every place.
     next: u64,
-    // Whether a name, or the hash of one, stood twice. From then on the index is let be, and the entries
-    // are searched.
+    // Whether two entries ever had one name, or names of one hash. From then on the index isn't used, and the
+    // entries are searched.
     doubled: bool,
 }
 
@@ -48,9 +47,9 @@ impl Model for DirEntries {
 
     ghost Value = { List (List ℕ × ℕ) };
 
-    ghost view = { λ es. values_of es.order.entries };
+    ghost view = { λ es. values_of es.order };
 
-    ghost invariant = { λ es. IsIndexed es.order.entries es.index es.next es.doubled };
+    ghost invariant = { λ es. IsIndexed es.order es.index es.next es.doubled };
 }
 
 impl DirEntries {
@@ -59,7 +58,7 @@ impl DirEntries {
         ensures { result ≡ [] }
     {
         DirEntries {
-            order: BTreeMap::new(alloc),
+            order: RisingMap::new(alloc),
             index: HeldIndex::new(),
             next: 0,
             doubled: false,
@@ -74,7 +73,7 @@ impl DirEntries {
     }
 
     /// The entries, the oldest first.
-    pub fn iter(&self) -> Values<'_, Rank<u64>, (Bytes, u32)>
+    pub fn iter(&self) -> Values<'_, (Bytes, u32)>
         ensures rest { result ≡ self.now }
     {
         self.order.values()
@@ -91,14 +90,15 @@ impl DirEntries {
     pub fn find(&self, name: &[u8]) -> Option<u32>
         ensures { result ≡ number_under name.now self.now }
     {
-        match oldest_of(&self.order, &self.index, self.doubled, name) {
+        let hash = hash_of(name);
+        match oldest_of(&self.order, &self.index, self.doubled, name, hash) {
             Some((_, number)) => Some(number),
             None => None,
         }
     }
 
-    // Puts an entry behind the others. After want of memory all is as before. The index comes last, and
-    // is searched once: what it had there tells whether the name is alone.
+    // Puts an entry after the others. Out of memory, all is as before. The index is changed last, and is
+    // searched once: if it had nothing under the hash, no other entry has the name.
     pub(crate) fn push(&mut self, alloc: Global, name: &[u8], number: u32) -> Result<(), AllocError>
         ensures put { OnOk result (self.new ≡ with_entry name.now number self.old) }
         ensures kept { OnErr result (self.new ≡ self.old) }
@@ -117,9 +117,9 @@ impl DirEntries {
                 Err(_) => Err(AllocError),
             };
         }
-        let indexed = Bytes::from_vec(Vec::from_slice(alloc, name)?);
+        let hash = hash_of(name);
         match add_last(&mut self.order, place, stored, number) {
-            Ok(()) => match self.index.add(alloc, indexed, (place, number)) {
+            Ok(()) => match self.index.add(alloc, hash, (place, number)) {
                 Ok(alone) => {
                     self.doubled = !alone;
                     self.next = next;
@@ -134,15 +134,16 @@ impl DirEntries {
         }
     }
 
-    // Takes the oldest entry of this name away, and tells its number; `None` where there is none.
+    // Removes the oldest entry of this name, and returns its number; `None` if there is none.
     pub(crate) fn remove(&mut self, name: &[u8]) -> Option<u32>
         ensures number { result ≡ number_under name.now self.old }
         ensures removed { self.new ≡ without_entry name.now self.old }
     {
-        match oldest_of(&self.order, &self.index, self.doubled, name) {
+        let hash = hash_of(name);
+        match oldest_of(&self.order, &self.index, self.doubled, name, hash) {
             Some((oldest, number)) => {
                 drop_place(&mut self.order, oldest);
-                self.index.remove(name);
+                self.index.remove(hash);
                 Some(number)
             }
             None => None,

@@ -1,12 +1,12 @@
 //! The index of a directory's names, in a box that is made with the first name.
-ghost use Rattle.std.specs.Prelude.{◌≡◌, [], ℕ, List, true, false};
-ghost use Rattle.std.specs.Prelude.{if◌then◌else◌, IfOk, IsSome, OnErr};
-ghost use Rattle.std.specs.Str.{bytes_eq};
-ghost use Rattle.disk_tree.specs.Indexed.{oldest};
-ghost use Rattle.disk_tree.specs.NameIndex.{indexed};
+ghost use Rattle.std.specs.Prelude.{◌≡◌, [], ℕ, nat_eq, true, false};
+ghost use Rattle.std.specs.Prelude.{if◌then◌else◌, IfOk, OnOk, OnErr};
+ghost use Rattle.std.specs.List.{IsDistinct};
+ghost use Rattle.std.specs.Map.{keys_of};
+ghost use Rattle.disk_tree.specs.Indexed.{by_hash, hashed, oldest};
+ghost use Rattle.disk_tree.specs.NameIndex.{hash_of, indexed};
 
-use crate::name_index::{Index, Order, add_name, drop_name, searched, told};
-use item_list::Bytes;
+use crate::name_index::{Index, Order, add_hash, drop_hash, searched, under_hash};
 use std::alloc::{AllocError, Global};
 use std::collections::HashMap;
 use std::marker::Model;
@@ -28,72 +28,87 @@ impl Model for HeldIndex {
 }
 
 impl HeldIndex {
-    // No names, and no box.
+    // An empty index, without a box.
     pub(crate) fn new() -> Self
         ensures { result ≡ [] }
     {
         HeldIndex { held: None }
     }
 
-    // Says where the name is, in place of what the index had under its hash. Whether it had nothing
-    // there. After want of memory all is as before.
+    // Puts a place and a number under the hash, in place of what the index had there. Returns whether it had
+    // nothing there. Out of memory, all is as before.
     pub(crate) fn add(
         &mut self,
         alloc: Global,
-        name: Bytes,
+        hash: u64,
         found: (u64, u32),
     ) -> Result<bool, AllocError>
-        ensures lacked { IfOk result (λ alone. alone ≡ true → indexed self.old name ≡ None) }
-        ensures put { IfOk result (λ alone. alone ≡ true → (other : List ℕ) → indexed self.new other
-            ≡ if bytes_eq name other then Some found else indexed self.old other) }
+        ensures lacked { IfOk result (λ alone. alone ≡ true → indexed self.old hash ≡ None) }
+        ensures put { OnOk result ((other : ℕ) → indexed self.new other
+            ≡ if nat_eq hash other then Some found else indexed self.old other) }
         ensures kept { OnErr result (self.new ≡ self.old) }
     {
         match &mut self.held {
-            Some(index) => add_name(index, name, found),
+            Some(index) => add_hash(index, hash, found),
             None => {
                 let mut index = Box::new(alloc, HashMap::new(alloc))?;
-                let alone = add_name(&mut index, name, found)?;
+                let alone = add_hash(&mut index, hash, found)?;
                 self.held = Some(index);
                 Ok(alone)
             }
         }
     }
 
-    // Forgets a name that the index has. Of another it may forget one of the same hash.
-    pub(crate) fn remove(&mut self, name: &[u8])
-        ensures { IsSome (indexed self.old name.now) → (other : List ℕ) → indexed self.new other
-            ≡ if bytes_eq name.now other then None else indexed self.old other }
+    // Removes what is under the hash.
+    pub(crate) fn remove(&mut self, hash: u64)
+        ensures { (other : ℕ) → indexed self.new other
+            ≡ if nat_eq hash other then None else indexed self.old other }
     {
         if let Some(index) = &mut self.held {
-            drop_name(index, name);
+            drop_hash(index, hash);
         }
     }
 
-    // What the index has under the name.
-    fn told(&self, name: &[u8]) -> Option<(u64, u32)>
-        ensures { result ≡ indexed self.now name.now }
+    // What the index has under the hash.
+    fn under_hash(&self, hash: u64) -> Option<(u64, u32)>
+        ensures { result ≡ indexed self.now hash }
     {
         match &self.held {
-            Some(index) => told(index, name),
+            Some(index) => under_hash(index, hash),
             None => None,
         }
     }
 }
 
-// The place and the number of the oldest entry of this name. The index has them as long as no name and
-// no hash was doubled.
+// The place and the number of the oldest entry of this name. The index has the place as long as no two names
+// had one hash; whether the entry there has this name, the order says.
 pub(crate) fn oldest_of(
     order: &Order,
     index: &HeldIndex,
     doubled: bool,
     name: &[u8],
+    hash: u64,
 ) -> Option<(u64, u32)>
-    requires { doubled ≡ false → (other : List ℕ)
-        → indexed index.now other ≡ oldest order.now.entries other }
-    ensures { result ≡ oldest order.now.entries name.now }
+    requires hash { hash ≡ hash_of name.now }
+    requires named { doubled ≡ false → (other : ℕ) → indexed index.now other ≡ hashed order.now other }
+    requires apart { doubled ≡ false → IsDistinct nat_eq (keys_of (by_hash order.now)) }
+    ensures { result ≡ oldest order.now name.now }
 {
     if doubled {
         return searched(order, name);
     }
-    index.told(name)
+    let Some((place, number)) = index.under_hash(hash) else {
+        return None;
+    };
+    let _count = order.len();
+    match order.get(place) {
+        Some(entry) => {
+            if name == entry.0.as_slice() {
+                Some((place, number))
+            } else {
+                None
+            }
+        }
+        None => None,
+    }
 }

@@ -1,27 +1,25 @@
 //! The entries of a directory by place, and their index by name.
-ghost use Rattle.std.specs.Prelude.{◌≡◌, ◌+◌, ◌++◌, [], ◌∷◌, ℕ, List, true, ◌↔◌, if◌then◌else◌};
-ghost use Rattle.std.specs.Prelude.{IfSome, IsSome, IfOk, OnOk, OnErr};
+ghost use Rattle.std.specs.Prelude.{◌≡◌, ◌+◌, ◌++◌, [], ◌∷◌, ℕ, true, nat_eq, if◌then◌else◌};
+ghost use Rattle.std.specs.Prelude.{IfSome, IfOk, OnOk, OnErr};
 ghost use Rattle.std.specs.List.Sorted.{IsStrictlySortedBy};
 ghost use Rattle.std.specs.Map.{keys_of, remove_entry};
 ghost use Rattle.std.specs.Ordering.{nat_cmp};
 ghost use Rattle.std.specs.BTreeMap.{is_at};
-ghost use Rattle.std.specs.Str.{bytes_eq};
-ghost use Rattle.disk_tree.specs.Indexed.{AreBelow, newest_place, oldest};
+ghost use Rattle.disk_tree.specs.Indexed.{AreBelow, oldest};
 ghost use Rattle.disk_tree.specs.NameIndex.{hash_of as hash, indexed};
 
 use item_list::Bytes;
-use number_map::Rank;
+use number_map::RisingMap;
 use std::alloc::{AllocError, Global};
-use std::collections::{BTreeMap, HashMap};
+use std::collections::HashMap;
 use std::hash::{FoldHasher, Hasher};
 
-// The entries by place: the stored name and the node's number. A map of ranks is searched faster than one
-// of plain numbers.
-pub(crate) type Order = BTreeMap<Rank<u64>, (Bytes, u32)>;
+// The entries by place: the stored name and the node's number.
+pub(crate) type Order = RisingMap<(Bytes, u32)>;
 
-// Each name with its place and number, under the name's hash. The names are hashed here, since a map by
-// names would hash them byte by byte.
-pub(crate) type Index = HashMap<u64, (Bytes, (u64, u32))>;
+// The place and the number of an entry, under the hash of its name. The names are hashed here, since a map by
+// names would hash them byte by byte. They are stored in the order alone.
+pub(crate) type Index = HashMap<u64, (u64, u32)>;
 
 // The hash of a name. Its seed is fixed.
 pub(crate) fn hash_of(name: &[u8]) -> u64
@@ -32,29 +30,23 @@ pub(crate) fn hash_of(name: &[u8]) -> u64
     hasher.finish()
 }
 
-// What the index has under the name.
-pub(crate) fn told(index: &Index, name: &[u8]) -> Option<(u64, u32)>
-    ensures { result ≡ indexed index.now.entries name.now }
+// What the index has under the hash.
+pub(crate) fn under_hash(index: &Index, hash: u64) -> Option<(u64, u32)>
+    ensures { result ≡ indexed index.now.entries hash }
 {
-    match index.get(&hash_of(name)) {
-        Some(found) => {
-            if name == found.0.as_slice() {
-                Some(found.1)
-            } else {
-                None
-            }
-        }
+    match index.get(&hash) {
+        Some(found) => Some(*found),
         None => None,
     }
 }
 
 // The place and the number of the oldest entry of this name, by a search from the oldest on.
 pub(crate) fn searched(order: &Order, name: &[u8]) -> Option<(u64, u32)>
-    ensures { result ≡ oldest order.now.entries name.now }
+    ensures { result ≡ oldest order.now name.now }
 {
     'each: for (place, entry) in order.iter() {
         if name == entry.0.as_slice() {
-            return Some((place.of, entry.1));
+            return Some((place, entry.1));
         }
     }
     None
@@ -67,60 +59,41 @@ pub(crate) fn add_last(
     name: Bytes,
     number: u32,
 ) -> Result<(), AllocError>
-    requires { AreBelow place order.old.entries }
-    ensures put { OnOk result (order.new.entries ≡ order.old.entries ++ (place, (name, number)) ∷ []) }
-    ensures kept { OnErr result (order.new.entries ≡ order.old.entries) }
-    ensures rising { IsStrictlySortedBy nat_cmp (keys_of order.new.entries) }
+    requires { AreBelow place order.old }
+    ensures put { OnOk result (order.new ≡ order.old ++ (place, (name, number)) ∷ []) }
+    ensures kept { OnErr result (order.new ≡ order.old) }
+    ensures rising { IsStrictlySortedBy nat_cmp (keys_of order.new) }
 {
-    order.insert(Rank { of: place }, (name, number))?;
+    order.put(place, (name, number))?;
     Ok(())
 }
 
 // Takes the entry at this place away.
 pub(crate) fn drop_place(order: &mut Order, place: u64)
-    ensures gone { order.new.entries ≡ remove_entry (is_at (nat_cmp place)) order.old.entries }
-    ensures rising { IsStrictlySortedBy nat_cmp (keys_of order.new.entries) }
+    ensures gone { order.new ≡ remove_entry (is_at (nat_cmp place)) order.old }
+    ensures rising { IsStrictlySortedBy nat_cmp (keys_of order.new) }
 {
-    // The newest entry is often the one that goes, and a search for it goes past all other places of
-    // each node of the map on its way.
-    if is_newest(order, place) {
-        order.pop_last();
-        return;
-    }
-    order.remove(&Rank { of: place });
+    order.remove(place);
 }
 
-// Whether the last entry stands at this place.
-fn is_newest(order: &Order, place: u64) -> bool
-    ensures { result ≡ true ↔ (newest_place order.now.entries ≡ Some place) }
-{
-    match order.last_key_value() {
-        Some((newest, _)) => newest.of == place,
-        None => false,
-    }
-}
-
-// Says where the name is, in place of what the index had under its hash. Whether it had nothing there.
-pub(crate) fn add_name(
-    index: &mut Index,
-    name: Bytes,
-    found: (u64, u32),
-) -> Result<bool, AllocError>
-    ensures lacked { IfOk result (λ alone. alone ≡ true → indexed index.old.entries name ≡ None) }
-    ensures put { IfOk result (λ alone. alone ≡ true → (other : List ℕ) → indexed index.new.entries other
-        ≡ if bytes_eq name other then Some found else indexed index.old.entries other) }
+// Puts a place and a number under the hash, in place of what the index had there. Returns whether it had
+// nothing there.
+pub(crate) fn add_hash(index: &mut Index, hash: u64, found: (u64, u32)) -> Result<bool, AllocError>
+    ensures lacked { IfOk result (λ alone. alone ≡ true → indexed index.old.entries hash ≡ None) }
+    ensures put { OnOk result ((other : ℕ) → indexed index.new.entries other
+        ≡ if nat_eq hash other then Some found else indexed index.old.entries other) }
     ensures kept { OnErr result (index.new.entries ≡ index.old.entries) }
 {
-    let before = index.insert(hash_of(name.as_slice()), (name, found))?;
+    let before = index.insert(hash, found)?;
     Ok(before.is_none())
 }
 
-// Forgets a name that the index has. Of another it may forget one of the same hash.
-pub(crate) fn drop_name(index: &mut Index, name: &[u8])
-    ensures { IsSome (indexed index.old.entries name.now) → (other : List ℕ) → indexed index.new.entries other
-        ≡ if bytes_eq name.now other then None else indexed index.old.entries other }
+// Removes what is under the hash.
+pub(crate) fn drop_hash(index: &mut Index, hash: u64)
+    ensures { (other : ℕ) → indexed index.new.entries other
+        ≡ if nat_eq hash other then None else indexed index.old.entries other }
 {
-    index.remove(&hash_of(name));
+    index.remove(&hash);
 }
 
 // The place behind this one. Places are not used again; 2^64 of them outlast every run.

@@ -56,3 +56,4 @@ call_named name.Lock = says None
 call_named name.Status = says None
 call_named name.Encrypt = says None
 call_named name.Migrate = says None
+call_named name.Pause = says None

@@ -71,7 +71,8 @@ fn read_named(
         | CommandName::Lock
         | CommandName::Status
         | CommandName::Encrypt
-        | CommandName::Migrate => Ok(None),
+        | CommandName::Migrate
+        | CommandName::Pause => Ok(None),
     }
 }
 

@@ -1,5 +1,5 @@
 -- A command's work, part after part.
-use Rattle.std.proofs.Common.{rules, ◌≡◌, ℕ, ◌+◌, ◌≤◌, ◌++◌, [], ◌∷◌, Some, Ok, Err, refl, ap, sym, subst, ◌∙◌, arith, length-append}
+use Rattle.std.proofs.Common.{rules, ◌≡◌, ℕ, ◌+◌, ◌≤◌, ◌++◌, [], ◌∷◌, Some, None, Ok, Err, refl, ap, sym, subst, ◌∙◌, arith, length-append}
 use Rattle.std.specs.Prelude.{Option, Result}
 use Rattle.std.specs.Result.{IsErrAnd}
 use Rattle.call_history.specs.Placed.{entries_of}
@@ -157,6 +157,14 @@ goes_on {came = came} {left = left} by_more {old} {middle} {new} {most} {rest} {
 }
 
 -- ---- work that ends without a call
+
+-- with nothing: a pause
+pub passes : {P : Type 0} {came : P → PlacedCalls → P → Type 0} {who left : P → ℕ} (by_none : (port : P) → came port [] port) (caller : Caller P)
+    → Worked came who left caller caller 4 (Done None) (Ok None)
+passes by_none caller = record {
+  ends = record { made = []; came_by = by_none caller.port.now; follows = refl; grown = search rules; few = search rules; counted = search rules };
+  same = record { number = refl; port = refl; entries = refl };
+}
 
 -- with an outcome
 pub ends_now : {P : Type 0} {came : P → PlacedCalls → P → Type 0} {who left : P → ℕ} (by_none : (port : P) → came port [] port) (caller : Caller P) (outcome : Outcome)

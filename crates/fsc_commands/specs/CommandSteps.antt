@@ -9,7 +9,7 @@ use Rattle.session_records.specs.Outcomes.{outcome_of}
 use Rattle.fsc_commands.specs.Steps.{Steps}
 use Rattle.fsc_commands.specs.Steps.Steps.{Done, Ask}
 
--- the steps of a command: a session's work ends with an outcome, a single call without one
+-- the steps of a command: a session's work ends with an outcome, a single call or a pause without one
 abbrev pub CommandSteps : Type 0
 CommandSteps = Steps (Option Outcome)
 

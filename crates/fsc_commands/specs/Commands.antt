@@ -7,12 +7,13 @@ use Rattle.script_lang.specs.declared.verb.Verb.{Verb}
 use Rattle.fsc_commands.specs.Steps.Steps.{Done}
 use Rattle.fsc_commands.specs.CommandSteps.{CommandSteps, asking}
 use Rattle.fsc_commands.specs.Tasks.{Task, task_of}
-use Rattle.fsc_commands.specs.Tasks.Task.{Single, Session}
+use Rattle.fsc_commands.specs.Tasks.Task.{Single, Session, Idle}
 
 -- the call, where it is a single one
 abbrev pub single_call : Task → Option Op
 single_call (Single asked) = Some asked
 single_call (Session steps) = None
+single_call Idle = None
 
 -- what a command asks for that is a single call
 abbrev pub plain_op : List ℕ → ℕ → ℕ → ℕ → List (List ℕ) → Verb → Option Op
@@ -27,10 +28,12 @@ abbrev pub MayWantMemory : Option Op → Type 0
 MayWantMemory None = ⊥
 MayWantMemory (Some asked) = IsTrue (carries_bytes asked)
 
--- the steps of a single call, which has no outcome, and those of a session's work
+-- the steps of a single call, which has no outcome, and those of a session's work; a pause is done at once,
+-- without a call and without an outcome
 abbrev pub task_steps : ℕ → ℕ → Task → CommandSteps
 task_steps caller uid (Single asked) = asking caller uid asked (λ reply. Done None)
 task_steps caller uid (Session steps) = steps
+task_steps caller uid Idle = Done None
 
 -- the steps of a command
 abbrev pub command_steps : List ℕ → ℕ → ℕ → ℕ → List (List ℕ) → Verb → CommandSteps

@@ -1,4 +1,4 @@
--- What each command is: a single call, or a session's work.
+-- What each command is: a single call, a session's work, or nothing.
 use Rattle.std.specs.Prelude.{ℕ, List, replicate}
 use Rattle.policy_ctx.specs.Policy.{policy_bytes}
 use Rattle.mount_model.specs.declared.call.Op.{Op}
@@ -15,13 +15,14 @@ use Rattle.fsc_commands.specs.PolicyKeySteps.{unlock_steps, policy_new_steps, po
 use Rattle.fsc_commands.specs.ProtectorSteps.{protector_steps, protector_change_steps, protector_link_steps}
 use Rattle.fsc_commands.specs.Stars.{path_meant}
 
--- a single call, or a session's work, which has these steps
+-- a single call; a session's work, which has these steps; or nothing, where the caller lets its turn pass
 pub data Task : Type 0 where
   Single : Op → Task
   Session : CommandSteps → Task
+  Idle : Task
 
 -- what a command is, where it has this number in its caller's section and the caller was last told these names;
--- each has a line, so that none does nothing
+-- each has a line, so that none but a pause does nothing
 abbrev pub task_of : List ℕ → ℕ → ℕ → ℕ → List (List ℕ) → Verb → Task
 task_of seed caller uid number names (verb.AddKey raw) = Single (op.AddKey raw)
 task_of seed caller uid number names (verb.RemoveKey key) = Single (op.RemoveKey (id_meant key))
@@ -76,3 +77,4 @@ task_of seed caller uid number names (verb.Status policy) = Session (key_steps S
 task_of seed caller uid number names (verb.Encrypt path policy settings) =
     Session (encrypt_steps seed caller uid number names path policy settings)
 task_of seed caller uid number names (verb.Migrate policy) = Session (migrate_steps caller uid policy)
+task_of seed caller uid number names verb.Pause = Idle

@@ -17,8 +17,8 @@ use script_lang::Verb;
 use session_records::{Turn, nonce_drawn, record_name};
 use std::alloc::{AllocError, Global};
 
-// What a command asks for that is a single call; `None` where it is a session's work. The mount may be
-// asked it. What carries neither a path nor bytes takes no memory.
+// What a command asks for that is a single call; `None` where it is a session's work, or a pause. The mount may
+// be asked it. What carries neither a path nor bytes takes no memory.
 pub(crate) fn plain_op(
     alloc: Global,
     seed: &[u8; 32],
@@ -66,7 +66,7 @@ pub(crate) fn plain_op(
         | Verb::List { .. }
         | Verb::Stat(_)
         | Verb::Open(_) => Ok(Some(path_op(alloc, told, verb)?)),
-        // (a session's work)
+        // (a session's work, or a pause)
         _ => Ok(None),
     }
 }

@@ -18,7 +18,7 @@ use script_lang::Verb;
 use session_records::Stop;
 
 impl<'a, S: Stretch> Work<'a, S> {
-    // Runs a session's work.
+    // Runs a session's work, or lets the turn pass.
     pub(crate) fn run_session<P: MountPort>(
         &self,
         caller: &mut Caller<P>,
@@ -45,6 +45,7 @@ impl<'a, S: Stretch> Work<'a, S> {
                 settings,
             } => self.encrypt(caller, path, policy, *settings),
             Verb::Migrate(policy) => self.migrate(caller, policy),
+            Verb::Pause => Ok(None),
             Verb::ProtectorChange { .. }
             | Verb::PolicyNew { .. }
             | Verb::PolicyAdd { .. }

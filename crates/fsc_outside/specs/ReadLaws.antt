@@ -4,6 +4,7 @@ use Rattle.std.specs.Io.KnownBytes.{Consumes}
 use Rattle.fsc_outside.specs.Causes.{one_more}
 use Rattle.fsc_outside.specs.Reads.{ReadCall, AreReads, given_by, faults_behind}
 use Rattle.fsc_outside.specs.Reads.ReadCall.{Gave, Faulted}
+use Rattle.fsc_outside.specs.Sources.{Feed, AreFeeds, calls_after, fed}
 use Rattle.fsc_outside.specs.States.{SourceState}
 
 pub given_on : (calls more : List ReadCall) → given_by (calls ++ more) ≡ given_by calls ++ given_by more
@@ -41,4 +42,18 @@ AreReads-on a b c e f first second = record {
   bytes = subst (Consumes a.left c.left) (sym (given_on e f))
       (Consumes-on a.left b.left c.left (given_by e) (given_by f) first.bytes second.bytes);
   faults = second.faults ∙ ap (faults_behind f) first.faults ∙ sym (faults_on e f a.faults);
+}
+
+counted_on : (calls more : List ReadCall) (count : ℕ)
+    → calls_after (calls ++ more) count ≡ calls_after more (calls_after calls count)
+counted_on [] more count = refl
+counted_on (call ∷ calls) more count = counted_on calls more (one_more count)
+
+pub AreFeeds-none : (feed : Feed) → AreFeeds feed [] feed
+AreFeeds-none feed = record { reads = AreReads-none (fed feed); counted = refl }
+
+pub AreFeeds-on : (a b c : Feed) (e f : List ReadCall) → AreFeeds a e b → AreFeeds b f c → AreFeeds a (e ++ f) c
+AreFeeds-on a b c e f first second = record {
+  reads = AreReads-on (fed a) (fed b) (fed c) e f first.reads second.reads;
+  counted = second.counted ∙ ap (calls_after f) first.counted ∙ sym (counted_on e f a.calls);
 }

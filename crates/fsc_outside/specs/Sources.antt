@@ -1,6 +1,7 @@
 -- What the sources in memory do, call by call.
-use Rattle.std.specs.Prelude.{ℕ, min, List, length, drop, Contains, Some}
+use Rattle.std.specs.Prelude.{ℕ, ◌≡◌, min, List, [], ◌∷◌, length, drop, Contains, Some}
 use Rattle.fsc_outside.specs.Causes.{one_more}
+use Rattle.fsc_outside.specs.Reads.{ReadCall, AreReads}
 use Rattle.fsc_outside.specs.States.{SourceState, source_state}
 
 -- a source in memory: the bytes left, the most that a call gives, the numbers of the calls that fail,
@@ -31,6 +32,16 @@ after_read feed n = record feed { left = drop n feed.left; calls = one_more feed
 -- what is known of it
 abbrev pub fed : Feed → SourceState
 fed feed = source_state (Some feed.left) feed.faults
+
+-- the count of calls after these calls, from the one before them
+abbrev pub calls_after : List ReadCall → ℕ → ℕ
+calls_after [] count = count
+calls_after (call ∷ more) count = calls_after more (one_more count)
+
+-- what calls make of a source in memory: what they make of any source, and each call is counted
+pub record AreFeeds (old : Feed) (calls : List ReadCall) (new : Feed) : Type 0 where
+  pub reads : AreReads (fed old) calls (fed new)
+  pub counted : new.calls ≡ calls_after calls old.calls
 
 -- what is known of a source of these bytes that never fails
 abbrev pub steady : List ℕ → SourceState

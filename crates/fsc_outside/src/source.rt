@@ -7,8 +7,8 @@ ghost use Rattle.std.specs.Io.KnownBytes.{ReadConsumes};
 ghost use Rattle.fsc_outside.specs.Causes.{HasCause};
 ghost use Rattle.fsc_outside.specs.States.{SourceState};
 ghost use Rattle.fsc_outside.specs.Reads.{ReadCall, AreReads, read_call};
-ghost use Rattle.fsc_outside.specs.ReadLaws.{AreReads-none, AreReads-on};
-ghost use Rattle.fsc_outside.specs.Sources.{Feed, FailsNext, next_count, failed_read, after_read};
+ghost use Rattle.fsc_outside.specs.ReadLaws.{AreReads-none, AreReads-on, AreFeeds-none, AreFeeds-on};
+ghost use Rattle.fsc_outside.specs.Sources.{Feed, AreFeeds, FailsNext, next_count, failed_read, after_read};
 ghost use Rattle.fsc_outside.specs.Sources.{fed, steady};
 
 use crate::{CallList, Failed, is_listed};
@@ -90,17 +90,17 @@ impl MemSource {
 impl Source for MemSource {
     ghost state = { fed };
 
-    ghost came = { λ old calls new. AreReads (fed old) calls (fed new) };
+    ghost came = { AreFeeds };
 
-    ghost by_none = { λ s. AreReads-none (fed s) };
+    ghost by_none = { AreFeeds-none };
 
-    ghost by_more = { λ a b c. AreReads-on (fed a) (fed b) (fed c) };
+    ghost by_more = { AreFeeds-on };
 
     fn read(&mut self, piece: &mut [u8]) -> Result<usize, Failed>
         ensures bound { ReadsAtMost result piece.new }
         ensures bytes { ReadConsumes (Some self.old.left) (Some self.new.left) result piece.new }
         ensures cause { HasCause self.old.faults self.new.faults result }
-        ensures came { AreReads (fed self.old) (read_call piece.new result ∷ []) (fed self.new) }
+        ensures came { AreFeeds self.old (read_call piece.new result ∷ []) self.new }
         ensures fails { IsErr result ↔ FailsNext self.old }
         ensures failed { OnErr result (self.new ≡ failed_read self.old) }
         ensures gave { IfOk result (λ n. (n ≡ next_count self.old (length piece.old))

@@ -20,7 +20,7 @@ use Rattle.fsc_session.specs.Serial.{played}
 abbrev IsGiven : MountEntry → Type 0
 IsGiven e = e.reply ≢ Refused NoMemory
 
-given_reply : (reply : Reply) → reply ≢ Refused NoMemory → is_want_of_memory reply ≡ false
+pub given_reply : (reply : Reply) → reply ≢ Refused NoMemory → is_want_of_memory reply ≡ false
 given_reply (reply.Added id) h = refl
 given_reply (reply.Removed others busy) h = refl
 given_reply (reply.Status state by_self users) h = refl
@@ -52,7 +52,7 @@ given_reply (reply.Refused refusal.NoKeyClash) h = refl
 given_reply (reply.Refused (refusal.Changed version)) h = refl
 given_reply (reply.Refused refusal.NoMemory) h = absurd (h refl)
 
-left_when_given : (m after : PlainMount) (want : Bool) → want ≡ false → cond want m after ≡ after
+pub left_when_given : (m after : PlainMount) (want : Bool) → want ≡ false → cond want m after ≡ after
 left_when_given m after want h = rw h refl
 
 pub played_from : {A : Type 0} (m : PlainMount) (steps : Steps A) (h : History) (value : A) → Reaches steps h (Done value)

@@ -4,6 +4,7 @@ ghost use Rattle.std.specs.Prelude.{◌≡◌, ◌↔◌, ℕ, List};
 ghost use Rattle.call_history.specs.Placed.{entries_of};
 ghost use Rattle.mount_model.specs.Port.{PlacedCalls};
 ghost use Rattle.mount_model.specs.History.{History, IsLegal, NeverWantsMemory};
+ghost use Rattle.mount_model.specs.Lawful.{IsLawful, KeysAgree};
 ghost use Rattle.script_lang.specs.declared.commands.Section.{Section};
 ghost use Rattle.fsc_commands.specs.Steps.{Reaches};
 ghost use Rattle.fsc_commands.specs.Steps.Steps.{Done};
@@ -25,6 +26,14 @@ pub fn answers_determine_the_run()
     ensures { (seed : List ℕ) (script : List Section) (history : History) (after : List Waiting)
         → Reaches (rotation_steps seed script) history (Done after) → IsLegal history
         → NeverWantsMemory history
+        → history ≡ serial_history seed script }
+{}
+
+/// So is a lawful one, where no two different raw keys that this function's calls add share an identifier.
+pub fn lawful_runs_are_one()
+    ensures { (seed : List ℕ) (script : List Section) (history : History) (after : List Waiting)
+        → Reaches (rotation_steps seed script) history (Done after) → IsLawful history
+        → NeverWantsMemory history → KeysAgree (serial_history seed script)
         → history ≡ serial_history seed script }
 {}
 

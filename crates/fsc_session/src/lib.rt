@@ -9,7 +9,7 @@ mod stack;
 
 use item_list::Items;
 pub use laws::{
-    answers_determine_the_run, logs_have_one_meaning, runs_are_next_calls,
+    answers_determine_the_run, lawful_runs_are_one, logs_have_one_meaning, runs_are_next_calls,
     what_is_told_determines_the_history,
 };
 use reply_text::Note;

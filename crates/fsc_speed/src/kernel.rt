@@ -5,6 +5,7 @@ use crate::fixed::{FIXED, Fixed};
 use crate::lengths::{ItemCount, TextLength, UnitLength};
 use crate::trees::{self, TreeWork};
 use crate::walks::{self, Walk};
+use crate::wiping::{self, Wiped};
 use crate::{ciphers, scripts, turns};
 use sha2::{Digest, Sha256};
 use std::alloc::{AllocError, Global};
@@ -24,6 +25,7 @@ pub(crate) enum Kernel {
     Tree(TreeWork, ItemCount),
     MakeClaims(ClaimCount),
     Walk(Walk),
+    Wipe(Wiped, TextLength),
 }
 
 impl Kernel {
@@ -46,6 +48,7 @@ impl Kernel {
             "claims" => ClaimCount::read(size).map(Kernel::MakeClaims),
             "turn" => Callers::read(size).map(Kernel::Turn),
             "walk" => Walk::named(size).map(Kernel::Walk),
+            "wipe" => Kernel::of_wipes(size),
             _ => Kernel::of_trees(name),
         }
     }
@@ -56,6 +59,12 @@ impl Kernel {
             Some(length) => UnitLength::read(length).map(Kernel::XtsBack),
             None => UnitLength::read(length).map(Kernel::Xts),
         }
+    }
+
+    // The bytes that are wiped, and their length.
+    fn of_wipes(size: &str) -> Option<Kernel> {
+        let (bytes, length) = size.split_once('-')?;
+        Some(Kernel::Wipe(Wiped::named(bytes)?, TextLength::read(length)?))
     }
 
     // What is done to a tree, and how many nodes or entries it has.
@@ -88,6 +97,9 @@ impl Kernel {
             Kernel::Turn(callers) => turns::add_sevens(rt, alloc, callers, count),
             Kernel::Tree(work, size) => hashed(trees::work(alloc, work, size, count)),
             Kernel::MakeClaims(size) => hashed(claims::make_claims(alloc, size, count)),
+            Kernel::Wipe(wiped, length) => {
+                wiping::wipe_copies(alloc, wiped, length.bytes(), count)
+            }
             Kernel::Walk(walk) => {
                 hashed(walks::walk_often::<Brand>(alloc, Blank::new(1), walk, count))
             }

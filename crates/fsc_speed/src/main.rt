@@ -20,6 +20,7 @@ mod stretching;
 mod trees;
 mod turns;
 mod walks;
+mod wiping;
 
 use kernel::Kernel;
 use mount::MountKernel;
@@ -36,7 +37,8 @@ fsc_speed NAME COUNT; names of kernels with a digest: \
     encrypt-name-32, nokey-255, blake2b-64m, argon2id-1-65536-1, argon2id-3-65536-4, \
     argon2id-lanes-3-65536-4, turn-1, turn-2, turn-4, node-get-NODES (to 65536), \
     entry-get-ENTRIES, entry-put-ENTRIES (to 4096), seal-512, seal-4096, claims-CLAIMS (to 38400), \
-    read-script, entry-line, walk-3-plain, walk-3-keyed, walk-3-locked; \
+    read-script, entry-line, walk-3-plain, walk-3-keyed, walk-3-locked, wipe-zeros-LENGTH and \
+    wipe-scattered-LENGTH (16 to 65536 bytes); \
 names of kernels of a mount: \
     mkdir, unlink, stat-warm, stat-round, stat-cold, rename, list-plain, list-encrypted, \
     mkdir-NAMES, unlink-NAMES, stat-NAMES (to 4096), read-4096, write-4096, write-1, open-close, \

@@ -16,25 +16,25 @@ of_read (Ok parts) other = parts
 of_read bad other = other
 
 pub never_refused : PrintedLogsAreNotRefused
-never_refused input seed log place run refused =
+never_refused strict input seed log place run memory refused =
     let one : (refused.script, refused.log) ≡ (run.script, log) =
     ap (λ (read : Result (List Section × List ℕ) ℕ). of_read read (run.script, log))
     (sym refused.parts ∙ read_is log input run.script run.spelled) in
-    let is_so : IsRefusedAt seed run.script log place =
-    subst (λ (parts : List Section × List ℕ). IsRefusedAt seed parts.0 parts.1 place) one refused.is_so in
-    not_refused seed run.script run.printed.history place run.printed.run.callers run.printed.run.lawfully
-    run.printed.ranged run.agree (subst (λ (text : List ℕ). IsRefusedAt seed run.script text place) run.printed.log is_so)
+    let is_so : IsRefusedAt strict seed run.script log place =
+    subst (λ (parts : List Section × List ℕ). IsRefusedAt strict seed parts.0 parts.1 place) one refused.is_so in
+    not_refused strict seed run.script run.printed.history place run.printed.run.callers run.printed.run.lawfully
+    run.printed.ranged run.agree memory (subst (λ (text : List ℕ). IsRefusedAt strict seed run.script text place) run.printed.log is_so)
 
 -- nor is it at fault or too long
 pub certified : PrintedLogsAreCertified
-certified input seed log Done run within said = inl refl
-certified input seed log NoMemory run within said = inr refl
-certified input seed log (Refused place) run within said = absurd (never_refused input seed log place run said)
-certified input seed log (BadLine line) run within said =
+certified strict input seed log Done run memory within said = inl refl
+certified strict input seed log NoMemory run memory within said = inr refl
+certified strict input seed log (Refused place) run memory within said = absurd (never_refused strict input seed log place run memory said)
+certified strict input seed log (BadLine line) run memory within said =
     let no : Ok (run.script, log) ≡ Err line = sym (read_is log input run.script run.spelled) ∙ said.bad in absurd (cc no)
-certified input seed log TooLong run within said =
+certified strict input seed log TooLong run memory within said =
     absurd (not_both input within (subst IsLong (script_part_is log input run.script run.spelled) said))
-certified input seed log Usage run within said = absurd said
-certified input seed log ReadFault run within said = absurd said
-certified input seed log WriteFault run within said = absurd said
-certified input seed log SeedFault run within said = absurd said
+certified strict input seed log Usage run memory within said = absurd said
+certified strict input seed log ReadFault run memory within said = absurd said
+certified strict input seed log WriteFault run memory within said = absurd said
+certified strict input seed log SeedFault run memory within said = absurd said

@@ -16,7 +16,7 @@ use Rattle.fsc_tool.specs.declared.limits.TheConstants.{MOST_CERTIFICATE_BYTES}
 use Rattle.fsc_tool.specs.declared.status.Status.{Status}
 use Rattle.fsc_tool.specs.declared.status.Status.TheVariants.{Done, Usage, BadLine, ReadFault, WriteFault, SeedFault, TooLong, Refused, NoMemory}
 use Rattle.fsc_tool.specs.declared.form.ToolForm.{ToolForm}
-use Rattle.fsc_tool.specs.declared.form.ToolForm.TheVariants.{Check}
+use Rattle.fsc_tool.specs.declared.form.ToolForm.TheVariants.{Check, CheckStrictly}
 use Rattle.fsc_tool.specs.Checking.{EndsChecking, IsChecking}
 use Rattle.fsc_tool.specs.CheckStatus.{IsVerdict, SaysOfInput}
 use Rattle.fsc_tool.specs.CertificateEnds.{certificate_limits}
@@ -55,7 +55,7 @@ not_both part within long = elim long [
   | inr many ↦ (let few = within.lines in omega (arith, many, few))
 ]
 
-module _ (seed : List ℕ) (Came : List ReadCall → Type 0) (a b : Outside) where
+module _ (strict : Bool) (seed : List ℕ) (Came : List ReadCall → Type 0) (a b : Outside) where
   -- an input that was read whole is the one that was told
   same : (input bytes : List ℕ) → Told a b input → ReadWhole certificate_limits Came a.source b.source bytes → bytes ≡ input
   same input bytes told read = gave_told a.source b.source input bytes told.left read.gave
@@ -70,7 +70,7 @@ module _ (seed : List ℕ) (Came : List ReadCall → Type 0) (a b : Outside) whe
         | inr part ↦ not_both (script_part input) (subst (λ (xs : List ℕ). IsWithin input_limits (script_part xs)) is within) part
       ]
 
-  long_ends : (status : Status) → EndsChecking seed Came a b status → (input : List ℕ) → Told a b input
+  long_ends : (status : Status) → EndsChecking strict seed Came a b status → (input : List ℕ) → Told a b input
       → (MOST_CERTIFICATE_BYTES < length input) ⊎ IsLong (script_part input) → IsOrNoMemory TooLong status
   long_ends TooLong h input told long = inl refl
   long_ends NoMemory h input told long = inr refl
@@ -89,14 +89,14 @@ module _ (seed : List ℕ) (Came : List ReadCall → Type 0) (a b : Outside) whe
 
   -- too long is none that is within the limits
   not_too_long : (input : List ℕ) → Told a b input → length input ≤ MOST_CERTIFICATE_BYTES → IsWithin input_limits (script_part input)
-      → EndsChecking seed Came a b TooLong → ⊥
+      → EndsChecking strict seed Came a b TooLong → ⊥
   not_too_long input told most within h = elim h [
     | inl more ↦ not_long Came a.source b.source input more.bytes told.left more.gave most
     | inr part ↦ not_both (script_part input) within
         (subst (λ (xs : List ℕ). IsLong (script_part xs)) (same input part.input told part.read) part.is_so)
   ]
 
-  bad_line_ends : (status : Status) → EndsChecking seed Came a b status → (input : List ℕ) (line : ℕ) → Told a b input
+  bad_line_ends : (status : Status) → EndsChecking strict seed Came a b status → (input : List ℕ) (line : ℕ) → Told a b input
       → length input ≤ MOST_CERTIFICATE_BYTES → IsWithin input_limits (script_part input) → certificate_read input ≡ Err line
       → IsOrNoMemory (BadLine line) status
   bad_line_ends NoMemory h input line told most within bad = inr refl
@@ -112,7 +112,7 @@ module _ (seed : List ℕ) (Came : List ReadCall → Type 0) (a b : Outside) whe
   bad_line_ends (Refused place) h input line told most within bad =
       let is = sym h.is_so.parts ∙ read_so input h.input told h.read ∙ bad in absurd (cc is)
 
-  verdict_ends : (status : Status) → EndsChecking seed Came a b status → (input : List ℕ) (parts : List Section × List ℕ) → Told a b input
+  verdict_ends : (status : Status) → EndsChecking strict seed Came a b status → (input : List ℕ) (parts : List Section × List ℕ) → Told a b input
       → length input ≤ MOST_CERTIFICATE_BYTES → IsWithin input_limits (script_part input) → certificate_read input ≡ Ok parts
       → IsVerdict status ⊎ (status ≡ NoMemory)
   verdict_ends NoMemory h input parts told most within read = inr refl
@@ -128,7 +128,7 @@ module _ (seed : List ℕ) (Came : List ReadCall → Type 0) (a b : Outside) whe
 
   -- ---- the theorem, from what each status means
 
-  pub checking_is : (status : Status) → EndsEarly a b → EndsChecking seed Came a b status → IsChecking seed Came a b status
+  pub checking_is : (status : Status) → EndsEarly a b → EndsChecking strict seed Came a b status → IsChecking strict seed Came a b status
   checking_is status early h = record {
     ends = h;
     silent = early;
@@ -141,7 +141,7 @@ module _ (seed : List ℕ) (Came : List ReadCall → Type 0) (a b : Outside) whe
 
   -- an input that isn't read
   pub unread_ends : (fault : InputFault) → EndsReading certificate_limits Came a.source b.source (Err fault) → EndsEarly a b
-      → EndsChecking seed Came a b (input_status fault)
+      → EndsChecking strict seed Came a b (input_status fault)
   unread_ends fault.ReadFault h early = record { early = early; part = h }
   unread_ends fault.NoMemory h early = record { read = inl h; quiet = h.quiet }
   unread_ends fault.TooLong h early = elim h.gave [
@@ -150,8 +150,8 @@ module _ (seed : List ℕ) (Came : List ReadCall → Type 0) (a b : Outside) whe
   ]
 
   -- and one that is
-  pub read_ends : (input : List ℕ) (status : Status) → ReadWhole certificate_limits Came a.source b.source input → SaysOfInput seed input status
-      → EndsChecking seed Came a b status
+  pub read_ends : (input : List ℕ) (status : Status) → ReadWhole certificate_limits Came a.source b.source input → SaysOfInput strict seed input status
+      → EndsChecking strict seed Came a b status
   read_ends input Done read so = record { input = input; read = read; is_so = so }
   read_ends input (Refused place) read so = record { input = input; read = read; is_so = so }
   read_ends input (BadLine line) read so = record { input = input; read = read; is_so = so }
@@ -162,11 +162,15 @@ module _ (seed : List ℕ) (Came : List ReadCall → Type 0) (a b : Outside) whe
   read_ends input WriteFault read so = absurd so
   read_ends input SeedFault read so = absurd so
 
-  pub never_usage : (status : Status) → EndsChecking seed Came a b status → status ≡ Usage → ⊥
-  never_usage status h is = subst (λ (s : Status). EndsChecking seed Came a b s) is h
+  pub never_usage : (status : Status) → EndsChecking strict seed Came a b status → status ≡ Usage → ⊥
+  never_usage status h is = subst (λ (s : Status). EndsChecking strict seed Came a b s) is h
 
-  -- ---- the form
+-- ---- the forms
 
-  pub checks : (lawful : History → Type 0) (form : ToolForm) (status : Status) → IsChecking seed Came a b status
-      → form ≡ Check seed → IsRunIn lawful Came (Some form) a b status
-  checks lawful form status run is = subst (λ (asked : ToolForm). IsRunIn lawful Came (Some asked) a b status) (sym is) run
+pub checks : (seed : List ℕ) (Came : List ReadCall → Type 0) (a b : Outside) (lawful other : History → Type 0) (form : ToolForm) (status : Status)
+    → IsChecking false seed Came a b status → form ≡ Check seed → IsRunIn lawful other Came (Some form) a b status
+checks seed Came a b lawful other form status run is = subst (λ (asked : ToolForm). IsRunIn lawful other Came (Some asked) a b status) (sym is) run
+
+pub checks_strictly : (seed : List ℕ) (Came : List ReadCall → Type 0) (a b : Outside) (lawful other : History → Type 0) (form : ToolForm) (status : Status)
+    → IsChecking true seed Came a b status → form ≡ CheckStrictly seed → IsRunIn lawful other Came (Some form) a b status
+checks_strictly seed Came a b lawful other form status run is = subst (λ (asked : ToolForm). IsRunIn lawful other Came (Some asked) a b status) (sym is) run

@@ -17,6 +17,7 @@ use Rattle.sha2.specs.Sha256.{sha256}
 use Rattle.reply_text.specs.Shown.{PlacedShown, ShownEntry, ShownHistory, shown_entry, shown_history, shown_log}
 use Rattle.reply_text.proofs.LogLemmas.{log_shown}
 use Rattle.fsc_session.specs.ScriptRun.{notes_of}
+use Rattle.fsc_session.proofs.SerialLemmas.{lawful_serial}
 use Rattle.reply_text.specs.Notes.{notes_text}
 use Rattle.reply_text.specs.declared.notes.Note.{Note}
 use Rattle.fsc_tool.specs.Gen.{zero_seed, run_summary, SummaryOfRun}
@@ -86,5 +87,7 @@ summary_is lawful number script seed told notes text made zeros run none summed 
       run = ran.run;
       no_want = no_want;
       summary = summary;
-      fixed = λ legal. summary ∙ ap (run_summary zero_seed (generated_script number)) ((ran.run).serial legal no_want);
+      fixed = λ mounts agree. summary
+          ∙ ap (run_summary zero_seed (generated_script number))
+          (lawful_serial zero_seed (generated_script number) ran.history ran.run.order.0 ran.run.order.1 (mounts ran.history ran.run.run.lawfully) no_want agree);
     }

@@ -169,6 +169,6 @@ module _ (raw : Option (List ℕ)) (Came : List ReadCall → Type 0) (a b : Outs
 
   -- ---- the form
 
-  pub inspects : (lawful : History → Type 0) (form : ToolForm) (status : Status) → IsInspection raw Came a b status
-      → form ≡ Inspect raw → IsRunIn lawful Came (Some form) a b status
-  inspects lawful form status run is = subst (λ (asked : ToolForm). IsRunIn lawful Came (Some asked) a b status) (sym is) run
+  pub inspects : (lawful other : History → Type 0) (form : ToolForm) (status : Status) → IsInspection raw Came a b status
+      → form ≡ Inspect raw → IsRunIn lawful other Came (Some form) a b status
+  inspects lawful other form status run is = subst (λ (asked : ToolForm). IsRunIn lawful other Came (Some asked) a b status) (sym is) run

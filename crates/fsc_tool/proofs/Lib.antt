@@ -1,6 +1,8 @@
 pub mod CheckLawLemmas
 pub mod CheckLemmas
+pub mod DumpLawLemmas
 pub mod DumpLemmas
+pub mod NonceLemmas
 pub mod GenLemmas
 pub mod InspectLemmas
 pub mod LinkedLemmas

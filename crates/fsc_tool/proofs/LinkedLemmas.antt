@@ -16,9 +16,9 @@ use Rattle.fsc_session.specs.ScriptRun.{notes_by}
 use Rattle.fsc_session.proofs.ShownRuns.{told_log}
 use Rattle.linked_turns.specs.LinkedRuns.{TellsLinkedRun}
 use Rattle.linked_turns.specs.LinkedSerial.{TwoHistories, linked_calls}
-use Rattle.linked_turns.specs.LinkedText.{linked_text}
+use Rattle.linked_turns.specs.LinkedText.{both_logs, linked_text}
 use Rattle.linked_threads.specs.LinkedThreads.{TellsLinkedCalls}
-use Rattle.fsc_tool.specs.LinkedLog.{IsLinkedLog, IsLinkedLogOfThreads, both_logs}
+use Rattle.fsc_tool.specs.LinkedLog.{IsLinkedLog, IsLinkedLogOfThreads}
 
 -- ---- notes are of the entries, whatever places they have
 
@@ -44,10 +44,10 @@ notes_alike seed k (section ∷ more) xs ys same =
 -- ---- the text
 
 -- where this was told, the text is right
-pub linked_is : (lawful : History → Type 0) (seed : List ℕ) (script : List Section) (even odd : PlacedShown) (notes : List Note) (text : List ℕ)
-    → TellsLinkedRun lawful seed script even odd notes → text ≡ linked_text (entries_of even) (entries_of odd) notes
-    → IsLinkedLog lawful seed script text
-linked_is lawful seed script even odd notes text ran written =
+pub linked_is : (lawful_0 lawful_1 : History → Type 0) (seed : List ℕ) (script : List Section) (even odd : PlacedShown) (notes : List Note) (text : List ℕ)
+    → TellsLinkedRun lawful_0 lawful_1 seed script even odd notes → text ≡ linked_text (entries_of even) (entries_of odd) notes
+    → IsLinkedLog lawful_0 lawful_1 seed script text
+linked_is lawful_0 lawful_1 seed script even odd notes text ran written =
     let log : text ≡ both_logs ran.even ran.odd (notes_by seed 0 script ran.run.told) =
     written
     ∙ ap₂ (λ (first : List ℕ) (rest : List ℕ). codes "mount 0\n" ++ (first ++ (codes "mount 1\n" ++ rest)))
@@ -67,10 +67,10 @@ linked_is lawful seed script even odd notes text ran written =
     }
 
 -- the same of callers in threads
-pub linked_apart_is : (lawful : History → Type 0) (seed : List ℕ) (script : List Section) (even odd : PlacedShown) (notes : List Note)
-    → TellsLinkedCalls lawful seed script even odd notes
-    → IsLinkedLogOfThreads lawful seed script (linked_text (entries_of even) (entries_of odd) notes)
-linked_apart_is lawful seed script even odd notes ran =
+pub linked_apart_is : (lawful_0 lawful_1 : History → Type 0) (seed : List ℕ) (script : List Section) (even odd : PlacedShown) (notes : List Note)
+    → TellsLinkedCalls lawful_0 lawful_1 seed script even odd notes
+    → IsLinkedLogOfThreads lawful_0 lawful_1 seed script (linked_text (entries_of even) (entries_of odd) notes)
+linked_apart_is lawful_0 lawful_1 seed script even odd notes ran =
     record {
       told = ran.told;
       even = ran.even;

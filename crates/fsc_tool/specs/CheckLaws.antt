@@ -1,10 +1,10 @@
 -- What the program prints checks: laws of a log behind its script, as `check` reads them.
-use Rattle.std.specs.Prelude.{◌≡◌, ℕ, List, Ok}
-use Rattle.mount_model.specs.Lawful.{IsLawful}
+use Rattle.std.specs.Prelude.{◌≡◌, ℕ, Bool, List, Ok}
+use Rattle.mount_model.specs.Lawful.{IsLawful, KeysAgree}
 use Rattle.script_lang.specs.declared.commands.Section.{Section}
 use Rattle.script_lang.specs.Script.{parsed_script}
 use Rattle.fsc_outside.specs.WholeTexts.{IsWithin}
-use Rattle.log_check.specs.Certificate.{AskedKeysAgree}
+use Rattle.log_check.specs.Certificate.{HasMemory}
 use Rattle.fsc_tool.specs.declared.status.Status.{Status}
 use Rattle.fsc_tool.specs.declared.status.Status.TheVariants.{Done, Refused}
 use Rattle.fsc_tool.specs.CheckStatus.{SaysOfInput}
@@ -20,22 +20,23 @@ LogsArePartedFromScripts =
     (input log : List ℕ) (script : List Section) → parsed_script input ≡ Ok script
     → certificate_read (certificate_text input log) ≡ Ok (script, log)
 
--- the log of a run of the script, in which no two different raw keys that it asks to add share an identifier
+-- the log of a run of the script, in which no two different raw keys that were added share an identifier
 pub record IsPrinted (input seed log : List ℕ) : Type 0 where
   pub script : List Section
   pub spelled : parsed_script input ≡ Ok script
   pub printed : IsLogOfRun (IsLawfulRun IsLawful) seed script log
-  pub agree : AskedKeysAgree printed.history
+  pub agree : KeysAgree printed.history
 
--- such a log behind its script is refused at no place
+-- such a log behind its script is refused at no place, and strictly where nothing in the run was out of memory
 abbrev pub PrintedLogsAreNotRefused : Type 0
 PrintedLogsAreNotRefused =
-    (input seed log : List ℕ) (place : ℕ) → IsPrinted input seed log
-    → ¬ SaysOfInput seed (certificate_text input log) (Refused place)
+    (strict : Bool) (input seed log : List ℕ) (place : ℕ) (run : IsPrinted input seed log)
+    → HasMemory strict run.printed.history → ¬ SaysOfInput strict seed (certificate_text input log) (Refused place)
 
 -- and where the script is within its limits, nothing is said of the whole input but that the log is certified, or that
 -- there was no memory
 abbrev pub PrintedLogsAreCertified : Type 0
 PrintedLogsAreCertified =
-    (input seed log : List ℕ) (status : Status) → IsPrinted input seed log → IsWithin input_limits input
-    → SaysOfInput seed (certificate_text input log) status → IsOrNoMemory Done status
+    (strict : Bool) (input seed log : List ℕ) (status : Status) (run : IsPrinted input seed log)
+    → HasMemory strict run.printed.history → IsWithin input_limits input
+    → SaysOfInput strict seed (certificate_text input log) status → IsOrNoMemory Done status

@@ -1,5 +1,5 @@
 -- What the status of a run that checks a log says of its input, and of the log.
-use Rattle.std.specs.Prelude.{◌≡◌, ◌⊎◌, ⊤, ℕ, List}
+use Rattle.std.specs.Prelude.{◌≡◌, ◌⊎◌, ⊤, ℕ, Bool, List}
 use Rattle.script_lang.specs.declared.commands.Section.{Section}
 use Rattle.log_check.specs.Verdicts.{IsCertified, IsRefusedAt}
 use Rattle.fsc_tool.specs.declared.status.Status.{Status}
@@ -8,21 +8,22 @@ use Rattle.fsc_tool.specs.Limits.{IsLong}
 use Rattle.fsc_tool.specs.Parted.{script_part}
 use Rattle.fsc_tool.specs.CertificateEnds.{IsChecked, IsAtFault}
 
--- what the status says of an input that was read whole
-abbrev pub SaysOfInput : List ℕ → List ℕ → Status → Type 0
-SaysOfInput seed input Done = IsChecked (IsCertified seed) input
-SaysOfInput seed input (Refused place) = IsChecked (λ script log. IsRefusedAt seed script log place) input
-SaysOfInput seed input (BadLine line) = IsAtFault line input
-SaysOfInput seed input TooLong = IsLong (script_part input)
-SaysOfInput seed input NoMemory = ⊤
-SaysOfInput seed input other = ⊥
+-- what the status says of an input that was read whole; where it is strict, over histories in which nothing is out of
+-- memory
+abbrev pub SaysOfInput : Bool → List ℕ → List ℕ → Status → Type 0
+SaysOfInput strict seed input Done = IsChecked (IsCertified strict seed) input
+SaysOfInput strict seed input (Refused place) = IsChecked (λ script log. IsRefusedAt strict seed script log place) input
+SaysOfInput strict seed input (BadLine line) = IsAtFault line input
+SaysOfInput strict seed input TooLong = IsLong (script_part input)
+SaysOfInput strict seed input NoMemory = ⊤
+SaysOfInput strict seed input other = ⊥
 
 -- what the status says of a log, whose script was read
-abbrev pub SaysOfLog : List ℕ → List Section → List ℕ → Status → Type 0
-SaysOfLog seed script log Done = IsCertified seed script log
-SaysOfLog seed script log (Refused place) = IsRefusedAt seed script log place
-SaysOfLog seed script log NoMemory = ⊤
-SaysOfLog seed script log other = ⊥
+abbrev pub SaysOfLog : Bool → List ℕ → List Section → List ℕ → Status → Type 0
+SaysOfLog strict seed script log Done = IsCertified strict seed script log
+SaysOfLog strict seed script log (Refused place) = IsRefusedAt strict seed script log place
+SaysOfLog strict seed script log NoMemory = ⊤
+SaysOfLog strict seed script log other = ⊥
 
 -- the log was certified, or refused at a place
 abbrev pub IsVerdict : Status → Type 0

@@ -1,5 +1,5 @@
 -- A run that checks a log: what it finds, and how it ends. It writes nothing, and asks for no seed.
-use Rattle.std.specs.Prelude.{◌≡◌, ◌⊎◌, ◌<◌, ◌≤◌, ℕ, List, length, Ok, Err}
+use Rattle.std.specs.Prelude.{◌≡◌, ◌⊎◌, ◌<◌, ◌≤◌, ℕ, Bool, List, length, Ok, Err}
 use Rattle.fsc_outside.specs.WholeTexts.{IsWithin}
 use Rattle.fsc_outside.specs.Reads.{ReadCall}
 use Rattle.script_lang.specs.declared.commands.Section.{Section}
@@ -18,21 +18,21 @@ use Rattle.fsc_tool.specs.CertificateEnds.{EndsCertificateTooLong, EndsCertifica
 use Rattle.fsc_tool.specs.CheckStatus.{IsVerdict}
 
 -- what the status means; it is none of the others
-abbrev pub EndsChecking : List ℕ → (List ReadCall → Type 0) → Outside → Outside → Status → Type 0
-EndsChecking seed Came a b Done = EndsRead (IsChecked (IsCertified seed)) Came a b
-EndsChecking seed Came a b (Refused place) =
-    EndsRead (IsChecked (λ script log. IsRefusedAt seed script log place)) Came a b
-EndsChecking seed Came a b (BadLine line) = EndsRead (IsAtFault line) Came a b
-EndsChecking seed Came a b ReadFault = EndsReadFault certificate_limits Came a b
-EndsChecking seed Came a b TooLong = EndsCertificateTooLong Came a b
-EndsChecking seed Came a b NoMemory = EndsCertificateNoMemory Came a b
-EndsChecking seed Came a b other = ⊥
+abbrev pub EndsChecking : Bool → List ℕ → (List ReadCall → Type 0) → Outside → Outside → Status → Type 0
+EndsChecking strict seed Came a b Done = EndsRead (IsChecked (IsCertified strict seed)) Came a b
+EndsChecking strict seed Came a b (Refused place) =
+    EndsRead (IsChecked (λ script log. IsRefusedAt strict seed script log place)) Came a b
+EndsChecking strict seed Came a b (BadLine line) = EndsRead (IsAtFault line) Came a b
+EndsChecking strict seed Came a b ReadFault = EndsReadFault certificate_limits Came a b
+EndsChecking strict seed Came a b TooLong = EndsCertificateTooLong Came a b
+EndsChecking strict seed Came a b NoMemory = EndsCertificateNoMemory Came a b
+EndsChecking strict seed Came a b other = ⊥
 
--- a run that checks a log of a run with the seed, where Came says by which calls of the source it became what it is
-pub record IsChecking (seed : List ℕ) (Came : List ReadCall → Type 0) (a b : Outside)
+-- a run that checks a log of a run with the seed, strictly or not, where Came says by which calls of the source it became what it is
+pub record IsChecking (strict : Bool) (seed : List ℕ) (Came : List ReadCall → Type 0) (a b : Outside)
     (status : Status) : Type 0 where
   -- what the status means, with its cause and what was read
-  pub ends : EndsChecking seed Came a b status
+  pub ends : EndsChecking strict seed Came a b status
   -- nothing is written, and no seed asked for
   pub silent : EndsEarly a b
   -- what a source that tells its bytes makes of the other statuses

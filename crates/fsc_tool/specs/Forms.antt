@@ -1,7 +1,7 @@
 -- What the words of the command line ask for. `replay` or `replay --serial`, alone or with `--seed HEX64`
 -- behind; `gen NUMBER` or `gen NUMBER --summary`, where the number is a decimal numeral below 2^32;
 -- `dump --seed HEX64`; `inspect`, alone or with `raw:HEX` behind;
--- `check --seed HEX64`; `replay-linked --seed HEX64` or `replay-linked --serial --seed HEX64`.
+-- `check --seed HEX64` or `check --strict --seed HEX64`; `replay-linked --seed HEX64` or `replay-linked --serial --seed HEX64`.
 use Rattle.std.specs.Prelude.{ℕ, List, [], ◌∷◌, ◌^◌, codes, Option, Some, None, if◌then◌else◌}
 use Rattle.std.specs.Option.{option_map, option_and_then}
 use Rattle.std.specs.Str.{bytes_eq}
@@ -12,7 +12,7 @@ use Rattle.script_words.specs.declared.key_words.KeyRef.TheVariants.{Raw}
 use Rattle.fsc_tool.specs.declared.form.Way.TheVariants.{InThreads}
 use Rattle.fsc_tool.specs.declared.form.ToolForm.{ToolForm}
 use Rattle.fsc_tool.specs.declared.form.ToolForm.TheVariants.{Replay, Generate, Summarise, Dump, Inspect}
-use Rattle.fsc_tool.specs.declared.form.ToolForm.TheVariants.{Check, ReplayLinked}
+use Rattle.fsc_tool.specs.declared.form.ToolForm.TheVariants.{Check, CheckStrictly, ReplayLinked}
 use Rattle.fsc_tool.specs.ReplayForms.{seed_given, replay_of, linked_of}
 
 -- behind `gen` and the number
@@ -37,6 +37,13 @@ inspected_of [] = Some (Inspect None)
 inspected_of (word ∷ []) = inspected_with (key_ref_of word)
 inspected_of _ = None
 
+-- behind `check`
+abbrev pub checked_of : List (List ℕ) → Option ToolForm
+checked_of [] = None
+checked_of (word ∷ words) =
+    if bytes_eq word (codes "--strict") then option_map CheckStrictly (seed_given words)
+    else option_map Check (seed_given (word ∷ words))
+
 -- what the words ask for, where they are a form
 abbrev pub form_of : List (List ℕ) → Option ToolForm
 form_of [] = None
@@ -45,7 +52,7 @@ form_of (verb ∷ words) =
     else if bytes_eq verb (codes "gen") then generated_of words
     else if bytes_eq verb (codes "dump") then option_map Dump (seed_given words)
     else if bytes_eq verb (codes "inspect") then inspected_of words
-    else if bytes_eq verb (codes "check") then option_map Check (seed_given words)
+    else if bytes_eq verb (codes "check") then checked_of words
     else if bytes_eq verb (codes "replay-linked") then linked_of words
     else None
 

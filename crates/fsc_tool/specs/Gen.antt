@@ -1,7 +1,8 @@
 -- A run of a form that generates: what it writes, and how it ends. It asks neither the source nor the seed
 -- source.
 use Rattle.std.specs.Prelude.{◌≡◌, ℕ, List, ◌++◌, replicate}
-use Rattle.mount_model.specs.History.{History, IsLegal, NeverWantsMemory}
+use Rattle.mount_model.specs.History.{History, NeverWantsMemory}
+use Rattle.mount_model.specs.Lawful.{IsLawful, KeysAgree}
 use Rattle.script_lang.specs.declared.commands.Section.{Section}
 use Rattle.load_gen.specs.Generated.{generated, generated_script}
 use Rattle.fsc_outside.specs.Causes.{Rose}
@@ -26,15 +27,24 @@ abbrev pub run_summary : List ℕ → List Section → History → List ℕ
 run_summary seed script history =
     summary_text history (log_text history ++ notes_text (notes_of seed script history))
 
--- the text is the summary of a run in rotation of the generated script, in which no call wanted memory; where
--- the one-thread mount could answer so, it is a function of the number
+-- the history of the generated script in rotation, a function of the number
+abbrev pub generated_history : ℕ → History
+generated_history number = serial_history zero_seed (generated_script number)
+
+-- the machine's histories are lawful ones of a mount
+abbrev pub IsOfMounts : (History → Type 0) → Type 0
+IsOfMounts lawful = (history : History) → lawful history → IsLawful history
+
+-- the text is the summary of a run in rotation of the generated script in which no call wanted memory; of a mount
+-- it is that of the script's own history, a function of the number, if no two different raw keys that this history
+-- adds share an identifier
 pub record SummaryOfRun (lawful : History → Type 0) (number : ℕ) (text : List ℕ) : Type 0 where
   pub history : History
   pub run : IsSerialRun lawful zero_seed (generated_script number) history
   pub no_want : NeverWantsMemory history
   pub summary : text ≡ run_summary zero_seed (generated_script number) history
-  pub fixed : IsLegal history → text ≡ run_summary zero_seed (generated_script number)
-      (serial_history zero_seed (generated_script number))
+  pub fixed : IsOfMounts lawful → KeysAgree (generated_history number)
+      → text ≡ run_summary zero_seed (generated_script number) (generated_history number)
 
 -- the text is the script that the number gives
 abbrev pub IsScriptText : ℕ → List ℕ → Type 0

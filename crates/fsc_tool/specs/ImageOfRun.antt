@@ -10,6 +10,7 @@ use Rattle.reply_text.specs.Shown.{PlacedShown}
 use Rattle.reply_text.specs.declared.notes.Note.{Note}
 use Rattle.image_lines.specs.ImageText.{image_text}
 use Rattle.tree_image.specs.Images.{mount_image}
+use Rattle.listing_laws.specs.Laws.{HasNonces}
 use Rattle.fsc_session.specs.Serial.{serial_history}
 use Rattle.script_runs.specs.Runs.{IsRunBefore, IsSerialRun, TellsRun}
 
@@ -23,13 +24,19 @@ RanOnMount seed script placed notes state =
     TellsRun (IsRunBefore (λ history.
     StandsAfter history state) (IsSerialRun IsLawful)) seed script placed notes
 
--- the text is the image of the mount that a run in rotation leaves in which no call wanted memory, where the raw keys
--- agree that were added; then it is a function of script and seed
-pub record IsImageOfRun (seed : List ℕ) (script : List Section) (text : List ℕ) : Type 0 where
-  pub history : History
+-- the history is a run of the script in rotation in which no call wanted memory, and the text is the image of the
+-- mount that it leaves
+pub record IsImageAfter (seed : List ℕ) (script : List Section) (history : History) (text : List ℕ)
+    : Type 0 where
   pub run : IsSerialRun IsLawful seed script history
   pub no_want : NeverWantsMemory history
-  pub image : KeysAgree history → text ≡ image_after history
-  pub fixed : KeysAgree history → text ≡ image_after (serial_history seed script)
-  -- the mount is one, as the laws ask for
-  pub well : KeysAgree history → IsWellFormed (mount_after history)
+  pub image : text ≡ image_after history
+  -- the mount is one, as the laws of listings ask for
+  pub well : IsWellFormed (mount_after history)
+  pub nonces : HasNonces (mount_after history).nodes
+
+-- the text is the image that the script's own history leaves, a function of script and seed, if no two different
+-- raw keys that this history adds share an identifier
+abbrev pub IsImageOfRun : List ℕ → List Section → List ℕ → Type 0
+IsImageOfRun seed script text =
+    KeysAgree (serial_history seed script) → IsImageAfter seed script (serial_history seed script) text

@@ -1,4 +1,5 @@
 pub mod CheckLaws
+pub mod DumpLaws
 pub mod CertificateEnds
 pub mod CheckStatus
 pub mod Checking

@@ -1,5 +1,5 @@
 -- The theorem of the tool: what holds of a run in any form of the words.
-use Rattle.std.specs.Prelude.{◌≡◌, ◌↔◌, ℕ, List, [], Option, Some, None}
+use Rattle.std.specs.Prelude.{◌≡◌, ◌↔◌, ℕ, true, false, List, [], Option, Some, None}
 use Rattle.mount_model.specs.History.{History}
 use Rattle.fsc_outside.specs.Reads.{ReadCall}
 use Rattle.fsc_tool.specs.declared.status.Status.{Status}
@@ -7,7 +7,8 @@ use Rattle.fsc_tool.specs.declared.status.Status.TheVariants.{Usage}
 use Rattle.fsc_tool.specs.declared.form.Seeding.TheVariants.{Given}
 use Rattle.fsc_tool.specs.declared.form.Way.TheVariants.{InTurn, InThreads}
 use Rattle.fsc_tool.specs.declared.form.ToolForm.{ToolForm}
-use Rattle.fsc_tool.specs.declared.form.ToolForm.TheVariants.{Replay, Generate, Summarise, Dump, Inspect, Check, ReplayLinked}
+use Rattle.fsc_tool.specs.declared.form.ToolForm.TheVariants.{Replay, Generate, Summarise, Dump, Inspect, Check}
+use Rattle.fsc_tool.specs.declared.form.ToolForm.TheVariants.{CheckStrictly, ReplayLinked}
 use Rattle.fsc_tool.specs.Checking.{IsChecking}
 use Rattle.fsc_tool.specs.Forms.{form_of, without_threads}
 use Rattle.fsc_tool.specs.Gen.{IsGenRun, IsScriptText, SummaryOfRun}
@@ -19,35 +20,36 @@ use Rattle.fsc_tool.specs.Outside.{Outside}
 use Rattle.fsc_tool.specs.Replay.{IsReplay}
 use Rattle.script_runs.specs.Runs.{IsLawfulRun, IsSerialRun}
 
--- a run in this form: an equation a form. Without one nothing is called. Came tells by which calls the source
--- became what it is
-abbrev pub IsRunIn : (History → Type 0) → (List ReadCall → Type 0) → Option ToolForm → Outside → Outside
-    → Status
-    → Type 0
-IsRunIn lawful Came None a b status = (status ≡ Usage) × (b ≡ a) × Came []
-IsRunIn lawful Came (Some (Replay InTurn seeding)) a b status =
+-- a run in this form: an equation a form. Without one nothing is called. `lawful` is what the machine of mount 0
+-- could answer, `other` that of mount 1. Came tells by which calls the source became what it is
+abbrev pub IsRunIn : (History → Type 0) → (History → Type 0) → (List ReadCall → Type 0) → Option ToolForm
+    → Outside → Outside → Status → Type 0
+IsRunIn lawful other Came None a b status = (status ≡ Usage) × (b ≡ a) × Came []
+IsRunIn lawful other Came (Some (Replay InTurn seeding)) a b status =
     IsReplay (IsLogOfRun (IsSerialRun lawful)) Came seeding a b status
-IsRunIn lawful Came (Some (Replay InThreads seeding)) a b status =
+IsRunIn lawful other Came (Some (Replay InThreads seeding)) a b status =
     IsReplay (IsLogOfRun (IsLawfulRun lawful)) Came seeding a b status
-IsRunIn lawful Came (Some (Generate number)) a b status = IsGenRun (IsScriptText number) a b status × Came []
-IsRunIn lawful Came (Some (Summarise number)) a b status =
+IsRunIn lawful other Came (Some (Generate number)) a b status =
+    IsGenRun (IsScriptText number) a b status × Came []
+IsRunIn lawful other Came (Some (Summarise number)) a b status =
     IsGenRun (SummaryOfRun lawful number) a b status × Came []
-IsRunIn lawful Came (Some (Dump seed)) a b status = IsReplay IsImageOfRun Came (Given seed) a b status
-IsRunIn lawful Came (Some (Inspect raw)) a b status = IsInspection raw Came a b status
-IsRunIn lawful Came (Some (Check seed)) a b status = IsChecking seed Came a b status
-IsRunIn lawful Came (Some (ReplayLinked InTurn seed)) a b status =
-    IsReplay (IsLinkedLog lawful) Came (Given seed) a b status
-IsRunIn lawful Came (Some (ReplayLinked InThreads seed)) a b status =
-    IsReplay (IsLinkedLogOfThreads lawful) Came (Given seed) a b status
+IsRunIn lawful other Came (Some (Dump seed)) a b status = IsReplay IsImageOfRun Came (Given seed) a b status
+IsRunIn lawful other Came (Some (Inspect raw)) a b status = IsInspection raw Came a b status
+IsRunIn lawful other Came (Some (Check seed)) a b status = IsChecking false seed Came a b status
+IsRunIn lawful other Came (Some (CheckStrictly seed)) a b status = IsChecking true seed Came a b status
+IsRunIn lawful other Came (Some (ReplayLinked InTurn seed)) a b status =
+    IsReplay (IsLinkedLog lawful other) Came (Given seed) a b status
+IsRunIn lawful other Came (Some (ReplayLinked InThreads seed)) a b status =
+    IsReplay (IsLinkedLogOfThreads lawful other) Came (Given seed) a b status
 
 -- a run in the form that the words are; Usage comes exactly where they are none
-pub record IsToolRun (lawful : History → Type 0) (Came : List ReadCall → Type 0) (words : List (List ℕ))
-    (a b : Outside) (status : Status) : Type 0 where
-  pub run : IsRunIn lawful Came (form_of words) a b status
+pub record IsToolRun (lawful other : History → Type 0) (Came : List ReadCall → Type 0)
+    (words : List (List ℕ)) (a b : Outside) (status : Status) : Type 0 where
+  pub run : IsRunIn lawful other Came (form_of words) a b status
   pub usage : (status ≡ Usage) ↔ (form_of words ≡ None)
 
 -- the same of a tool that starts no thread
-pub record IsSerialToolRun (lawful : History → Type 0) (Came : List ReadCall → Type 0) (words : List (List ℕ))
-    (a b : Outside) (status : Status) : Type 0 where
-  pub run : IsRunIn lawful Came (without_threads (form_of words)) a b status
+pub record IsSerialToolRun (lawful other : History → Type 0) (Came : List ReadCall → Type 0)
+    (words : List (List ℕ)) (a b : Outside) (status : Status) : Type 0 where
+  pub run : IsRunIn lawful other Came (without_threads (form_of words)) a b status
   pub usage : (status ≡ Usage) ↔ (without_threads (form_of words) ≡ None)

@@ -9,6 +9,7 @@ ghost use Rattle.fsc_tool.specs.Checking.{IsChecking};
 ghost use Rattle.fsc_tool.specs.CheckStatus.{SaysOfInput, SaysOfLog};
 ghost use Rattle.fsc_tool.specs.Outside.{outside};
 
+use crate::difference::{Difference, difference_at};
 use crate::limits::CERTIFICATE_LIMITS;
 use crate::one_mount::OneMount;
 use crate::parting::parted;
@@ -25,14 +26,21 @@ use script_lang::{Script, read_script, wipe_script};
 use std::alloc::{AllocError, Global};
 use text_words::line_count;
 
-// Checks the log that the source gives behind its script, as one of a run with this seed, which is overwritten.
-pub(crate) fn run_checking<S: Source>(alloc: Global, seed: &mut [u8; 32], source: &mut S) -> Status
-    ensures checked { (sink : SinkState) (seeds : SeedState) → IsChecking seed.old
+// Checks the log that the source gives behind its script, as one of a run with this seed, which is overwritten. How a
+// refused log differs from a run is told besides.
+pub(crate) fn run_checking<S: Source>(
+    alloc: Global,
+    strict: bool,
+    seed: &mut [u8; 32],
+    source: &mut S,
+    difference: &mut Option<Difference>,
+) -> Status
+    ensures checked { (sink : SinkState) (seeds : SeedState) → IsChecking strict seed.old
         (λ (calls : List ReadCall). S.came source.old calls source.new)
         (outside (S.state source.old) sink seeds) (outside (S.state source.new) sink seeds) result }
     ensures wiped { seed.new ≡ replicate 32 0 }
 {
-    let status = check_source(alloc, seed, source);
+    let status = check_source(alloc, strict, seed, source, difference);
     wipe(seed);
     scrub_stack();
     status
@@ -40,8 +48,14 @@ pub(crate) fn run_checking<S: Source>(alloc: Global, seed: &mut [u8; 32], source
 
 // The same. In a frame of its own, so that what it leaves lies below the frame that overwrites it.
 #[inline(never)]
-fn check_source<S: Source>(alloc: Global, seed: &[u8; 32], source: &mut S) -> Status
-    ensures { (sink : SinkState) (seeds : SeedState) → IsChecking seed.now
+fn check_source<S: Source>(
+    alloc: Global,
+    strict: bool,
+    seed: &[u8; 32],
+    source: &mut S,
+    difference: &mut Option<Difference>,
+) -> Status
+    ensures { (sink : SinkState) (seeds : SeedState) → IsChecking strict seed.now
         (λ (calls : List ReadCall). S.came source.old calls source.new)
         (outside (S.state source.old) sink seeds) (outside (S.state source.new) sink seeds) result }
 {
@@ -49,14 +63,20 @@ fn check_source<S: Source>(alloc: Global, seed: &[u8; 32], source: &mut S) -> St
         Ok(input) => input,
         Err(fault) => return input_status(fault),
     };
-    let status = check_input(alloc, seed, input.as_slice());
+    let status = check_input(alloc, strict, seed, input.as_slice(), difference);
     wipe_input(input);
     status
 }
 
 // What is said of an input that was read. Its script is overwritten then.
-fn check_input(alloc: Global, seed: &[u8; 32], input: &[u8]) -> Status
-    ensures { SaysOfInput seed.now input.now result }
+fn check_input(
+    alloc: Global,
+    strict: bool,
+    seed: &[u8; 32],
+    input: &[u8],
+    difference: &mut Option<Difference>,
+) -> Status
+    ensures { SaysOfInput strict seed.now input.now result }
 {
     let parts = parted(input);
     let part = match parts {
@@ -72,7 +92,7 @@ fn check_input(alloc: Global, seed: &[u8; 32], input: &[u8]) -> Status
         Err(fault) => return script_status(fault),
     };
     let status = match parts {
-        Some((_, log)) => check_text(alloc, seed, &script, log),
+        Some((_, log)) => check_text(alloc, strict, seed, &script, log, difference),
         None => Status::BadLine {
             line: lines as u32 + 1,
         },
@@ -81,14 +101,24 @@ fn check_input(alloc: Global, seed: &[u8; 32], input: &[u8]) -> Status
     status
 }
 
-// What is said of a log of the script.
-fn check_text(alloc: Global, seed: &[u8; 32], script: &Script, log: &[u8]) -> Status
+// What is said of a log of the script, and how one that is refused differs from a run.
+fn check_text(
+    alloc: Global,
+    strict: bool,
+    seed: &[u8; 32],
+    script: &Script,
+    log: &[u8],
+    difference: &mut Option<Difference>,
+) -> Status
     requires { IsSpelled script.now }
-    ensures { SaysOfLog seed.now script.now log.now result }
+    ensures { SaysOfLog strict seed.now script.now log.now result }
 {
-    match verdict(alloc, seed, script, log) {
+    match verdict(alloc, strict, seed, script, log) {
         Ok(Verdict::Certified) => Status::Done,
-        Ok(Verdict::Refused { place }) => Status::Refused { place },
+        Ok(Verdict::Refused { place }) => {
+            *difference = difference_at(alloc, seed, script, log, place);
+            Status::Refused { place }
+        }
         Err(_) => Status::NoMemory,
     }
 }
@@ -96,14 +126,15 @@ fn check_text(alloc: Global, seed: &[u8; 32], script: &Script, log: &[u8]) -> St
 // The verdict on a log of the script, whose calls a mount of its own answers.
 fn verdict(
     alloc: Global,
+    strict: bool,
     seed: &[u8; 32],
     script: &Script,
     log: &[u8],
 ) -> Result<Verdict, AllocError>
     requires { IsSpelled script.now }
-    ensures { IfOk result (Says seed.now script.now log.now) }
+    ensures { IfOk result (Says strict seed.now script.now log.now) }
 {
     let mount = Mount::new(alloc)?;
     let mut one = OneMount { mount };
-    check_log(alloc, &PlainStretch, script, seed, log, &mut one)
+    check_log(alloc, &PlainStretch, strict, script, seed, log, &mut one)
 }

@@ -2,7 +2,8 @@
 
 ghost use Rattle.std.specs.Prelude.{◌≡◌, ◌∷◌, [], map, string_bytes};
 ghost use Rattle.fsc_tool.specs.ReplayForms as spec;
-ghost use Rattle.fsc_tool.specs.Forms.{form_of, generated_behind, generated_of, inspected_of};
+ghost use Rattle.fsc_tool.specs.Forms.{checked_of, form_of, generated_behind, generated_of};
+ghost use Rattle.fsc_tool.specs.Forms.{inspected_of};
 ghost use Rattle.fsc_tool.specs.ReplayForms.{linked_of, replay_of, seed_given, seeding_of};
 ghost use Rattle.fsc_tool.specs.Forms.{without_threads};
 
@@ -48,6 +49,8 @@ pub(crate) enum ToolForm {
     Inspect(Option<RawKey>),
     /// To check the log that the source gives behind its script, as one of a run with this seed.
     Check([u8; 32]),
+    /// The same, as one of a run in which nothing was out of memory.
+    CheckStrictly([u8; 32]),
     /// To replay the script that the source gives on two mounts, with this seed.
     ReplayLinked { way: Way, seed: [u8; 32] },
 }
@@ -85,7 +88,7 @@ fn form_behind(verb: &str, words: &[String]) -> Option<ToolForm>
         "gen" => read_generated(words),
         "dump" => read_given_seed(words).map(ToolForm::Dump),
         "inspect" => read_inspected(words),
-        "check" => read_given_seed(words).map(ToolForm::Check),
+        "check" => read_checked(words),
         "replay-linked" => read_linked(words),
         _ => None,
     }
@@ -189,6 +192,19 @@ fn replayed_linked(way: Way, seed: Option<[u8; 32]>) -> Option<ToolForm>
 {
     let seed = seed?;
     Some(ToolForm::ReplayLinked { way, seed })
+}
+
+// The form that the words behind `check` make.
+fn read_checked(words: &[String]) -> Option<ToolForm>
+    ensures { result ≡ checked_of (map string_bytes words.now) }
+{
+    if words.is_empty() {
+        return None;
+    }
+    if words[0].as_str() == "--strict" {
+        return read_given_seed(&words[1..]).map(ToolForm::CheckStrictly);
+    }
+    read_given_seed(words).map(ToolForm::Check)
 }
 
 // The form that the words behind `gen` make.

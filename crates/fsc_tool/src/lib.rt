@@ -2,6 +2,7 @@
 #![tactic(auto)]
 
 mod checking;
+mod difference;
 mod dump;
 mod form;
 mod gen_runs;
@@ -20,8 +21,10 @@ mod summary;
 mod top;
 mod writing;
 
+pub use difference::Difference;
 pub use laws::{
-    logs_are_parted_from_scripts, printed_logs_are_certified, printed_logs_are_not_refused,
+    dumps_are_listed, logs_are_parted_from_scripts, printed_logs_are_certified,
+    printed_logs_are_not_refused, runs_carry_nonces,
 };
 pub use limits::{MOST_CERTIFICATE_BYTES, MOST_INPUT_BYTES, MOST_INPUT_LINES};
 pub use linked_turns::Mounts;

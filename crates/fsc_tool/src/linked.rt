@@ -24,21 +24,28 @@ use std::alloc::Global;
 
 // A replay in rotation of the script that the source gives, with this seed, on two mounts: both logs and the notes go
 // into the sink. The seed is overwritten.
-pub(crate) fn run_linked<S: Source, K: Sink, E: SeedSource, G: Gate, M: MountMachine>(
+pub(crate) fn run_linked<
+    S: Source,
+    K: Sink,
+    E: SeedSource,
+    G: Gate,
+    M: MountMachine,
+    N: MountMachine,
+>(
     alloc: Global,
     seed: &mut [u8; 32],
     streams: &mut Streams<S, K, E>,
     gate: &G,
-    mounts: Mounts<M>,
+    mounts: Mounts<M, N>,
 ) -> Status
     requires leads_even { M.leads [] mounts.even }
-    requires leads_odd { M.leads [] mounts.odd }
+    requires leads_odd { N.leads [] mounts.odd }
     ensures linked { let before = outside (S.state streams.old.source) (K.state streams.old.sink)
         (E.state streams.old.seeds) in
         let after = outside (S.state streams.new.source) (K.state streams.new.sink)
         (E.state streams.new.seeds) in
         let came = λ (calls : List ReadCall). S.came streams.old.source calls streams.new.source in
-        IsReplay (IsLinkedLog M.lawful) came (Given seed.old) before after result }
+        IsReplay (IsLinkedLog M.lawful N.lawful) came (Given seed.old) before after result }
     ensures wiped { seed.new ≡ replicate 32 0 }
 {
     let mut seeding = Seeding::Given(*seed);

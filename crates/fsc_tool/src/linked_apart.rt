@@ -31,22 +31,23 @@ pub(crate) fn run_linked_apart<
     E: SeedSource,
     G: Gate + Sync,
     M: MountMachine + Send,
+    N: MountMachine + Send,
 >(
     rt: &R,
     alloc: Global,
     seed: &mut [u8; 32],
     streams: &mut Streams<S, K, E>,
     gate: &G,
-    mounts: Mounts<M>,
+    mounts: Mounts<M, N>,
 ) -> Status
     requires leads_even { M.leads [] mounts.even }
-    requires leads_odd { M.leads [] mounts.odd }
+    requires leads_odd { N.leads [] mounts.odd }
     ensures linked { let before = outside (S.state streams.old.source) (K.state streams.old.sink)
         (E.state streams.old.seeds) in
         let after = outside (S.state streams.new.source) (K.state streams.new.sink)
         (E.state streams.new.seeds) in
         let came = λ (calls : List ReadCall). S.came streams.old.source calls streams.new.source in
-        IsReplay (IsLinkedLogOfThreads M.lawful) came (Given seed.old) before after result }
+        IsReplay (IsLinkedLogOfThreads M.lawful N.lawful) came (Given seed.old) before after result }
     ensures wiped { seed.new ≡ replicate 32 0 }
 {
     let mut seeding = Seeding::Given(*seed);

@@ -40,7 +40,8 @@ use std::thread::Threads;
 ///   it in turns on mount 0, with a seed of zeros. Neither asks the source.
 /// - `dump --seed HEX64`: runs the script in turns, and writes the image of what then lies on the disk.
 /// - `inspect`, alone or with `raw:HEX` behind: reads an image, and writes its listing.
-/// - `check --seed HEX64`: reads a script, a line `---` and a log, and writes nothing.
+/// - `check --seed HEX64`: reads a script, a line `---` and a log, and writes nothing; `check --strict --seed HEX64`
+///   takes no log of a run in which something was out of memory.
 /// - `replay-linked --seed HEX64` and `replay-linked --serial --seed HEX64`: runs the script on two mounts, its
 ///   callers as those of a replay, and writes both logs. No call was made on mount 1 either.
 ///
@@ -57,22 +58,23 @@ pub fn tool<
     E: SeedSource,
     G: Gate + Sync,
     M: MountMachine + Send,
+    N: MountMachine + Send,
 >(
     rt: &R,
     alloc: Global,
     words: &mut Vec<String>,
     streams: &mut Streams<S, K, E>,
     gate: &G,
-    mounts: Mounts<M>,
+    mounts: Mounts<M, N>,
 ) -> Status
     requires leads_even { M.leads [] mounts.even }
-    requires leads_odd { M.leads [] mounts.odd }
+    requires leads_odd { N.leads [] mounts.odd }
     ensures run { let before = outside (S.state streams.old.source) (K.state streams.old.sink)
         (E.state streams.old.seeds) in
         let after = outside (S.state streams.new.source) (K.state streams.new.sink)
         (E.state streams.new.seeds) in
         let came = λ (calls : List ReadCall). S.came streams.old.source calls streams.new.source in
-        IsToolRun M.lawful came (map string_bytes words.old.items) before after result }
+        IsToolRun M.lawful N.lawful came (map string_bytes words.old.items) before after result }
     ensures words { words.new.items
         ≡ option_map_or (λ form. []) (form_of (map string_bytes words.old.items)) words.old.items }
 {
@@ -102,26 +104,26 @@ pub fn tool<
 /// Does what the words ask for, as `tool` does, on one thread. The words are those of the command line without
 /// the program's own name, and are Usage unless they are a form (`form_of`) that starts no thread: `replay
 /// --serial`, alone or with `--seed HEX64` behind, whose callers take turns; `gen NUMBER` and `gen NUMBER
-/// --summary`; `dump --seed HEX64`; `inspect`, alone or with `raw:HEX` behind; `check --seed HEX64`;
-/// `replay-linked --serial --seed HEX64`.
+/// --summary`; `dump --seed HEX64`; `inspect`, alone or with `raw:HEX` behind; `check --seed HEX64` and
+/// `check --strict --seed HEX64`; `replay-linked --serial --seed HEX64`.
 ///
 /// `dump` and `check` make their calls on a mount of their own. Nothing is written before the whole text
 /// stands. The seed source is asked once, by a replay alone, for a script in the grammar where the words give
 /// no seed. The words stay as they are.
-pub fn tool_serial<S: Source, K: Sink, E: SeedSource, M: MountMachine>(
+pub fn tool_serial<S: Source, K: Sink, E: SeedSource, M: MountMachine, N: MountMachine>(
     alloc: Global,
     words: &Vec<String>,
     streams: &mut Streams<S, K, E>,
-    mounts: Mounts<M>,
+    mounts: Mounts<M, N>,
 ) -> Status
     requires leads_even { M.leads [] mounts.even }
-    requires leads_odd { M.leads [] mounts.odd }
+    requires leads_odd { N.leads [] mounts.odd }
     ensures { let before = outside (S.state streams.old.source) (K.state streams.old.sink)
         (E.state streams.old.seeds) in
         let after = outside (S.state streams.new.source) (K.state streams.new.sink)
         (E.state streams.new.seeds) in
         let came = λ (calls : List ReadCall). S.came streams.old.source calls streams.new.source in
-        IsSerialToolRun M.lawful came (map string_bytes words.now.items) before after result }
+        IsSerialToolRun M.lawful N.lawful came (map string_bytes words.now.items) before after result }
 {
     let mut form = None;
     read_form(words, &mut form);
@@ -133,22 +135,22 @@ pub fn tool_serial<S: Source, K: Sink, E: SeedSource, M: MountMachine>(
 }
 
 // Does what a form asks for that starts no thread.
-fn run_in_turns<S: Source, K: Sink, E: SeedSource, G: Gate, M: MountMachine>(
+fn run_in_turns<S: Source, K: Sink, E: SeedSource, G: Gate, M: MountMachine, N: MountMachine>(
     alloc: Global,
     form: &mut ToolForm,
     streams: &mut Streams<S, K, E>,
     gate: &G,
-    mounts: Mounts<M>,
+    mounts: Mounts<M, N>,
 ) -> Status
     requires leads_even { M.leads [] mounts.even }
-    requires leads_odd { M.leads [] mounts.odd }
+    requires leads_odd { N.leads [] mounts.odd }
     requires in_turns { without_threads (Some form.old) ≡ Some form.old }
     ensures run { let before = outside (S.state streams.old.source) (K.state streams.old.sink)
         (E.state streams.old.seeds) in
         let after = outside (S.state streams.new.source) (K.state streams.new.sink)
         (E.state streams.new.seeds) in
         let came = λ (calls : List ReadCall). S.came streams.old.source calls streams.new.source in
-        IsRunIn M.lawful came (Some form.old) before after result }
+        IsRunIn M.lawful N.lawful came (Some form.old) before after result }
     ensures form { result ≢ Usage }
 {
     match form {
@@ -166,7 +168,20 @@ fn run_in_turns<S: Source, K: Sink, E: SeedSource, G: Gate, M: MountMachine>(
             &mut streams.source,
             &mut streams.sink,
         ),
-        ToolForm::Check(seed) => run_checking(alloc, seed, &mut streams.source),
+        ToolForm::Check(seed) => run_checking(
+            alloc,
+            false,
+            seed,
+            &mut streams.source,
+            &mut streams.difference,
+        ),
+        ToolForm::CheckStrictly(seed) => run_checking(
+            alloc,
+            true,
+            seed,
+            &mut streams.source,
+            &mut streams.difference,
+        ),
         ToolForm::ReplayLinked { way: _, seed } => run_linked(alloc, seed, streams, gate, mounts),
     }
 }

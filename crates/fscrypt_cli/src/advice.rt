@@ -6,7 +6,7 @@ use crate::asked::Asked;
 use crate::bad_line::shown;
 use crate::help::remark;
 use crate::inspect_advice::fault_of_inspect;
-use crate::seed_advice::{CHECK, DUMP, fault_of_linked, fault_of_replay, fault_of_seed};
+use crate::seed_advice::{DUMP, fault_of_check, fault_of_linked, fault_of_replay, fault_of_seed};
 use fsc_tool::Status;
 use std::alloc::Global;
 use std::io::IsTerminal;
@@ -116,7 +116,7 @@ fn fault_of(words: &[String]) -> Option<WordFault> {
         "replay-linked" => fault_of_linked(behind),
         "gen" => fault_of_gen(behind),
         "dump" => fault_of_seed(behind, 1, &DUMP),
-        "check" => fault_of_seed(behind, 1, &CHECK),
+        "check" => fault_of_check(behind),
         "inspect" => fault_of_inspect(behind),
         "--help" | "--version" if behind.is_empty() => None,
         "--help" | "--version" => at(1, "nothing stands behind --help and --version"),

@@ -1,12 +1,17 @@
 //! What is told of a line at fault: its first word alone, since the words behind may be secrets, why it is at
 //! fault, and what to write in its place.
 
-use script_faults::{LineFault, WordKind, line_fault};
+use crate::commands::form_named;
+use crate::help::remark;
+use script_faults::{FaultyLine, LineFault, WordKind, line_fault_behind};
 use std::alloc::{AllocError, Global};
 use text_words::{next_line, nth_word};
 
 // The most characters that are shown of a word.
 const MOST_SHOWN: usize = 60;
+
+/// The most lines at fault that are told in one run.
+pub(crate) const MOST_LINES_TOLD: usize = 20;
 
 // More bytes than any input that is read, and so few that each line has a number.
 const MOST_NUMBERED_BYTES: usize = 4_294_967_295;
@@ -34,18 +39,81 @@ struct ToldLine {
     remedy: &'static str,
 }
 
-/// Tells on standard error of the first line at fault of a text, which is the one of this number. Of a text that
-/// wasn't kept, or where there is no memory to look at it, the number alone is known.
-pub(crate) fn show_line(rt: &HostRuntime, text: Option<&[u8]>, line: u32) {
-    let told = match text {
-        Some(text) => told_line(rt.alloc(), text),
-        None => None,
+/// Tells on standard error of the lines at fault of a text, up to this many, of which the first has this number. Of a
+/// text that wasn't kept, or where there is no memory to look at it, that number alone is known.
+pub(crate) fn show_lines(rt: &HostRuntime, text: Option<&[u8]>, line: u32, most: usize) {
+    let is_told = match text {
+        Some(text) => tell_lines(rt, text, most),
+        None => false,
     };
-    match told {
-        Some(told) => tell_line(rt, line, &told),
-        None => {
-            let _ = eprintln!(rt; "fsc: line {line}: {NO_ROOM}");
+    if !is_told {
+        let _ = eprintln!(rt; "fsc: line {line}: {NO_ROOM}");
+    }
+}
+
+// Tells of each line at fault, up to this many; false where there is no memory to find the first. Behind a line at fault
+// a caller counts as begun, so that no command is told only for want of one.
+fn tell_lines(rt: &HostRuntime, text: &[u8], most: usize) -> bool {
+    let mut reached = Reached {
+        rest: text,
+        lines: 0,
+        callers: 0,
+    };
+    for number in 0..most {
+        let Some(found) = reached.next_fault(rt.alloc()) else {
+            return number > 0;
+        };
+        let line = reached.pass(found.line);
+        let Ok(word) = shown(rt.alloc(), line) else {
+            return number > 0;
+        };
+        let told = ToldLine {
+            word,
+            fault: found.fault,
+            remedy: remedy(line, found.fault),
+        };
+        tell_line(rt, found.line, &told);
+    }
+    if most > 1 {
+        remark(rt, "further lines are not looked at");
+    }
+    true
+}
+
+// How far a text was looked at: what is left, how many lines stand before it, and how many callers begin in them.
+#[derive(Drop)]
+struct Reached<'t> {
+    rest: &'t [u8],
+    lines: u32,
+    callers: usize,
+}
+
+impl<'t> Reached<'t> {
+    // The next line at fault, if there is one and memory to find it.
+    fn next_fault(&self, alloc: Global) -> Option<FaultyLine> {
+        let room = MOST_NUMBERED_BYTES - self.lines as usize;
+        if self.rest.len() > room || self.callers > self.lines as usize {
+            return None;
         }
+        line_fault_behind(alloc, self.lines, self.callers, self.rest).ok()?
+    }
+
+    // Goes on behind the line of this number, which is at fault, and gives it.
+    fn pass(&mut self, number: u32) -> &'t [u8] {
+        let mut passed = self.rest;
+        for _ in self.lines..number {
+            let line = next_line(self.rest);
+            passed = line.bytes;
+            if first_word(passed) == b"caller".as_slice() {
+                self.callers = self.callers.saturating_add(1);
+            }
+            self.rest = line.rest;
+        }
+        self.lines = number;
+        if self.callers == 0 {
+            self.callers = 1;
+        }
+        passed
     }
 }
 
@@ -60,34 +128,6 @@ fn tell_line(rt: &HostRuntime, line: u32, told: &ToldLine) {
 /// Whether all of these are hexadecimal digits.
 pub(crate) fn is_hexadecimal(digits: &[u8]) -> bool {
     digits.iter().all(|byte| byte.is_ascii_hexdigit())
-}
-
-// What is told of the first line at fault of a text; none where there is no memory to find it.
-fn told_line(alloc: Global, text: &[u8]) -> Option<ToldLine> {
-    if text.len() > MOST_NUMBERED_BYTES {
-        return None;
-    }
-    let Ok(Some(found)) = line_fault(alloc, text) else {
-        return None;
-    };
-    let line = line_at(text, found.line);
-    let Ok(word) = shown(alloc, line) else {
-        return None;
-    };
-    Some(ToldLine {
-        word,
-        fault: found.fault,
-        remedy: remedy(line, found.fault),
-    })
-}
-
-// The line of this number, which counts from 1.
-fn line_at(text: &[u8], number: u32) -> &[u8] {
-    let mut rest = text;
-    for _ in 1..number {
-        rest = next_line(rest).rest;
-    }
-    next_line(rest).bytes
 }
 
 /// What stands before the first character that is none from `!` to `~`.
@@ -117,6 +157,7 @@ fn remedy(line: &[u8], fault: LineFault) -> &'static str {
             Some(word) => remedy_of_word(word, kind),
             None => LISTED,
         },
+        LineFault::TooFewWords => form_of(line),
         LineFault::TooManyWords => remedy_of_words(line),
         LineFault::NoCallerYet => "begin with caller UID",
         LineFault::NinthCaller => "a script has at most eight callers",
@@ -183,7 +224,19 @@ fn remedy_of_words(line: &[u8]) -> &'static str {
             return remedy;
         }
     }
-    LISTED
+    form_of(line)
+}
+
+// The words of the line's command.
+fn form_of(line: &[u8]) -> &'static str {
+    let name = first_word(line);
+    if name == b"caller".as_slice() {
+        return "caller UID";
+    }
+    match form_named(name) {
+        Some(form) => form,
+        None => LISTED,
+    }
 }
 
 // Whether the line has a word that begins so.

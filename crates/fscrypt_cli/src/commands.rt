@@ -1,89 +1,144 @@
 //! The commands of scripts by group, as `--help` lists them.
 
-/// Commands that are listed together: each line begins with the command's name.
+/// Commands that are listed together: each with its words, of which the first is its name, and what it does.
 pub(crate) struct Group {
     pub(crate) title: &'static str,
-    pub(crate) lines: &'static [&'static str],
+    pub(crate) lines: &'static [(&'static str, &'static str)],
 }
 
 /// The name of a command that the word is, if it is one.
 pub(crate) fn verb_named(word: &[u8]) -> Option<&'static str> {
+    form_named(word).map(name_of)
+}
+
+/// The words of the command of this name, if there is one: `read HANDLE OFFSET LENGTH`.
+pub(crate) fn form_named(word: &[u8]) -> Option<&'static str> {
     for group in GROUPS.iter() {
-        for line in group.lines.iter() {
-            match line.split_once(' ') {
-                Some((verb, _)) if verb.as_bytes() == word => return Some(verb),
-                _ => {}
+        for &(form, _) in group.lines.iter() {
+            if name_of(form).as_bytes() == word {
+                return Some(form);
             }
         }
     }
     None
 }
 
+// The name that a form begins with.
+fn name_of(form: &'static str) -> &'static str {
+    match form.split_once(' ') {
+        Some((name, _)) => name,
+        None => form,
+    }
+}
+
 /// All commands of the grammar.
-pub(crate) static GROUPS: [Group; 6] = [
+pub(crate) static GROUPS: [Group; 7] = [
     Group {
         title: "Keys",
         lines: &[
-            "add-key HEX                        claim the key of these 32 to 64 bytes",
-            "remove-key KEYREF                  give up the claim on the key",
-            "remove-key-all KEYREF              take away every user's claim on it",
-            "key-status KEYREF                  whether the key is there",
+            ("add-key HEX", "claim the key of these 32 to 64 bytes"),
+            ("remove-key KEYREF", "give up the claim on the key"),
+            (
+                "remove-key-all KEYREF",
+                "take away every user's claim on it",
+            ),
+            ("key-status KEYREF", "whether the key is there"),
         ],
     },
     Group {
         title: "Policies of directories",
         lines: &[
-            "set-policy PATH KEYREF PAD [UNIT]  encrypt an empty directory",
-            "set-policy-bytes PATH HEX          the same by the 24 bytes of a policy",
-            "get-policy PATH                    the policy of a node",
+            (
+                "set-policy PATH KEYREF PAD [UNIT]",
+                "encrypt an empty directory",
+            ),
+            (
+                "set-policy-bytes PATH HEX",
+                "the same by the 24 bytes of a policy",
+            ),
+            ("get-policy PATH", "the policy of a node"),
         ],
     },
     Group {
         title: "Names",
         lines: &[
-            "mkdir PATH                         make a directory",
-            "create PATH                        make an empty file",
-            "symlink PATH TARGET                make a symlink",
-            "readlink PATH                      a symlink's target",
-            "unlink PATH                        take away the name of a file or symlink",
-            "rmdir PATH                         take away an empty directory's name",
-            "rename PATH PATH                   move a node to another name",
-            "list PATH [START]                  at most 128 names, from this number on",
-            "stat PATH                          what a node is",
+            ("mkdir PATH", "make a directory"),
+            ("create PATH", "make an empty file"),
+            ("symlink PATH TARGET", "make a symlink"),
+            ("readlink PATH", "a symlink's target"),
+            ("unlink PATH", "take away the name of a file or symlink"),
+            ("rmdir PATH", "take away an empty directory's name"),
+            ("rename PATH PATH", "move a node to another name"),
+            (
+                "list PATH [START]",
+                "at most 128 names, from this number on",
+            ),
+            ("stat PATH", "what a node is"),
         ],
     },
     Group {
         title: "Contents",
         lines: &[
-            "open PATH                          a handle",
-            "close HANDLE                       the end of a handle",
-            "read HANDLE OFFSET LENGTH          at most so many bytes, up to 4096",
-            "write HANDLE OFFSET HEX            these bytes, or none for -",
-            "fill HANDLE OFFSET LENGTH BYTE     so many times one byte, 0 to 255",
-            "drop-caches                        let go of what is kept for speed",
+            ("open PATH", "a handle"),
+            ("close HANDLE", "the end of a handle"),
+            (
+                "read HANDLE OFFSET LENGTH",
+                "at most so many bytes, up to 4096",
+            ),
+            ("write HANDLE OFFSET HEX", "these bytes, or none for -"),
+            (
+                "fill HANDLE OFFSET LENGTH BYTE",
+                "so many times one byte, 0 to 255",
+            ),
+            ("drop-caches", "let go of what is kept for speed"),
         ],
     },
     Group {
         title: "Records",
         lines: &[
-            "meta-get RECORD                    a record and its version",
-            "meta-put RECORD VERSION HEX        store one in place of this version",
+            ("meta-get RECORD", "a record and its version"),
+            (
+                "meta-put RECORD VERSION HEX",
+                "store one in place of this version",
+            ),
         ],
     },
     Group {
         title: "Sessions",
         lines: &[
-            "protector PROTECTOR NEWSECRET      make a protector",
-            "protector-change PROTECTOR SECRET NEWSECRET give it another secret",
-            "protector-link PROTECTOR           say that it lies on another mount",
-            "policy-new POLICY PROTECTOR SECRET [PAD UNIT] make a policy",
-            "policy-add POLICY PROTECTOR SECRET ADDED SECRET let ADDED open it too",
-            "policy-drop POLICY PROTECTOR       let a protector open it no longer",
-            "unlock POLICY PROTECTOR SECRET     add a policy's key",
-            "lock POLICY                        give up the claim on a policy's key",
-            "status POLICY                      the state of a policy's key",
-            "encrypt PATH POLICY [PAD [UNIT]]   encrypt an empty directory under it",
-            "migrate POLICY                     give it the options of version 2",
+            ("protector PROTECTOR NEWSECRET", "make a protector"),
+            (
+                "protector-change PROTECTOR SECRET NEWSECRET",
+                "give it another secret",
+            ),
+            (
+                "protector-link PROTECTOR",
+                "say that it lies on another mount",
+            ),
+            (
+                "policy-new POLICY PROTECTOR SECRET [PAD UNIT]",
+                "make a policy",
+            ),
+            (
+                "policy-add POLICY PROTECTOR SECRET ADDED SECRET",
+                "let ADDED open it too",
+            ),
+            (
+                "policy-drop POLICY PROTECTOR",
+                "let a protector open it no longer",
+            ),
+            ("unlock POLICY PROTECTOR SECRET", "add a policy's key"),
+            ("lock POLICY", "give up the claim on a policy's key"),
+            ("status POLICY", "the state of a policy's key"),
+            (
+                "encrypt PATH POLICY [PAD [UNIT]]",
+                "encrypt an empty directory under it",
+            ),
+            ("migrate POLICY", "give it the options of version 2"),
         ],
+    },
+    Group {
+        title: "Turns",
+        lines: &[("pause", "no call: the turn passes")],
     },
 ];

@@ -1,12 +1,12 @@
 //! What the program tells of itself, and behind a status what to do.
 
 use crate::asked::Asked;
-use crate::bad_line::{first_word, show_line};
+use crate::bad_line::{MOST_LINES_TOLD, first_word, show_lines};
 use crate::commands::GROUPS;
 use fsc_tool::Status;
 use script_faults::is_usable;
 use std::alloc::{AllocError, Global};
-use text_words::line_count;
+use text_words::{line_count, next_line};
 
 /// The version of the product, and the kit that it is proved with.
 pub(crate) const VERSION: &str = "\
@@ -23,7 +23,7 @@ log of it.
     fsc gen NUMBER [--summary]
     fsc dump --seed HEX64
     fsc inspect [raw:HEX]
-    fsc check --seed HEX64
+    fsc check [--strict] --seed HEX64
     fsc --help | --version
 
 The script comes from standard input. Its callers run in threads, and the log
@@ -43,12 +43,16 @@ inspect reads an image and lists its tree: with a raw key of 32 to 64 bytes in
 plain where that key encrypts it, else by the texts that stand for names.
 
 check reads a script, a line --- and a log, and tells whether a run of the
-script with the seed can have printed the log: if not, from which place on.
+script with the seed can have printed the log: if not, from which place on, and
+what a run has there. With --strict no call may have been out of memory.
 
 A script has a section for each of up to eight callers, which begins with
 `caller UID`, and in it a command a line. Words are parted by one space. A line
 that begins with # says nothing.
 ";
+
+// The column that the meaning of a command stands in, where its words leave room.
+const WIDTH_OF_FORMS: usize = 34;
 
 const BEHIND_COMMANDS: &str = "
 HANDLE, OFFSET, LENGTH, BYTE, START and VERSION are decimal numbers. HEX is two
@@ -83,6 +87,8 @@ Example, where SEED is 64 hexadecimal digits:
     fsc replay --serial --seed SEED < examples/two-callers.fsc
 ";
 
+const NO_PARTING_LINE: &str = "no line --- stands between the script and its log";
+
 const REFUSED: &str = "no run has a log that goes on so: places count from 0, a line each";
 
 /// What `--help` prints: the forms, each command, and where to read on.
@@ -100,16 +106,20 @@ fn push_help(text: &mut String) -> Result<(), AllocError> {
     text.push_str(BEHIND_COMMANDS)
 }
 
-// The group's title and its lines, of which each begins with the name of a command.
-fn push_group(text: &mut String, title: &str, lines: &[&str]) -> Result<(), AllocError> {
+// The group's title, and the words of each of its commands with what it does.
+fn push_group(text: &mut String, title: &str, lines: &[(&str, &str)]) -> Result<(), AllocError> {
     let mut listed = false;
-    for line in lines.iter() {
-        if is_usable(first_word(line.as_bytes())) {
+    for &(form, meaning) in lines.iter() {
+        if is_usable(first_word(form.as_bytes())) {
             if !listed {
                 push_all(text, &["\n", title, ":\n"])?;
                 listed = true;
             }
-            push_all(text, &["    ", line, "\n"])?;
+            push_all(text, &["    ", form, " "])?;
+            for _ in form.len()..WIDTH_OF_FORMS {
+                text.push(' ')?;
+            }
+            push_all(text, &[meaning, "\n"])?;
         }
     }
     Ok(())
@@ -150,10 +160,41 @@ fn advise_on_line(rt: &HostRuntime, asked: Asked, line: u32, text: Option<&[u8]>
             rt,
             "docs/FORMATS.md tells of the lines of an image, under Images",
         ),
-        Asked::Verdict if is_behind(text, line) => {
-            remark(rt, "a line --- stands between the script and its log")
+        Asked::Verdict => {
+            let is_parted = is_parted(text);
+            if !is_parted {
+                remark(rt, NO_PARTING_LINE);
+            }
+            if !is_behind(text, line) {
+                let most = if is_parted { MOST_LINES_TOLD } else { 1 };
+                show_lines(rt, text.map(|text| script_part(text)), line, most);
+            }
         }
-        _ => show_line(rt, text, line),
+        _ => show_lines(rt, text, line, MOST_LINES_TOLD),
+    }
+}
+
+// What is before the line `---`; all if there is none. A last `---` without a line feed is no such line.
+fn script_part(text: &[u8]) -> &[u8] {
+    let mut rest = text;
+    for _ in 0..text.len() {
+        let line = next_line(rest);
+        if line.ended && line.bytes == b"---".as_slice() {
+            return match text.get(..text.len().saturating_sub(rest.len())) {
+                Some(part) => part,
+                None => text,
+            };
+        }
+        rest = line.rest;
+    }
+    text
+}
+
+// Whether a line `---` ends the script's part of the text, unless the text isn't known.
+fn is_parted(text: Option<&[u8]>) -> bool {
+    match text {
+        Some(text) => script_part(text).len() < text.len(),
+        None => true,
     }
 }
 

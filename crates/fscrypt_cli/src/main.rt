@@ -6,6 +6,7 @@ mod asked;
 mod bad_line;
 mod caused;
 mod commands;
+mod difference;
 mod help;
 mod inspect_advice;
 mod kept;
@@ -17,16 +18,17 @@ use advice::{advise_words, tell_of_waiting};
 use asked::Asked;
 use byte_words::wipe;
 use caused::CausedSink;
+use difference::tell_difference;
 use fsc_outside::{RuntimeSeed, StdSource, write_all};
-use fsc_tool::{Mounts, Status, Streams, tool};
+use fsc_tool::{Difference, Mounts, Status, Streams, tool};
 use help::{VERSION, advise, help_text, remark};
 use kept::{KeptSource, KeptText};
 use mount_shared::Mount;
-use std::env;
 use std::io::{ErrorKind, IsTerminal};
 use std::process::ExitCode;
 use std::sync::Wait;
 use std::thread::Threads;
+use std::{env, mem};
 use telling::{TellingGate, clear_command};
 
 // How it ended, and whether its output was read by nobody any more.
@@ -108,7 +110,8 @@ fn run<R: Threads + Wait + Sync>(
     let asked = Asked::of(words.as_slice());
     let is_terminal = rt.stderr().is_terminal();
     let kept = KeptText::new(rt.alloc(), is_terminal);
-    let ended = run_tool(rt, threads, words, asked, &kept, is_terminal);
+    let mut difference = None;
+    let ended = run_tool(rt, threads, words, asked, &kept, &mut difference);
     let code = match ended.status {
         Status::Usage => {
             advise_words(rt, words.as_slice());
@@ -116,18 +119,21 @@ fn run<R: Threads + Wait + Sync>(
         }
         _ => end_run(rt, asked, ended, &kept),
     };
+    if let Some(found) = &difference {
+        tell_difference(rt, found);
+    }
     kept.forget();
     code
 }
 
-// Hands the words, the standard streams and two empty mounts to the tool.
+// Hands the words, the standard streams and two empty mounts to the tool, and takes what it found of a refused log.
 fn run_tool<R: Threads + Wait + Sync>(
     rt: &HostRuntime,
     threads: &R,
     words: &mut Vec<String>,
     asked: Asked,
     kept: &KeptText,
-    is_terminal: bool,
+    difference: &mut Option<Difference>,
 ) -> Ended {
     let Ok(even) = Mount::new(rt.alloc()) else {
         return NO_MEMORY;
@@ -140,10 +146,12 @@ fn run_tool<R: Threads + Wait + Sync>(
         source: KeptSource::new(rt.alloc(), StdSource::new(rt), kept),
         sink: CausedSink::over(rt.stdout()),
         seeds: RuntimeSeed::new(rt),
+        difference: None,
     };
-    let gate = TellingGate::new(rt, kept, is_terminal);
+    let gate = TellingGate::new(rt, kept, rt.stderr().is_terminal());
     let mounts = Mounts { even, odd };
     let status = tool(threads, rt.alloc(), words, &mut streams, &gate, mounts);
+    *difference = mem::replace(&mut streams.difference, None);
     Ended {
         status,
         is_closed: streams.sink.is_closed(),

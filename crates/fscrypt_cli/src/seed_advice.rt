@@ -39,15 +39,21 @@ pub(crate) static DUMP: SeedForm = SeedForm {
     file: "the script comes from standard input: fsc dump --seed HEX64 < FILE",
 };
 
-pub(crate) static CHECK: SeedForm = SeedForm {
+static CHECK: SeedForm = SeedForm {
     options: CHECK_TAKES,
     serial: CHECK_TAKES,
     file: "the script and its log come from standard input: fsc check --seed HEX64 < FILE",
 };
 
+static STRICT_CHECK: SeedForm = SeedForm {
+    options: CHECK_TAKES,
+    serial: CHECK_TAKES,
+    file: "the script and its log come from standard input: fsc check --strict --seed HEX64 < FILE",
+};
+
 const DUMP_TAKES: &str = "dump takes a seed alone: fsc dump --seed HEX64";
 
-const CHECK_TAKES: &str = "check takes a seed alone: fsc check --seed HEX64";
+const CHECK_TAKES: &str = "check takes a seed: fsc check --seed HEX64, or with --strict before it";
 
 const OPTIONS_OF_REPLAY: &str = "replay has the options --serial and --seed HEX64, in this order";
 
@@ -109,6 +115,18 @@ pub(crate) fn fault_of_linked(words: &[String]) -> Option<WordFault> {
             &LINKED_IN_TURNS,
         ),
         _ => fault_of_seed(words, 1, &LINKED),
+    }
+}
+
+/// The first word at fault behind `check`.
+pub(crate) fn fault_of_check(words: &[String]) -> Option<WordFault> {
+    match words {
+        [option, behind @ ..] if option.as_str() == "--strict" => fault_of_seed(
+            behind,
+            2,
+            &STRICT_CHECK,
+        ),
+        _ => fault_of_seed(words, 1, &CHECK),
     }
 }
 

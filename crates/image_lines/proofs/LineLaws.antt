@@ -31,7 +31,7 @@ use Rattle.image_lines.proofs.Telling.{went_on, was_mapped, passed, passes, stor
 
 -- ---- contexts
 
-context_length : (context : List ℕ) → context_fault context ≡ None → length context ≡ 40
+pub context_length : (context : List ℕ) → context_fault context ≡ None → length context ≡ 40
 context_length context h = of (length context == 40) refl
   where
     of : (b : Bool) → (length context == 40) ≡ b → length context ≡ 40

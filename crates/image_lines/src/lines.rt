@@ -1,13 +1,13 @@
 //! The lines of an image, read one by one.
 
-ghost use Rattle.std.specs.Prelude.{◌≡◌, Option};
+ghost use Rattle.std.specs.Prelude.{◌≡◌, Option, is_some};
 ghost use Rattle.std.specs.Option.{option_map};
 ghost use Rattle.image_lines.specs.Lines.{node_told, entry_told, block_told};
 
 use crate::node_line::{EntryLine, NodeLine};
 use crate::words::{entry_of_words, node_of_words};
 use mount_limits::BLOCK_SIZE;
-use text_words::{behind, lower_hex_bytes};
+use text_words::{behind, is_lower_hex, lower_hex_bytes};
 
 /// The node of which a line tells.
 #[tactic(auto, unfolding(crate::specs::Lines::node_told))]
@@ -31,4 +31,15 @@ pub fn read_block_line(line: &[u8]) -> Option<[u8; BLOCK_SIZE]>
     ensures { result ≡ block_told line.now }
 {
     lower_hex_bytes(behind(line, b"block ")?)
+}
+
+// Whether `read_block_line` reads a block of the line. The digits are tested and not decoded.
+#[tactic(auto, unfolding(crate::specs::Lines::block_told))]
+pub(crate) fn is_block_line(line: &[u8]) -> bool
+    ensures { result ≡ is_some (block_told line.now) }
+{
+    match behind(line, b"block ") {
+        Some(digits) => is_lower_hex(digits, BLOCK_SIZE),
+        None => false,
+    }
 }

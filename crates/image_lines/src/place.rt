@@ -8,7 +8,7 @@ ghost use Rattle.image_lines.specs.NextPlaces as places;
 ghost use Rattle.image_lines.specs.LineFaults as spec;
 ghost use Rattle.image_lines.specs.NextPlaces.{step};
 
-use crate::lines::{read_block_line, read_entry_line, read_node_line};
+use crate::lines::{is_block_line, read_entry_line, read_node_line};
 use crate::node_line::{NodeKind, NodeLine, StoredBytes};
 use crate::rules::is_entry_name;
 use mount_limits::BLOCK_SIZE;
@@ -135,7 +135,9 @@ fn next_block(number: u32, left: u32, line: &[u8]) -> Option<Place>
     requires { 1 ≤ left }
     ensures { result ≡ places.next_block number left line.now }
 {
-    read_block_line(line)?;
+    if !is_block_line(line) {
+        return None;
+    }
     Some(Place::Behind {
         number,
         left: left - 1,

@@ -4,7 +4,6 @@
 
 mod counter;
 mod stretched;
-mod tags;
 
 ghost use Rattle.std.specs.Prelude.{◌≡◌, ◌≤◌, IfErr, IfOk, None, Some, length};
 ghost use Rattle.key_wrap.specs.Laws.{LengthStays, OpensAgain};
@@ -12,7 +11,7 @@ ghost use Rattle.key_wrap.specs.Wrapping.{opened_secret, wrapped_secret};
 
 use crate::counter::xor_keystream;
 use crate::stretched::StretchedKey;
-use crate::tags::is_same_tag;
+use byte_words::is_same;
 use hmac_kdf::hmac256;
 use thiserror::Error;
 
@@ -58,7 +57,7 @@ pub fn unwrap(
 {
     let mut keys = StretchedKey::zeros();
     keys.set(key);
-    if !is_same_tag(tag, &hmac256(keys.tag_key(), iv, wrapped)) {
+    if !is_same(tag, &hmac256(keys.tag_key(), iv, wrapped)) {
         keys.wipe();
         keys.end();
         return Err(TagDiffers);

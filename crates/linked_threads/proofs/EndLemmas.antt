@@ -1,23 +1,25 @@
 -- All callers of a script, and the histories that they make.
-use Rattle.std.proofs.Common.{◌≡◌, ℕ, ◌+◌, List, [], ◌∷◌, length, refl, sym, ap, ◌∙◌, subst, arith}
-use Rattle.std.specs.Prelude.{slice_get}
+use Rattle.std.proofs.Common.{◌≡◌, ℕ, ◌+◌, ◌<◌, ◌^◌, List, [], ◌∷◌, length, refl, sym, ap, ◌∙◌, subst, arith}
+use Rattle.std.specs.Prelude.{slice_get, All}
+use Rattle.std.proofs.lemmas.List.Elements.{All-nil}
 use Rattle.call_history.specs.Entries.{by, entries_by, numbered}
 use Rattle.mount_model.specs.History.{History}
 use Rattle.mount_shared.specs.SharedCalls.{MountPass}
 use Rattle.script_lang.specs.declared.commands.Section.{Section}
+use Rattle.reply_text.specs.Ranges.{EntryIsInRange}
 use Rattle.reply_text.specs.Shown.{PlacedShown, shown_calls, shown_history}
 use Rattle.reply_text.specs.declared.notes.Note.{Note}
 use Rattle.fsc_session.specs.ScriptRun.{IsRunOfCaller, notes_by}
 use Rattle.fsc_session.proofs.ShownRuns.{entries_by-shown}
 use Rattle.linked_turns.specs.declared.told.LinkedTold.{LinkedTold}
 use Rattle.linked_turns.specs.Parts.{is_even}
-use Rattle.linked_turns.proofs.EndLemmas.{none_parts}
+use Rattle.linked_turns.proofs.EndLemmas.{none_parts, short_of}
 use Rattle.linked_threads.specs.LinkedThreads.{TellsLinkedCalls}
 use Rattle.script_runs.specs.Passes.{calls_of}
 use Rattle.linked_turns.proofs.TurnLemmas.{parts_as}
 use Rattle.linked_threads.specs.Threaded.{OnBoth, HaveRun}
 
-module _ (lawful : History → Type 0) (seed : List ℕ) (script : List Section) (old new : OnBoth MountPass) (told : LinkedTold) (even odd : History)
+module _ (lawful_0 lawful_1 : History → Type 0) (seed : List ℕ) (script : List Section) (old new : OnBoth MountPass) (told : LinkedTold) (even odd : History)
     (ran : HaveRun seed old script new told) (first : old.even.who ≡ 0)
     (of_even : (c : ℕ) → entries_by c even ≡ by c (calls_of new.even)) (of_odd : (c : ℕ) → entries_by c odd ≡ by c (calls_of new.odd)) where
   pub told_even : (c : ℕ) → by c told.even.items ≡ entries_by c (shown_history even)
@@ -32,19 +34,26 @@ module _ (lawful : History → Type 0) (seed : List ℕ) (script : List Section)
       subst (λ (n : ℕ). IsRunOfCaller seed n (slice_get script c) (by n ran.made)) (ap (λ (w : ℕ). w + c) first ∙ is) (ran.called.run.each c)
 
   pub tells_linked : (even_shown odd_shown : PlacedShown) → even_shown ≡ numbered 0 (shown_history even) → odd_shown ≡ numbered 0 (shown_history odd)
-      → lawful even → lawful odd → TellsLinkedCalls lawful seed script even_shown odd_shown told.notes.items
-  tells_linked even_shown odd_shown even_in_place odd_in_place right_even right_odd = record {
+      → length even_shown < 2 ^ 64 → length odd_shown < 2 ^ 64 → All EntryIsInRange even → All EntryIsInRange odd
+      → lawful_0 even → lawful_1 odd → TellsLinkedCalls lawful_0 lawful_1 seed script even_shown odd_shown told.notes.items
+  tells_linked even_shown odd_shown even_in_place odd_in_place few_even few_odd ranged_even ranged_odd right_even right_odd = record {
     told = ran.made;
     even = even;
     odd = odd;
     calls = record {
       lawful_even = right_even;
       lawful_odd = right_odd;
-      callers = run_of;
-      parts = λ c. let parts = ran.called.parts c in (
-        parts.0,
-        parts_as (is_even c) parts.0 parts.0 _ _ _ _ _ _ refl refl (sym (of_even c)) (sym (of_odd c)) parts.1,
-      );
+      linked = record {
+        callers = run_of;
+        parts = λ c. let parts = ran.called.parts c in (
+          parts.0,
+          parts_as (is_even c) parts.0 parts.0 _ _ _ _ _ _ refl refl (sym (of_even c)) (sym (of_odd c)) parts.1,
+        );
+        short_even = short_of even even_shown even_in_place few_even;
+        short_odd = short_of odd odd_shown odd_in_place few_odd;
+        ranged_even = ranged_even;
+        ranged_odd = ranged_odd;
+      };
     };
     even_in_place = even_in_place;
     odd_in_place = odd_in_place;
@@ -52,15 +61,26 @@ module _ (lawful : History → Type 0) (seed : List ℕ) (script : List Section)
   }
 
 -- a script that nobody calls
-pub nobody_runs : (lawful : History → Type 0) (seed : List ℕ) (script : List Section) (even odd : PlacedShown) (notes : List Note) → length script ≡ 0
-    → even ≡ [] → odd ≡ [] → notes ≡ [] → lawful [] → TellsLinkedCalls lawful seed script even odd notes
-nobody_runs lawful seed [] even odd notes none no_even no_odd silent right = record {
+pub nobody_runs : (lawful_0 lawful_1 : History → Type 0) (seed : List ℕ) (script : List Section) (even odd : PlacedShown) (notes : List Note) → length script ≡ 0
+    → even ≡ [] → odd ≡ [] → notes ≡ [] → lawful_0 [] → lawful_1 [] → TellsLinkedCalls lawful_0 lawful_1 seed script even odd notes
+nobody_runs lawful_0 lawful_1 seed [] even odd notes none no_even no_odd silent right_even right_odd = record {
   told = [];
   even = [];
   odd = [];
-  calls = record { lawful_even = right; lawful_odd = right; callers = λ c. refl; parts = λ c. ([], none_parts (is_even c)) };
+  calls = record {
+    lawful_even = right_even;
+    lawful_odd = right_odd;
+    linked = record {
+      callers = λ c. refl;
+      parts = λ c. ([], none_parts (is_even c));
+      short_even = omega arith;
+      short_odd = omega arith;
+      ranged_even = All-nil EntryIsInRange;
+      ranged_odd = All-nil EntryIsInRange;
+    };
+  };
   even_in_place = no_even;
   odd_in_place = no_odd;
   noted = silent;
 }
-nobody_runs lawful seed (section ∷ more) even odd notes none no_even no_odd silent right = absurd (omega (arith, none))
+nobody_runs lawful_0 lawful_1 seed (section ∷ more) even odd notes none no_even no_odd silent right_even right_odd = absurd (omega (arith, none))

@@ -9,8 +9,10 @@ use Rattle.script_lang.specs.declared.commands.Section.{Section}
 use Rattle.fsc_session.specs.ScriptRun.{notes_by}
 use Rattle.mount_links.specs.declared.step.LinkStep.{LinkStep}
 use Rattle.fsc_commands.specs.declared.TheConstants.{MOST_CALLS}
+use Rattle.script_runs.specs.InRange.{AreInRange}
 use Rattle.script_runs.specs.Passes.{AreHalves, IsAsBefore, RunFrom, Shows, calls_of}
 use Rattle.script_runs.proofs.JoinLemmas.{as_before_both, behind_high, behind_low, below_or_above, border_of, joined_high, joined_low, none_above, noted_both, run_both, shows_both}
+use Rattle.script_runs.proofs.RangeLemmas.{in_range_between}
 use Rattle.linked_turns.specs.declared.told.LinkedTold.{LinkedTold}
 use Rattle.linked_turns.specs.Parts.{HasParts, is_even}
 use Rattle.linked_turns.proofs.TurnLemmas.{parts_as}
@@ -115,6 +117,10 @@ module _ (seed : List ℕ) (shared : OnBoth SharedView) (old lower upper lower' 
             (sym is_even_pass)
             (subst (λ p. HaveCalled seed old.even.who (first ++ others) all_made (calls_of evens) (calls_of p))
             (sym is_odd_pass) (record { run = ran_both; parts = parts_both }));
+        even_ranged = subst (λ p. AreInRange (calls_of p)) (sym is_even_pass)
+            (in_range_between lower'.even.past (calls_of upper'.even) lower'.even.mine one.even_ranged two.even_ranged);
+        odd_ranged = subst (λ p. AreInRange (calls_of p)) (sym is_odd_pass)
+            (in_range_between lower'.odd.past (calls_of upper'.odd) lower'.odd.mine one.odd_ranged two.odd_ranged);
         shows_even = subst (λ p. Shows all.even.items (calls_of p)) (sym is_even_pass)
             (subst (λ l. Shows l (calls_of evens)) (sym told_even) shown_even);
         shows_odd = subst (λ p. Shows all.odd.items (calls_of p)) (sym is_odd_pass)

@@ -2,6 +2,7 @@
 use Rattle.std.proofs.Common.{◌≡◌, ℕ, ◌+◌, ◌*◌, mul_assoc, true, false, List, [], ◌∷◌, ◌++◌, length, Some, refl, sym, ap₂, ◌∙◌, subst, ⊎_elim, arith}
 use Rattle.std.specs.Prelude.{slice_get}
 use Rattle.std.proofs.lemmas.Bool.{cases_eq}
+use Rattle.std.proofs.lemmas.List.Elements.{All-nil}
 use Rattle.std.proofs.lemmas.List.Sums.{sum_by-cons}
 use Rattle.turn_lock.specs.Passes.{SharedView}
 use Rattle.call_history.specs.Entries.{by}
@@ -9,6 +10,7 @@ use Rattle.mount_model.specs.History.{History}
 use Rattle.mount_model.specs.Port.{PlacedCalls}
 use Rattle.mount_shared.specs.SharedCalls.{MountPass, PassCame}
 use Rattle.script_lang.specs.declared.commands.Section.{Section}
+use Rattle.reply_text.specs.Ranges.{EntryIsInRange}
 use Rattle.reply_text.specs.Shown.{PlacedShown, shown_calls}
 use Rattle.fsc_session.specs.Session.{IsRunOfSection, notes_of_section}
 use Rattle.mount_links.specs.declared.step.LinkStep.{LinkStep}
@@ -21,6 +23,7 @@ use Rattle.linked_turns.specs.Parts.{HasParts, is_even}
 use Rattle.linked_turns.proofs.StepLemmas.{own_tells}
 use Rattle.linked_turns.proofs.EndLemmas.{none_parts}
 use Rattle.linked_turns.proofs.TurnLemmas.{parts_as}
+use Rattle.script_runs.specs.InRange.{AreInRange, RangedCame}
 use Rattle.script_runs.specs.Passes.{calls_needed, calls_of}
 use Rattle.script_runs.proofs.PassLemmas.{called_by, one_from, one_noted, one_section, others_none, shows_same}
 use Rattle.linked_threads.specs.Threaded.{OnBoth, both, CanRunOnBoth, HaveRun}
@@ -56,14 +59,14 @@ only_of who steps made even odd own own_even own_odd parts c = ⊎_elim
 
 -- ---- a caller with an even number
 
-module _ (lawful : History → Type 0) (seed : List ℕ) (shared : OnBoth SharedView) (even odd : MountPass) (sections : List Section) (section : Section)
+module _ (lawful_0 lawful_1 : History → Type 0) (seed : List ℕ) (shared : OnBoth SharedView) (even odd : MountPass) (sections : List Section) (section : Section)
     (can : CanRunOnBoth shared (both even odd) sections) (one : length sections ≡ 1) (here : slice_get sections 0 ≡ Some section)
     (told : LinkedTold) (entries : PlacedShown) (placed : PlacedCalls) (shown : entries ≡ shown_calls placed)
     (ran : IsRunOfSection seed even.who section placed) (noted : told.notes.items ≡ notes_of_section seed even.who section placed) where
-  pub even_runs : (new : MountPass) → is_even even.who ≡ true → PassCame lawful even placed new → by new.who new.mine ≡ new.mine
+  pub even_runs : (new : MountPass) → is_even even.who ≡ true → RangedCame (PassCame lawful_0) even placed new → by new.who new.mine ≡ new.mine
       → told.even.items ≡ entries → told.odd.items ≡ [] → HaveRun seed (both even odd) sections (both new odd) told
   even_runs new parity came own told_even told_odd =
-      let called = called_by lawful even new placed can.on_even.no_past can.on_even.no_own came own in
+      let called = called_by lawful_0 even new placed can.on_even.no_past can.on_even.no_own came.came_by own in
       let none : calls_of odd ≡ [] = ap₂ (λ (a b : PlacedCalls). a ++ b) can.on_odd.no_past can.on_odd.no_own in
       subst (λ (s : List Section). HaveRun seed (both even odd) s (both new odd) told) (sym (one_section sections section one here))
       (record {
@@ -77,6 +80,8 @@ module _ (lawful : History → Type 0) (seed : List ℕ) (shared : OnBoth Shared
               (subst (λ (l : PlacedCalls). by even.who l ≡ l) (sym none) refl)
               (subst (λ b. HasParts b [] placed (calls_of new) (calls_of odd)) (sym parity) (called.all, none));
         };
+        even_ranged = subst AreInRange (sym called.all) came.ranged;
+        odd_ranged = subst AreInRange (sym none) (All-nil EntryIsInRange);
         shows_even = shows_same told.even.items placed (calls_of new) (told_even ∙ shown) called.all;
         shows_odd = shows_same told.odd.items [] (calls_of odd) told_odd none;
         noted = one_noted seed even.who section placed told.notes.items called.own noted;
@@ -85,16 +90,16 @@ module _ (lawful : History → Type 0) (seed : List ℕ) (shared : OnBoth Shared
   -- ---- a caller with an odd number
 
   pub odd_runs : (even' odd' : MountPass) (port port' : LinkView MountPass MountPass) (left : ℕ) → is_even even.who ≡ false → port ≡ link_view odd even left []
-      → LinkCame (PassCame lawful) (PassCame lawful) port placed port' → odd' ≡ port'.own → even' ≡ port'.far
+      → LinkCame (RangedCame (PassCame lawful_1)) (RangedCame (PassCame lawful_0)) port placed port' → odd' ≡ port'.own → even' ≡ port'.far
       → by odd'.who odd'.mine ≡ odd'.mine → by even'.who even'.mine ≡ even'.mine
       → told.even.items ≡ far_parts port'.steps entries → told.odd.items ≡ own_parts load_shown port'.steps entries
       → HaveRun seed (both even odd) sections (both even' odd') told
   odd_runs even' odd' port port' left parity is came_by is_own is_far own_odd own_even told_even told_odd =
-      let came = subst (λ p. LinkCame (PassCame lawful) (PassCame lawful) p placed port') is came_by in
-      let on_odd = subst (λ p. PassCame lawful odd (own_parts load_call came.steps placed) p) (sym is_own) came.on_own in
-      let on_even = subst (λ p. PassCame lawful even (far_parts came.steps placed) p) (sym is_far) came.on_far in
-      let odds = called_by lawful odd odd' (own_parts load_call came.steps placed) can.on_odd.no_past can.on_odd.no_own on_odd own_odd in
-      let evens = called_by lawful even even' (far_parts came.steps placed) can.on_even.no_past can.on_even.no_own on_even own_even in
+      let came = subst (λ p. LinkCame (RangedCame (PassCame lawful_1)) (RangedCame (PassCame lawful_0)) p placed port') is came_by in
+      let on_odd = subst (λ p. RangedCame (PassCame lawful_1) odd (own_parts load_call came.steps placed) p) (sym is_own) came.on_own in
+      let on_even = subst (λ p. RangedCame (PassCame lawful_0) even (far_parts came.steps placed) p) (sym is_far) came.on_far in
+      let odds = called_by lawful_1 odd odd' (own_parts load_call came.steps placed) can.on_odd.no_past can.on_odd.no_own on_odd.came_by own_odd in
+      let evens = called_by lawful_0 even even' (far_parts came.steps placed) can.on_even.no_past can.on_even.no_own on_even.came_by own_even in
       let odds_own = subst (λ (w : ℕ). by w (own_parts load_call came.steps placed) ≡ own_parts load_call came.steps placed) can.same_caller odds.own in
       let own = own_tells even.who came.steps placed came.are_steps odds_own in
       let both_show = shows_both came.steps placed in
@@ -110,6 +115,8 @@ module _ (lawful : History → Type 0) (seed : List ℕ) (shared : OnBoth Shared
               (subst (λ (l : PlacedCalls). by even.who l ≡ l) (sym odds.all) odds_own)
               (subst (λ b. HasParts b came.steps placed (calls_of even') (calls_of odd')) (sym parity) (came.are_steps, evens.all, odds.all));
         };
+        even_ranged = subst AreInRange (sym evens.all) on_even.ranged;
+        odd_ranged = subst AreInRange (sym odds.all) on_odd.ranged;
         shows_even = shows_same told.even.items (far_parts came.steps placed) (calls_of even')
             (told_even ∙ ap₂ (λ (s : List LinkStep) (l : PlacedShown). far_parts s l) came.kept shown ∙ both_show.on_far) evens.all;
         shows_odd = shows_same told.odd.items (own_parts load_call came.steps placed) (calls_of odd')

@@ -11,12 +11,12 @@ use Rattle.linked_turns.specs.LinkedRuns.{HaveLinkedCalls}
 
 -- there are two histories that have the callers' calls, each caller's those of its section, and no other
 -- calls; the entries are what is shown of them, each in order of place; and these are the notes
-pub record TellsLinkedCalls (lawful : History → Type 0) (seed : List ℕ) (script : List Section)
+pub record TellsLinkedCalls (lawful_0 lawful_1 : History → Type 0) (seed : List ℕ) (script : List Section)
     (even_shown odd_shown : PlacedShown) (notes : List Note) : Type 0 where
   pub told : PlacedCalls
   pub even : History
   pub odd : History
-  pub calls : HaveLinkedCalls lawful seed script told even odd
+  pub calls : HaveLinkedCalls lawful_0 lawful_1 seed script told even odd
   pub even_in_place : even_shown ≡ numbered 0 (shown_history even)
   pub odd_in_place : odd_shown ≡ numbered 0 (shown_history odd)
   pub noted : notes ≡ notes_by seed 0 script told

@@ -9,6 +9,7 @@ use Rattle.script_lang.specs.declared.commands.Section.{Section}
 use Rattle.fsc_commands.specs.declared.TheConstants.{MOST_CALLS}
 use Rattle.fsc_session.specs.ScriptRun.{notes_by}
 use Rattle.mount_links.specs.declared.step.LinkStep.{LinkStep}
+use Rattle.script_runs.specs.InRange.{AreInRange}
 use Rattle.script_runs.specs.Passes.{CanRun, IsAsBefore, RunFrom, Shows, calls_of}
 use Rattle.linked_turns.specs.declared.told.LinkedTold.{LinkedTold}
 use Rattle.linked_turns.specs.Parts.{HasParts, is_even}
@@ -48,13 +49,16 @@ pub record HaveCalled (seed : List ℕ) (who : ℕ) (sections : List Section) (m
   pub parts : (caller : ℕ) → (steps : List LinkStep)
       × HasParts (is_even caller) steps (by caller made) (by caller even) (by caller odd)
 
--- the callers of the passes ran their sections, and this is what they were told
+-- the callers of the passes ran their sections, and this is what they were told; the calls that the passes have
+-- now are in range
 pub record HaveRun (seed : List ℕ) (old : OnBoth MountPass) (sections : List Section)
     (new : OnBoth MountPass) (told : LinkedTold) : Type 0 where
   pub made : PlacedCalls
   pub even_as_before : IsAsBefore old.even new.even
   pub odd_as_before : IsAsBefore old.odd new.odd
   pub called : HaveCalled seed old.even.who sections made (calls_of new.even) (calls_of new.odd)
+  pub even_ranged : AreInRange (calls_of new.even)
+  pub odd_ranged : AreInRange (calls_of new.odd)
   pub shows_even : Shows told.even.items (calls_of new.even)
   pub shows_odd : Shows told.odd.items (calls_of new.odd)
   pub noted : told.notes.items ≡ notes_by seed old.even.who sections made

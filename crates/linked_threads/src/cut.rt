@@ -11,10 +11,10 @@ use script_runs::cut;
 use std::alloc::AllocError;
 
 // Cuts callers in two: the first half keep the passes, and the others get two of their own.
-pub(crate) fn halve<'a, M: MountMachine>(
-    shared: &SharedMounts<M>,
-    callers: Callers<'a, M>,
-) -> Result<(Callers<'a, M>, Callers<'a, M>), AllocError>
+pub(crate) fn halve<'a, M: MountMachine, N: MountMachine>(
+    shared: &SharedMounts<M, N>,
+    callers: Callers<'a, M, N>,
+) -> Result<(Callers<'a, M, N>, Callers<'a, M, N>), AllocError>
     requires even { CanRun MOST_CALLS shared.now.even callers.passes.even callers.sections.now }
     requires odd { CanRun (2 * MOST_CALLS) shared.now.odd callers.passes.odd callers.sections.now }
     requires several { 1 < length callers.sections.now }

@@ -14,35 +14,35 @@ use turn_lock::{Pass, Shared};
 
 // The machines of both mounts, each behind a turn of its own.
 #[derive(Drop)]
-pub(crate) struct SharedMounts<M: MountMachine> {
+pub(crate) struct SharedMounts<M: MountMachine, N: MountMachine> {
     pub(crate) even: Shared<M>,
-    pub(crate) odd: Shared<M>,
+    pub(crate) odd: Shared<N>,
 }
 
 // A pass to each of them, of the same callers.
 #[derive(Drop)]
-pub(crate) struct Passes<M: MountMachine> {
+pub(crate) struct Passes<M: MountMachine, N: MountMachine> {
     pub(crate) even: Pass<M>,
-    pub(crate) odd: Pass<M>,
+    pub(crate) odd: Pass<N>,
 }
 
 // Callers before their first calls: their passes, and a section for each of them.
 #[derive(Drop)]
-pub(crate) struct Callers<'a, M: MountMachine> {
-    pub(crate) passes: Passes<M>,
+pub(crate) struct Callers<'a, M: MountMachine, N: MountMachine> {
+    pub(crate) passes: Passes<M, N>,
     pub(crate) sections: &'a [Section],
 }
 
 // Puts both mounts behind turns, for the callers of a script that has some, and gives the passes that have all numbers.
-pub(crate) fn share<M: MountMachine>(
+pub(crate) fn share<M: MountMachine, N: MountMachine>(
     alloc: Global,
-    mounts: Mounts<M>,
+    mounts: Mounts<M, N>,
     script: &Script,
-) -> Result<(SharedMounts<M>, Passes<M>), AllocError>
+) -> Result<(SharedMounts<M, N>, Passes<M, N>), AllocError>
     requires spelled { IsSpelled script.now }
     requires some { 0 < length script.now }
     requires leads_even { M.leads [] mounts.even }
-    requires leads_odd { M.leads [] mounts.odd }
+    requires leads_odd { N.leads [] mounts.odd }
     ensures first { IfOk result (λ made.
         AreFirst (both made.0.even made.0.odd) (both made.1.even made.1.odd)) }
     ensures can_run { IfOk result (λ made. CanRunOnBoth (both made.0.even made.0.odd)

@@ -18,20 +18,26 @@ use linked_turns::LinkedTold;
 use mount_links::{LinkPort, LinkStep, split};
 use mount_shared::{MountMachine, SharedPort};
 use script_lang::Section;
-use script_runs::calls_needed;
+use script_runs::{RangedPort, calls_needed};
 use std::alloc::{AllocError, Global};
 use std::sync::Wait;
 
+// The port of a caller with an odd number, each of whose calls on either mount is in range.
+type SharedLinks<'a, M, N, R> = LinkPort<
+    RangedPort<SharedPort<'a, N, R>>,
+    RangedPort<SharedPort<'a, M, R>>,
+>;
+
 // Runs the section of the one caller.
-pub(crate) fn run_one<R: Wait, G: Gate, S: Stretch, M: MountMachine>(
+pub(crate) fn run_one<R: Wait, G: Gate, S: Stretch, M: MountMachine, N: MountMachine>(
     rt: &R,
     alloc: Global,
-    shared: &SharedMounts<M>,
+    shared: &SharedMounts<M, N>,
     gate: &G,
     stretches: &S,
-    callers: Callers<M>,
+    callers: Callers<M, N>,
     seed: &[u8; 32],
-) -> Result<(Passes<M>, LinkedTold), AllocError>
+) -> Result<(Passes<M, N>, LinkedTold), AllocError>
     requires ready { S.ready stretches.now }
     requires can_run { CanRunOnBoth (both shared.now.even shared.now.odd)
         (both callers.passes.even callers.passes.odd) callers.sections.now }
@@ -48,15 +54,15 @@ pub(crate) fn run_one<R: Wait, G: Gate, S: Stretch, M: MountMachine>(
 }
 
 // That of a caller with an even number.
-fn run_on_mount_0<R: Wait, G: Gate, S: Stretch, M: MountMachine>(
+fn run_on_mount_0<R: Wait, G: Gate, S: Stretch, M: MountMachine, N: MountMachine>(
     rt: &R,
     alloc: Global,
-    shared: &SharedMounts<M>,
+    shared: &SharedMounts<M, N>,
     gate: &G,
     stretches: &S,
-    callers: Callers<M>,
+    callers: Callers<M, N>,
     seed: &[u8; 32],
-) -> Result<(Passes<M>, LinkedTold), AllocError>
+) -> Result<(Passes<M, N>, LinkedTold), AllocError>
     requires ready { S.ready stretches.now }
     requires can_run { CanRunOnBoth (both shared.now.even shared.now.odd)
         (both callers.passes.even callers.passes.odd) callers.sections.now }
@@ -68,9 +74,10 @@ fn run_on_mount_0<R: Wait, G: Gate, S: Stretch, M: MountMachine>(
 {
     let Callers { passes, sections } = callers;
     let Passes { even, odd } = passes;
-    let mut port = SharedPort::new(rt, &shared.even, even);
+    let port = SharedPort::new(rt, &shared.even, even);
+    let mut port = RangedPort::over(port);
     let ran = run_caller(alloc, &mut port, gate, stretches, &sections[0], seed)?;
-    let even = port.back();
+    let even = port.back().back();
     // That its own entries are its caller's.
     let _caller = even.who();
     let told = LinkedTold {
@@ -82,15 +89,15 @@ fn run_on_mount_0<R: Wait, G: Gate, S: Stretch, M: MountMachine>(
 }
 
 // That of a caller with an odd number.
-fn run_on_both<R: Wait, G: Gate, S: Stretch, M: MountMachine>(
+fn run_on_both<R: Wait, G: Gate, S: Stretch, M: MountMachine, N: MountMachine>(
     rt: &R,
     alloc: Global,
-    shared: &SharedMounts<M>,
+    shared: &SharedMounts<M, N>,
     gate: &G,
     stretches: &S,
-    callers: Callers<M>,
+    callers: Callers<M, N>,
     seed: &[u8; 32],
-) -> Result<(Passes<M>, LinkedTold), AllocError>
+) -> Result<(Passes<M, N>, LinkedTold), AllocError>
     requires ready { S.ready stretches.now }
     requires can_run { CanRunOnBoth (both shared.now.even shared.now.odd)
         (both callers.passes.even callers.passes.odd) callers.sections.now }
@@ -104,8 +111,8 @@ fn run_on_both<R: Wait, G: Gate, S: Stretch, M: MountMachine>(
     let mut port = port_on_both(rt, alloc, shared, passes, sections)?;
     let ran = run_caller(alloc, &mut port, gate, stretches, &sections[0], seed)?;
     let (own, far, steps) = port.back();
-    let odd = own.back();
-    let even = far.back();
+    let odd = own.back().back();
+    let even = far.back().back();
     // That their own entries are their caller's.
     let _on_mount_1 = odd.who();
     let _on_mount_0 = even.who();
@@ -115,13 +122,13 @@ fn run_on_both<R: Wait, G: Gate, S: Stretch, M: MountMachine>(
 
 // The port of a caller with an odd number, for as many calls as its section may make: they go to mount 1, and those
 // for links there to mount 0, too.
-fn port_on_both<'a, R: Wait, M: MountMachine>(
+fn port_on_both<'a, R: Wait, M: MountMachine, N: MountMachine>(
     rt: &'a R,
     alloc: Global,
-    shared: &'a SharedMounts<M>,
-    passes: Passes<M>,
+    shared: &'a SharedMounts<M, N>,
+    passes: Passes<M, N>,
     sections: &[Section],
-) -> Result<LinkPort<SharedPort<'a, M, R>, SharedPort<'a, M, R>>, AllocError>
+) -> Result<SharedLinks<'a, M, N, R>, AllocError>
     requires { CanRunOnBoth (both shared.now.even shared.now.odd) (both passes.even passes.odd) sections.now }
     ensures { IfOk result (λ port. port
         ≡ link_view passes.odd passes.even (calls_needed MOST_CALLS sections.now) []) }
@@ -131,7 +138,7 @@ fn port_on_both<'a, R: Wait, M: MountMachine>(
     };
     let own = SharedPort::new(rt, &shared.odd, passes.odd);
     let far = SharedPort::new(rt, &shared.even, passes.even);
-    LinkPort::new(alloc, own, far, calls)
+    LinkPort::new(alloc, RangedPort::over(own), RangedPort::over(far), calls)
 }
 
 // What a caller on both mounts was told, by what became of each of its calls.

@@ -30,6 +30,7 @@ pub fn run_linked_in_threads<
     G: Gate + Sync,
     S: Stretch + Sync,
     M: MountMachine + Send,
+    N: MountMachine + Send,
 >(
     rt: &R,
     alloc: Global,
@@ -37,13 +38,13 @@ pub fn run_linked_in_threads<
     seed: &[u8; 32],
     gate: &G,
     stretches: &S,
-    mounts: Mounts<M>,
+    mounts: Mounts<M, N>,
 ) -> Result<LinkedTold, AllocError>
     requires spelled { IsSpelled script.now }
     requires ready { S.ready stretches.now }
     requires leads_even { M.leads [] mounts.even }
-    requires leads_odd { M.leads [] mounts.odd }
-    ensures { IfOk result (λ told. TellsLinkedCalls M.lawful seed.now script.now
+    requires leads_odd { N.leads [] mounts.odd }
+    ensures { IfOk result (λ told. TellsLinkedCalls M.lawful N.lawful seed.now script.now
         told.even.items told.odd.items told.notes.items) }
 {
     let sections = script.as_slice();
@@ -60,25 +61,32 @@ pub fn run_linked_in_threads<
 }
 
 // A run without callers: nothing is shared, and no thread starts.
-fn run_nobody<M: MountMachine>(alloc: Global, mounts: Mounts<M>) -> LinkedTold
+fn run_nobody<M: MountMachine, N: MountMachine>(alloc: Global, mounts: Mounts<M, N>) -> LinkedTold
     requires even { M.leads [] mounts.even }
-    requires odd { M.leads [] mounts.odd }
+    requires odd { N.leads [] mounts.odd }
     ensures none { (result.even.items ≡ []) × (result.odd.items ≡ []) × (result.notes.items ≡ []) }
-    ensures lawful { M.lawful [] }
+    ensures lawful_even { M.lawful [] }
+    ensures lawful_odd { N.lawful [] }
 {
     nothing(alloc)
 }
 
 // Runs the section of each of the callers in a thread of its own. It answers when all have ended.
-fn run_all<R: Threads + Wait + Sync, G: Gate + Sync, S: Stretch + Sync, M: MountMachine + Send>(
+fn run_all<
+    R: Threads + Wait + Sync,
+    G: Gate + Sync,
+    S: Stretch + Sync,
+    M: MountMachine + Send,
+    N: MountMachine + Send,
+>(
     rt: &R,
     alloc: Global,
-    shared: &SharedMounts<M>,
+    shared: &SharedMounts<M, N>,
     gate: &G,
     stretches: &S,
-    callers: Callers<M>,
+    callers: Callers<M, N>,
     seed: &[u8; 32],
-) -> Result<(Passes<M>, LinkedTold), AllocError>
+) -> Result<(Passes<M, N>, LinkedTold), AllocError>
     requires ready { S.ready stretches.now }
     requires can_run { CanRunOnBoth (both shared.now.even shared.now.odd)
         (both callers.passes.even callers.passes.odd) callers.sections.now }
@@ -92,7 +100,7 @@ fn run_all<R: Threads + Wait + Sync, G: Gate + Sync, S: Stretch + Sync, M: Mount
     let (lower, upper) = halve(shared, callers)?;
     let (one, two) = join(
         rt,
-        || -> Result<(Passes<M>, LinkedTold), AllocError>
+        || -> Result<(Passes<M, N>, LinkedTold), AllocError>
             requires { IsSync R.row × IsSync G.row × IsSync S.row × S.ready stretches.now
                 × CanRunOnBoth (both shared.now.even shared.now.odd)
                 (both lower.passes.even lower.passes.odd) lower.sections.now }
@@ -100,7 +108,7 @@ fn run_all<R: Threads + Wait + Sync, G: Gate + Sync, S: Stretch + Sync, M: Mount
                 (both lower.entry.passes.even lower.entry.passes.odd) lower.entry.sections.now
                 (both ran.0.even ran.0.odd) ran.1) }
         { run_all(rt, alloc, shared, gate, stretches, lower, seed) },
-        || -> Result<(Passes<M>, LinkedTold), AllocError>
+        || -> Result<(Passes<M, N>, LinkedTold), AllocError>
             requires { IsSync R.row × IsSync G.row × IsSync S.row × S.ready stretches.now
                 × CanRunOnBoth (both shared.now.even shared.now.odd)
                 (both upper.passes.even upper.passes.odd) upper.sections.now }

@@ -1,8 +1,12 @@
 -- Callers before their first commands, and what they are told in the end.
-use Rattle.std.proofs.Common.{◌≡◌, ℕ, zero, suc, ◌+◌, Bool, true, false, List, [], ◌∷◌, map, Some, refl, ap, ap₂, sym, ◌∙◌, subst, ⊎_elim}
+use Rattle.std.proofs.Common.{◌≡◌, ℕ, zero, suc, ◌+◌, ◌<◌, ◌^◌, Bool, true, false, List, [], ◌∷◌, length, map, Some, refl, ap, ap₂, sym, ◌∙◌, subst, ⊎_elim}
 use Rattle.std.specs.Prelude.{slice_get, All}
+use Rattle.std.proofs.lemmas.List.{length-map}
+use Rattle.std.proofs.lemmas.List.Elements.{All-nil}
 use Rattle.std.proofs.lemmas.Option.{slice_get_cases}
 use Rattle.call_history.specs.Entries.{by, entries_by, numbered}
+use Rattle.call_history.proofs.Placing.{length-numbered}
+use Rattle.reply_text.specs.Ranges.{EntryIsInRange}
 use Rattle.reply_text.specs.Shown.{PlacedShown, shown_calls, shown_history}
 use Rattle.fsc_session.proofs.ShownRuns.{numbered-shown}
 use Rattle.call_history.specs.Placed.{entries_of}
@@ -62,16 +66,18 @@ pub none_parts : (b : Bool) → HasParts b [] [] [] []
 none_parts true = (refl, refl)
 none_parts false = (tt, refl, refl)
 
-pub before_all : {M : Type 0} (leads : History → M → Type 0) (seed : List ℕ) (whole : Steps (List Waiting))
-    (script : List Section) (callers : List LinkedRunner) (even odd : At M) → map view_of callers ≡ fresh_views 0 script
-    → even.places ≡ 0 → odd.places ≡ 0 → All AsksRightly script → leads [] even.machine → leads [] odd.machine
-    → Rotating leads seed (sections_of callers) whole whole (λ j. 0) callers even odd
-before_all leads seed whole script callers even odd is none_even none_odd asked led_even led_odd = record {
+pub before_all : {M N : Type 0} (leads_0 : History → M → Type 0) (leads_1 : History → N → Type 0) (seed : List ℕ)
+    (whole : Steps (List Waiting)) (script : List Section) (callers : List LinkedRunner) (even : At M) (odd : At N) → map view_of callers ≡ fresh_views 0 script
+    → even.places ≡ 0 → odd.places ≡ 0 → All AsksRightly script → leads_0 [] even.machine → leads_1 [] odd.machine
+    → Rotating leads_0 leads_1 seed (sections_of callers) whole whole (λ j. 0) callers even odd
+before_all leads_0 leads_1 seed whole script callers even odd is none_even none_odd asked led_even led_odd = record {
   told = [];
   even = [];
   odd = [];
   even_stands = record { placed = refl; given = none_even; led = led_even };
   odd_stands = record { placed = refl; given = none_odd; led = led_odd };
+  even_ranged = All-nil EntryIsInRange;
+  odd_ranged = All-nil EntryIsInRange;
   rotates = rotates_first seed whole script (runners_of callers) (fresh_callers 0 script callers is) asked;
   parts = λ j caller here. subst (λ (l : List LinkStep). HasParts (is_even j) l [] [] [])
       (sym (fresh_steps 0 j script callers caller is here)) (none_parts (is_even j));
@@ -97,11 +103,19 @@ odd_shows true r made even odd parts shown = ap shown_calls (sym parts.1)
 odd_shows false r made even odd parts shown =
     ap (own_parts load_shown r.steps.items) shown ∙ (shows_both r.steps.items made).on_own ∙ ap shown_calls (sym parts.2)
 
-module _ {M : Type 0} (leads : History → M → Type 0) (lawful : History → Type 0)
-    (law : (h : History) (m : M) → leads h m → lawful h) (seed : List ℕ) (script : List Section)
-    (whole : Steps (List Waiting)) (callers : List LinkedRunner) (even_mount odd_mount : At M)
+-- a history that is told as a vector is short
+pub short_of : (history : History) (told : PlacedShown) → told ≡ numbered 0 (shown_history history)
+    → length told < 2 ^ 64 → length history < 2 ^ 64
+short_of history told in_place few =
+    subst (λ (n : ℕ). n < 2 ^ 64)
+    (ap length in_place ∙ length-numbered 0 (shown_history history) ∙ length-map history _) few
+
+module _ {M N : Type 0} (leads_0 : History → M → Type 0) (leads_1 : History → N → Type 0)
+    (lawful_0 lawful_1 : History → Type 0) (law_0 : (h : History) (m : M) → leads_0 h m → lawful_0 h)
+    (law_1 : (h : History) (m : N) → leads_1 h m → lawful_1 h) (seed : List ℕ) (script : List Section)
+    (whole : Steps (List Waiting)) (callers : List LinkedRunner) (even_mount : At M) (odd_mount : At N)
     (rounds : ℕ) (all : rounds ≡ longest script)
-    (ended : Rotating leads seed script whole (Done (states_of callers)) (λ j. rounds) callers even_mount odd_mount) where
+    (ended : Rotating leads_0 leads_1 seed script whole (Done (states_of callers)) (λ j. rounds) callers even_mount odd_mount) where
   parts_of : (c : ℕ) → (steps : List LinkStep) × HasParts (is_even c) steps (by c ended.told) (by c ended.even) (by c ended.odd)
   parts_of c = ⊎_elim
       (λ there. (there.0.steps.items, ended.parts c there.0 there.2))
@@ -157,21 +171,28 @@ module _ {M : Type 0} (leads : History → M → Type 0) (lawful : History → T
   -- so what is shown of both histories tells the run
   pub tells_linked : (even_entries odd_entries : PlacedShown) (notes : List Note) → whole ≡ rotation_steps seed script
       → even_entries ≡ numbered 0 (shown_history (entries_of ended.even)) → odd_entries ≡ numbered 0 (shown_history (entries_of ended.odd))
-      → notes ≡ noted_by (runners_of callers) → TellsLinkedRun lawful seed script even_entries odd_entries notes
-  tells_linked even_entries odd_entries notes is even_is odd_is notes_are = record {
+      → notes ≡ noted_by (runners_of callers) → length even_entries < 2 ^ 64 → length odd_entries < 2 ^ 64
+      → TellsLinkedRun lawful_0 lawful_1 seed script even_entries odd_entries notes
+  tells_linked even_entries odd_entries notes is even_is odd_is notes_are few_even few_odd = record {
     even = entries_of ended.even;
     odd = entries_of ended.odd;
     run = record {
       told = ended.told;
       calls = record {
-        lawful_even = law (entries_of ended.even) even_mount.machine ended.even_stands.led;
-        lawful_odd = law (entries_of ended.odd) odd_mount.machine ended.odd_stands.led;
-        callers = run_of seed script whole (runners_of callers) ended.told rounds all ended.rotates;
-        parts = λ c. (
-          (parts_of c).0,
-          subst (λ l. HasParts (is_even c) (parts_of c).0 (by c ended.told) (by c l) (entries_by c (entries_of ended.odd))) ended.even_stands.placed
-              (subst (λ l. HasParts (is_even c) (parts_of c).0 (by c ended.told) (by c ended.even) (by c l)) ended.odd_stands.placed (parts_of c).1),
-        );
+        lawful_even = law_0 (entries_of ended.even) even_mount.machine ended.even_stands.led;
+        lawful_odd = law_1 (entries_of ended.odd) odd_mount.machine ended.odd_stands.led;
+        linked = record {
+          callers = run_of seed script whole (runners_of callers) ended.told rounds all ended.rotates;
+          parts = λ c. (
+            (parts_of c).0,
+            subst (λ l. HasParts (is_even c) (parts_of c).0 (by c ended.told) (by c l) (entries_by c (entries_of ended.odd))) ended.even_stands.placed
+                (subst (λ l. HasParts (is_even c) (parts_of c).0 (by c ended.told) (by c ended.even) (by c l)) ended.odd_stands.placed (parts_of c).1),
+          );
+          short_even = short_of (entries_of ended.even) even_entries even_is few_even;
+          short_odd = short_of (entries_of ended.odd) odd_entries odd_is few_odd;
+          ranged_even = ended.even_ranged;
+          ranged_odd = ended.odd_ranged;
+        };
       };
       order = (states_of callers, subst (λ s. Reaches s (entries_of ended.told) (Done (states_of callers))) is ended.rotates.order);
       steps = ended.steps;

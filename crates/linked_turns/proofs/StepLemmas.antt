@@ -1,11 +1,13 @@
 -- What a command of a caller makes of the mounts.
 use Rattle.std.proofs.Common.{◌≡◌, ℕ, ◌≤◌, Bool, true, false, List, [], ◌∷◌, ◌++◌, length, refl, ap, sym, ◌∙◌, subst, Result, Ok, Err, IfOk, OnOk, ⊎_elim, arith, append-nil}
 use Rattle.std.proofs.lemmas.Bool.{cases_eq}
+use Rattle.std.proofs.lemmas.List.Elements.{All-nil}
 use Rattle.call_history.specs.Entries.{by}
 use Rattle.call_history.proofs.Placing.{by-cons_own, by-cons_other}
 use Rattle.mount_model.specs.History.{History, MountEntry}
 use Rattle.mount_model.specs.Port.{PlacedCalls}
 use Rattle.mount_shared.specs.SerialCalls.{SerialView, SerialCame, serial_view}
+use Rattle.reply_text.specs.Ranges.{EntryIsInRange}
 use Rattle.fsc_session.specs.Running.{Stepped}
 use Rattle.mount_links.specs.declared.step.LinkStep.{LinkStep}
 use Rattle.mount_links.specs.declared.step.LinkStep.TheVariants.{Alone, Followed, Looked, NotMade}
@@ -13,6 +15,7 @@ use Rattle.mount_links.specs.Linked.{own_part, own_parts, far_part, far_parts}
 use Rattle.mount_links.specs.LinkCalls.{AreSteps, LinkCame, LinkView, link_view, load_call}
 use Rattle.linked_turns.specs.declared.runners.LinkedRunner.{LinkedRunner}
 use Rattle.linked_turns.specs.Parts.{AreLinked, HasParts, IsLinkedStep, is_even, part_0, part_1, parts_0, parts_1}
+use Rattle.script_runs.specs.InRange.{RangedCame}
 use Rattle.script_runs.specs.MountPlaces.{At, Goes, at}
 use Rattle.script_runs.proofs.RoundLemmas.{goes_by, taken_by}
 use Rattle.linked_turns.specs.Turns.{TurnMade}
@@ -93,26 +96,26 @@ of_odd c (step ∷ steps) (x ∷ xs) odd own are =
 
 -- ---- what they make of the mounts
 
-module _ {M : Type 0} (leads : History → M → Type 0) where
-  goes_nowhere : (caller : ℕ) (mount : At M) → Goes leads caller mount [] mount
-  goes_nowhere caller mount = record {
-    placed = refl;
-    given = omega arith;
-    own = refl;
-    led = λ history so. subst (λ h. leads h mount.machine) (sym (append-nil history)) so;
-  }
+goes_nowhere : {M : Type 0} (leads : History → M → Type 0) (caller : ℕ) (mount : At M) → Goes leads caller mount [] mount
+goes_nowhere leads caller mount = record {
+  placed = refl;
+  given = omega arith;
+  own = refl;
+  led = λ history so. subst (λ h. leads h mount.machine) (sym (append-nil history)) so;
+}
 
-  pub even_turn : (seed : List ℕ) (machine : M) (places left : ℕ) (odd : At M) (old new : LinkedRunner) (port port' : SerialView M) (machine' : M) (places' : ℕ)
+module _ {M N : Type 0} (leads_0 : History → M → Type 0) (leads_1 : History → N → Type 0) where
+  pub even_turn : (seed : List ℕ) (machine : M) (places left : ℕ) (odd : At N) (old new : LinkedRunner) (port port' : SerialView M) (machine' : M) (places' : ℕ)
       (left' before_left : ℕ) (more : Bool) → is_even old.runner.caller ≡ true → port ≡ serial_view machine places old.runner.caller left
       → machine' ≡ port'.machine → places' ≡ port'.places → new.steps.items ≡ old.steps.items
-      → Stepped (SerialCame leads port) port' left' before_left seed more old.runner new.runner
-      → TurnMade leads seed (at machine places) odd old (at machine' places') odd new
+      → Stepped (RangedCame (SerialCame leads_0) port) port' left' before_left seed more old.runner new.runner
+      → TurnMade leads_0 leads_1 seed (at machine places) odd old (at machine' places') odd new
   even_turn seed machine places left odd old new port port' machine' places' left' before_left more even is one two kept stepped =
-      let goes = goes_by leads old.runner.caller left (at machine places) stepped.made port' (at machine' places') one two
-      (subst (λ p. SerialCame leads p stepped.made port') is stepped.came_by) in
+      let goes = goes_by leads_0 old.runner.caller left (at machine places) stepped.made port' (at machine' places') one two
+      (subst (λ p. SerialCame leads_0 p stepped.made port') is stepped.came_by.came_by) in
       let all = of_even old.runner.caller stepped.made even goes.own in
       record {
-        taken = taken_by (SerialCame leads port) port' left' before_left seed more old.runner new.runner stepped goes.own;
+        taken = taken_by (RangedCame (SerialCame leads_0) port) port' left' before_left seed more old.runner new.runner stepped goes.own;
         all = alone stepped.made;
         linked = all.linked;
         even_is = all.even_is;
@@ -122,27 +125,30 @@ module _ {M : Type 0} (leads : History → M → Type 0) where
         odd = [];
         steps = [];
         even_goes = goes;
-        odd_goes = goes_nowhere old.runner.caller odd;
+        odd_goes = goes_nowhere leads_1 old.runner.caller odd;
+        even_ranged = stepped.came_by.ranged;
+        odd_ranged = All-nil EntryIsInRange;
         kept = kept ∙ sym (append-nil old.steps.items);
         parts = subst (λ b. HasParts b [] stepped.made stepped.made []) (sym even) (refl, refl);
       }
 
-  pub odd_turn : (seed : List ℕ) (even odd : At M) (own_left far_left left : ℕ) (old new : LinkedRunner)
-      (port port' : LinkView (SerialView M) (SerialView M)) (even' odd' : At M) (left' before_left : ℕ) (more : Bool)
+  pub odd_turn : (seed : List ℕ) (even : At M) (odd : At N) (own_left far_left left : ℕ) (old new : LinkedRunner)
+      (port port' : LinkView (SerialView N) (SerialView M)) (even' : At M) (odd' : At N) (left' before_left : ℕ) (more : Bool)
       → is_even old.runner.caller ≡ false
       → port ≡ link_view (serial_view odd.machine odd.places old.runner.caller own_left) (serial_view even.machine even.places old.runner.caller far_left) left []
       → odd'.machine ≡ port'.own.machine → odd'.places ≡ port'.own.places → even'.machine ≡ port'.far.machine → even'.places ≡ port'.far.places
       → new.steps.items ≡ old.steps.items ++ port'.steps
-      → Stepped (LinkCame (SerialCame leads) (SerialCame leads) port) port' left' before_left seed more old.runner new.runner
-      → TurnMade leads seed even odd old even' odd' new
+      → Stepped (LinkCame (RangedCame (SerialCame leads_1)) (RangedCame (SerialCame leads_0)) port) port' left' before_left seed more
+      old.runner new.runner
+      → TurnMade leads_0 leads_1 seed even odd old even' odd' new
   odd_turn seed even odd own_left far_left left old new port port' even' odd' left' before_left more is_odd is one two three four kept stepped =
-      let came = subst (λ p. LinkCame (SerialCame leads) (SerialCame leads) p stepped.made port') is stepped.came_by in
-      let own_goes = goes_by leads old.runner.caller own_left odd (own_parts load_call came.steps stepped.made) port'.own odd'
-      one two came.on_own in
+      let came = subst (λ p. LinkCame (RangedCame (SerialCame leads_1)) (RangedCame (SerialCame leads_0)) p stepped.made port') is stepped.came_by in
+      let own_goes = goes_by leads_1 old.runner.caller own_left odd (own_parts load_call came.steps stepped.made) port'.own odd'
+      one two came.on_own.came_by in
       let own = own_tells old.runner.caller came.steps stepped.made came.are_steps own_goes.own in
       let all = of_odd old.runner.caller came.steps stepped.made is_odd own came.are_steps in
       record {
-        taken = taken_by (LinkCame (SerialCame leads) (SerialCame leads) port) port' left' before_left seed more
+        taken = taken_by (LinkCame (RangedCame (SerialCame leads_1)) (RangedCame (SerialCame leads_0)) port) port' left' before_left seed more
             old.runner new.runner stepped own;
         all = came.steps;
         linked = all.linked;
@@ -152,9 +158,11 @@ module _ {M : Type 0} (leads : History → M → Type 0) where
         even = far_parts came.steps stepped.made;
         odd = own_parts load_call came.steps stepped.made;
         steps = came.steps;
-        even_goes = goes_by leads old.runner.caller far_left even (far_parts came.steps stepped.made) port'.far even'
-            three four came.on_far;
+        even_goes = goes_by leads_0 old.runner.caller far_left even (far_parts came.steps stepped.made) port'.far even'
+            three four came.on_far.came_by;
         odd_goes = own_goes;
+        even_ranged = came.on_far.ranged;
+        odd_ranged = came.on_own.ranged;
         kept = kept ∙ ap (λ (l : List LinkStep). old.steps.items ++ l) came.kept;
         parts = subst (λ b. HasParts b came.steps stepped.made (far_parts came.steps stepped.made) (own_parts load_call came.steps stepped.made)) (sym is_odd) (came.are_steps, refl, refl);
       }

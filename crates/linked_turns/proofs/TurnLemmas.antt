@@ -13,6 +13,7 @@ use Rattle.fsc_session.specs.Runners.{RunnerView, state_of}
 use Rattle.fsc_session.specs.Rotation.{Waiting, round_steps}
 use Rattle.mount_links.specs.declared.step.LinkStep.{LinkStep}
 use Rattle.mount_links.specs.StepLaws.{AreSteps-append, own_parts-append, far_parts-append}
+use Rattle.script_runs.specs.RangeLaws.{are_in_range-append}
 use Rattle.script_runs.specs.Turns.{Rotates}
 use Rattle.script_runs.specs.MountPlaces.{At}
 use Rattle.script_runs.proofs.RoundLemmas.{stands_on}
@@ -85,15 +86,15 @@ parts_1-append (a ∷ s) t (x ∷ e) f p =
 
 -- ---- a turn
 
-module _ {M : Type 0} (leads : History → M → Type 0) (seed : List ℕ) (script : List Section)
-    (whole : Steps (List Waiting)) where
+module _ {M N : Type 0} (leads_0 : History → M → Type 0) (leads_1 : History → N → Type 0)
+    (seed : List ℕ) (script : List Section) (whole : Steps (List Waiting)) where
   pub goes_on : (last : List Waiting → Steps (List Waiting)) (n i : ℕ) (callers : List LinkedRunner)
-      (old new : LinkedRunner) (even_mount odd_mount even_mount' odd_mount' : At M) → slice_get callers i ≡ Some old
-      → Rotating leads seed script whole
+      (old new : LinkedRunner) (even_mount : At M) (odd_mount : At N) (even_mount' : At M) (odd_mount' : At N) → slice_get callers i ≡ Some old
+      → Rotating leads_0 leads_1 seed script whole
       (round_steps seed n i (map state_of (take i (runners_of callers))) (map state_of (drop i (runners_of callers))) last)
       (turns_in n i) callers even_mount odd_mount
-      → TurnMade leads seed even_mount odd_mount old even_mount' odd_mount' new
-      → Rotating leads seed script whole
+      → TurnMade leads_0 leads_1 seed even_mount odd_mount old even_mount' odd_mount' new
+      → Rotating leads_0 leads_1 seed script whole
       (round_steps seed n (i + 1) (map state_of (take (i + 1) (runners_of (set callers i new))))
       (map state_of (drop (i + 1) (runners_of (set callers i new)))) last)
       (turns_in n (i + 1)) (set callers i new) even_mount' odd_mount'
@@ -112,10 +113,12 @@ module _ {M : Type 0} (leads : History → M → Type 0) (seed : List ℕ) (scri
         told = told;
         even = even;
         odd = odd;
-        even_stands = stands_on leads old.runner.caller before.even turn.even even_mount even_mount'
+        even_stands = stands_on leads_0 old.runner.caller before.even turn.even even_mount even_mount'
             before.even_stands turn.even_goes;
-        odd_stands = stands_on leads old.runner.caller before.odd turn.odd odd_mount odd_mount'
+        odd_stands = stands_on leads_1 old.runner.caller before.odd turn.odd odd_mount odd_mount'
             before.odd_stands turn.odd_goes;
+        even_ranged = are_in_range-append before.even turn.even before.even_ranged turn.even_ranged;
+        odd_ranged = are_in_range-append before.odd turn.odd before.odd_ranged turn.odd_ranged;
         rotates = subst (λ (rs : List RunnerView). Rotates seed script whole
             (round_steps seed n (i + 1) (map state_of (take (i + 1) rs)) (map state_of (drop (i + 1) rs)) last)
             (turns_in n (i + 1)) rs told)
@@ -150,17 +153,19 @@ module _ {M : Type 0} (leads : History → M → Type 0) (seed : List ℕ) (scri
 
   -- the mounts stand as before where the rotation is told in other words
   pub retold : (rest rest' : Steps (List Waiting)) (turns turns' : ℕ → ℕ) (callers : List LinkedRunner)
-      (even_mount odd_mount : At M)
+      (even_mount : At M) (odd_mount : At N)
       → ((told : PlacedCalls) → Rotates seed script whole rest turns (runners_of callers) told
       → Rotates seed script whole rest' turns' (runners_of callers) told)
-      → Rotating leads seed script whole rest turns callers even_mount odd_mount
-      → Rotating leads seed script whole rest' turns' callers even_mount odd_mount
+      → Rotating leads_0 leads_1 seed script whole rest turns callers even_mount odd_mount
+      → Rotating leads_0 leads_1 seed script whole rest' turns' callers even_mount odd_mount
   retold rest rest' turns turns' callers even_mount odd_mount on r = record {
     told = r.told;
     even = r.even;
     odd = r.odd;
     even_stands = r.even_stands;
     odd_stands = r.odd_stands;
+    even_ranged = r.even_ranged;
+    odd_ranged = r.odd_ranged;
     rotates = on r.told r.rotates;
     parts = r.parts;
     others = r.others;

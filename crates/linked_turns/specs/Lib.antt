@@ -6,3 +6,4 @@ pub mod LinkedSerial
 pub mod LinkedText
 pub mod Parts
 pub mod Turns
+pub mod LinkedMeaning

@@ -1,10 +1,11 @@
 -- What a run of a script on two mounts is, in which the callers take turns.
-use Rattle.std.specs.Prelude.{◌≡◌, ℕ, List, slice_get}
+use Rattle.std.specs.Prelude.{◌≡◌, ◌<◌, ◌^◌, ℕ, List, length, slice_get, All}
 use Rattle.call_history.specs.Entries.{by, entries_by, numbered}
 use Rattle.call_history.specs.Placed.{entries_of}
 use Rattle.mount_model.specs.History.{History, IsLegal, NeverWantsMemory}
 use Rattle.mount_model.specs.Port.{PlacedCalls}
 use Rattle.script_lang.specs.declared.commands.Section.{Section}
+use Rattle.reply_text.specs.Ranges.{EntryIsInRange}
 use Rattle.reply_text.specs.Shown.{PlacedShown, shown_history}
 use Rattle.reply_text.specs.declared.notes.Note.{Note}
 use Rattle.fsc_commands.specs.Steps.{Reaches}
@@ -15,23 +16,34 @@ use Rattle.mount_links.specs.declared.step.LinkStep.{LinkStep}
 use Rattle.linked_turns.specs.LinkedSerial.{histories, linked_calls, linked_histories}
 use Rattle.linked_turns.specs.Parts.{AreLinked, HasParts, is_even, parts_0, parts_1}
 
--- the machines could answer so; of the calls that were told, each caller made those of its section; and each
--- history has of them, caller by caller, what is on its mount, and no other calls
-pub record HaveLinkedCalls (lawful : History → Type 0) (seed : List ℕ) (script : List Section)
-    (told : PlacedCalls) (even odd : History) : Type 0 where
-  pub lawful_even : lawful even
-  pub lawful_odd : lawful odd
+-- of the calls that were told, each caller made those of its section; and each history has of them, caller by
+-- caller, what is on its mount, and no other calls. It has fewer entries than there are places, and holds values
+-- of the program alone
+pub record HaveLinkedParts (seed : List ℕ) (script : List Section) (told : PlacedCalls) (even odd : History)
+    : Type 0 where
   pub callers : (caller : ℕ) → IsRunOfCaller seed caller (slice_get script caller) (by caller told)
   pub parts : (caller : ℕ) → (steps : List LinkStep)
       × HasParts (is_even caller) steps (by caller told) (entries_by caller even) (entries_by caller odd)
+  pub short_even : length even < 2 ^ 64
+  pub short_odd : length odd < 2 ^ 64
+  pub ranged_even : All EntryIsInRange even
+  pub ranged_odd : All EntryIsInRange odd
+
+-- the machine of mount 0 could answer as the one history has it, that of mount 1 as the other; and both have
+-- their parts of the callers' calls
+pub record HaveLinkedCalls (lawful_0 lawful_1 : History → Type 0) (seed : List ℕ) (script : List Section)
+    (told : PlacedCalls) (even odd : History) : Type 0 where
+  pub lawful_even : lawful_0 even
+  pub lawful_odd : lawful_1 odd
+  pub linked : HaveLinkedParts seed script told even odd
 
 -- both histories have the calls that callers make in turns, the script's in rotation; each holds of them, in
 -- that order, what is on its mount, and no other calls. Where the one-thread mount could answer so and no call
 -- wanted memory, both are a function of script and seed, and so are the calls
-pub record IsLinkedRun (lawful : History → Type 0) (seed : List ℕ) (script : List Section)
+pub record IsLinkedRun (lawful_0 lawful_1 : History → Type 0) (seed : List ℕ) (script : List Section)
     (even odd : History) : Type 0 where
   pub told : PlacedCalls
-  pub calls : HaveLinkedCalls lawful seed script told even odd
+  pub calls : HaveLinkedCalls lawful_0 lawful_1 seed script told even odd
   pub order : (after : List Waiting) × Reaches (rotation_steps seed script) (entries_of told) (Done after)
   pub steps : List LinkStep
   pub linked : AreLinked steps told
@@ -44,11 +56,11 @@ pub record IsLinkedRun (lawful : History → Type 0) (seed : List ℕ) (script :
 
 -- the entries are what is shown of the histories of such a run, each in order of place; and these are its
 -- notes
-pub record TellsLinkedRun (lawful : History → Type 0) (seed : List ℕ) (script : List Section)
+pub record TellsLinkedRun (lawful_0 lawful_1 : History → Type 0) (seed : List ℕ) (script : List Section)
     (even_shown odd_shown : PlacedShown) (notes : List Note) : Type 0 where
   pub even : History
   pub odd : History
-  pub run : IsLinkedRun lawful seed script even odd
+  pub run : IsLinkedRun lawful_0 lawful_1 seed script even odd
   pub even_in_place : even_shown ≡ numbered 0 (shown_history even)
   pub odd_in_place : odd_shown ≡ numbered 0 (shown_history odd)
   pub noted : notes ≡ notes_by seed 0 script run.told

@@ -9,6 +9,7 @@ use Rattle.fsc_session.specs.Runners.{state_of}
 use Rattle.fsc_session.specs.Rotation.{Waiting}
 use Rattle.mount_links.specs.declared.step.LinkStep.{LinkStep}
 use Rattle.script_runs.specs.Callers as runs
+use Rattle.script_runs.specs.InRange.{AreInRange}
 use Rattle.script_runs.specs.Turns.{Rotates, Taken}
 use Rattle.script_runs.specs.MountPlaces.{At, Goes, Stands}
 use Rattle.linked_turns.specs.declared.runners.LinkedRunner.{LinkedRunner}
@@ -23,16 +24,18 @@ states_of callers = map state_of (runners_of callers)
 abbrev pub sections_of : List LinkedRunner → List Section
 sections_of callers = runs.sections_of (runners_of callers)
 
--- the mounts stand after their entries, which are the runners' alone; and of each runner's calls, whose steps it
--- has, they have their parts
-pub record Rotating {M : Type 0} (leads : History → M → Type 0) (seed : List ℕ) (script : List Section)
-    (whole rest : Steps (List Waiting))
-    (turns : ℕ → ℕ) (callers : List LinkedRunner) (even_mount odd_mount : At M) : Type 0 where
+-- the mounts stand after their entries, which are the runners' alone and in range; and of each runner's calls,
+-- whose steps it has, they have their parts
+pub record Rotating {M N : Type 0} (leads_0 : History → M → Type 0) (leads_1 : History → N → Type 0)
+    (seed : List ℕ) (script : List Section) (whole rest : Steps (List Waiting))
+    (turns : ℕ → ℕ) (callers : List LinkedRunner) (even_mount : At M) (odd_mount : At N) : Type 0 where
   pub told : PlacedCalls
   pub even : PlacedCalls
   pub odd : PlacedCalls
-  pub even_stands : Stands leads even even_mount
-  pub odd_stands : Stands leads odd odd_mount
+  pub even_stands : Stands leads_0 even even_mount
+  pub odd_stands : Stands leads_1 odd odd_mount
+  pub even_ranged : AreInRange even
+  pub odd_ranged : AreInRange odd
   pub rotates : Rotates seed script whole rest turns (runners_of callers) told
   pub parts : (j : ℕ) (caller : LinkedRunner) → slice_get callers j ≡ Some caller
       → HasParts (is_even j) caller.steps.items (by j told) (by j even) (by j odd)
@@ -43,15 +46,17 @@ pub record Rotating {M : Type 0} (leads : History → M → Type 0) (seed : List
   pub odd_is : odd ≡ parts_1 steps told
 
 -- a runner's turn: these calls, and their parts on the mounts
-pub record TurnMade {M : Type 0} (leads : History → M → Type 0) (seed : List ℕ)
-    (even_mount odd_mount : At M) (old : LinkedRunner) (even_mount' odd_mount' : At M) (new : LinkedRunner)
-    : Type 0 where
+pub record TurnMade {M N : Type 0} (leads_0 : History → M → Type 0) (leads_1 : History → N → Type 0)
+    (seed : List ℕ) (even_mount : At M) (odd_mount : At N) (old : LinkedRunner)
+    (even_mount' : At M) (odd_mount' : At N) (new : LinkedRunner) : Type 0 where
   pub made : PlacedCalls
   pub even : PlacedCalls
   pub odd : PlacedCalls
   pub taken : Taken seed old.runner new.runner made
-  pub even_goes : Goes leads old.runner.caller even_mount even even_mount'
-  pub odd_goes : Goes leads old.runner.caller odd_mount odd odd_mount'
+  pub even_goes : Goes leads_0 old.runner.caller even_mount even even_mount'
+  pub odd_goes : Goes leads_1 old.runner.caller odd_mount odd odd_mount'
+  pub even_ranged : AreInRange even
+  pub odd_ranged : AreInRange odd
   pub steps : List LinkStep
   pub kept : new.steps.items ≡ old.steps.items ++ steps
   pub parts : HasParts (is_even old.runner.caller) steps made even odd

@@ -2,6 +2,7 @@
 //! the others on mount 1, from which they reach protectors on mount 0 through links.
 #![tactic(auto)]
 
+mod laws;
 mod log;
 mod mounts;
 mod rotation;
@@ -9,6 +10,7 @@ mod runners;
 mod told;
 mod turn;
 
+pub use laws::linked_logs_have_one_meaning;
 pub use log::linked_log;
 pub use mounts::Mounts;
 pub use rotation::run_linked_in_rotation;

@@ -25,19 +25,19 @@ use std::alloc::{AllocError, Global};
 /// of each caller that has one, then command 1, and so on, each between the gate's two calls. Callers with an
 /// even number work on mount 0, the others on mount 1, whose calls for protectors that are links there go to
 /// mount 0. Both machines stand before any call. The one error is want of memory.
-pub fn run_linked_in_rotation<G: Gate, S: Stretch, M: MountMachine>(
+pub fn run_linked_in_rotation<G: Gate, S: Stretch, M: MountMachine, N: MountMachine>(
     alloc: Global,
     script: &Script,
     seed: &[u8; 32],
     gate: &G,
     stretches: &S,
-    mounts: Mounts<M>,
+    mounts: Mounts<M, N>,
 ) -> Result<LinkedTold, AllocError>
     requires spelled { IsSpelled script.now }
     requires ready { S.ready stretches.now }
     requires leads_even { M.leads [] mounts.even }
-    requires leads_odd { M.leads [] mounts.odd }
-    ensures { IfOk result (λ told. TellsLinkedRun M.lawful seed.now script.now
+    requires leads_odd { N.leads [] mounts.odd }
+    ensures { IfOk result (λ told. TellsLinkedRun M.lawful N.lawful seed.now script.now
         told.even.items told.odd.items told.notes.items) }
 {
     let sections = script.as_slice();
@@ -63,22 +63,22 @@ pub fn run_linked_in_rotation<G: Gate, S: Stretch, M: MountMachine>(
 }
 
 // The callers take so many rounds of turns.
-fn run_rounds<G: Gate, S: Stretch, M: MountMachine>(
+fn run_rounds<G: Gate, S: Stretch, M: MountMachine, N: MountMachine>(
     alloc: Global,
-    mounts: SerialMounts<M>,
+    mounts: SerialMounts<M, N>,
     runners: &mut [LinkedRunner],
     rounds: usize,
     seed: &[u8; 32],
     gate: &G,
     stretches: &S,
-) -> Result<SerialMounts<M>, AllocError>
+) -> Result<SerialMounts<M, N>, AllocError>
     requires ready { S.ready stretches.now }
-    requires begins { Rotating M.leads seed.now (sections_of runners.old)
+    requires begins { Rotating M.leads N.leads seed.now (sections_of runners.old)
         (rounds_steps seed.now rounds 0 (states_of runners.old))
         (rounds_steps seed.now rounds 0 (states_of runners.old))
         (λ j. 0) runners.old
         (at mounts.even.machine mounts.even.places) (at mounts.odd.machine mounts.odd.places) }
-    ensures turned { IfOk result (λ after. Rotating M.leads seed.now (sections_of runners.old)
+    ensures turned { IfOk result (λ after. Rotating M.leads N.leads seed.now (sections_of runners.old)
         (rounds_steps seed.now rounds 0 (states_of runners.old))
         (Done (states_of runners.new))
         (λ j. rounds) runners.new

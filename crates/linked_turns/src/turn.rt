@@ -17,20 +17,24 @@ use fsc_commands::MOST_CALLS;
 use fsc_outside::Gate;
 use mount_links::{LinkPort, LinkStep};
 use mount_shared::{MountMachine, SerialPort};
+use script_runs::RangedPort;
 use std::alloc::{AllocError, Global};
 
+// The port of a caller with an odd number, each of whose calls on either mount is in range.
+type SerialLinks<M, N> = LinkPort<RangedPort<SerialPort<N>>, RangedPort<SerialPort<M>>>;
+
 // The caller's next command, if it has one, on ports of its own and between the gate's two calls.
-pub(crate) fn take_turn<G: Gate, S: Stretch, M: MountMachine>(
+pub(crate) fn take_turn<G: Gate, S: Stretch, M: MountMachine, N: MountMachine>(
     alloc: Global,
-    mounts: SerialMounts<M>,
+    mounts: SerialMounts<M, N>,
     caller: &mut LinkedRunner,
     seed: &[u8; 32],
     gate: &G,
     stretches: &S,
-) -> Result<SerialMounts<M>, AllocError>
+) -> Result<SerialMounts<M, N>, AllocError>
     requires ready { S.ready stretches.now }
     requires asked { AsksRightly caller.old.runner.section }
-    ensures { IfOk result (λ after. TurnMade M.leads seed.now
+    ensures { IfOk result (λ after. TurnMade M.leads N.leads seed.now
         (at mounts.even.machine mounts.even.places) (at mounts.odd.machine mounts.odd.places) caller.old
         (at after.even.machine after.even.places) (at after.odd.machine after.odd.places) caller.new) }
 {
@@ -47,16 +51,16 @@ pub(crate) fn take_turn<G: Gate, S: Stretch, M: MountMachine>(
 }
 
 // The caller's next command, on the mount of its number.
-fn step<S: Stretch, M: MountMachine>(
+fn step<S: Stretch, M: MountMachine, N: MountMachine>(
     alloc: Global,
-    mounts: SerialMounts<M>,
+    mounts: SerialMounts<M, N>,
     caller: &mut LinkedRunner,
     seed: &[u8; 32],
     stretches: &S,
-) -> Result<SerialMounts<M>, AllocError>
+) -> Result<SerialMounts<M, N>, AllocError>
     requires ready { S.ready stretches.now }
     requires asked { AsksRightly caller.old.runner.section }
-    ensures { IfOk result (λ after. TurnMade M.leads seed.now
+    ensures { IfOk result (λ after. TurnMade M.leads N.leads seed.now
         (at mounts.even.machine mounts.even.places) (at mounts.odd.machine mounts.odd.places) caller.old
         (at after.even.machine after.even.places) (at after.odd.machine after.odd.places) caller.new) }
 {
@@ -68,43 +72,44 @@ fn step<S: Stretch, M: MountMachine>(
 }
 
 // The command of a caller with an even number.
-fn step_on_mount_0<S: Stretch, M: MountMachine>(
+fn step_on_mount_0<S: Stretch, M: MountMachine, N: MountMachine>(
     alloc: Global,
-    mounts: SerialMounts<M>,
+    mounts: SerialMounts<M, N>,
     caller: &mut LinkedRunner,
     seed: &[u8; 32],
     stretches: &S,
-) -> Result<SerialMounts<M>, AllocError>
+) -> Result<SerialMounts<M, N>, AllocError>
     requires ready { S.ready stretches.now }
     requires asked { AsksRightly caller.old.runner.section }
     requires even { is_even caller.old.runner.caller ≡ true }
-    ensures { IfOk result (λ after. TurnMade M.leads seed.now
+    ensures { IfOk result (λ after. TurnMade M.leads N.leads seed.now
         (at mounts.even.machine mounts.even.places) (at mounts.odd.machine mounts.odd.places) caller.old
         (at after.even.machine after.even.places) (at after.odd.machine after.odd.places) caller.new) }
 {
     if mounts.even.places > MOST_PLACES - MOST_CALLS {
         return Err(AllocError);
     }
-    let mut port = mounts.even.port(caller.runner.caller(), MOST_CALLS);
+    let port = mounts.even.port(caller.runner.caller(), MOST_CALLS);
+    let mut port = RangedPort::over(port);
     caller.runner.step(alloc, &mut port, stretches, seed)?;
     Ok(SerialMounts {
-        even: port.back(),
+        even: port.back().back(),
         odd: mounts.odd,
     })
 }
 
 // The command of a caller with an odd number.
-fn step_on_both<S: Stretch, M: MountMachine>(
+fn step_on_both<S: Stretch, M: MountMachine, N: MountMachine>(
     alloc: Global,
-    mounts: SerialMounts<M>,
+    mounts: SerialMounts<M, N>,
     caller: &mut LinkedRunner,
     seed: &[u8; 32],
     stretches: &S,
-) -> Result<SerialMounts<M>, AllocError>
+) -> Result<SerialMounts<M, N>, AllocError>
     requires ready { S.ready stretches.now }
     requires asked { AsksRightly caller.old.runner.section }
     requires odd { is_even caller.old.runner.caller ≡ false }
-    ensures { IfOk result (λ after. TurnMade M.leads seed.now
+    ensures { IfOk result (λ after. TurnMade M.leads N.leads seed.now
         (at mounts.even.machine mounts.even.places) (at mounts.odd.machine mounts.odd.places) caller.old
         (at after.even.machine after.even.places) (at after.odd.machine after.odd.places) caller.new) }
 {
@@ -115,11 +120,11 @@ fn step_on_both<S: Stretch, M: MountMachine>(
 
 // The port of a caller with an odd number, on both mounts. Where they have too few places left for its calls, it
 // is as where there is no memory.
-fn link_port<M: MountMachine>(
+fn link_port<M: MountMachine, N: MountMachine>(
     alloc: Global,
-    mounts: SerialMounts<M>,
+    mounts: SerialMounts<M, N>,
     caller: u32,
-) -> Result<LinkPort<SerialPort<M>, SerialPort<M>>, AllocError>
+) -> Result<SerialLinks<M, N>, AllocError>
     ensures { IfOk result (λ port. port ≡ link_view
         (serial_view mounts.odd.machine mounts.odd.places caller (2 * MOST_CALLS))
         (serial_view mounts.even.machine mounts.even.places caller MOST_CALLS) MOST_CALLS []) }
@@ -131,14 +136,19 @@ fn link_port<M: MountMachine>(
     }
     let own = mounts.odd.port(caller, 2 * MOST_CALLS);
     let far = mounts.even.port(caller, MOST_CALLS);
-    LinkPort::new(alloc, own, far, MOST_CALLS)
+    LinkPort::new(
+        alloc,
+        RangedPort::over(own),
+        RangedPort::over(far),
+        MOST_CALLS,
+    )
 }
 
 // The mounts of such a port. What became of each call that was made on it comes behind these steps.
-fn mounts_back<M: MountMachine>(
-    port: LinkPort<SerialPort<M>, SerialPort<M>>,
+fn mounts_back<M: MountMachine, N: MountMachine>(
+    port: SerialLinks<M, N>,
     steps: &mut Vec<LinkStep>,
-) -> Result<SerialMounts<M>, AllocError>
+) -> Result<SerialMounts<M, N>, AllocError>
     ensures even { IfOk result (λ mounts. (mounts.even.machine ≡ port.far.machine)
         × (mounts.even.places ≡ port.far.places)) }
     ensures odd { IfOk result (λ mounts. (mounts.odd.machine ≡ port.own.machine)
@@ -148,7 +158,7 @@ fn mounts_back<M: MountMachine>(
     let (own, far, mut made) = port.back();
     steps.append(&mut made)?;
     Ok(SerialMounts {
-        even: far.back(),
-        odd: own.back(),
+        even: far.back().back(),
+        odd: own.back().back(),
     })
 }

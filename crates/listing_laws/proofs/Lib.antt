@@ -7,3 +7,4 @@ pub mod FormLemmas
 pub mod RisingLemmas
 pub mod RuleLemmas
 pub mod NonceLemmas
+pub mod SizeLemmas

@@ -1,5 +1,5 @@
 -- Where no caller awaits anything, the history is a run, whose notes are the callers'; and else it is none.
-use Rattle.std.proofs.Common.{◌≡◌, ℕ, suc, ◌+◌, List, [], ◌∷◌, ◌++◌, length, Option, Some, None, refl, ap, ap₂, sym, ◌∙◌, subst, arith, get_or, add-zero}
+use Rattle.std.proofs.Common.{◌≡◌, ℕ, Bool, suc, ◌+◌, List, [], ◌∷◌, ◌++◌, length, Option, Some, None, refl, ap, ap₂, sym, ◌∙◌, subst, arith, get_or, add-zero}
 use Rattle.std.specs.Prelude.{All, slice_get, option_map}
 use Rattle.std.specs.List.{flat_map}
 use Rattle.std.proofs.lemmas.Option.{slice_get_within, get_or_from_slice_get, slice_get-get_or}
@@ -26,7 +26,7 @@ use Rattle.log_check.proofs.StopLemmas.{certified, refused}
 some_same : {A : Type 0} {x y : A} → Some x ≡ Some y → x ≡ y
 some_same same = cc same
 
-abbrev AwaitNothing : List CallerView → Type 0
+abbrev pub AwaitNothing : List CallerView → Type 0
 AwaitNothing callers = All (λ (caller : CallerView). caller.waiting ≡ None) callers
 
 -- one of them
@@ -45,7 +45,7 @@ caller_ran seed script h n caller section own is none =
     (subst (λ (k : ℕ). IsRunOfSection seed k caller.section (entries_by n h) × (caller.notes ≡ notes_of_section seed k caller.section (entries_by n h))) own.numbered
     (own.awaits.whole none))
 
-ended_run : (seed : List ℕ) (script : List Section) (h : History) (callers : List CallerView) → Follows seed script h → AreCallers seed script h callers
+pub ended_run : (seed : List ℕ) (script : List Section) (h : History) (callers : List CallerView) → Follows seed script h → AreCallers seed script h callers
     → AwaitNothing callers → IsRunOf seed script h
 ended_run seed script h callers follows are nothing c = by_section (slice_get script c) refl (follows c)
   where
@@ -73,7 +73,7 @@ notes_alike seed k (section ∷ sections) (caller ∷ callers) placed long each 
     let next : k + suc i ≡ k + 1 + i = omega arith in
     each (suc i) other its here there ∙ ap (λ (n : ℕ). notes_of_section seed n its (by n placed)) next))
 
-ended_notes : (seed : List ℕ) (script : List Section) (h : History) (callers : List CallerView) → AreCallers seed script h callers
+pub ended_notes : (seed : List ℕ) (script : List Section) (h : History) (callers : List CallerView) → AreCallers seed script h callers
     → AwaitNothing callers → notes_of seed script h ≡ flat_map (λ (caller : CallerView). caller.notes) callers
 ended_notes seed script h callers are nothing =
     notes_alike seed 0 script callers (numbered 0 h) are.many (λ i caller section here there.
@@ -99,16 +99,17 @@ run_ended seed script h callers are run n d within =
 
 -- ---- the verdict
 
-pub ends_certified : (seed : List ℕ) (script : List Section) (text : List ℕ) (place : ℕ) (rest : List ℕ) (h : History) (callers : List CallerView)
-    → IsRead seed script text place rest h → AreCallers seed script h callers → IsEnded callers rest → IsCertified seed script text
-ends_certified seed script text place rest h callers read are ended =
-    certified seed script text place rest h read (ended_run seed script h callers read.follows are ended.0)
-    (ended.1 ∙ ap notes_text (sym (ended_notes seed script h callers are ended.0)))
+module _ (strict : Bool) where
+  pub ends_certified : (seed : List ℕ) (script : List Section) (text : List ℕ) (place : ℕ) (rest : List ℕ) (h : History) (callers : List CallerView)
+      → IsRead strict seed script text place rest h → AreCallers seed script h callers → IsEnded callers rest → IsCertified strict seed script text
+  ends_certified seed script text place rest h callers read are ended =
+      certified strict seed script text place rest h read (ended_run seed script h callers read.follows are ended.0)
+      (ended.1 ∙ ap notes_text (sym (ended_notes seed script h callers are ended.0)))
 
-pub ends_refused : (seed : List ℕ) (script : List Section) (text : List ℕ) (place : ℕ) (rest : List ℕ) (h : History) (callers : List CallerView)
-    → IsRead seed script text place rest h → AreCallers seed script h callers → IsBlocked seed script h place rest → (IsEnded callers rest → ⊥)
-    → IsRefusedAt seed script text place
-ends_refused seed script text place rest h callers read are blocked not_ended =
-    refused seed script text place rest h read blocked (λ run notes.
-    let nothing = run_ended seed script h callers are run in
-    not_ended (nothing, notes ∙ ap notes_text (ended_notes seed script h callers are nothing)))
+  pub ends_refused : (seed : List ℕ) (script : List Section) (text : List ℕ) (place : ℕ) (rest : List ℕ) (h : History) (callers : List CallerView)
+      → IsRead strict seed script text place rest h → AreCallers seed script h callers → IsBlocked strict seed script h place rest → (IsEnded callers rest → ⊥)
+      → IsRefusedAt strict seed script text place
+  ends_refused seed script text place rest h callers read are blocked not_ended =
+      refused strict seed script text place rest h read blocked (λ run notes.
+      let nothing = run_ended seed script h callers are run in
+      not_ended (nothing, notes ∙ ap notes_text (ended_notes seed script h callers are nothing)))

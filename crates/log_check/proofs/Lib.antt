@@ -1,5 +1,5 @@
-pub mod AskedLemmas
 pub mod BeginningLemmas
+pub mod DueLemmas
 pub mod EndLemmas
 pub mod FollowLemmas
 pub mod HeadLemmas

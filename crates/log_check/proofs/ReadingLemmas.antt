@@ -1,5 +1,5 @@
 -- Who has the next line, and what a line that was read, or wasn't, makes of the callers.
-use Rattle.std.proofs.Common.{◌≡◌, ◌≢◌, ◌<◌, ◌^◌, ℕ, ◌+◌, List, [], ◌∷◌, ◌++◌, length, Option, Some, None, refl, ap, sym, ◌∙◌, subst, arith, ⊎_elim, append_assoc, length-append, get_or}
+use Rattle.std.proofs.Common.{◌≡◌, ◌≢◌, ◌<◌, ◌^◌, ℕ, Bool, ◌+◌, List, [], ◌∷◌, ◌++◌, length, Option, Some, None, refl, ap, sym, ◌∙◌, subst, arith, ⊎_elim, append_assoc, length-append, get_or}
 use Rattle.std.specs.Prelude.{All, slice_get, option_map, codes}
 use Rattle.std.proofs.Math.ListN.{set}
 use Rattle.std.proofs.lemmas.Bool.{cases_eq}
@@ -10,6 +10,8 @@ use Rattle.call_history.specs.Entries.{entry}
 use Rattle.call_history.specs.Placed.{entries_of}
 use Rattle.mount_model.specs.declared.call.Call.{Call}
 use Rattle.mount_model.specs.declared.reply.Reply.{Reply}
+use Rattle.mount_model.specs.declared.reply.Reply.TheVariants.{Refused}
+use Rattle.mount_model.specs.declared.reply.Refusal.TheVariants.{NoMemory}
 use Rattle.mount_model.specs.Port.{PlacedCalls}
 use Rattle.mount_model.specs.History.{MountEntry, History, entries_by}
 use Rattle.mount_model.specs.Lawful.{IsLawful}
@@ -23,11 +25,14 @@ use Rattle.next_calls.specs.EntriesSoFar.{Awaits}
 use Rattle.log_check.specs.Certificate.{IsPossible, BeginsWith}
 use Rattle.log_check.specs.NextLines.{IsWhose}
 use Rattle.log_check.specs.Reading.{IsCaller, StandBehind}
-use Rattle.log_check.specs.Replies.{IsReplied, IsUnreplied}
+use Rattle.log_check.specs.Replies.{IsReplied, IsUnreplied, ReplyHasMemory}
 use Rattle.log_check.specs.Stops.{IsRead, IsBlocked}
 use Rattle.log_check.proofs.FollowLemmas.{follows_next, follows_on, entries_by-own, entries_by-other}
 use Rattle.log_check.proofs.HeadLemmas.{has_head, same_caller}
 use Rattle.log_check.proofs.StopLemmas.{log-next}
+
+abbrev HasReply : MountEntry → Type 0
+HasReply e = e.reply ≢ Refused NoMemory
 
 abbrev pub pair : ℕ → Call → ℕ × Call
 pair who call = (who, call)
@@ -73,9 +78,9 @@ is_there callers number read caller at here = at ∙ get_or_from_slice_get calle
 
 -- ---- the next entry is its caller's next call
 
-module _ {M : Type 0} (led : History → M → Type 0) where
+module _ {M : Type 0} (strict : Bool) (led : History → M → Type 0) where
   waits_for : (seed : List ℕ) (script : List Section) (h : History) (callers : List CallerView) (mount : M) (e : MountEntry)
-      → StandBehind led seed script h callers mount → IsPossible seed script (h ++ e ∷ [])
+      → StandBehind led seed script h callers mount → IsPossible strict seed script (h ++ e ∷ [])
       → (caller : CallerView) × (slice_get callers e.who ≡ Some caller) × (caller.waiting ≡ Some e.call) × (caller.caller ≡ e.who)
   waits_for seed script h callers mount e stand possible =
       let next = follows_next seed script h e possible.follows in
@@ -91,7 +96,7 @@ module _ {M : Type 0} (led : History → M → Type 0) where
 
   -- where no caller has the line that the text begins with, nothing goes on
   pub blocked_unheard : (seed : List ℕ) (script : List Section) (place : ℕ) (text : List ℕ) (h : History) (callers : List CallerView) (mount : M)
-      → IsWhose callers place text None → StandBehind led seed script h callers mount → IsBlocked seed script h place text
+      → IsWhose callers place text None → StandBehind led seed script h callers mount → IsBlocked strict seed script h place text
   blocked_unheard seed script place text h callers mount whose stand e possible begins =
       let waits = waits_for seed script h callers mount e stand possible in
       whose e.who waits.0 waits.1 e.call waits.2
@@ -100,8 +105,8 @@ module _ {M : Type 0} (led : History → M → Type 0) where
   -- nor where a caller has, but the mount has no reply of such a line
   pub blocked_unreplied : (seed : List ℕ) (script : List Section) (place : ℕ) (text : List ℕ) (h : History) (callers : List CallerView) (mount : M)
       (number who : ℕ) (call : Call) → who < 2 ^ 64 → ((caller : CallerView) → slice_get callers number ≡ Some caller → who ≡ caller.caller)
-      → IsWhose callers place text (Some (pair number call)) → IsUnreplied led mount text place who call
-      → StandBehind led seed script h callers mount → IsBlocked seed script h place text
+      → IsWhose callers place text (Some (pair number call)) → IsUnreplied strict led mount text place who call
+      → StandBehind led seed script h callers mount → IsBlocked strict seed script h place text
   blocked_unreplied seed script place text h callers mount number who call small known whose so stand e possible begins =
       let found : CallerView = whose.0 in
       let same : who ≡ found.caller = known found whose.1 in
@@ -112,11 +117,11 @@ module _ {M : Type 0} (led : History → M → Type 0) where
       let at : waits.0 ≡ found = some_same (sym waits.1 ∙ ap (slice_get callers) (sym is_who ∙ own.numbered) ∙ whose.1) in
       let asks : e.call ≡ call = some_same (sym waits.2 ∙ ap (λ (c : CallerView). c.waiting) at ∙ whose.2.0) in
       let who_is : e.who ≡ who = sym is_who ∙ sym same in
-      let may : IsPossible seed script (h ++ entry who call e.reply ∷ []) =
-      subst (λ (c : Call). IsPossible seed script (h ++ entry who c e.reply ∷ [])) asks (subst (λ (n : ℕ). IsPossible seed script (h ++ entry n e.call e.reply ∷ [])) who_is possible) in
+      let may : IsPossible strict seed script (h ++ entry who call e.reply ∷ []) =
+      subst (λ (c : Call). IsPossible strict seed script (h ++ entry who c e.reply ∷ [])) asks (subst (λ (n : ℕ). IsPossible strict seed script (h ++ entry n e.call e.reply ∷ [])) who_is possible) in
       let line : BeginsWith text (entry_text place (entry who call e.reply)) =
       subst (λ (c : Call). BeginsWith text (entry_text place (entry who c e.reply))) asks (subst (λ (n : ℕ). BeginsWith text (entry_text place (entry n e.call e.reply))) who_is begins) in
-      so h stand.led_to e.reply may.legal may.agree line
+      so h stand.led_to e.reply may.legal may.agree (λ yes. last_of HasReply h e (possible.memory yes)) line
 
 -- ---- a line that was read
 
@@ -146,17 +151,17 @@ told_caller seed script h number old new call reply waits takes own = record {
       (takes.2 (entries_by number h) (length h) call own.awaits waits);
 }
 
-next_of_caller : (seed : List ℕ) (script : List Section) (h : History) (number : ℕ) (caller : CallerView) (call : Call) → caller.waiting ≡ Some call
+pub next_of_caller : (seed : List ℕ) (script : List Section) (h : History) (number : ℕ) (caller : CallerView) (call : Call) → caller.waiting ≡ Some call
     → IsCaller seed script h number caller → next_call seed number caller.section (entries_of (entries_by number h)) ≡ Some (pair number call)
 next_of_caller seed script h number caller call waits own =
     ap (λ (n : ℕ). next_call seed n caller.section (entries_of (entries_by number h))) (sym own.numbered) ∙ own.awaits.comes
     ∙ ap (λ (o : Option Call). option_map (λ (c : Call). pair caller.caller c) o) waits ∙ ap (λ (n : ℕ). Some (pair n call)) own.numbered
 
-read_on : (seed : List ℕ) (script : List Section) (whole text rest : List ℕ) (place : ℕ) (h : History) (number : ℕ) (caller : CallerView) (call : Call) (reply : Reply)
-    → IsRead seed script whole place text h → place + 1 < 2 ^ 64 → IsCaller seed script h number caller → caller.waiting ≡ Some call
-    → text ≡ entry_text place (entry number call reply) ++ rest → EntryIsInRange (entry number call reply) → IsLawful (h ++ entry number call reply ∷ [])
-    → IsRead seed script whole (place + 1) rest (h ++ entry number call reply ∷ [])
-read_on seed script whole text rest place h number caller call reply read small own waits line range lawful = record {
+read_on : (strict : Bool) (seed : List ℕ) (script : List Section) (whole text rest : List ℕ) (place : ℕ) (h : History) (number : ℕ) (caller : CallerView) (call : Call) (reply : Reply)
+    → IsRead strict seed script whole place text h → place + 1 < 2 ^ 64 → IsCaller seed script h number caller → caller.waiting ≡ Some call
+    → text ≡ entry_text place (entry number call reply) ++ rest → EntryIsInRange (entry number call reply) → IsLawful (h ++ entry number call reply ∷ []) → ReplyHasMemory strict reply
+    → IsRead strict seed script whole (place + 1) rest (h ++ entry number call reply ∷ [])
+read_on strict seed script whole text rest place h number caller call reply read small own waits line range lawful memory = record {
   read = read.read ∙ ap (λ l. log_text h ++ l) (line ∙ ap (λ n. entry_text n e ++ rest) (sym read.long))
       ∙ sym (append_assoc (log_text h) (entry_text (length h) e) rest) ∙ ap (λ l. l ++ rest) (sym (log-next h e));
   long = let sum = length-append h (e ∷ []) in let long = read.long in omega (arith, sum, long);
@@ -164,15 +169,16 @@ read_on seed script whole text rest place h number caller call reply read small 
   follows = follows_on seed script h number caller.section call reply read.follows own.section (next_of_caller seed script h number caller call waits own);
   in_range = All-append EntryIsInRange h (e ∷ []) read.in_range (All-cons EntryIsInRange e [] range (All-nil EntryIsInRange));
   lawful = lawful;
+  memory = λ yes. All-append HasReply h (e ∷ []) (read.memory yes) (All-cons HasReply e [] (memory yes) (All-nil HasReply));
 }
   where
     e : MountEntry
     e = entry number call reply
 
-module _ {M : Type 0} (led : History → M → Type 0) (led_lawful : (h : History) (mount : M) → led h mount → IsLawful h) where
+module _ {M : Type 0} (strict : Bool) (led : History → M → Type 0) (led_lawful : (h : History) (mount : M) → led h mount → IsLawful h) where
   stand_on : (seed : List ℕ) (script : List Section) (text rest : List ℕ) (place : ℕ) (h : History) (callers : List CallerView) (old new : M)
       (number : ℕ) (caller caller' : CallerView) (call : Call) (reply : Reply) → slice_get callers number ≡ Some caller → caller.waiting ≡ Some call
-      → TakesReply seed call reply caller caller' → IsReplied led old new text place number call reply rest
+      → TakesReply seed call reply caller caller' → IsReplied strict led old new text place number call reply rest
       → StandBehind led seed script h callers old → StandBehind led seed script (h ++ entry number call reply ∷ []) (set callers number caller') new
   stand_on seed script text rest place h callers old new number caller caller' call reply here waits takes replied stand = record {
     led_to = replied.led_to h stand.led_to;
@@ -195,17 +201,17 @@ module _ {M : Type 0} (led : History → M → Type 0) (led_lawful : (h : Histor
       (number who : ℕ) (caller' : CallerView) (call : Call) (reply : Reply) → place + 1 < 2 ^ 64
       → ((caller : CallerView) → slice_get callers number ≡ Some caller → (who ≡ caller.caller) × TakesReply seed call reply caller caller')
       → callers' ≡ set callers number caller'
-      → IsWhose callers place text (Some (pair number call)) → IsReplied led old new text place who call reply rest
-      → IsRead seed script whole place text h → StandBehind led seed script h callers old
-      → (e : MountEntry) × IsRead seed script whole (place + 1) rest (h ++ e ∷ []) × StandBehind led seed script (h ++ e ∷ []) callers' new
+      → IsWhose callers place text (Some (pair number call)) → IsReplied strict led old new text place who call reply rest
+      → IsRead strict seed script whole place text h → StandBehind led seed script h callers old
+      → (e : MountEntry) × IsRead strict seed script whole (place + 1) rest (h ++ e ∷ []) × StandBehind led seed script (h ++ e ∷ []) callers' new
   line_read seed script whole text rest place h callers callers' old new number who caller' call reply small known written whose replied read stand =
       let found : CallerView = whose.0 in
       let told = known found whose.1 in
       let own = stand.own.each number found whose.1 in
-      let given : IsReplied led old new text place number call reply rest =
-      subst (λ (n : ℕ). IsReplied led old new text place n call reply rest) (told.0 ∙ own.numbered) replied in
+      let given : IsReplied strict led old new text place number call reply rest =
+      subst (λ (n : ℕ). IsReplied strict led old new text place n call reply rest) (told.0 ∙ own.numbered) replied in
       let after = stand_on seed script text rest place h callers old new number found caller' call reply whose.1 whose.2.0 told.1 given stand in (
         entry number call reply,
-        read_on seed script whole text rest place h number found call reply read small own whose.2.0 given.line given.in_range (led_lawful (h ++ entry number call reply ∷ []) new after.led_to),
+        read_on strict seed script whole text rest place h number found call reply read small own whose.2.0 given.line given.in_range (led_lawful (h ++ entry number call reply ∷ []) new after.led_to) given.memory,
         subst (λ (cs : List CallerView). StandBehind led seed script (h ++ entry number call reply ∷ []) cs new) (sym written) after,
       )

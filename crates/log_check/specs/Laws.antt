@@ -1,5 +1,5 @@
 -- Laws of histories that go on.
-use Rattle.std.specs.Prelude.{◌≡◌, ◌⊎◌, ℕ, IsTrue, List, [], ◌∷◌, ◌++◌, slice_get, Some, All}
+use Rattle.std.specs.Prelude.{◌≡◌, ◌⊎◌, ℕ, Bool, IsTrue, List, [], ◌∷◌, ◌++◌, slice_get, Some, All}
 use Rattle.call_history.specs.Entries.{entry}
 use Rattle.call_history.specs.Placed.{entries_of}
 use Rattle.mount_model.specs.declared.call.Call.{Call}
@@ -7,14 +7,14 @@ use Rattle.mount_model.specs.declared.reply.Reply.{Reply}
 use Rattle.mount_model.specs.declared.reply.Reply.TheVariants.{Refused}
 use Rattle.mount_model.specs.declared.reply.Refusal.TheVariants.{NoMemory}
 use Rattle.mount_model.specs.History.{History, IsLegal, entries_by}
-use Rattle.mount_model.specs.Lawful.{IsLawful}
+use Rattle.mount_model.specs.Lawful.{IsLawful, KeysAgree}
 use Rattle.mount_model.specs.Step.{takes_memory}
 use Rattle.script_lang.specs.declared.commands.Section.{Section}
 use Rattle.reply_text.specs.Ranges.{EntryIsInRange}
 use Rattle.fsc_session.specs.Session.{next_call}
 use Rattle.fsc_session.specs.ScriptRun.{IsRunOf}
 use Rattle.fsc_session.specs.Meaning.{Follows, whole_log}
-use Rattle.log_check.specs.Certificate.{AskedKeysAgree}
+use Rattle.log_check.specs.Certificate.{HasMemory}
 use Rattle.log_check.specs.Verdicts.{IsRefusedAt}
 
 -- a history that follows a script goes on by a caller's next call, whatever is replied to it
@@ -34,9 +34,10 @@ MountsHaveOneReply =
     → (a ≡ b) ⊎ (IsTrue (takes_memory call.op) × ((a ≡ Refused NoMemory) ⊎ (b ≡ Refused NoMemory)))
 
 -- the log of a lawful run, with its notes, is refused at no place, where its entries are in range and the raw
--- keys that it asks to add agree: so what a program wrote of a run of its own checks
+-- keys that were added agree: so what a program wrote of a run of its own checks, and strictly where nothing in
+-- the run was out of memory
 abbrev pub LogsOfRunsAreNotRefused : Type 0
 LogsOfRunsAreNotRefused =
-    (seed : List ℕ) (script : List Section) (history : History) (place : ℕ) → IsRunOf seed script history
-    → IsLawful history → All EntryIsInRange history → AskedKeysAgree history
-    → ¬ IsRefusedAt seed script (whole_log seed script history) place
+    (strict : Bool) (seed : List ℕ) (script : List Section) (history : History) (place : ℕ)
+    → IsRunOf seed script history → IsLawful history → All EntryIsInRange history → KeysAgree history
+    → HasMemory strict history → ¬ IsRefusedAt strict seed script (whole_log seed script history) place

@@ -1,4 +1,6 @@
 pub mod Certificate
+pub mod Due
+pub mod DueCallers
 pub mod Endings
 pub mod Laws
 pub mod NextLines

@@ -32,16 +32,16 @@ IsWhose callers place text (Some found) =
 
 -- where a line was read, the callers and the mount stand behind the history with one entry more, whose line
 -- the text began with; where none was, all is as before, but for the mount, and no entry goes on by such a line
-abbrev pub IsLineRead : {M : Type 0} → (History → M → Type 0) → List ℕ → List CallerView → ℕ → List ℕ → M
-    → List CallerView → ℕ → List ℕ → M → Bool → Type 0
-IsLineRead led seed callers place text mount callers' place' text' mount' true =
+abbrev pub IsLineRead : {M : Type 0} → Bool → (History → M → Type 0) → List ℕ → List CallerView → ℕ → List ℕ
+    → M → List CallerView → ℕ → List ℕ → M → Bool → Type 0
+IsLineRead strict led seed callers place text mount callers' place' text' mount' true =
     (length text' < length text) × (place' ≡ place + 1)
     × ((script : List Section) (whole : List ℕ) (history : History)
-    → IsRead seed script whole place text history → StandBehind led seed script history callers mount
-    → (e : MountEntry) × IsRead seed script whole place' text' (history ++ e ∷ [])
+    → IsRead strict seed script whole place text history → StandBehind led seed script history callers mount
+    → (e : MountEntry) × IsRead strict seed script whole place' text' (history ++ e ∷ [])
     × StandBehind led seed script (history ++ e ∷ []) callers' mount')
-IsLineRead led seed callers place text mount callers' place' text' mount' false =
+IsLineRead strict led seed callers place text mount callers' place' text' mount' false =
     (callers' ≡ callers) × (place' ≡ place) × (text' ≡ text)
     × ((script : List Section) (whole : List ℕ) (history : History)
-    → IsRead seed script whole place text history → StandBehind led seed script history callers mount
-    → IsBlocked seed script history place text)
+    → IsRead strict seed script whole place text history → StandBehind led seed script history callers mount
+    → IsBlocked strict seed script history place text)

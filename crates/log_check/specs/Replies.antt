@@ -1,26 +1,34 @@
 -- What a text says that a call was replied, and what a mount may reply.
-use Rattle.std.specs.Prelude.{◌≡◌, ℕ, List, [], ◌∷◌, ◌++◌}
+use Rattle.std.specs.Prelude.{◌≡◌, ◌≢◌, ℕ, Bool, IsTrue, List, [], ◌∷◌, ◌++◌}
 use Rattle.call_history.specs.Entries.{entry}
 use Rattle.mount_model.specs.declared.call.Call.{Call}
 use Rattle.mount_model.specs.declared.reply.Reply.{Reply}
+use Rattle.mount_model.specs.declared.reply.Reply.TheVariants.{Refused}
+use Rattle.mount_model.specs.declared.reply.Refusal.TheVariants.{NoMemory}
 use Rattle.mount_model.specs.History.{History, IsLegal}
+use Rattle.mount_model.specs.Lawful.{KeysAgree}
 use Rattle.reply_text.specs.Log.{entry_text}
 use Rattle.reply_text.specs.Ranges.{EntryIsInRange}
-use Rattle.log_check.specs.Certificate.{AskedKeysAgree, BeginsWith}
+use Rattle.log_check.specs.Certificate.{BeginsWith}
+
+-- where it is strict, the reply isn't want of memory
+abbrev pub ReplyHasMemory : Bool → Reply → Type 0
+ReplyHasMemory strict reply = IsTrue strict → reply ≢ Refused NoMemory
 
 -- the text begins with the line of this reply to the caller's call, and behind it stands the rest; and which
 -- history may have led to the mount before, that one with this entry may have led to it now
-pub record IsReplied {M : Type 0} (led : History → M → Type 0) (old new : M) (text : List ℕ)
+pub record IsReplied {M : Type 0} (strict : Bool) (led : History → M → Type 0) (old new : M) (text : List ℕ)
     (place caller : ℕ) (call : Call) (reply : Reply) (rest : List ℕ) : Type 0 where
   pub line : text ≡ entry_text place (entry caller call reply) ++ rest
   pub in_range : EntryIsInRange (entry caller call reply)
+  pub memory : ReplyHasMemory strict reply
   pub led_to : (history : History) → led history old → led (history ++ entry caller call reply ∷ []) new
 
 -- behind a history that may have led to the mount, the text begins with no line of a reply that the
 -- one-thread mount may have to the caller's call
-abbrev pub IsUnreplied : {M : Type 0} → (History → M → Type 0) → M → List ℕ → ℕ → ℕ → Call → Type 0
-IsUnreplied led mount text place caller call =
+abbrev pub IsUnreplied : {M : Type 0} → Bool → (History → M → Type 0) → M → List ℕ → ℕ → ℕ → Call → Type 0
+IsUnreplied strict led mount text place caller call =
     (history : History) → led history mount → (reply : Reply)
     → IsLegal (history ++ entry caller call reply ∷ [])
-    → AskedKeysAgree (history ++ entry caller call reply ∷ [])
+    → KeysAgree (history ++ entry caller call reply ∷ []) → ReplyHasMemory strict reply
     → ¬ BeginsWith text (entry_text place (entry caller call reply))

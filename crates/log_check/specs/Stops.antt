@@ -1,5 +1,5 @@
 -- Where a text that was read up to a place goes on as no log does.
-use Rattle.std.specs.Prelude.{◌≡◌, ◌≢◌, ◌<◌, ◌^◌, ℕ, List, [], ◌∷◌, ◌++◌, length, All}
+use Rattle.std.specs.Prelude.{◌≡◌, ◌≢◌, ◌<◌, ◌^◌, ℕ, Bool, List, [], ◌∷◌, ◌++◌, length, All}
 use Rattle.mount_model.specs.History.{MountEntry, History}
 use Rattle.mount_model.specs.Lawful.{IsLawful}
 use Rattle.script_lang.specs.declared.commands.Section.{Section}
@@ -8,22 +8,24 @@ use Rattle.reply_text.specs.Notes.{notes_text}
 use Rattle.reply_text.specs.Ranges.{EntryIsInRange}
 use Rattle.fsc_session.specs.ScriptRun.{IsRunOf, notes_of}
 use Rattle.fsc_session.specs.Meaning.{Follows}
-use Rattle.log_check.specs.Certificate.{IsPossible, BeginsWith}
+use Rattle.log_check.specs.Certificate.{HasMemory, IsPossible, BeginsWith}
 
 -- so many entries of a history were read from the text, and this is the rest of it
-pub record IsRead (seed : List ℕ) (script : List Section) (text : List ℕ) (place : ℕ) (rest : List ℕ)
-    (history : History) : Type 0 where
+pub record IsRead (strict : Bool) (seed : List ℕ) (script : List Section) (text : List ℕ) (place : ℕ)
+    (rest : List ℕ) (history : History) : Type 0 where
   pub read : text ≡ log_text history ++ rest
   pub long : length history ≡ place
   pub small : place < 2 ^ 64
   pub follows : Follows seed script history
   pub in_range : All EntryIsInRange history
   pub lawful : IsLawful history
+  pub memory : HasMemory strict history
 
 -- no entry goes on behind the history, whose line the rest begins with
-abbrev pub IsBlocked : List ℕ → List Section → History → ℕ → List ℕ → Type 0
-IsBlocked seed script history place rest =
-    (e : MountEntry) → IsPossible seed script (history ++ e ∷ []) → ¬ BeginsWith rest (entry_text place e)
+abbrev pub IsBlocked : Bool → List ℕ → List Section → History → ℕ → List ℕ → Type 0
+IsBlocked strict seed script history place rest =
+    (e : MountEntry) → IsPossible strict seed script (history ++ e ∷ [])
+    → ¬ BeginsWith rest (entry_text place e)
 
 -- the history is no run of the script that has the rest for its notes
 abbrev pub IsUnended : List ℕ → List Section → History → List ℕ → Type 0

@@ -26,12 +26,13 @@ pub enum Verdict {
 ///
 /// The callers' calls are made anew from what the text says they were replied, the mount answers each, and
 /// the line that comes of it is compared. Where the text has `refused no-memory` for a call that may take
-/// memory, the mount is not asked. `Certified` comes where the text is a log, and else `Refused`, with the
-/// number of lines that can be of one. The one error is want of memory: the check's own, or the mount's where
-/// the text says that the call was answered. Then nothing is said of the text.
+/// memory, the mount is not asked; a strict check takes no such line. `Certified` comes where the text is a log,
+/// and else `Refused`, with the number of lines that can be of one. The one error is want of memory: the check's
+/// own, or the mount's where it is asked. Then nothing is said of the text.
 pub fn check_log<S: Stretch, T: OneThread>(
     alloc: Global,
     stretches: &S,
+    strict: bool,
     script: &Script,
     seed: &[u8; 32],
     text: &[u8],
@@ -40,10 +41,10 @@ pub fn check_log<S: Stretch, T: OneThread>(
     requires ready { S.ready stretches.now }
     requires spelled { IsSpelled script.now }
     requires led { T.led [] mount.old }
-    ensures { IfOk result (Says seed.now script.now text.now) }
+    ensures { IfOk result (Says strict seed.now script.now text.now) }
 {
     let ways = remembering_ways(alloc, stretches, script.len())?;
-    let said = read_log(alloc, ways.as_slice(), script, seed, text, mount);
+    let said = read_log(alloc, ways.as_slice(), strict, script, seed, text, mount);
     forget(ways);
     scrub_stack();
     said
@@ -53,6 +54,7 @@ pub fn check_log<S: Stretch, T: OneThread>(
 fn read_log<'w, S: Stretch, T: OneThread>(
     alloc: Global,
     ways: &[Remembering<'w, S>],
+    strict: bool,
     script: &Script,
     seed: &[u8; 32],
     text: &[u8],
@@ -62,7 +64,7 @@ fn read_log<'w, S: Stretch, T: OneThread>(
     requires ways { length ways.now ≡ length script.now }
     requires spelled { IsSpelled script.now }
     requires led { T.led [] mount.old }
-    ensures { IfOk result (Says seed.now script.now text.now) }
+    ensures { IfOk result (Says strict seed.now script.now text.now) }
 {
     let mut reading = Reading {
         callers: begin_callers(alloc, ways, script, seed)?,
@@ -70,7 +72,7 @@ fn read_log<'w, S: Stretch, T: OneThread>(
         rest: text,
     };
     'lines: loop {
-        if !reading.read_line(alloc, ways, seed, mount)? {
+        if !reading.read_line(alloc, strict, ways, seed, mount)? {
             let said = reading.verdict(alloc);
             forget_callers(alloc, reading.callers);
             return said;

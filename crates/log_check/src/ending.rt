@@ -38,7 +38,7 @@ fn await_nothing<'a>(callers: &[Caller<'a>]) -> bool
 }
 
 // The lines of their notes, caller after caller.
-fn notes_of<'a>(alloc: Global, callers: &[Caller<'a>]) -> Result<Bytes, AllocError>
+pub(crate) fn notes_of<'a>(alloc: Global, callers: &[Caller<'a>]) -> Result<Bytes, AllocError>
     ensures { IfOk result (λ text. text ≡ notes_text (flat_map (λ caller. caller.notes) callers.now)) }
 {
     let mut text = Vec::new(alloc);

@@ -13,7 +13,7 @@ pub fn mounts_have_one_reply()
 {}
 
 /// The log of a run, with its notes, is never refused, where the run is lawful, its entries are in range, and
-/// no two different raw keys that it asks to add share an identifier.
+/// no two different raw keys that were added share an identifier.
 pub fn logs_of_runs_are_not_refused()
     ensures { LogsOfRunsAreNotRefused }
 {}

@@ -3,6 +3,7 @@
 #![tactic(auto)]
 
 mod check;
+mod due;
 mod ending;
 mod laws;
 mod lines;
@@ -13,5 +14,6 @@ mod start;
 mod whose;
 
 pub use check::{Verdict, check_log};
+pub use due::{Due, due_behind};
 pub use laws::{logs_of_runs_are_not_refused, mounts_have_one_reply, next_calls_follow};
 pub use one_thread::OneThread;

@@ -22,11 +22,12 @@ pub(crate) struct Reading<'a, 't> {
 }
 
 impl<'a, 't> Reading<'a, 't> {
-    // Reads the next line: true where a caller may have such a line next, and the mount may reply so. Each
-    // caller has a way to stretch of its own.
+    // Reads the next line: true where a caller may have such a line next, and the mount may reply so; where it is
+    // strict, no line that tells of want of memory. Each caller has a way to stretch of its own.
     pub(crate) fn read_line<'w, S: Stretch, T: OneThread>(
         &mut self,
         alloc: Global,
+        strict: bool,
         ways: &[Remembering<'w, S>],
         seed: &[u8; 32],
         mount: &mut T,
@@ -36,7 +37,7 @@ impl<'a, 't> Reading<'a, 't> {
         requires room { self.old.place + length self.old.rest.now < 2 ^ 64 }
         ensures many { length self.new.callers.items ≡ length self.old.callers.items }
         ensures room { self.new.place + length self.new.rest.now < 2 ^ 64 }
-        ensures read { IfOk result (IsLineRead T.led seed.now
+        ensures read { IfOk result (IsLineRead strict T.led seed.now
             self.old.callers.items self.old.place self.old.rest.now mount.old
             self.new.callers.items self.new.place self.new.rest.now mount.new) }
     {
@@ -45,8 +46,8 @@ impl<'a, 't> Reading<'a, 't> {
             return Ok(false);
         };
         let caller = self.callers[number].caller();
-        let Some((reply, behind)) = replied(alloc, self.place, caller, call, self.rest, mount)?
-        else {
+        let replied = replied(alloc, strict, self.place, caller, call, self.rest, mount)?;
+        let Some((reply, behind)) = replied else {
             return Ok(false);
         };
         self.callers[number].take(alloc, &ways[number], seed, reply)?;

@@ -19,10 +19,11 @@ use reply_text::entry_in_range;
 use std::alloc::{AllocError, Global};
 
 // What the caller's call was replied, where the text begins with such a line, and what stands behind it.
-// Where the text has want of memory for a call that may have it, the mount is not asked. Where it has another
-// line than that of the mount's reply, but the mount wanted memory, there is no memory.
+// Where the text has want of memory for a call that may have it, the mount is not asked, unless the check is
+// strict. Where the mount is asked and wants memory, there is no memory.
 pub(crate) fn replied<'t, T: OneThread>(
     alloc: Global,
+    strict: bool,
     place: u64,
     caller: u32,
     call: Call,
@@ -31,15 +32,15 @@ pub(crate) fn replied<'t, T: OneThread>(
 ) -> Result<Option<(Reply, &'t [u8])>, AllocError>
     requires fits { Fits call }
     ensures { IfOk result (λ it. MatchOption it
-        (IsUnreplied T.led mount.old text.now place caller call)
-        (λ told. IsReplied T.led mount.old mount.new text.now place caller call told.0 told.1.now)) }
+        (IsUnreplied strict T.led mount.old text.now place caller call)
+        (λ told. IsReplied strict T.led mount.old mount.new text.now place caller call told.0 told.1.now)) }
 {
     let mut entry = Entry {
         who: caller,
         call,
         reply: Reply::Refused(Refusal::NoMemory),
     };
-    let behind = behind_reply(alloc, place, &mut entry, text, mount);
+    let behind = behind_reply(alloc, strict, place, &mut entry, text, mount);
     let reply = reply_of(alloc, entry);
     match behind? {
         Some(behind) => Ok(Some((reply, behind))),
@@ -51,6 +52,7 @@ pub(crate) fn replied<'t, T: OneThread>(
 // has then. It is lent, so that its call is given up in one place.
 fn behind_reply<'t, T: OneThread>(
     alloc: Global,
+    strict: bool,
     place: u64,
     asked: &mut Entry<Call, Reply>,
     text: &'t [u8],
@@ -59,44 +61,44 @@ fn behind_reply<'t, T: OneThread>(
     requires fits { Fits asked.old.call }
     requires wanting { asked.old.reply ≡ Refused NoMemory }
     ensures { IfOk result (λ behind. MatchOption behind
-        (IsUnreplied T.led mount.old text.now place asked.old.who asked.old.call)
-        (λ left. IsReplied T.led mount.old mount.new text.now place asked.old.who asked.old.call
+        (IsUnreplied strict T.led mount.old text.now place asked.old.who asked.old.call)
+        (λ left. IsReplied strict T.led mount.old mount.new text.now place asked.old.who asked.old.call
         asked.new.reply left.now)) }
 {
-    if let Some(behind) = behind_want(alloc, place, asked, text)? {
+    if let Some(behind) = behind_want(alloc, strict, place, asked, text)? {
         entry_in_range(asked);
         return Ok(Some(behind));
     }
     let reply = mount.answer(asked.who, &asked.call);
     put_reply(asked, reply);
+    if wants_memory(&asked.reply) {
+        return Err(AllocError);
+    }
     match behind_line(alloc, place, asked, text)? {
         Some(behind) => {
             entry_in_range(asked);
             Ok(Some(behind))
         }
-        None => {
-            if wants_memory(&asked.reply) {
-                Err(AllocError)
-            } else {
-                Ok(None)
-            }
-        }
+        None => Ok(None),
     }
 }
 
-// What stands behind the entry's line, where the text begins with that, and its call may want memory.
+// What stands behind the entry's line, where the text begins with that, its call may want memory, and the check
+// isn't strict.
 fn behind_want<'t>(
     alloc: Global,
+    strict: bool,
     place: u64,
     wanting: &Entry<Call, Reply>,
     text: &'t [u8],
 ) -> Result<Option<&'t [u8]>, AllocError>
     ensures { IfOk result (λ behind. MatchOption behind
-        (IsTrue (takes_memory wanting.now.call.op) → ¬ BeginsWith text.now (entry_text place wanting.now))
-        (λ left. IsTrue (takes_memory wanting.now.call.op)
+        (strict ≡ false → IsTrue (takes_memory wanting.now.call.op)
+        → ¬ BeginsWith text.now (entry_text place wanting.now))
+        (λ left. (strict ≡ false) × IsTrue (takes_memory wanting.now.call.op)
         × (text.now ≡ entry_text place wanting.now ++ left.now))) }
 {
-    if takes_memory(&wanting.call.op) {
+    if !strict && takes_memory(&wanting.call.op) {
         behind_line(alloc, place, wanting, text)
     } else {
         Ok(None)

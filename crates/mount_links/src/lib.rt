@@ -11,7 +11,7 @@ mod room;
 mod step;
 
 pub use asked::Asked;
-pub use laws::shown_histories_are_of_the_calls;
+pub use laws::{shown_histories_are_of_the_calls, steps_are_said_by_replies};
 pub use on_both::{ShownList, ShownOnBoth, split};
 pub use port::LinkPort;
 pub use step::LinkStep;

@@ -15,7 +15,7 @@ use Rattle.mount_model.proofs.WellSteps.{AreAmong, entry_raws, entry_among, key_
 abbrev added_by : MountEntry → List (List ℕ)
 added_by e = cond (is_refused e.reply) [] (raw_of e.call.op)
 
-raws_added-append : (g h : History) → raws_added (g ++ h) ≡ raws_added g ++ raws_added h
+pub raws_added-append : (g h : History) → raws_added (g ++ h) ≡ raws_added g ++ raws_added h
 raws_added-append [] h = refl
 raws_added-append (e ∷ g) h =
     ap (λ (l : List (List ℕ)). added_by e ++ l) (raws_added-append g h)

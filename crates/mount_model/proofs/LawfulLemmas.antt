@@ -1,5 +1,5 @@
 -- Legal histories are lawful, and so are beginnings of lawful histories whose raw keys agree.
-use Rattle.std.proofs.Common.{◌≡◌, ℕ, Bool, true, false, cond, not, ◌&&◌, ◌==◌, nat_lt, IsTrue, List, [], ◌∷◌, ◌++◌, length, Option, Some, None, inl, inr, sym, refl, ap, ◌∙◌, subst, ⊎_elim}
+use Rattle.std.proofs.Common.{◌≡◌, ℕ, Bool, true, false, cond, not, ◌&&◌, ◌==◌, nat_lt, IsTrue, List, [], ◌∷◌, ◌++◌, append_assoc, length, Option, Some, None, inl, inr, sym, refl, ap, ◌∙◌, subst, ⊎_elim}
 use Rattle.std.proofs.lemmas.Bool.{true≢false}
 use Rattle.policy_ctx.specs.declared.policy.KeyId.{KeyId}
 use Rattle.fsc_keys.specs.Keys.{key_id_of}
@@ -115,21 +115,26 @@ tells_from m (e ∷ h) legal = (
   subst (λ cs. TellsClaimsFrom cs h) (claims_left-step m e (mount_left m e) legal.0) (tells_from (mount_left m e) h legal.1),
 )
 
-pub legal_lawful : (h : History) → IsLegal h → IsLawful h
-legal_lawful h legal = record { legal = λ _. legal; claims = tells_from empty_mount h legal }
-
--- ---- beginnings
-
 legal_begins : (m : PlainMount) (g h : History) → IsLegalFrom m (g ++ h) → IsLegalFrom m g
 legal_begins m [] h legal = tt
 legal_begins m (e ∷ g) h legal = (legal.0, legal_begins (mount_left m e) g h legal.1)
+
+pub legal_lawful : (h : History) → IsLegal h → IsLawful h
+legal_lawful h legal = record {
+  legal = λ _. legal;
+  begun = λ g r is _. legal_begins empty_mount g r (subst IsLegal is legal);
+  claims = tells_from empty_mount h legal;
+}
+
+-- ---- beginnings
 
 tells_begins : (claims : ClaimSet) (g h : History) → TellsClaimsFrom claims (g ++ h) → TellsClaimsFrom claims g
 tells_begins claims [] h tells = tt
 tells_begins claims (e ∷ g) h tells = (tells.0, tells_begins (claims_left claims e) g h tells.1)
 
-pub lawful_begins : (g h : History) → IsLawful (g ++ h) → KeysAgree (g ++ h) → IsLawful g
-lawful_begins g h lawful agree = record {
-  legal = λ _. legal_begins empty_mount g h (lawful.legal agree);
+pub lawful_begins : (g h : History) → IsLawful (g ++ h) → IsLawful g
+lawful_begins g h lawful = record {
+  legal = lawful.begun g h refl;
+  begun = λ s r is. lawful.begun s (r ++ h) (ap (λ (l : History). l ++ h) is ∙ append_assoc s r h);
   claims = tells_begins no_claims g h lawful.claims;
 }

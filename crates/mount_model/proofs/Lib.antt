@@ -27,3 +27,5 @@ pub mod RemovalLemmas
 pub mod OrderLemmas
 pub mod PolicyLemmas
 pub mod LimitLemmas
+pub mod LockedLemmas
+pub mod ContentLemmas

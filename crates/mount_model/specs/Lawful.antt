@@ -51,8 +51,10 @@ TellsClaims history = TellsClaimsFrom no_claims history
 -- ---- lawful histories
 
 pub record IsLawful (history : History) : Type 0 where
-  -- where raw keys agree, it is a history of the one-thread mount
+  -- if its raw keys agree, it is a history of the one-thread mount
   pub legal : KeysAgree history → IsLegal history
+  -- and so is each beginning of it whose raw keys agree, whatever keys were added later
+  pub begun : (start rest : History) → history ≡ start ++ rest → KeysAgree start → IsLegal start
   -- in any case its replies tell the claims that its calls leave
   pub claims : TellsClaims history
 

@@ -38,6 +38,8 @@ pub mod KeyLaws
 pub mod PolicyLaws
 pub mod OrderLaws
 pub mod LimitLaws
+pub mod LockedNodes
+pub mod ContentLaws
 pub mod Carriers
 pub mod Fits
 pub mod Numbers

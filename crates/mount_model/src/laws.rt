@@ -13,6 +13,8 @@ ghost use Rattle.mount_model.specs.NameLaws.{ShownNamesLead, OnlyShownNamesLead}
 ghost use Rattle.mount_model.specs.PolicyLaws.{PoliciesAreReadBack};
 ghost use Rattle.mount_model.specs.OrderLaws.{HandlesKeepNodesKeyed, CreationsNeedTheKey};
 ghost use Rattle.mount_model.specs.OrderLaws.{OnlyEmptyOnesAreEncrypted};
+ghost use Rattle.mount_model.specs.LockedNodes.{KeysOrHandlesKeyNodes, LockedNodesShowTexts};
+ghost use Rattle.mount_model.specs.ContentLaws.{WrittenIsRead};
 ghost use Rattle.mount_model.specs.LimitLaws.{LimitsAreExact, FurtherNamesFollow};
 ghost use Rattle.mount_model.specs.KeyLaws.{OtherClaimsStay, OpenHandlesKeepKeys, OpenHandlesAreTold};
 
@@ -59,11 +61,10 @@ pub fn mounts_are_well_formed()
         → IsWellFormed (mount_after history) }
 {}
 
-/// A legal history is lawful, and so is each beginning of a lawful history whose raw keys agree.
+/// A legal history is lawful, and so is each beginning of a lawful history.
 pub fn legal_histories_are_lawful()
     ensures legal { (history : History) → IsLegal history → IsLawful history }
-    ensures begun { (begun rest : History) → IsLawful (begun ++ rest)
-        → KeysAgree (begun ++ rest) → IsLawful begun }
+    ensures begun { (begun rest : History) → IsLawful (begun ++ rest) → IsLawful begun }
 {}
 
 /// In a well-formed mount an entry of an encrypted directory has that directory's policy, two names
@@ -90,6 +91,19 @@ pub fn refusals_come_in_their_order()
     ensures keyed { HandlesKeepNodesKeyed }
     ensures create { CreationsNeedTheKey }
     ensures encrypt { OnlyEmptyOnesAreEncrypted }
+{}
+
+/// Of a node that isn't keyed a listing shows no-key texts alone, opening is NoKey, and a symlink shows the text of its
+/// target. A node under a policy is keyed exactly if its policy's key is present or a handle is open on it.
+pub fn locked_nodes_show_texts()
+    ensures shown { LockedNodesShowTexts }
+    ensures keyed { KeysOrHandlesKeyNodes }
+{}
+
+/// Contents that were written are those that are read, whatever calls are made between, a lock and an unlock too, as
+/// long as none of them writes to the file.
+pub fn written_contents_are_read()
+    ensures { WrittenIsRead }
 {}
 
 /// The policy that a call's bytes spell is the one whose bytes they are: what `policy_ctx` decodes.

@@ -11,7 +11,9 @@ use crate::ciphers::cipher_of;
 use crate::contexts::context_at;
 use crate::packed_names::PackedNames;
 use mount_state::MountState;
-use name_crypt::{MOST_NAME_BYTES, NameCipher, StoredName, names_come_back, nokey_text};
+use name_crypt::{
+    LEAST_STORED_BYTES, MOST_NAME_BYTES, NameCipher, StoredName, names_come_back, nokey_text,
+};
 use short_bytes::Filled;
 use std::alloc::AllocError;
 
@@ -90,13 +92,13 @@ fn push_deciphered(
     ensures { IsStored stored.now → plain_name cipher.now.key cipher.now.start stored.now ≢ []
         → OnOk result (names.new ≡ names.old ++ plain_name cipher.now.key cipher.now.start stored.now ∷ []) }
 {
-    let Ok(name) = StoredName::read(stored) else {
+    if stored.len() < LEAST_STORED_BYTES || stored.len() > MOST_NAME_BYTES {
         return names.push(&[]);
-    };
-    match cipher.decrypt(&name) {
-        Ok(plain) => names.push(plain.bytes()),
-        Err(_) => names.push(nokey_text(&name).bytes()),
     }
+    if names.push_decrypted(cipher, stored)? {
+        return Ok(());
+    }
+    names.push(text_of(stored).bytes())
 }
 
 // The bytes themselves.

@@ -1,5 +1,5 @@
 -- A mount goes on standing after its history: by a step, and by want of memory.
-use Rattle.std.proofs.Common.{◌≡◌, ℕ, false, IsTrue, [], ◌∷◌, ◌++◌, inr, refl, ap, subst, sym, ◌∙◌}
+use Rattle.std.proofs.Common.{◌≡◌, ◌⊎◌, ℕ, false, IsTrue, [], ◌∷◌, ◌++◌, get_or, drop, length, inl, inr, ⊎_elim, refl, ap, subst, sym, ◌∙◌, arith}
 use Rattle.call_history.specs.Entries.{entry}
 use Rattle.user_claims.specs.Claims.{ClaimSet, no_claims}
 use Rattle.mount_model.specs.declared.call.Call.{Call}
@@ -7,7 +7,7 @@ use Rattle.mount_model.specs.declared.reply.Reply.TheVariants.{Refused}
 use Rattle.mount_model.specs.declared.reply.Refusal.TheVariants.{NoMemory}
 use Rattle.mount_model.specs.PlainMount.{PlainMount}
 use Rattle.mount_model.specs.Step.{takes_memory}
-use Rattle.mount_model.specs.History.{MountEntry, History, mount_after}
+use Rattle.mount_model.specs.History.{MountEntry, History, IsLegal, mount_after}
 use Rattle.mount_model.specs.ClaimHistory.{is_refused, claims_left, claims_from}
 use Rattle.mount_model.specs.Lawful.{KeysAgree, KeyAgrees, TellsClaim, TellsClaimsFrom}
 use Rattle.mount_model.proofs.HistoryLemmas.{IsLegal-more, mount_after-more, claims_after-more}
@@ -23,6 +23,19 @@ tells_more : (claims : ClaimSet) (h : History) (e : MountEntry) → TellsClaimsF
 tells_more claims [] e tells tell = (tell, tt)
 tells_more claims (x ∷ h) e tells tell = (tells.0, tells_more (claims_left claims x) h e tells.1 tell)
 
+-- a beginning of a history that goes on by an entry is the whole, or a beginning of what was before the entry
+begins : (h : History) (e : MountEntry) (start rest : History) → h ++ e ∷ [] ≡ start ++ rest
+    → (h ++ e ∷ [] ≡ start) ⊎ ((left : History) × (h ≡ start ++ left))
+begins h e [] rest is = inr (h, refl)
+begins [] e (s ∷ []) rest is = inl (ap (λ (l : History). get_or l 0 e ∷ []) is)
+begins [] e (s ∷ t ∷ start) rest is = let long = ap length is in absurd (omega (arith, long))
+begins (x ∷ h) e (s ∷ start) rest is =
+    let first : x ≡ s = ap (λ (l : History). get_or l 0 x) is in
+    ⊎_elim
+    (λ whole. inl (ap (λ (l : History). x ∷ l) whole ∙ ap (λ (y : MountEntry). y ∷ start) first))
+    (λ left. inr (left.0, ap (λ (l : History). x ∷ l) left.1 ∙ ap (λ (y : MountEntry). y ∷ (start ++ left.0)) first))
+    (begins h e start rest (ap (drop 1) is))
+
 -- a history goes on by a step that changes the claims as it says and tells them as they are
 pub more : (h : History) (e : MountEntry) (old new : MountState) → StandsAfter h old
     → ((m : PlainMount) → StandsFor old m → (is_refused e.reply ≡ false → KeyAgrees m.raws e.call.op)
@@ -36,11 +49,15 @@ more h e old new before steps claims told =
     steps (mount_after h) (stood agree)
     (agrees_with_added h e agree (before.lawful.legal (KeysAgree-begun h (e ∷ []) agree))
     (stood agree).well.keys) in
+    let legal : KeysAgree (h ++ e ∷ []) → IsLegal (h ++ e ∷ []) = λ agree.
+    IsLegal-more h e _ (before.lawful.legal (KeysAgree-begun h (e ∷ []) agree)) (step agree).0 in
     record {
       lawful = record {
-        legal =
-            λ agree. IsLegal-more h e _ (before.lawful.legal (KeysAgree-begun h (e ∷ []) agree))
-            (step agree).0;
+        legal = legal;
+        begun = λ start rest is agree. ⊎_elim
+            (λ whole. subst IsLegal whole (legal (subst KeysAgree (sym whole) agree)))
+            (λ left. before.lawful.begun start left.0 left.1 agree)
+            (begins h e start rest is);
         claims =
             tells_more no_claims h e before.lawful.claims (subst (λ cs. TellsClaim cs e) before.claims told);
       };

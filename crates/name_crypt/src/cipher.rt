@@ -1,11 +1,12 @@
 //! What the names of one node are enciphered with: made once, for as many names as there are.
 
-ghost use Rattle.std.specs.Prelude.{◌≡◌, ◌+◌, ◌↔◌, [], IsErr, IfOk, replicate};
+ghost use Rattle.std.specs.Prelude.{◌≡◌, ◌+◌, ◌≤◌, ◌↔◌, [], IsErr, IfOk, length, replicate, take};
 ghost use Rattle.aes_core.specs.Laws.{IsBlock};
+ghost use Rattle.name_crypt.specs.Plain.{IsStored};
 ghost use Rattle.name_crypt.specs.StoredName as spec;
 ghost use Rattle.name_crypt.specs.StoredName.{plain_name, stored_name};
 
-use crate::encrypt::{NotPlain, decrypt_name_with, encrypt_name_with};
+use crate::encrypt::{NotPlain, decrypt_in_place, decrypt_name_with, encrypt_name_with};
 use crate::plain::Plain;
 use crate::steps::Steps;
 use crate::stored::StoredName;
@@ -69,5 +70,15 @@ impl NameCipher {
         ensures not_plain { IsErr result ↔ (plain_name self.now.key self.now.start stored.now ≡ []) }
     {
         decrypt_name_with(&self.key, name_iv(self.start), stored)
+    }
+    /// Decrypts the bytes of a stored name or target in place, and returns the length of the plain one, which
+    /// is then at the beginning: the bytes before the first NUL.
+    pub fn decrypt_in_place(&self, stored: &mut [u8]) -> usize
+        requires stored { IsStored stored.old }
+        ensures value { take result stored.new ≡ plain_name self.now.key self.now.start stored.old }
+        ensures within { result ≤ length stored.new }
+        ensures size { length stored.new ≡ length stored.old }
+    {
+        decrypt_in_place(&self.key, name_iv(self.start), stored)
     }
 }

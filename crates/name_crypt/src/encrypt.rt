@@ -100,6 +100,18 @@ pub fn decrypt_name_with(key: &Aes256, iv: [u8; 16], stored: &StoredName) -> Res
     }
 }
 
+// Decrypts a stored name or target in place, and returns the length of the plain one, which is then at the
+// beginning: the bytes before the first NUL. The round keys are those of a names key.
+pub(crate) fn decrypt_in_place(key: &Aes256, iv: [u8; 16], text: &mut [u8]) -> usize
+    requires stored { IsStored text.old }
+    ensures value { take result text.new ≡ plain_name_with key.now iv text.old }
+    ensures within { result ≤ length text.new }
+    ensures size { length text.new ≡ length text.old }
+{
+    cts_decrypt(key, iv, text);
+    name_end(text)
+}
+
 // What a stored name is deciphered to, with the NULs behind the name.
 fn deciphered(key: &Aes256, iv: [u8; 16], stored: &StoredName) -> Filled<MOST_NAME_BYTES>
     ensures { result ≡ cts_decrypted key.now iv stored.now }
@@ -132,6 +144,13 @@ fn fill(text: &mut [u8; MOST_NAME_BYTES], bytes: &[u8])
 fn before_nul(bytes: &[u8]) -> &[u8]
     ensures { result.now ≡ before_nul bytes.now }
 {
-    let end = bytes.iter().position(|b| *b == 0).unwrap_or(bytes.len());
-    &bytes[..end]
+    &bytes[..name_end(bytes)]
+}
+
+// How many bytes are before the first NUL.
+fn name_end(bytes: &[u8]) -> usize
+    ensures value { take result bytes.now ≡ before_nul bytes.now }
+    ensures within { result ≤ length bytes.now }
+{
+    bytes.iter().position(|b| *b == 0).unwrap_or(bytes.len())
 }

@@ -31,6 +31,7 @@ use Rattle.next_calls.specs.declared.next.Next.{Next}
 use Rattle.next_calls.specs.declared.next.Next.TheVariants as next
 use Rattle.next_calls.specs.Callers.{CallerView, caller_view, steps_of, steps_under_way}
 use Rattle.next_calls.specs.EntriesSoFar.{StandsIn, Awaits}
+use Rattle.next_calls.proofs.NextLemmas.{ended_alone}
 
 -- ---- the call that comes next
 
@@ -85,7 +86,7 @@ stands_ended seed caller section n old between new replies notes waiting placed 
     let after = caller_view caller section (n + 1) (names_in new) [] (notes ++ noted caller command outcome) waiting in
     let begins : Reaches (command_steps seed caller section.uid n (names_in old) command.verb) (entries_of s.made) s.rest =
     subst (λ (at : Option Command). Reaches (steps_of seed view at) (entries_of s.made) s.rest) here s.begins in
-    let same = ends.2 (entries_of s.made) s.rest s.replies begins in
+    let same = ended_alone _ s.rest outcome (entries_of ends.0) (entries_of s.made) ends.3.0 ends.2 (s.replies ∙ ends.3.1) begins in
     let follows : Reaches (command_steps seed caller section.uid n (names_in old) command.verb) (entries_of s.made) (Done outcome) =
     subst (λ (rest : CommandSteps). Reaches (command_steps seed caller section.uid n (names_in old) command.verb) (entries_of s.made) rest) same.1 begins in
     let run : IsRunSoFar seed caller section (n + 1) (s.before ++ s.made) (notes ++ noted caller command outcome) =

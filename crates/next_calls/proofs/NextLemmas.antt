@@ -85,23 +85,27 @@ entry_same e f who call reply =
     ∙ ap (λ (c : Call). let it : MountEntry = record { who = f.who; call = c; reply = e.reply } in it) call
     ∙ ap (λ (r : Reply). let it : MountEntry = record { who = f.who; call = f.call; reply = r } in it) reply
 
--- and those are the entries that were made
-pub ended_same : {A : Type 0} (steps : Steps A) (value : A) (made : PlacedCalls) (caller left place : ℕ) (replies : List Reply) (after : ScriptedView)
-    (told : History) (rest : Steps A) → ScriptedCame (scripted caller left place replies Unasked) made after → Reaches steps (entries_of made) (Done value)
-    → after.further ≡ Unasked → replies_of told ≡ replies → Reaches steps told rest → (told ≡ entries_of made) × (rest ≡ Done value)
-ended_same steps value [] caller left place replies after [] rest came so none same to = (refl, sym to ∙ so)
-ended_same steps value [] caller left place replies after (t ∷ ts) rest came so none same to =
-    absurd (subst (λ s. Reaches s (t ∷ ts) rest) so to)
-ended_same (Done other) value (x ∷ xs) caller left place replies after told rest came so none same to = absurd so
-ended_same (Ask who it next) value (x ∷ xs) caller left place [] after told rest came so none same to =
-    absurd (is_kept x.1.call came.0 after.further (behind_all caller left place after x xs came) none)
-ended_same (Ask who it next) value (x ∷ xs) caller left place (r ∷ rs) after [] rest came so none same to = absurd (cc same)
-ended_same (Ask who it next) value (x ∷ xs) caller left place (r ∷ rs) after (t ∷ ts) rest came so none same to =
-    let reply : x.1.reply ≡ t.reply = came.1.reply ∙ sym (ap (λ (l : List Reply). get_or l 0 r) same) in
-    let behind = ended_same (next t.reply) value xs caller (left - 1) (place + 1) rs after ts rest came.2
-    (subst (λ (y : Reply). Reaches (next y) (entries_of xs) (Done value)) reply so.2) none (ap (drop 1) same) to.2 in
-    let first : t ≡ x.1 = entry_same t x.1 (to.0 ∙ sym so.0) (to.1 ∙ sym so.1) (sym reply) in (
-      ap (λ (e : MountEntry). e ∷ ts) first ∙ ap (λ (l : History). x.1 ∷ l) behind.0,
+-- and the listed replies are those of the entries that were made, and more
+listed_first : (made : PlacedCalls) (caller left place : ℕ) (replies : List Reply) (after : ScriptedView) → ScriptedCame (scripted caller left place replies Unasked) made after
+    → after.further ≡ Unasked → (unasked : List Reply) × (replies ≡ replies_of (entries_of made) ++ unasked)
+listed_first [] caller left place replies after came none = (replies, refl)
+listed_first (x ∷ xs) caller left place [] after came none = absurd (is_kept x.1.call came.0 after.further (behind_all caller left place after x xs came) none)
+listed_first (x ∷ xs) caller left place (r ∷ rs) after came none =
+    let rest = listed_first xs caller (left - 1) (place + 1) rs after came.2 none in
+    (rest.0, ap (λ (y : Reply). y ∷ rs) (sym came.1.reply) ∙ ap (λ (l : List Reply). x.1.reply ∷ l) rest.1)
+
+-- no other entries than those after which steps have ended had their replies, with any behind them
+pub ended_alone : {A : Type 0} (steps rest : Steps A) (value : A) (es told : History) (unasked : List Reply) → Reaches steps es (Done value)
+    → replies_of told ≡ replies_of es ++ unasked → Reaches steps told rest → (told ≡ es) × (rest ≡ Done value)
+ended_alone steps rest value [] [] unasked so same to = (refl, sym to ∙ so)
+ended_alone steps rest value [] (t ∷ ts) unasked so same to = absurd (subst (λ s. Reaches s (t ∷ ts) rest) so to)
+ended_alone (Done other) rest value (e ∷ es) told unasked so same to = absurd so
+ended_alone (Ask who it next) rest value (e ∷ es) [] unasked so same to = absurd (cc same)
+ended_alone (Ask who it next) rest value (e ∷ es) (t ∷ ts) unasked so same to =
+    let reply : e.reply ≡ t.reply = sym (ap (λ (l : List Reply). get_or l 0 e.reply) same) in
+    let behind = ended_alone (next t.reply) rest value es ts unasked (subst (λ (y : Reply). Reaches (next y) es (Done value)) reply so.2) (ap (drop 1) same) to.2 in
+    let first : t ≡ e = entry_same t e (to.0 ∙ sym so.0) (to.1 ∙ sym so.1) (sym reply) in (
+      ap (λ (x : MountEntry). x ∷ ts) first ∙ ap (λ (l : History). e ∷ l) behind.0,
       behind.1,
     )
 
@@ -126,7 +130,7 @@ is_end port after caller calls left before_left most steps replies outcome old n
     let came : ScriptedCame (scripted caller calls 0 replies Unasked) made.made after = subst (λ (p : ScriptedView). ScriptedCame p made.made after) is made.came_by in
     record {
       call = λ told same. ended_none steps outcome made.made caller calls 0 replies after told came made.follows none same;
-      ends = (made.made, made.grown, λ told rest same to. ended_same steps outcome made.made caller calls 0 replies after told rest came made.follows none same to);
+      ends = (made.made, made.grown, made.follows, listed_first made.made caller calls 0 replies after came none);
     }
 
 replies_shown : (placed : PlacedCalls) → shown_replies (shown_calls placed) ≡ replies_of (entries_of placed)

@@ -26,14 +26,14 @@ abbrev pub call_told : ℕ → Next → Option (ℕ × Call)
 call_told caller (next.Call call) = Some (caller, call)
 call_told caller (next.Ended outcome) = None
 
--- where steps have ended: the entries after which they have, of which the new list has what is shown, are all
--- that can have had these replies
+-- where steps have ended: the entries after which they have, of which the new list has what is shown. These
+-- replies are theirs, and behind them any that no call asked for
 abbrev pub EndsSo : CommandSteps → List Reply → PlacedShown → PlacedShown → Next → Type 0
 EndsSo steps replies old new (next.Call call) = new ≡ old
 EndsSo steps replies old new (next.Ended outcome) =
     (made : PlacedCalls) × (new ≡ old ++ shown_calls made)
-    × ((told : History) (rest : CommandSteps) → replies_of told ≡ replies → Reaches steps told rest
-    → (told ≡ entries_of made) × (rest ≡ Done outcome))
+    × Reaches steps (entries_of made) (Done outcome)
+    × ((unasked : List Reply) × (replies ≡ replies_of (entries_of made) ++ unasked))
 
 -- what steps do after any entries that had these replies: the call that comes next, or how they have ended
 pub record IsNext (caller : ℕ) (steps : CommandSteps) (replies : List Reply) (old new : PlacedShown)

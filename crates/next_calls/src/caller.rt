@@ -1,6 +1,8 @@
 //! A caller of a script whose entries are told one after another.
 
 ghost use Rattle.std.specs.Prelude.{◌≡◌, [], ◌∷◌, ◌++◌, Some, IfOk, OnOk, IsFalse, ℕ, option_copied};
+ghost use Rattle.std.specs.Prelude.{slice_get};
+ghost use Rattle.std.specs.Option.{option_map};
 ghost use Rattle.call_history.specs.Entries.{entry};
 ghost use Rattle.mount_model.specs.declared.call.Call.{Call};
 ghost use Rattle.mount_model.specs.Port.{PlacedCalls};
@@ -119,6 +121,15 @@ impl<'a> Caller<'a> {
         ensures { result ≡ self.now.caller }
     {
         self.caller
+    }
+
+    /// The line of its command that is under way; none where all have ended.
+    pub fn line(&self) -> Option<u32>
+        ensures { result
+            ≡ option_map (λ command. command.line) (slice_get self.now.section.commands self.now.next) }
+    {
+        let commands = self.section.commands.as_slice();
+        commands.get(self.next).map(|command| command.line)
     }
 
     /// The notes of its commands that have ended, in order.

@@ -4,7 +4,7 @@ ghost use Rattle.std.specs.Prelude.{◌≡◌, [], length, IsTrue, IsFalse};
 ghost use Rattle.argon_kdf.specs.Argon2id.{argon2id_tag};
 
 use argon_kdf::{Costs, Stretch};
-use byte_words::wipe;
+use byte_words::{is_same, wipe};
 use std::alloc::{AllocError, Global};
 use std::cell::RefCell;
 use std::marker::Model;
@@ -106,9 +106,11 @@ fn recalls(
     let Some(stretched) = &*kept else {
         return false;
     };
+    // Passwords are compared last, and whole if they have the same length: no exit depends on their bytes.
     if stretched.costs == *costs
-        && stretched.password.as_slice() == password
         && stretched.salt.as_slice() == salt
+        && stretched.password.len() == password.len()
+        && is_same(stretched.password.as_slice(), password)
     {
         tag.copy_from_slice(stretched.tag.as_slice());
         return true;

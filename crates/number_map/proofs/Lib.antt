@@ -3,3 +3,7 @@ pub mod NumberTests
 pub mod NumberedLemmas
 pub mod SlotLemmas
 pub mod TotalLemmas
+pub mod RisingLemmas
+pub mod RowLemmas
+pub mod RowSteps
+pub mod TakenLemmas

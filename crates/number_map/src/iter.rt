@@ -1,9 +1,8 @@
 //! The iteration over a `NumberMap`, by rising number.
 ghost use Rattle.std.specs.Iterator.{YieldsFirstBy, item_count};
 
-use crate::rank::Rank;
+use crate::rising_iter::Entries;
 use slab::Slab;
-use std::collections::btree_map;
 use std::iter::FusedIterator;
 use std::marker::Model;
 
@@ -11,7 +10,7 @@ use std::marker::Model;
 #[derive(Drop)]
 pub struct Iter<'a, V> {
     // The numbers that are left, each with the key of its slot.
-    pub(crate) index: btree_map::Iter<'a, Rank<u32>, usize>,
+    pub(crate) index: Entries<'a, usize>,
     pub(crate) slots: &'a Slab<V>,
 }
 
@@ -36,7 +35,7 @@ impl<'a, V> Iterator for Iter<'a, V> {
     fn next(&mut self) -> Option<(u32, &'a V)> {
         let (number, key) = self.index.next()?;
         match self.slots.get(*key) {
-            Some(value) => Some((number.of, value)),
+            Some(value) => Some((number as u32, value)),
             None => unreachable!(),
         }
     }

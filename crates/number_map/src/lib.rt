@@ -9,25 +9,27 @@ ghost use Rattle.number_map.specs.Numbered as map;
 
 mod iter;
 mod laws;
-mod rank;
+mod rising;
+mod rising_iter;
+mod row;
 
 pub use iter::Iter;
 pub use laws::{changes_keep_agreement, changes_leave_the_rest, entries_agree_where_maps_do};
-pub use rank::Rank;
+pub use rising::RisingMap;
+pub use rising_iter::{Entries, Values};
 use slab::Slab;
 use std::alloc::{AllocError, Global};
-use std::collections::BTreeMap;
-use std::collections::btree_map::Entry;
 use std::marker::Model;
 
 /// A map from numbers to values, seen as the finite map of its values by number.
 ///
-/// A look-up, an insertion and a removal take a time that grows with the logarithm of the length.
+/// Numbers are expected to come from a counter: then a look-up, an insertion and a removal take the same
+/// time however many there are (`RisingMap`).
 #[derive(Drop)]
 pub struct NumberMap<V> {
     slots: Slab<V>,
     // The key of each number's slot.
-    index: BTreeMap<Rank<u32>, usize>,
+    index: RisingMap<usize>,
 }
 
 impl<V> Model for NumberMap<V> {
@@ -40,9 +42,9 @@ impl<V> Model for NumberMap<V> {
 
     ghost coded = { code coded_ℕ V.code };
 
-    ghost view = { λ a. stored a.slots a.index.entries };
+    ghost view = { λ a. stored a.slots a.index };
 
-    ghost invariant = { λ a. IsSound a.slots a.index.entries };
+    ghost invariant = { λ a. IsSound a.slots a.index };
 }
 
 impl<V: Drop> NumberMap<V> {
@@ -54,7 +56,7 @@ impl<V: Drop> NumberMap<V> {
     {
         NumberMap {
             slots: Slab::new(alloc),
-            index: BTreeMap::new(alloc),
+            index: RisingMap::new(alloc),
         }
     }
 
@@ -69,7 +71,7 @@ impl<V: Drop> NumberMap<V> {
     pub fn get(&self, number: u32) -> Option<&V>
         ensures { option_copied result ≡ map.get self.now number }
     {
-        match self.index.get(&Rank { of: number }) {
+        match self.index.get(number as u64) {
             Some(key) => self.slots.get(*key),
             None => None,
         }
@@ -90,7 +92,7 @@ impl<V: Drop> NumberMap<V> {
         ensures* writes_back { sem 𝓛 (LendsValue V.row self.entry number result) }
         ensures value { option_copied_mut result ≡ map.get self.old number }
     {
-        let Some(&key) = self.index.get(&Rank { of: number }) else {
+        let Some(&key) = self.index.get(number as u64) else {
             return None;
         };
         self.slots.get_mut(key)
@@ -104,21 +106,15 @@ impl<V: Drop> NumberMap<V> {
         ensures kept { OnErr result (self.new ≡ self.old) }
         ensures only_new { OnErr result (map.get self.old number ≡ None) }
     {
-        // One search finds the number's slot, or the place for a new number.
-        match self.index.entry(Rank { of: number })? {
-            Entry::Occupied(place) => {
-                let key = *place.get();
-                replace(&mut self.slots, key, value);
-                Ok(())
-            }
-            Entry::Vacant(place) => {
-                self.slots.reserve(1)?;
-                let key = self.slots.vacant_key();
-                place.insert(key);
-                self.slots.insert_reserved(value);
-                Ok(())
-            }
+        if let Some(&key) = self.index.get(number as u64) {
+            replace(&mut self.slots, key, value);
+            return Ok(());
         }
+        self.slots.reserve(1)?;
+        let key = self.slots.vacant_key();
+        self.index.put(number as u64, key)?;
+        self.slots.insert_reserved(value);
+        Ok(())
     }
 
     /// Takes the value at `number` out, if there is one. It takes no memory.
@@ -126,7 +122,7 @@ impl<V: Drop> NumberMap<V> {
         ensures value { result ≡ map.get self.old number }
         ensures removed { self.new ≡ map.remove self.old number }
     {
-        match self.index.remove(&Rank { of: number }) {
+        match self.index.remove(number as u64) {
             Some(key) => self.slots.try_remove(key),
             None => None,
         }

@@ -188,6 +188,7 @@ form_of-told name.Lock words = told_word kind.Label label_of _ [] (λ w. refl) (
 form_of-told name.Status words = told_word kind.Label label_of _ [] (λ w. refl) (λ a rest. ends rest) words
 form_of-told name.Encrypt words = told_word kind.Path path_of _ (kind.Label ∷ kind.Pad ∷ kind.Unit ∷ []) (λ w. refl) (λ a rest. told_word kind.Label label_of _ (kind.Pad ∷ kind.Unit ∷ []) (λ w. refl) (λ a rest. told_then _ (kind.Pad ∷ kind.Unit ∷ []) rest _ (told_said_settings rest) (λ a rest. ends rest)) rest) words
 form_of-told name.Migrate words = told_word kind.Label label_of _ [] (λ w. refl) (λ a rest. ends rest) words
+form_of-told name.Pause words = ends words
 
 -- ---- whole commands
 

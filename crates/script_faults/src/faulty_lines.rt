@@ -1,11 +1,12 @@
 //! Finds the first line at fault of a text, and tells why it is.
 
-ghost use Rattle.std.specs.Prelude.{◌≡◌, ◌<◌, ◌^◌, ◌+◌, IfOk, length, if◌then◌else◌};
+ghost use Rattle.std.specs.Prelude.{◌≡◌, ◌<◌, ◌≤◌, ◌^◌, ◌+◌, IfOk, length, if◌then◌else◌};
 ghost use Rattle.std.specs.Result.{result_err};
 ghost use Rattle.script_faults.specs.GrammarFaults as grammar;
 ghost use Rattle.script_faults.specs.LineFaults as spec;
-ghost use Rattle.script_faults.specs.LineFaults.{first_fault};
+ghost use Rattle.script_faults.specs.LineFaults.{fault_from, first_fault};
 ghost use Rattle.script_lang.specs.Sections as sections;
+ghost use Rattle.text_words.specs.Lines.{pieces_of};
 
 use crate::faults::{BYTE_ORDER_MARK, FaultyLine, LineFault};
 use crate::word_kinds::{WordKind, kinds_of};
@@ -20,9 +21,25 @@ pub fn line_fault(alloc: Global, text: &[u8]) -> Result<Option<FaultyLine>, Allo
     requires { length text.now < 2 ^ 32 }
     ensures value { IfOk result (λ found. found ≡ first_fault text.now) }
 {
+    line_fault_behind(alloc, 0, 0, text)
+}
+
+/// The first line at fault of what stands behind so many lines, among which so many callers begin, and why: so who
+/// was told of one goes on behind it. The one error is want of memory, which may come on any text.
+pub fn line_fault_behind(
+    alloc: Global,
+    lines: u32,
+    before: usize,
+    text: &[u8],
+) -> Result<Option<FaultyLine>, AllocError>
+    requires few { before ≤ lines }
+    requires short { lines + length text.now < 2 ^ 32 }
+    ensures value { IfOk result (λ found.
+        found ≡ fault_from (lines + 1) before (pieces_of text.now)) }
+{
     let mut rest = text;
-    let mut number: u32 = 0;
-    let mut callers: usize = 0;
+    let mut number = lines;
+    let mut callers = before;
     'lines: while !rest.is_empty() {
         let line = next_line(rest);
         number += 1;

@@ -157,5 +157,6 @@ pub(crate) fn kinds_of(name: CommandName) -> &'static [WordKind]
         CommandName::Status => &[WordKind::Label],
         CommandName::Encrypt => &ENCRYPT,
         CommandName::Migrate => &[WordKind::Label],
+        CommandName::Pause => &[],
     }
 }

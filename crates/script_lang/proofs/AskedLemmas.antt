@@ -141,6 +141,7 @@ form_of-askable name.Encrypt words =
     then_some (λ _. Unit {0}) (λ x. IsAskable x.0) _ (optional settings x1.1) (anything _) (λ x2 _.
     (h0, h1))))
 form_of-askable name.Migrate words = only_some IsLabel IsAskable _ label_of label_of-label (λ a h. h) words
+form_of-askable name.Pause words = tt
 
 pub command_named-askable : (name : CommandName) (words : List (List ℕ)) → IfSome (command_named name words) IsAskable
 unfolding command_named

@@ -48,6 +48,7 @@ name_text-good name.Lock = refl
 name_text-good name.Status = refl
 name_text-good name.Encrypt = refl
 name_text-good name.Migrate = refl
+name_text-good name.Pause = refl
 
 pub name_of-text : (name : CommandName) → name_of (name_text name) ≡ Some name
 name_of-text name.AddKey = refl
@@ -85,3 +86,4 @@ name_of-text name.Lock = refl
 name_of-text name.Status = refl
 name_of-text name.Encrypt = refl
 name_of-text name.Migrate = refl
+name_of-text name.Pause = refl

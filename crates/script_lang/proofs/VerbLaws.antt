@@ -178,6 +178,7 @@ command_named-words (verb.Lock policy) h = rw (label_of-label policy h) refl
 command_named-words (verb.Status policy) h = rw (label_of-label policy h) refl
 command_named-words (verb.Encrypt path policy settings) h = encrypt_words path policy settings h
 command_named-words (verb.Migrate policy) h = rw (label_of-label policy h) refl
+command_named-words verb.Pause h = refl
 
 -- ---- the words are plain
 
@@ -254,3 +255,4 @@ verb_words-plain (verb.Status policy) h = (IsPlain-label policy h, tt)
 verb_words-plain (verb.Encrypt path policy settings) h =
     (IsPlain-path_text path h.0, (IsPlain-label policy h.1, said_settings_plain settings))
 verb_words-plain (verb.Migrate policy) h = (IsPlain-label policy h, tt)
+verb_words-plain verb.Pause h = tt

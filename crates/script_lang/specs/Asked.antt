@@ -58,3 +58,4 @@ IsAskable (verb.Lock policy) = IsLabel policy
 IsAskable (verb.Status policy) = IsLabel policy
 IsAskable (verb.Encrypt path policy settings) = IsPath path × IsLabel policy
 IsAskable (verb.Migrate policy) = IsLabel policy
+IsAskable verb.Pause = ⊤

@@ -55,6 +55,7 @@ form_of name.Lock = only verb.Lock label_of
 form_of name.Status = only verb.Status label_of
 form_of name.Encrypt = encrypt
 form_of name.Migrate = only verb.Migrate label_of
+form_of name.Pause = says verb.Pause
 
 -- the command of a name and the words behind it
 unfoldable pub command_named : CommandName → List (List ℕ) → Option Verb

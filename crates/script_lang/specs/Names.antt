@@ -43,6 +43,7 @@ name_text name.Lock = codes "lock"
 name_text name.Status = codes "status"
 name_text name.Encrypt = codes "encrypt"
 name_text name.Migrate = codes "migrate"
+name_text name.Pause = codes "pause"
 
 -- whether the word is the name
 abbrev pub is_written : List ℕ → CommandName → Bool

@@ -41,3 +41,4 @@ name_in (verb.Lock _) = name.Lock
 name_in (verb.Status _) = name.Status
 name_in (verb.Encrypt _ _ _) = name.Encrypt
 name_in (verb.Migrate _) = name.Migrate
+name_in verb.Pause = name.Pause

@@ -56,3 +56,4 @@ verb_words (verb.Lock policy) = policy ∷ []
 verb_words (verb.Status policy) = policy ∷ []
 verb_words (verb.Encrypt path policy settings) = path_text path ∷ policy ∷ words_of_said_settings settings
 verb_words (verb.Migrate policy) = policy ∷ []
+verb_words verb.Pause = []

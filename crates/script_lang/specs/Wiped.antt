@@ -64,3 +64,4 @@ wiped_verb (verb.Lock policy) = verb.Lock policy
 wiped_verb (verb.Status policy) = verb.Status policy
 wiped_verb (verb.Encrypt path policy settings) = verb.Encrypt path policy settings
 wiped_verb (verb.Migrate policy) = verb.Migrate policy
+wiped_verb verb.Pause = verb.Pause

@@ -45,10 +45,11 @@ pub enum CommandName {
     Status,
     Encrypt,
     Migrate,
+    Pause,
 }
 
 // All names, those of plain calls first.
-const ALL_NAMES: [CommandName; 35] = [
+const ALL_NAMES: [CommandName; 36] = [
     CommandName::AddKey,
     CommandName::RemoveKey,
     CommandName::RemoveKeyAll,
@@ -84,6 +85,7 @@ const ALL_NAMES: [CommandName; 35] = [
     CommandName::Status,
     CommandName::Encrypt,
     CommandName::Migrate,
+    CommandName::Pause,
 ];
 
 impl CommandName {
@@ -141,6 +143,7 @@ impl CommandName {
             CommandName::Status => b"status",
             CommandName::Encrypt => b"encrypt",
             CommandName::Migrate => b"migrate",
+            CommandName::Pause => b"pause",
         }
     }
 }
@@ -193,6 +196,7 @@ impl Verb {
             Verb::Status(_) => CommandName::Status,
             Verb::Encrypt { .. } => CommandName::Encrypt,
             Verb::Migrate(_) => CommandName::Migrate,
+            Verb::Pause => CommandName::Pause,
         }
     }
 }

@@ -5,7 +5,7 @@ use policy_ctx::{Pad, Unit};
 use script_words::{KeyRef, NewSecret, Record, ScriptPath, Secret};
 use short_bytes::Label;
 
-/// What a command asks for: a call of the mount, or a session's work with protectors and policies.
+/// What a command asks for: a call of the mount, a session's work with protectors and policies, or nothing.
 #[derive(Drop)]
 pub enum Verb {
     /// To add the key of these 1 to 128 bytes. A mount may refuse them, since a raw key has 32 to 64.
@@ -141,6 +141,8 @@ pub enum Verb {
     },
     /// To give a policy of the first version options of its own.
     Migrate(Label),
+    /// To let the caller's turn pass: no call is made.
+    Pause,
 }
 
 /// What a command says of a directory's policy: the padding of names, and the unit of contents where

@@ -42,7 +42,7 @@ fn write_words(alloc: Global, text: &mut Vec<u8>, verb: &Verb) -> Result<(), All
         | Verb::Stat(path)
         | Verb::Open(path) => push_path(alloc, text, path),
         Verb::Close(handle) => push_number(text, *handle),
-        Verb::DropCaches => Ok(()),
+        Verb::DropCaches | Verb::Pause => Ok(()),
         Verb::MetaGet(record) => push_record(text, record),
         Verb::ProtectorLink(label)
         | Verb::Lock(label)

@@ -73,6 +73,7 @@ fn take_form(alloc: Global, name: CommandName, words: &mut Words<'_>) -> Result<
         | CommandName::Open => take_path(alloc, name, words),
         CommandName::Close => Ok(Verb::Close(words.number()?)),
         CommandName::DropCaches => Ok(Verb::DropCaches),
+        CommandName::Pause => Ok(Verb::Pause),
         CommandName::MetaGet => Ok(Verb::MetaGet(words.record()?)),
         CommandName::ProtectorLink
         | CommandName::Lock

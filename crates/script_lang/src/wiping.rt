@@ -85,7 +85,8 @@ fn wipe_verb(alloc: Global, verb: &mut Verb)
         | Verb::Lock(_)
         | Verb::Status(_)
         | Verb::Encrypt { .. }
-        | Verb::Migrate(_) => {}
+        | Verb::Migrate(_)
+        | Verb::Pause => {}
     }
 }
 

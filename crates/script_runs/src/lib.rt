@@ -9,6 +9,7 @@ mod threads;
 mod told;
 
 pub use passes::{calls_needed, cut, end};
+pub use ranged_port::RangedPort;
 pub use rotation::{longest, rotate, run_in_rotation};
 pub use threads::run_in_threads;
 pub use told::{PlacedVec, Told, history_of};

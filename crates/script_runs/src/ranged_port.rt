@@ -11,7 +11,7 @@ use std::marker::Model;
 /// Another port, whose calls and replies are in range since they are values of the program. In clauses it is
 /// that port.
 #[derive(Drop)]
-pub(crate) struct RangedPort<P: MountPort> {
+pub struct RangedPort<P: MountPort> {
     port: P,
 }
 
@@ -22,15 +22,15 @@ impl<P: MountPort> Model for RangedPort<P> {
 }
 
 impl<P: MountPort> RangedPort<P> {
-    // Over this port.
-    pub(crate) fn over(port: P) -> RangedPort<P>
+    /// Over this port.
+    pub fn over(port: P) -> RangedPort<P>
         ensures { result ≡ port }
     {
         RangedPort { port }
     }
 
-    // The port, with what was called since.
-    pub(crate) fn back(self) -> P
+    /// The port, with what was called since.
+    pub fn back(self) -> P
         ensures { result ≡ self }
     {
         self.port

@@ -74,6 +74,7 @@ pub(crate) fn streams_of(alloc: Global, outside: Outside<'_>) -> Result<MemStrea
         source,
         sink,
         seeds,
+        difference: None,
     })
 }
 

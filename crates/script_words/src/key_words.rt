@@ -4,10 +4,9 @@ ghost use Rattle.std.specs.Prelude.{◌≡◌, ◌*◌, ◌<◌, ◌^◌, IfOk};
 ghost use Rattle.script_words.specs.Keys as spec;
 
 use fsc_keys::{KeyId, LEAST_RAW_KEY_BYTES, MOST_RAW_KEY_BYTES, RawKey};
-use hex::FromHexError;
 use item_list::Bytes;
 use std::alloc::{AllocError, Global};
-use text_words::hex_bytes_into;
+use text_words::{hex_bytes, hex_bytes_into};
 
 /// A key: by its identifier, or by its bytes, which stand for their identifier.
 #[derive(Drop)]
@@ -30,11 +29,11 @@ pub fn read_hex(
     if word.len() < 2 * least || word.len() > 2 * most {
         return Ok(None);
     }
-    match hex::decode(alloc, word) {
-        Ok(bytes) => Ok(Some(Bytes::from_vec(bytes))),
-        Err(FromHexError::OutOfMemory) => Err(AllocError),
-        Err(_) => Ok(None),
+    let mut bytes = vec![in alloc; 0; word.len() / 2]?;
+    if !hex_bytes_into(word, bytes.as_mut_slice()) {
+        return Ok(None);
     }
+    Ok(Some(Bytes::from_vec(bytes)))
 }
 
 /// The 1 to `most` bytes that the digits spell, or none for `-`.
@@ -68,11 +67,7 @@ pub fn read_key_ref(word: &[u8]) -> Option<KeyRef>
 fn read_id(digits: &[u8]) -> Option<KeyId>
     ensures { result ≡ spec.id_of digits.now }
 {
-    let mut id = [0; 16];
-    match hex::decode_to_slice(digits, &mut id) {
-        Ok(()) => Some(KeyId(id)),
-        Err(_) => None,
-    }
+    hex_bytes(digits).map(KeyId)
 }
 
 fn read_raw_key(digits: &[u8]) -> Option<RawKey>

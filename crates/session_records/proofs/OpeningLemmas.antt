@@ -9,19 +9,38 @@ use Rattle.policy_ctx.specs.KeyIds.{same_id}
 use Rattle.policy_ctx.proofs.KeyIdLemmas.{same_id-eq}
 use Rattle.key_wrap.specs.Laws.{OpensAgain}
 use Rattle.key_wrap.specs.Wrapping.{opened_secret, wrapped_secret}
+use Rattle.mount_model.specs.declared.reply.Reply.{Reply}
+use Rattle.mount_model.specs.declared.reply.Reply.TheVariants.{Held}
+use Rattle.mount_model.specs.declared.reply.Reply.TheVariants as reply
+use Rattle.protector_meta.specs.declared.fault.MetaFault.{MetaFault}
+use Rattle.protector_meta.specs.declared.policy_file.PolicyFile.{PolicyFile}
+use Rattle.protector_meta.specs.declared.protector.Protector.{Protector}
+use Rattle.protector_meta.specs.declared.protector.ProtectorKind.{ProtectorKind}
 use Rattle.protector_meta.specs.declared.wraps.Wrap.{Wrap}
-use Rattle.protector_meta.specs.Wraps.{wrap_for}
+use Rattle.protector_meta.specs.PolicyReading.{policy_read}
+use Rattle.protector_meta.specs.PolicyRecords.{IsPolicyFile}
+use Rattle.protector_meta.specs.PolicyText.{policy_text}
+use Rattle.protector_meta.specs.ProtectorReading.{protector_read}
+use Rattle.protector_meta.specs.ProtectorText.{IsProtector, protector_text}
+use Rattle.protector_meta.specs.Wraps.{wrap_for, is_for}
+use Rattle.protector_meta.proofs.PolicyReadingLaws.{policy_again}
+use Rattle.protector_meta.proofs.ProtectorLaws.{protector_again}
 use Rattle.script_words.specs.declared.secrets.NewSecret.TheVariants as new
+use Rattle.script_words.specs.declared.secrets.NewSecret.{NewSecret}
+use Rattle.script_words.specs.declared.secrets.Secret.{Secret}
 use Rattle.reply_text.specs.declared.outcome.Outcome.{Outcome}
 use Rattle.reply_text.specs.declared.outcome.Outcome.TheVariants.{BadRecord}
 use Rattle.session_records.specs.declared.loaded.LoadedProtector.{LoadedProtector}
 use Rattle.session_records.specs.declared.loaded.LoadedPolicy.{LoadedPolicy}
 use Rattle.session_records.specs.declared.opened.OpenedPolicy.{OpenedPolicy}
-use Rattle.session_records.specs.MadeRecords.{MadeProtectorsOpen, MadeWrapsOpen, OpenedPoliciesAreNamed, loaded_again}
-use Rattle.session_records.specs.ChangedRecords.{ChangedProtectorsOpen, loaded_changed}
-use Rattle.session_records.specs.Records.{protector_with_key, policy_with_key, policy_by}
-use Rattle.session_records.specs.RecordKeys.{protector_key_found, policy_key_found, key_in_wrap}
-use Rattle.session_records.specs.LoadedRecords.{policy_loaded}
+use Rattle.session_records.specs.declared.opened.OpenedProtector.{OpenedProtector}
+use Rattle.session_records.specs.MadeRecords.{MadePoliciesOpen, MadeProtectorsOpen, MadeWrapsOpen, OpenedPoliciesAreNamed, secret_again, opened_protector}
+use Rattle.session_records.specs.ChangedRecords.{ChangedProtectorsOpen}
+use Rattle.session_records.specs.NewPolicies.{made_policy, made_wrap}
+use Rattle.session_records.specs.NewProtectors.{made_protector, changed_protector}
+use Rattle.session_records.specs.Records.{protector_with_key, protector_under, protector_by, policy_with_key, policy_by}
+use Rattle.session_records.specs.RecordKeys.{protector_key, protector_key_found, policy_key, policy_key_found, key_in_wrap, wrapping_key}
+use Rattle.session_records.specs.LoadedRecords.{policy_loaded, policy_named, protector_loaded, protector_named}
 
 same_bytes : (bytes : List ℕ) → bytes_eq bytes bytes ≡ true
 same_bytes bytes = (bytes_eq-Decides bytes bytes).1 refl
@@ -33,11 +52,38 @@ found loaded key opened is =
     ap (λ (o : Option (List ℕ)). protector_with_key loaded (protector_key_found (descriptor_of key) o)) is
     ∙ ap (λ b. protector_with_key loaded (if b then Ok key else Err BadRecord)) (same_bytes (descriptor_of key))
 
+-- ---- what is loaded of a text that was stored
+
+named_again : (version : ℕ) (label : List ℕ) (p : Protector) → p.name ≡ label
+    → protector_named label version (Ok p) ≡ Ok (record { version = version; protector = p })
+named_again version label p named =
+    ap (λ b. if b then Ok (record { version = version; protector = p }) else Err BadRecord) ((bytes_eq-Decides p.name label).1 named)
+
+loaded_again : (version : ℕ) (label : List ℕ) (p : Protector) → IsProtector p → p.name ≡ label
+    → protector_loaded label (Held version (protector_text p)) ≡ Ok (record { version = version; protector = p })
+loaded_again version label p spelled named =
+    ap (protector_named label version) (protector_again p spelled) ∙ named_again version label p named
+
+policy_again_named : (version : ℕ) (label : List ℕ) (p : PolicyFile) → IsPolicyFile p → p.name ≡ label
+    → policy_loaded label (Held version (policy_text p)) ≡ Ok (record { version = version; policy = p })
+policy_again_named version label p spelled named =
+    ap (policy_named label version) (policy_again p spelled)
+    ∙ ap (λ b. if b then Ok (record { version = version; policy = p }) else Err BadRecord) ((bytes_eq-Decides p.name label).1 named)
+
+-- ---- a new protector
+
+opened_again : OpensAgain → (version : ℕ) (label key : List ℕ) (secret : NewSecret) (iv salt : List ℕ)
+    → protector_by (secret_again secret) (Ok (record { version = version; protector = made_protector label key secret iv salt }))
+    ≡ Ok (opened_protector version (made_protector label key secret iv salt) key)
+opened_again opens version label key (new.Raw raw) iv salt =
+    found (record { version = version; protector = made_protector label key (new.Raw raw) iv salt }) key _ (opens raw iv key)
+opened_again opens version label key (new.Pass costs passphrase) iv salt =
+    found (record { version = version; protector = made_protector label key (new.Pass costs passphrase) iv salt }) key _ (opens (argon2id_tag costs passphrase salt [] []) iv key)
+
 pub protector_opens : OpensAgain → MadeProtectorsOpen
-protector_opens opens version label key (new.Raw raw) iv salt =
-    found (loaded_again version label key (new.Raw raw) iv salt) key _ (opens raw iv key)
-protector_opens opens version label key (new.Pass costs passphrase) iv salt =
-    found (loaded_again version label key (new.Pass costs passphrase) iv salt) key _ (opens (argon2id_tag costs passphrase salt [] []) iv key)
+protector_opens opens version label key secret iv salt spelled =
+    ap (protector_by (secret_again secret)) (loaded_again version label (made_protector label key secret iv salt) spelled refl)
+    ∙ opened_again opens version label key secret iv salt
 
 pub wrap_opens : OpensAgain → MadeWrapsOpen
 wrap_opens opens protector key iv policy_key =
@@ -53,11 +99,85 @@ changed loaded wrapping iv key descriptor opens same =
     ap (λ (d : List ℕ). protector_with_key loaded (protector_key_found d (opened_secret wrapping iv (wrapped_secret wrapping iv key).0 (wrapped_secret wrapping iv key).1))) (sym same)
     ∙ found loaded key _ (opens wrapping iv key)
 
+changed_again : OpensAgain → (version : ℕ) (old : Protector) (key : List ℕ) (secret : NewSecret) (iv salt : List ℕ)
+    → descriptor_of key ≡ old.descriptor
+    → protector_by (secret_again secret) (Ok (record { version = version; protector = changed_protector old key secret iv salt }))
+    ≡ Ok (opened_protector version (changed_protector old key secret iv salt) key)
+changed_again opens version old key (new.Raw raw) iv salt same =
+    changed (record { version = version; protector = changed_protector old key (new.Raw raw) iv salt }) raw iv key old.descriptor opens same
+changed_again opens version old key (new.Pass costs passphrase) iv salt same =
+    changed (record { version = version; protector = changed_protector old key (new.Pass costs passphrase) iv salt }) (argon2id_tag costs passphrase salt [] []) iv key old.descriptor opens same
+
+-- the key of a protector that was opened has the descriptor of its record, and the record the label that was asked
+record IsOpenedOf (label : List ℕ) (opened : OpenedProtector) : Type 0 where
+  descriptor : descriptor_of opened.key ≡ opened.loaded.protector.descriptor
+  name : opened.loaded.protector.name ≡ label
+
+key_compared : (loaded : LoadedProtector) (key : List ℕ) (opened : OpenedProtector) (b : Bool)
+    → bytes_eq (descriptor_of key) loaded.protector.descriptor ≡ b → (label : List ℕ) → loaded.protector.name ≡ label
+    → protector_with_key loaded (if b then Ok key else Err BadRecord) ≡ Ok opened → IsOpenedOf label opened
+key_compared loaded key opened false same label named is = absurd (cc is)
+key_compared loaded key opened true same label named is =
+    let whole : record { loaded = loaded; key = key } ≡ opened = cc is in
+    subst (IsOpenedOf label) whole (record {
+      descriptor = (bytes_eq-Decides (descriptor_of key) loaded.protector.descriptor).0 same;
+      name = named;
+    })
+
+key_found : (loaded : LoadedProtector) (opened : OpenedProtector) (label : List ℕ) → loaded.protector.name ≡ label
+    → (got : Option (List ℕ)) → protector_with_key loaded (protector_key_found loaded.protector.descriptor got) ≡ Ok opened → IsOpenedOf label opened
+key_found loaded opened label named None is = absurd (cc is)
+key_found loaded opened label named (Some key) is =
+    key_compared loaded key opened (bytes_eq (descriptor_of key) loaded.protector.descriptor) refl label named is
+
+under_key : (loaded : LoadedProtector) (opened : OpenedProtector) (label : List ℕ) → loaded.protector.name ≡ label
+    → (wrapping : Result (List ℕ) Outcome) → protector_under loaded wrapping ≡ Ok opened → IsOpenedOf label opened
+under_key loaded opened label named (Err outcome) is = absurd (cc is)
+under_key loaded opened label named (Ok wrapping) is =
+    key_found loaded opened label named (opened_secret wrapping loaded.protector.iv loaded.protector.key loaded.protector.tag) is
+
+label_compared : (label : List ℕ) (secret : Secret) (version : ℕ) (p : Protector) (opened : OpenedProtector) (b : Bool) → bytes_eq p.name label ≡ b
+    → protector_by secret (if b then Ok (record { version = version; protector = p }) else Err BadRecord) ≡ Ok opened → IsOpenedOf label opened
+label_compared label secret version p opened false same is = absurd (cc is)
+label_compared label secret version p opened true same is =
+    under_key (record { version = version; protector = p }) opened label ((bytes_eq-Decides p.name label).0 same) (wrapping_key secret p.kind) is
+
+text_read : (label : List ℕ) (secret : Secret) (version : ℕ) (opened : OpenedProtector) (got : Result Protector MetaFault)
+    → protector_by secret (protector_named label version got) ≡ Ok opened → IsOpenedOf label opened
+text_read label secret version opened (Err fault) is = absurd (cc is)
+text_read label secret version opened (Ok p) is = label_compared label secret version p opened (bytes_eq p.name label) refl is
+
+opened_of : (label : List ℕ) (secret : Secret) (opened : OpenedProtector) (r : Reply)
+    → protector_by secret (protector_loaded label r) ≡ Ok opened → IsOpenedOf label opened
+opened_of label secret opened (Held version bytes) is = text_read label secret version opened (protector_read bytes) is
+opened_of label secret opened (reply.Added id) is = absurd (cc is)
+opened_of label secret opened (reply.Removed others busy) is = absurd (cc is)
+opened_of label secret opened (reply.Status state by_self users) is = absurd (cc is)
+opened_of label secret opened reply.Done is = absurd (cc is)
+opened_of label secret opened (reply.PolicyIs bytes) is = absurd (cc is)
+opened_of label secret opened (reply.Names names more) is = absurd (cc is)
+opened_of label secret opened (reply.Stat kind node size encrypted keyed) is = absurd (cc is)
+opened_of label secret opened (reply.Opened handle) is = absurd (cc is)
+opened_of label secret opened (reply.Content bytes) is = absurd (cc is)
+opened_of label secret opened (reply.Target bytes) is = absurd (cc is)
+opened_of label secret opened (reply.Stored version) is = absurd (cc is)
+opened_of label secret opened (reply.Refused refusal) is = absurd (cc is)
+
 pub changed_opens : OpensAgain → ChangedProtectorsOpen
-changed_opens opens version old key (new.Raw raw) iv salt same =
-    changed (loaded_changed version old key (new.Raw raw) iv salt) raw iv key old.descriptor opens same
-changed_opens opens version old key (new.Pass costs passphrase) iv salt same =
-    changed (loaded_changed version old key (new.Pass costs passphrase) iv salt) (argon2id_tag costs passphrase salt [] []) iv key old.descriptor opens same
+changed_opens opens label secret r opened is version secret_now iv salt spelled =
+    let was : IsOpenedOf label opened = opened_of label secret opened r is in
+    ap (protector_by (secret_again secret_now)) (loaded_again version label (changed_protector opened.loaded.protector opened.key secret_now iv salt) spelled was.name)
+    ∙ changed_again opens version opened.loaded.protector opened.key secret_now iv salt was.descriptor
+
+-- ---- a policy opens through its protector
+
+pub policy_opens : OpensAgain → MadePoliciesOpen
+policy_opens opens version label protector key iv policy_key options spelled =
+    ap (policy_by protector key) (policy_again_named version label (made_policy label policy_key options (made_wrap protector key iv policy_key)) spelled refl)
+    ∙ ap (λ b. policy_with_key (record { version = version; policy = made_policy label policy_key options (made_wrap protector key iv policy_key) })
+    (key_in_wrap (key_id_of policy_key) key (if b then Some (made_wrap protector key iv policy_key) else None))) (same_bytes protector)
+    ∙ ap (policy_with_key (record { version = version; policy = made_policy label policy_key options (made_wrap protector key iv policy_key) }))
+    (wrap_opens opens protector key iv policy_key)
 
 -- ---- a policy's key has the identifier of its record
 

@@ -1,23 +1,22 @@
--- A protector that got another secret opens with it.
+-- A protector that got another secret opens with it, from the text that is stored.
 use Rattle.std.specs.Prelude.{◌≡◌, ℕ, List, Ok}
-use Rattle.fsc_keys.specs.Keys.{descriptor_of}
+use Rattle.mount_model.specs.declared.reply.Reply.{Reply}
+use Rattle.mount_model.specs.declared.reply.Reply.TheVariants.{Held}
 use Rattle.protector_meta.specs.declared.protector.Protector.{Protector}
+use Rattle.protector_meta.specs.ProtectorText.{IsProtector, protector_text}
 use Rattle.script_words.specs.declared.secrets.NewSecret.{NewSecret}
-use Rattle.script_words.specs.declared.secrets.Secret.TheVariants as old
-use Rattle.session_records.specs.declared.loaded.LoadedProtector.{LoadedProtector}
+use Rattle.script_words.specs.declared.secrets.Secret.{Secret}
+use Rattle.session_records.specs.declared.opened.OpenedProtector.{OpenedProtector}
 use Rattle.session_records.specs.NewProtectors.{changed_protector}
-use Rattle.session_records.specs.Records.{protector_by}
-use Rattle.session_records.specs.MadeRecords.{secret_again, opened_again}
+use Rattle.session_records.specs.Records.{protector_opened}
+use Rattle.session_records.specs.MadeRecords.{secret_again, opened_protector}
 
--- a protector as it is loaded at a version, once it got another secret
-abbrev pub loaded_changed : ℕ → Protector → List ℕ → NewSecret → List ℕ → List ℕ → LoadedProtector
-loaded_changed version old key secret iv salt =
-    record { version = version; protector = changed_protector old key secret iv salt }
-
--- a protector that got another secret opens with it, to the key that it had
+-- a protector that a secret opened, and that then got another one, opens with the new one, to the key that it had
 abbrev pub ChangedProtectorsOpen : Type 0
 ChangedProtectorsOpen =
-    (version : ℕ) (old : Protector) (key : List ℕ) (secret : NewSecret) (iv salt : List ℕ)
-    → descriptor_of key ≡ old.descriptor
-    → (let loaded : LoadedProtector = loaded_changed version old key secret iv salt in
-    protector_by (secret_again secret) (Ok loaded) ≡ Ok (opened_again loaded key))
+    (label : List ℕ) (secret : Secret) (reply : Reply) (opened : OpenedProtector)
+    → protector_opened label secret reply ≡ Ok opened
+    → (version : ℕ) (new : NewSecret) (iv salt : List ℕ)
+    → (let changed : Protector = changed_protector opened.loaded.protector opened.key new iv salt in
+    IsProtector changed → protector_opened label (secret_again new) (Held version (protector_text changed))
+    ≡ Ok (opened_protector version changed opened.key))

@@ -1,5 +1,5 @@
 -- How a record opens, by the reply to loading it.
-use Rattle.std.specs.Prelude.{ℕ, List, Result, Ok, Err}
+use Rattle.std.specs.Prelude.{ℕ, ◌≡◌, List, Result, Ok, Err}
 use Rattle.mount_model.specs.declared.reply.Reply.{Reply}
 use Rattle.script_words.specs.declared.secrets.Secret.{Secret}
 use Rattle.reply_text.specs.declared.outcome.Outcome.{Outcome}
@@ -8,7 +8,7 @@ use Rattle.session_records.specs.declared.loaded.LoadedProtector.{LoadedProtecto
 use Rattle.session_records.specs.declared.opened.OpenedPolicy.{OpenedPolicy}
 use Rattle.session_records.specs.declared.opened.OpenedProtector.{OpenedProtector}
 use Rattle.session_records.specs.LoadedRecords.{policy_loaded, protector_loaded}
-use Rattle.session_records.specs.RecordKeys.{wrapping_key, protector_key, policy_key}
+use Rattle.session_records.specs.RecordKeys.{IsStretched, wrapping_key, protector_key, policy_key}
 
 -- ---- a protector opened by a secret
 
@@ -30,6 +30,11 @@ protector_by secret (Ok loaded) = protector_under loaded (wrapping_key secret lo
 -- by the reply to loading its record
 abbrev pub protector_opened : List ℕ → Secret → Reply → Result OpenedProtector Outcome
 protector_opened label secret reply = protector_by secret (protector_loaded label reply)
+
+-- the record is a protector of this label, and the secret a passphrase that is stretched for it
+abbrev pub OpensByStretching : List ℕ → Secret → Reply → Type 0
+OpensByStretching label secret reply =
+    (loaded : LoadedProtector) × ((protector_loaded label reply ≡ Ok loaded) × IsStretched secret loaded.protector.kind)
 
 -- ---- a policy opened through a protector
 

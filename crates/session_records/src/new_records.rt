@@ -4,8 +4,8 @@ ghost use Rattle.std.specs.Prelude.{◌≡◌, Some, IfOk};
 ghost use Rattle.fsc_keys.specs.Keys.{descriptor_of};
 ghost use Rattle.key_wrap.specs.Wrapping.{opened_secret, wrapped_secret};
 ghost use Rattle.script_words.specs.NewSecrets.{IsNewSecret};
-ghost use Rattle.session_records.specs.MadeRecords.{MadeProtectorsOpen, MadeWrapsOpen};
-ghost use Rattle.session_records.specs.MadeRecords.{OpenedPoliciesAreNamed};
+ghost use Rattle.session_records.specs.MadeRecords.{MadeProtectorsOpen, MadePoliciesOpen};
+ghost use Rattle.session_records.specs.MadeRecords.{MadeWrapsOpen, OpenedPoliciesAreNamed};
 ghost use Rattle.session_records.specs.ChangedRecords.{ChangedProtectorsOpen};
 ghost use Rattle.session_records.specs.NewProtectors as spec;
 
@@ -114,12 +114,14 @@ pub(crate) fn new_wrapping_key<S: Stretch>(
     }
 }
 
-/// Does nothing. Its contract is the law that what a session makes opens again: a protector with its
-/// secret, one that got another secret with that one, and a wrap with the key of its protector; and that the
-/// key of a policy that was opened has the identifier in its record.
+/// Does nothing. Its contract is the law that what a session makes, if a record can spell it, opens again from its text: a
+/// protector with its secret, one that got another secret with that one, and a policy through its protector. So
+/// does a wrap with the key of its protector, and the key of a policy that was opened has the identifier in its
+/// record.
 pub fn made_records_open()
     ensures protectors { MadeProtectorsOpen }
     ensures changed { ChangedProtectorsOpen }
+    ensures policies { MadePoliciesOpen }
     ensures wraps { MadeWrapsOpen }
     ensures named { OpenedPoliciesAreNamed }
 {

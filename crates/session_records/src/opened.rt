@@ -39,7 +39,8 @@ pub struct OpenedPolicy {
 
 /// The protector of this label opened with a secret, by the reply to loading its record. It ends as
 /// `policy_loaded` does, with `WrongKind` where the protector is of another kind than the secret, with `WrongKey`
-/// where its tag isn't that of the secret, and with `BadRecord` where its key isn't the one that it tells.
+/// where its tag isn't that of the secret, and with `BadRecord` where its key isn't the one that it tells. It takes
+/// memory only to stretch a passphrase.
 pub fn protector_opened<S: Stretch>(
     alloc: Global,
     stretches: &S,
@@ -49,7 +50,8 @@ pub fn protector_opened<S: Stretch>(
 ) -> Result<OpenedProtector, Stop>
     requires ready { S.ready stretches.now }
     requires secret { IsSecret secret.now }
-    ensures { Gives result (spec.protector_opened label.now secret.now reply.now) }
+    ensures value { Gives result (spec.protector_opened label.now secret.now reply.now) }
+    ensures memory { IfNoMemory result (spec.OpensByStretching label.now secret.now reply.now) }
 {
     match protector_loaded(label, reply) {
         Ok(loaded) => protector_by(alloc, stretches, secret, loaded),
@@ -66,7 +68,8 @@ fn protector_by<S: Stretch>(
 ) -> Result<OpenedProtector, Stop>
     requires ready { S.ready stretches.now }
     requires secret { IsSecret secret.now }
-    ensures { Gives result (spec.protector_by secret.now (Ok loaded)) }
+    ensures value { Gives result (spec.protector_by secret.now (Ok loaded)) }
+    ensures memory { IfNoMemory result (keys.IsStretched secret.now loaded.protector.kind) }
 {
     match wrapping_key(alloc, stretches, secret, &loaded.protector.kind) {
         Ok(mut wrapping) => {

@@ -1,15 +1,15 @@
 -- When digits spell bytes, and which.
-use Rattle.std.proofs.Common.{◌≡◌, ◌≢◌, ℕ, zero, suc, ◌<◌, ◌*◌, ◌/◌, ◌%◌, ◌+◌, ◌-◌, ◌==◌, Bool, true, false, ◌&&◌, ◌||◌, not, List, [], ◌∷◌, length, Option, Some, None, Result, Ok, Err, refl, sym, ap, ◌∙◌, subst, arith, inl, inr}
-use Rattle.std.specs.Prelude.{MatchResult, if◌then◌else◌, is_ok, IsTrue, ◌↔◌, slice_index, nat_le}
+use Rattle.std.proofs.Common.{◌≡◌, ◌≢◌, ℕ, zero, suc, ◌<◌, ◌*◌, ◌/◌, ◌%◌, ◌+◌, ◌-◌, ◌==◌, Bool, true, false, ◌&&◌, ◌||◌, not, List, [], ◌∷◌, length, Option, Some, None, Result, Ok, Err, refl, sym, ap, ◌∙◌, arith, inl, inr}
+use Rattle.std.specs.Prelude.{if◌then◌else◌, is_some, IsTrue, ◌↔◌, slice_index, nat_le}
 use Rattle.std.specs.Bool.{OnTrue}
 use Rattle.std.specs.List.{list_all, AllPass}
 use Rattle.std.specs.Result.{result_ok}
 use Rattle.std.proofs.lemmas.Bool.{and_parts, and_from, cases_eq, cases_lt, eqb-true}
 use Rattle.std.proofs.lemmas.Bool.Decides.{nat_tests}
 use Rattle.std.proofs.lemmas.List.Sums.{AllPass-from_list_all, list_all-from_AllPass}
-use Rattle.hex.specs.Hex.{decode_of, decode_sized, is_hex_digit, encode_lower, encode_with, lower_digits, IsBytes}
+use Rattle.hex.specs.Hex.{hex_digit_value, pair_value, decode_pairs, decode_of, decode_sized, is_hex_digit, encode_lower, encode_with, lower_digits, IsBytes}
 use Rattle.hex.specs.declared.error.FromHexError.{FromHexError}
-use Rattle.hex.proofs.HexLemmas.{decode_of-digits, decode_of-ok, decode_sized-twice, decode_sized-ok, decode_of-encode_lower, length-encode_with}
+use Rattle.hex.proofs.HexLemmas.{decode_of-even, decode_of-digits, decode_of-ok, decode_sized-twice, decode_of-encode_lower, length-encode_with}
 use Rattle.text_words.specs.Digits.{hex_bytes_of_length, lower_hex_bytes_of_length, is_lower_hex_digit, ReadsInto}
 
 -- ---- either case
@@ -57,27 +57,7 @@ not_spelled text n None e digits = refl
 not_spelled text n (Some bytes) e digits =
     absurd (cc (sym digits ∙ list_all-from_AllPass is_hex_digit text (spells text n bytes (sym e)).2))
 
--- what the reader answers where the text is digits alone
-pub reads_digits : (text old new : List ℕ) (r : Result (Unit {0}) FromHexError)
-    → list_all is_hex_digit text ≡ true
-    → MatchResult (decode_sized text (length old)) (λ bytes. (r ≡ Ok tt) × (new ≡ bytes)) (λ e. r ≡ Err e)
-    → (length text ≢ 2 * length old → new ≡ old)
-    → ReadsInto (hex_bytes_of_length (length old) text) old new (is_ok r)
-reads_digits text old new r digits value same =
-    elim (cases_eq (length text) (2 * length old)) [
-      | inl len ↦
-          let bytes = spelled text (length old) digits len in
-          let said : (r ≡ Ok tt) × (new ≡ bytes.0) =
-          subst (λ (d : Result (List ℕ) FromHexError). MatchResult d (λ bytes. (r ≡ Ok tt) × (new ≡ bytes)) (λ e. r ≡ Err e)) bytes.1 value in
-          rw bytes.2 (ap is_ok said.0, said.1)
-      | inr other ↦ rw (left_out (length text) (2 * length old) (decode_of text) other) (refused other (decode_sized text (length old)) refl value, same other)
-    ]
-  where
-    refused : length text ≢ 2 * length old → (d : Result (List ℕ) FromHexError) → decode_sized text (length old) ≡ d → MatchResult d (λ bytes. (r ≡ Ok tt) × (new ≡ bytes)) (λ e. r ≡ Err e) → is_ok r ≡ false
-    refused other (Ok bytes) e h = absurd (other (decode_sized-ok text (length old) bytes e))
-    refused other (Err d) e h = ap is_ok h
-
--- and where it isn't
+-- what the reader answers where a byte is no digit
 pub reads_no_digits : (text old : List ℕ) → list_all is_hex_digit text ≡ false
     → ReadsInto (hex_bytes_of_length (length old) text) old old false
 reads_no_digits text old digits = rw (not_spelled text (length old) _ refl digits) (refl, refl)
@@ -208,3 +188,37 @@ lower_every text old new answer None e h bytes are len is =
   where
     both : (b : Bool) (o : Option (List ℕ)) (bytes : List ℕ) → b ≡ true → o ≡ Some bytes → (let p : Option (List ℕ) = if b then o else None in p ≡ Some bytes)
     both b o bytes e h = rw e h
+
+-- ---- the test of lower-case digits
+
+pub is_tested : (text : List ℕ) (n : ℕ) (test : Bool) → length text ≡ 2 * n → test ≡ list_all is_lower_hex_digit text
+    → test ≡ is_some (lower_hex_bytes_of_length n text)
+is_tested text n true size e =
+    let own = lower_text text (sym e) (omega (arith, size)) in
+    let found : hex_bytes_of_length n text ≡ Some own.0 =
+    taken (length text) (2 * n) (decode_of text) own.0 size (ap decode_of own.2 ∙ decode_of-encode_lower own.0 own.1) in
+    rw (sym e, found) refl
+is_tested text n false size e = rw (sym e) refl
+
+-- ---- digit by digit
+
+pub digit_at : (text : List ℕ) (i : ℕ) → i < length text → list_all is_hex_digit text ≡ true
+    → is_hex_digit (slice_index text i) ≡ true
+digit_at text i low digits = AllPass-from_list_all is_hex_digit text digits i 0 low
+
+pub pair_decoded : (high low i u v : ℕ) → hex_digit_value high ≡ Some u → hex_digit_value low ≡ Some v
+    → pair_value high low i ≡ Ok (16 * u + v)
+pair_decoded high low i u v h l =
+    let order : u * 16 + v ≡ 16 * u + v = omega arith in
+    rw (h, l) (ap Ok order)
+
+-- what the reader answers where the text is digits of the right number, and where their number is another
+pub reads_spelled : (text old new : List ℕ) → length text ≡ 2 * length old → decode_pairs 0 text ≡ Ok new
+    → ReadsInto (hex_bytes_of_length (length old) text) old new true
+reads_spelled text old new len is =
+    let even : length text % 2 ≡ 0 = omega arith in
+    rw (taken (length text) (2 * length old) (decode_of text) new len (decode_of-even text even ∙ is)) (refl, refl)
+
+pub reads_other : (text old : List ℕ) → length text ≢ 2 * length old
+    → ReadsInto (hex_bytes_of_length (length old) text) old old false
+reads_other text old other = rw (left_out (length text) (2 * length old) (decode_of text) other) (refl, refl)

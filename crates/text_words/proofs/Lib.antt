@@ -3,3 +3,4 @@ pub mod LineLemmas
 pub mod DigitLemmas
 pub mod PieceLemmas
 pub mod WordLemmas
+pub mod LineFeedLemmas

@@ -10,7 +10,7 @@ mod parts;
 mod words;
 mod writing;
 
-pub use digits::{hex_bytes, hex_bytes_into, lower_hex_bytes, lower_hex_bytes_into};
+pub use digits::{hex_bytes, hex_bytes_into, is_lower_hex, lower_hex_bytes, lower_hex_bytes_into};
 pub use lines::{Line, line_count, next_line};
 pub use numbers::{DecimalText, decimal_digits, decimal_value, decimal_value_u64};
 pub use parts::may_be_part;

@@ -5,10 +5,12 @@ ghost use Rattle.byte_words.specs.Blocks.{block_at, first_blocks};
 ghost use Rattle.byte_words.specs.Numbers.{little_endian_bytes};
 ghost use Rattle.byte_words.specs.Xor.{xor_bytes};
 ghost use Rattle.aes_core.specs.Aes.{decrypted_block, encrypted_block};
+ghost use Rattle.aes_core.specs.KeyPlanes.{key_planes};
+ghost use Rattle.aes_core.specs.RoundKeys.{round_keys};
 ghost use Rattle.xts_mode.specs.Groups.{group_of, tweak_from};
 
 use crate::block::times_alpha;
-use aes_core::Aes256;
+use aes_core::{Aes256, KeyPlanes};
 use std::simd::prelude::*;
 
 pub(crate) const GROUP_BYTES: usize = 128;
@@ -106,26 +108,28 @@ fn write_masked(group: &mut [u8], blocks: &[u8x16; 8], masks: &Masks)
 
 // Encrypts eight blocks in place, of which the first has this tweak. Returns the tweak of the block
 // after them.
-pub(crate) fn encrypt_group(key: &Aes256, tweak: u128, group: &mut [u8]) -> u128
+pub(crate) fn encrypt_group(key: &Aes256, planes: &KeyPlanes, tweak: u128, group: &mut [u8]) -> u128
+    requires planes { planes.now ≡ key_planes (round_keys key.now) }
     requires whole { length group.old ≡ GROUP_BYTES }
     ensures group { group.new ≡ group_of (encrypted_block key.now) tweak group.old }
     ensures next { result ≡ tweak_from tweak 8 }
 {
     let masks = group_masks(tweak);
-    let sealed = key.encrypt_eight(masked_group(group, masks));
+    let sealed = key.encrypt_eight_with(planes, masked_group(group, masks));
     write_masked(group, &sealed, &masks);
     after_group(tweak)
 }
 
 // Decrypts eight blocks in place, of which the first has this tweak. Returns the tweak of the block
 // after them.
-pub(crate) fn decrypt_group(key: &Aes256, tweak: u128, group: &mut [u8]) -> u128
+pub(crate) fn decrypt_group(key: &Aes256, planes: &KeyPlanes, tweak: u128, group: &mut [u8]) -> u128
+    requires planes { planes.now ≡ key_planes (round_keys key.now) }
     requires whole { length group.old ≡ GROUP_BYTES }
     ensures group { group.new ≡ group_of (decrypted_block key.now) tweak group.old }
     ensures next { result ≡ tweak_from tweak 8 }
 {
     let masks = group_masks(tweak);
-    let plain = key.decrypt_eight(masked_group(group, masks));
+    let plain = key.decrypt_eight_with(planes, masked_group(group, masks));
     write_masked(group, &plain, &masks);
     after_group(tweak)
 }

@@ -10,7 +10,8 @@ ghost use Rattle.xts_mode.specs.Xts.{first_tweak, xts_decrypted, xts_encrypted};
 
 use crate::block::{block_at, decrypt_tweaked, encrypt_tweaked, times_alpha};
 use crate::group::{GROUP_BYTES, decrypt_group, encrypt_group};
-use aes_core::Aes256;
+use aes_core::{Aes256, KEY_PLANE_BYTES};
+use byte_words::wipe;
 use std::marker::Model;
 
 /// A key of 64 bytes, whose halves are two keys of AES-256. In contracts it is the 64 bytes. Equal
@@ -68,16 +69,26 @@ impl XtsKey {
     }
 
     /// Encrypts the unit with this index, in place. Its length is a multiple of 16 bytes.
+    #[inline(never)]
     pub fn encrypt_unit(&self, index: u64, unit: &mut [u8])
         requires whole_blocks { length unit.old % 16 ≡ 0 }
         ensures { unit.new ≡ xts_encrypted self.now index unit.old }
     {
         let mut tweak = self.first_tweak(index);
         let groups = unit.len() / GROUP_BYTES;
+        // As secret as the key, so they are in this frame alone, and wiped once the groups are done.
+        let mut planes = [0; KEY_PLANE_BYTES];
+        self.cipher.write_key_planes(&mut planes);
         'groups: for g in 0..groups {
             let at = GROUP_BYTES * g;
-            tweak = encrypt_group(&self.cipher, tweak, &mut unit[at..at + GROUP_BYTES]);
+            tweak = encrypt_group(
+                &self.cipher,
+                &planes,
+                tweak,
+                &mut unit[at..at + GROUP_BYTES],
+            );
         }
+        wipe(&mut planes);
         'units: for j in 8 * groups..unit.len() / 16 {
             let block = encrypt_tweaked(&self.cipher, tweak, block_at(unit, j));
             unit[16 * j..16 * j + 16].copy_from_slice(&block);
@@ -86,16 +97,26 @@ impl XtsKey {
     }
 
     /// Decrypts the unit with this index, in place. Its length is a multiple of 16 bytes.
+    #[inline(never)]
     pub fn decrypt_unit(&self, index: u64, unit: &mut [u8])
         requires whole_blocks { length unit.old % 16 ≡ 0 }
         ensures { unit.new ≡ xts_decrypted self.now index unit.old }
     {
         let mut tweak = self.first_tweak(index);
         let groups = unit.len() / GROUP_BYTES;
+        // As secret as the key, so they are in this frame alone, and wiped once the groups are done.
+        let mut planes = [0; KEY_PLANE_BYTES];
+        self.cipher.write_key_planes(&mut planes);
         'groups: for g in 0..groups {
             let at = GROUP_BYTES * g;
-            tweak = decrypt_group(&self.cipher, tweak, &mut unit[at..at + GROUP_BYTES]);
+            tweak = decrypt_group(
+                &self.cipher,
+                &planes,
+                tweak,
+                &mut unit[at..at + GROUP_BYTES],
+            );
         }
+        wipe(&mut planes);
         'units: for j in 8 * groups..unit.len() / 16 {
             let block = decrypt_tweaked(&self.cipher, tweak, block_at(unit, j));
             unit[16 * j..16 * j + 16].copy_from_slice(&block);

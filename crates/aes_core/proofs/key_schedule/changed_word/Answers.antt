@@ -6,8 +6,8 @@ use Rattle.aes_core.specs.Groups.{last_column}
 use Rattle.aes_core.specs.Lanes.{round_key, row_on}
 use Rattle.aes_core.specs.Substitution.{substitute_byte}
 use Rattle.aes_core.proofs.GroupLemmas.{changed_even, changed_odd}
-use Rattle.aes_core.proofs.key_schedule.changed_word.Goals as goal
 use Rattle.aes_core.proofs.key_schedule.changed_word.Goals.{then-place-eq0, else-place-eq0}
+use Rattle.aes_core.proofs.key_schedule.changed_word.Goals as goal
 
 pub returns : goal.returns
 returns c =

@@ -1,15 +1,16 @@
--- Each gate by its truth table, a number of 256 bits; the last tables are those of the standard's bytes.
+-- Each gate by its truth table, a number of 256 bits; the last tables are those of the standard's bytes but for the constant.
 use Rattle.std.proofs.Common.{[], ◌∷◌, get_or, ap, refl, ◌∙◌}
 use Rattle.byte_words.specs.Tables.{all_from}
 use Rattle.aes_core.specs.Field.{times_x, sum_with_product, field_product, product_of_squares, field_inverse}
-use Rattle.aes_core.specs.Planes.{planes}
 use Rattle.aes_core.specs.Substitution.{bit_of, number_of_bits, affine_map, substitute_byte}
-use Rattle.aes_core.proofs.PlaneLemmas.{Carries, xor_gate, and_gate, not_gate}
-use Rattle.aes_core.proofs.CircuitTables.{plane_of_bit, plane_of_sbox}
+use Rattle.aes_core.specs.Planes.{planes}
+use Rattle.aes_core.specs.MiddleRounds.{substitute_without_constant}
+use Rattle.aes_core.proofs.PlaneLemmas.{Carries, xor_gate, and_gate}
+use Rattle.aes_core.proofs.CircuitTables.{plane_of_bit, plane_without_constant}
 use Rattle.aes_core.proofs.substitution_circuit.substitute_planes.Goals as goal
 
 pub returns : goal.returns
-unfolding planes all_from times_x sum_with_product field_product product_of_squares field_inverse bit_of number_of_bits affine_map substitute_byte
+unfolding planes all_from times_x sum_with_product field_product product_of_squares field_inverse bit_of number_of_bits affine_map substitute_byte substitute_without_constant
 returns c s blocks is =
     let u0 : Carries s 0xffffffffffffffffffffffffffffffff00000000000000000000000000000000 (get_or c.args.state 7 []) = record { is = ap (λ q. get_or q 7 []) is ∙ plane_of_bit 7 0xffffffffffffffffffffffffffffffff00000000000000000000000000000000 s blocks refl } in
     let u1 : Carries s 0xffffffffffffffff0000000000000000ffffffffffffffff0000000000000000 (get_or c.args.state 6 []) = record { is = ap (λ q. get_or q 6 []) is ∙ plane_of_bit 6 0xffffffffffffffff0000000000000000ffffffffffffffff0000000000000000 s blocks refl } in
@@ -132,15 +133,11 @@ returns c s blocks is =
     let s6 : Carries s 0x378f68bf6b15275695baf4d10ccb794b19e5b3a1687e90858451ff82b3ac0382 c.xor-s6.result = xor_gate c.xor-s6.ensures tc10 tc18 in
     let s7 : Carries s 0xb0e152c690db85fbef424def3ff9154a9754b405753485ec4eb12198f6939112 c.xor-s7.result = xor_gate c.xor-s7.ensures z12 tc18 in
     let s4 : Carries s 0x4e9ddb76c892fb1be9da849cf6ac6c1b2568ea2effa8527d109020a2193d586a c.xor-s4.result = xor_gate c.xor-s4.ensures tc14 s3 in
-    let n7 : Carries s 0x4f1ead396f247a0410bdb210c006eab568ab4bfa8acb7a13b14ede67096c6eed c.not.result = not_gate blocks c.not.ensures s7 in
-    let n6 : Carries s 0xc870974094ead8a96a450b2ef33486b4e61a4c5e97816f7a7bae007d4c53fc7d c.not-2.result = not_gate blocks c.not-2.ensures s6 in
-    let n2 : Carries s 0x54b248130b4f256f7d8dcc4706319e086bc2aa4e0d787aa4f8045f7b6d98dd7f c.not-3.result = not_gate blocks c.not-3.ensures s2 in
-    let n1 : Carries s 0x21e0b833255917823f6bcb91b30db559e4851b3bf3ab2560980a3cc2c2fdb4ff c.not-4.result = not_gate blocks c.not-4.ensures s1 in
-    (λ i. (n7.is ∙ plane_of_sbox 0 0x4f1ead396f247a0410bdb210c006eab568ab4bfa8acb7a13b14ede67096c6eed s blocks refl) i ∷
-    (n6.is ∙ plane_of_sbox 1 0xc870974094ead8a96a450b2ef33486b4e61a4c5e97816f7a7bae007d4c53fc7d s blocks refl) i ∷
-    (s5.is ∙ plane_of_sbox 2 0xac39b6c0d6ce2efc577d64e03b0c3ffb23a869a2a428c424a16387fb3b48b4c6 s blocks refl) i ∷
-    (s4.is ∙ plane_of_sbox 3 0x4e9ddb76c892fb1be9da849cf6ac6c1b2568ea2effa8527d109020a2193d586a s blocks refl) i ∷
-    (s3.is ∙ plane_of_sbox 4 0xf210a3aece472e532624b286bc48ecb4f7f17a494ce30f58c2b0f97752b8b11e s blocks refl) i ∷
-    (n2.is ∙ plane_of_sbox 5 0x54b248130b4f256f7d8dcc4706319e086bc2aa4e0d787aa4f8045f7b6d98dd7f s blocks refl) i ∷
-    (n1.is ∙ plane_of_sbox 6 0x21e0b833255917823f6bcb91b30db559e4851b3bf3ab2560980a3cc2c2fdb4ff s blocks refl) i ∷
-    (s0.is ∙ plane_of_sbox 7 0x52379de7b844e3e14cb3770196ca0329e7bac28f866aac825caa2ec7bf977090 s blocks refl) i ∷ [])
+    (λ i. (s7.is ∙ plane_without_constant 0 0xb0e152c690db85fbef424def3ff9154a9754b405753485ec4eb12198f6939112 s blocks refl) i ∷
+    (s6.is ∙ plane_without_constant 1 0x378f68bf6b15275695baf4d10ccb794b19e5b3a1687e90858451ff82b3ac0382 s blocks refl) i ∷
+    (s5.is ∙ plane_without_constant 2 0xac39b6c0d6ce2efc577d64e03b0c3ffb23a869a2a428c424a16387fb3b48b4c6 s blocks refl) i ∷
+    (s4.is ∙ plane_without_constant 3 0x4e9ddb76c892fb1be9da849cf6ac6c1b2568ea2effa8527d109020a2193d586a s blocks refl) i ∷
+    (s3.is ∙ plane_without_constant 4 0xf210a3aece472e532624b286bc48ecb4f7f17a494ce30f58c2b0f97752b8b11e s blocks refl) i ∷
+    (s2.is ∙ plane_without_constant 5 0xab4db7ecf4b0da90827233b8f9ce61f7943d55b1f287855b07fba08492672280 s blocks refl) i ∷
+    (s1.is ∙ plane_without_constant 6 0xde1f47ccdaa6e87dc094346e4cf24aa61b7ae4c40c54da9f67f5c33d3d024b00 s blocks refl) i ∷
+    (s0.is ∙ plane_without_constant 7 0x52379de7b844e3e14cb3770196ca0329e7bac28f866aac825caa2ec7bf977090 s blocks refl) i ∷ [])

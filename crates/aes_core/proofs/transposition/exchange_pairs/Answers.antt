@@ -1,9 +1,13 @@
 -- Each lane by its bits.
+use Rattle.std.proofs.Common.{◌∙◌}
+use Rattle.aes_core.proofs.ExchangeLemmas.{lower_lanes, upper_lanes, pairs_lower, pairs_upper}
 use Rattle.aes_core.proofs.BitLemmas.{lower_vector, upper_vector, pairs}
 use Rattle.aes_core.proofs.transposition.exchange_pairs.Goals as goal
 
 pub returns-clause-lower : goal.returns-clause-lower
-returns-clause-lower c f g fb gb first second = lower_vector 2 51 204 pairs f g c.args.first c.args.second fb gb first second
+returns-clause-lower c f g fb gb first second = lower_lanes 2 51 pairs_lower 16 c.args.first c.args.second c.fits-first.0 c.fits-second.0 c.fits-first.1 c.fits-second.1
+    ∙ lower_vector 2 51 204 pairs f g c.args.first c.args.second fb gb first second
 
 pub returns-clause-upper : goal.returns-clause-upper
-returns-clause-upper c f g fb gb first second = upper_vector 2 51 204 pairs f g c.args.first c.args.second fb gb first second
+returns-clause-upper c f g fb gb first second = upper_lanes 2 51 204 pairs_upper 16 c.args.first c.args.second c.fits-first.0 c.fits-second.0 c.fits-first.1 c.fits-second.1
+    ∙ upper_vector 2 51 204 pairs f g c.args.first c.args.second fb gb first second

@@ -1,7 +1,7 @@
 -- Three stages of four exchanges; at the end each bit stands where rows and columns have changed.
 use Rattle.std.proofs.Common.{◌≡◌, [], ◌∷◌, get_or, ap}
-use Rattle.aes_core.specs.Planes.{AllBits, packed, vector_of, square_of, lower_bits, upper_bits}
 use Rattle.aes_core.specs.Laws.{IsBlock}
+use Rattle.aes_core.specs.Planes.{AllBits, packed, vector_of, square_of, lower_bits, upper_bits}
 use Rattle.aes_core.proofs.SquareLemmas.{of_eight}
 use Rattle.aes_core.proofs.BitLemmas.{lower-AllBits, upper-AllBits}
 use Rattle.aes_core.proofs.transposition.transpose.Goals as goal

@@ -9,6 +9,6 @@ pub returns-clause-linked : goal.returns-clause-linked
 returns-clause-linked g c =
     text_ends _ _ _ _ _ c.deref.result.now.script c.deref-2.result.now.seed _ _
     (rw c.deref.ensures (rw c.deref-2.ensures c.in-Ok.ensures.prepared))
-    (linked_apart_is _ c.deref-2.result.now.seed c.deref.result.now.script c.in-Ok-ran.told.even.items c.in-Ok-ran.told.odd.items c.in-Ok-ran.told.notes.items
+    (linked_apart_is _ _ c.deref-2.result.now.seed c.deref.result.now.script c.in-Ok-ran.told.even.items c.in-Ok-ran.told.odd.items c.in-Ok-ran.told.notes.items
     c.in-Ok-ran.ensures)
     c.finish_linked.ensures

@@ -1,4 +1,4 @@
-use Rattle.std.proofs.Common.{◌≡◌, ◌≤◌, ◌*◌, ap, arith}
+use Rattle.std.proofs.Common.{◌≡◌, ◌≤◌, ◌*◌, ◌∙◌, ap, arith}
 use Rattle.mount_shared.specs.SharedCalls.{MountPass}
 use Rattle.fsc_commands.specs.declared.TheConstants.{MOST_CALLS}
 use Rattle.script_runs.specs.Passes.{calls_needed}
@@ -9,6 +9,6 @@ pub new-requires-clause-own_left : goal.new-requires-clause-own_left
 new-requires-clause-own_left g c =
     let given : c.in-Some.calls ≡ calls_needed MOST_CALLS c.args.sections.now = c.in-Some.ensures.some.0 in
     let enough : calls_needed (2 * MOST_CALLS) c.args.sections.now ≤ c.args.passes.odd.left = c.requires.on_odd.calls in
-    let same = ap (λ (pass : MountPass). pass.left) c.new-own.ensures in
+    let same = ap (λ (pass : MountPass). pass.left) (c.over.ensures ∙ c.new-own.ensures) in
     let double = twice_needed MOST_CALLS c.args.sections.now in
     omega (arith, given, enough, same, double)

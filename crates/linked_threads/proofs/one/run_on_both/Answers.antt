@@ -27,7 +27,7 @@ returns g c =
     let back = c.back-own.ensures in
     let told = c.in_ok-told.ensures in
     let is : port ≡ link_view odd even calls [] = c.in_ok-port.ensures in
-    odd_runs g.M.Machine.lawful seed (both c.args.shared.now.even c.args.shared.now.odd) even odd c.args.callers.sections.now section
+    odd_runs g.M.Machine.lawful g.N.Machine.lawful seed (both c.args.shared.now.even c.args.shared.now.odd) even odd c.args.callers.sections.now section
     c.requires.can_run c.requires.one (slice_get_read c.args.callers.sections.now 1 0 section (sym c.requires.one) (omega arith) c.index-sections-0.is)
     c.in_ok-told.told entries placed ran.shown
     (subst (λ w. IsRunOfSection seed w section placed) c.requires.can_run.same_caller
@@ -35,6 +35,6 @@ returns g c =
     (subst (λ w. notes ≡ notes_of_section seed w section placed) c.requires.can_run.same_caller
     (subst (λ (p : LinkView MountPass MountPass). notes ≡ notes_of_section seed p.own.who section placed) is (told.notes ∙ ran.noted)))
     c.back-even.result c.back-odd.result port c.run_caller.new.port calls c.requires.odd is ran.came_by
-    (c.back-odd.ensures ∙ back.own) (c.back-even.ensures ∙ back.far) c.who-on_mount_1.ensures.own c.who-on_mount_0.ensures.own
+    (c.back-odd.ensures ∙ c.back.ensures ∙ back.own) (c.back-even.ensures ∙ c.back-2.ensures ∙ back.far) c.who-on_mount_1.ensures.own c.who-on_mount_0.ensures.own
     (told.even ∙ ap (λ (s : List LinkStep). far_parts s entries) back.steps)
     (told.odd ∙ ap (λ (s : List LinkStep). own_parts load_shown s entries) back.steps)

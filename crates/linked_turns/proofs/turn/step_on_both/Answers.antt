@@ -12,7 +12,7 @@ returns g c =
     let old_odd = c.args.mounts.odd in
     let back = c.mounts_back.ensures in
     ok_then c.mounts_back.result back.even back.odd back.steps (λ after even odd steps.
-    odd_turn g.M.Machine.leads c.args.seed.now (at old_even.machine old_even.places) (at old_odd.machine old_odd.places) (2 * MOST_CALLS) MOST_CALLS MOST_CALLS
+    odd_turn g.M.Machine.leads g.N.Machine.leads c.args.seed.now (at old_even.machine old_even.places) (at old_odd.machine old_odd.places) (2 * MOST_CALLS) MOST_CALLS MOST_CALLS
     c.args.caller.now (record { runner = c.step.new.self; steps = c.mounts_back.new.steps })
     c.in_ok-port.port c.step.new.port (at after.even.machine after.even.places) (at after.odd.machine after.odd.places) _ _
     c.in_ok-step.field-0 c.requires.odd

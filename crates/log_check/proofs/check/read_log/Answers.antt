@@ -16,16 +16,16 @@ lines-init g c =
     record {
       ways = c.requires.ways ∙ sym are.many;
       room = omega arith;
-      read = begins _ _ _ _ _ _ _ _ refl refl (g.met.T.OneThread.led_lawful _ _ c.requires.led) c.requires.led are;
+      read = begins _ _ _ _ _ _ _ _ _ refl refl (g.met.T.OneThread.led_lawful _ _ c.requires.led) c.requires.led are;
     }
 
 pub returns-then-not-branch : goal.returns-then-not-branch
 returns-then-not-branch g c =
-    says _ _ _ _ _ _ _ _ _ _ _ c.read_line.new.mount _ c.lines.invariant.read (rw c.if-not-branch.true at c.in_ok-read_line.ensures.read) c.verdict-said.ensures
+    says _ _ _ _ _ _ _ _ _ _ _ _ c.read_line.new.mount _ c.lines.invariant.read (rw c.if-not-branch.true at c.in_ok-read_line.ensures.read) c.verdict-said.ensures
 
 pub lines-preserved : goal.lines-preserved
 lines-preserved g c = record {
   ways = c.lines.invariant.ways ∙ sym c.in_ok-read_line.ensures.many;
   room = c.in_ok-read_line.ensures.room;
-  read = goes_on _ _ _ _ _ _ _ _ _ _ _ _ c.lines.invariant.read (rw c.if-not-branch.false at c.in_ok-read_line.ensures.read);
+  read = goes_on _ _ _ _ _ _ _ _ _ _ _ _ _ c.lines.invariant.read (rw c.if-not-branch.false at c.in_ok-read_line.ensures.read);
 }

@@ -1,4 +1,4 @@
-use Rattle.session_records.proofs.OpeningLemmas.{protector_opens, changed_opens, wrap_opens, policies_named}
+use Rattle.session_records.proofs.OpeningLemmas.{protector_opens, changed_opens, policy_opens, wrap_opens, policies_named}
 use Rattle.session_records.proofs.new_records.made_records_open.Goals as goal
 
 pub returns-clause-protectors : goal.returns-clause-protectors
@@ -12,3 +12,6 @@ returns-clause-changed c = changed_opens c.unwrapping_undoes_wrapping.ensures.op
 
 pub returns-clause-named : goal.returns-clause-named
 returns-clause-named c = policies_named
+
+pub returns-clause-policies : goal.returns-clause-policies
+returns-clause-policies c = policy_opens c.unwrapping_undoes_wrapping.ensures.opens

@@ -8,11 +8,11 @@ use Rattle.xts_mode.proofs.GroupLemmas.{group_made}
 use Rattle.xts_mode.proofs.group.decrypt_group.Goals as goal
 
 pub write_masked-requires-clause-blocks : goal.write_masked-requires-clause-blocks
-write_masked-requires-clause-blocks c b low = ap length (c.decrypt_eight-plain.ensures b low) ∙ length-decrypted_block c.args.key.now (get_or c.masked_group.result b [])
+write_masked-requires-clause-blocks c b low = ap length (c.decrypt_eight_with-plain.ensures b low) ∙ length-decrypted_block c.args.key.now (get_or c.masked_group.result b [])
 
 pub write_masked-requires-clause-masks : goal.write_masked-requires-clause-masks
 write_masked-requires-clause-masks c b low = ap length (c.group_masks-masks.ensures b low) ∙ length-little_endian_bytes 16 (tweak_from c.args.tweak b)
 
 pub returns-clause-group : goal.returns-clause-group
 returns-clause-group c = c.write_masked.ensures
-    ∙ group_made (decrypted_block c.args.key.now) c.args.tweak c.args.group.now c.masked_group.result c.decrypt_eight-plain.result c.group_masks-masks.result c.group_masks-masks.ensures c.masked_group.ensures c.decrypt_eight-plain.ensures
+    ∙ group_made (decrypted_block c.args.key.now) c.args.tweak c.args.group.now c.masked_group.result c.decrypt_eight_with-plain.result c.group_masks-masks.result c.group_masks-masks.ensures c.masked_group.ensures c.decrypt_eight_with-plain.ensures

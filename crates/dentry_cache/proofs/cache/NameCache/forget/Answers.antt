@@ -7,7 +7,7 @@ returns-clause-gone c = search rules
 
 pub returns-clause-none : goal.returns-clause-none
 returns-clause-none c =
-    forgotten_none c.args.self.now _ c.args.dir c.args.name.now (rw (← c.self.view_is) c.len-apart.ensures.valid.0) (returns-clause-gone c)
+    forgotten_none c.args.self.now _ c.args.dir c.args.name.now (rw (← c.self.view_is) c.len-count.ensures.valid.0) (returns-clause-gone c)
 
 pub returns-clause-no_more : goal.returns-clause-no_more
 returns-clause-no_more c = forgotten_no_more c.args.self.now _ c.args.dir c.args.name.now (returns-clause-gone c)

@@ -1,4 +1,4 @@
-use Rattle.dentry_cache.proofs.NameLemmas.{kept_is, kept_found, kept_beside}
+use Rattle.dentry_cache.proofs.NameLemmas.{kept_is, kept_found, kept_beside, kept_few}
 use Rattle.dentry_cache.proofs.cache.NameCache.keep.Goals as goal
 
 pub returns-in-Ok-clause-kept : goal.returns-in-Ok-clause-kept
@@ -11,3 +11,6 @@ returns-in-Ok-clause-found c = kept_found c.args.self.now _ c.args.dir c.args.na
 
 pub returns-in-Ok-clause-beside : goal.returns-in-Ok-clause-beside
 returns-in-Ok-clause-beside c = kept_beside c.args.self.now _ c.args.dir c.args.name.now c.args.number (returns-in-Ok-clause-kept c)
+
+pub returns-in-Ok-clause-few : goal.returns-in-Ok-clause-few
+returns-in-Ok-clause-few c = kept_few c.args.self.now _ c.args.dir c.args.name.now c.args.number (returns-in-Ok-clause-kept c)

@@ -10,4 +10,4 @@ returns-in-Ok g c =
     c.in_ok-placed.ensures.answered.came_by c.in_ok-placed.ensures.answered.shown c.in_ok-placed.ensures.answered.one_fewer
     (c.in-Ok.ensures.appended ∙ ap (λ l. l ++ c.in_ok-placed.placed ∷ []) c.in_ok-placed.ensures.answered.unlisted)
     (record { number = c.in_ok-placed.ensures.same.number; port = c.in_ok-placed.ensures.same.port; entries = c.in_ok-placed.ensures.same.entries })
-    c.protector_opened-got.ensures
+    c.protector_opened-got.ensures.value

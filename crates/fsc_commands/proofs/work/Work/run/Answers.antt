@@ -3,7 +3,7 @@ use Rattle.std.specs.Prelude.{Option}
 use Rattle.mount_model.specs.declared.call.Op.{Op}
 use Rattle.fsc_commands.specs.Commands.{single_call, task_steps}
 use Rattle.fsc_commands.specs.Tasks.{Task}
-use Rattle.fsc_commands.specs.Tasks.Task.{Single, Session}
+use Rattle.fsc_commands.specs.Tasks.Task.{Single, Session, Idle}
 use Rattle.fsc_commands.specs.Work.{Worked}
 use Rattle.fsc_commands.proofs.work.Work.run.Goals as goal
 
@@ -11,6 +11,7 @@ use Rattle.fsc_commands.proofs.work.Work.run.Goals as goal
 single_is : (task : Task) (asked : Op) (call : Option Op) → call ≡ Some asked → call ≡ single_call task → Single asked ≡ task
 single_is (Single other) asked call is plain = cc (sym is ∙ plain)
 single_is (Session steps) asked call is plain = absurd (cc (sym is ∙ plain))
+single_is Idle asked call is plain = absurd (cc (sym is ∙ plain))
 
 pub returns-in-Some : goal.returns-in-Some
 returns-in-Some g c =

@@ -12,7 +12,10 @@ returns-clause-bytes c =
 
 pub returns-clause-came : goal.returns-clause-came
 returns-clause-came c =
-    rw (← c.self.view_is) (is_read {E = Failed} _ _ c.give-count.new.piece (Ok c.give-count.result)
-    (given c.self.inside.bytes.items c.deref.result.now c.give-count.new.piece c.self.inside.at c.self.inside.piece (length c.args.piece.now) c.give-count.result
-    (omega arith) (omega arith) c.deref.ensures.value c.give-count.ensures.count c.give-count.ensures.front)
-    (record { later = omega arith; quiet = refl; failed = tt }))
+    rw (← c.self.view_is) (record {
+      reads = is_read {E = Failed} _ _ c.give-count.new.piece (Ok c.give-count.result)
+          (given c.self.inside.bytes.items c.deref.result.now c.give-count.new.piece c.self.inside.at c.self.inside.piece (length c.args.piece.now) c.give-count.result
+          (omega arith) (omega arith) c.deref.ensures.value c.give-count.ensures.count c.give-count.ensures.front)
+          (record { later = omega arith; quiet = refl; failed = tt });
+      counted = c.saturating_add-self-inside.ensures;
+    })

@@ -1,0 +1,17 @@
+//! The comparison of secrets.
+
+ghost use Rattle.std.specs.Prelude.{◌≡◌, length};
+ghost use Rattle.std.specs.Str.{bytes_eq};
+
+/// Whether two secrets of the same length are equal. By the form of the code every byte of both is read,
+/// whichever differs first: there is no exit at the first difference, as `==` has one.
+pub fn is_same(one: &[u8], other: &[u8]) -> bool
+    requires same_length { length one.now ≡ length other.now }
+    ensures { result ≡ bytes_eq one.now other.now }
+{
+    let mut difference = 0;
+    'bytes: for i in 0..one.len() {
+        difference |= one[i] ^ other[i];
+    }
+    difference == 0
+}

@@ -1,0 +1,79 @@
+//! What is told of a refused log beside its place: what the log has there, and what a run has.
+
+use crate::help::remark;
+use fsc_tool::Difference;
+use item_list::Bytes;
+use std::alloc::{AllocError, Global};
+
+// The most characters that are shown of a line.
+const MOST_SHOWN_OF_A_LINE: usize = 400;
+
+/// Tells on standard error what the log has where it is refused, and what a run has there.
+pub(crate) fn tell_difference(rt: &HostRuntime, found: &Difference) {
+    if found.is_last {
+        remark(rt, "that is after the last entry of the log");
+    }
+    tell_line(rt, "the log has", found.in_log.as_ref(), None);
+    tell_line(rt, "a run has", found.in_run.as_ref(), found.command);
+    tell_of_equal_lines(rt, found);
+    if ends_in_carriage_return(found.in_log.as_ref()) {
+        remark(
+            rt,
+            "the log's line ends in a carriage return: save the log with line feeds alone",
+        );
+    }
+}
+
+// Tells why the log is refused if both lines look the same.
+fn tell_of_equal_lines(rt: &HostRuntime, found: &Difference) {
+    let (Some(own), Some(other)) = (&found.in_log, &found.in_run) else {
+        return;
+    };
+    let own = own.as_slice();
+    let other = other.as_slice();
+    if own == other {
+        remark(rt, "no line feed ends the log's line");
+    } else if shown_part(own) == shown_part(other) {
+        remark(rt, "they differ after what is shown of them");
+    }
+}
+
+// The beginning of a line that is shown.
+fn shown_part(line: &[u8]) -> &[u8] {
+    match line.get(..MOST_SHOWN_OF_A_LINE) {
+        Some(part) => part,
+        None => line,
+    }
+}
+
+// Tells who has which line, and of a call in which line of the script its command stands.
+fn tell_line(rt: &HostRuntime, who: &str, line: Option<&Bytes>, command: Option<u32>) {
+    let Some(line) = line else {
+        let _ = eprintln!(rt; "fsc: {who}: nothing more");
+        return;
+    };
+    let Ok(text) = printable(rt.alloc(), line.as_slice()) else {
+        return;
+    };
+    let _ = match command {
+        Some(number) => eprintln!(rt; "fsc: {who}: {text} (line {number} of the script)"),
+        None => eprintln!(rt; "fsc: {who}: {text}"),
+    };
+}
+
+// The line as far as it is shown, with a question mark for each byte outside of printable ASCII.
+fn printable(alloc: Global, line: &[u8]) -> Result<String, AllocError> {
+    let mut text = String::new(alloc);
+    for byte in shown_part(line) {
+        let is_shown = byte.is_ascii_graphic() || *byte == b' ';
+        text.push(if is_shown { char::from(*byte) } else { '?' })?;
+    }
+    Ok(text)
+}
+
+fn ends_in_carriage_return(line: Option<&Bytes>) -> bool {
+    match line {
+        Some(line) => line.as_slice().last() == Some(&b'\r'),
+        None => false,
+    }
+}

@@ -1,0 +1,176 @@
+//! What a run of a script has at a place where a log is refused.
+
+ghost use Rattle.std.specs.Prelude.{◌≡◌, [], All, IfOk, IfSome, length};
+ghost use Rattle.log_check.specs.Due.{IsDue};
+ghost use Rattle.log_check.specs.DueCallers.{IsAnsweredLine, IsCallAt, IsDueHere, IsWaiting};
+ghost use Rattle.mount_model.specs.Fits.{Fits};
+ghost use Rattle.script_lang.specs.Spelled.{IsSpelled};
+
+use crate::ending::notes_of;
+use crate::one_thread::OneThread;
+use crate::reading::Reading;
+use crate::start::{begin_callers, forget, forget_callers, remembering_ways};
+use argon_kdf::Stretch;
+use call_history::Entry;
+use fsc_commands::wipe_call;
+use fsc_session::scrub_stack;
+use item_list::Bytes;
+use mount_model::Call;
+use next_calls::{Caller, Remembering};
+use reply_text::{entry_in_range, entry_line};
+use script_lang::Script;
+use std::alloc::{AllocError, Global};
+use text_words::{decimal_value, next_line, nth_word};
+
+/// What a run of a script has behind the lines that a text has of it.
+#[derive(Drop)]
+pub enum Due {
+    /// This line, of a caller's next call, and the line of the script that its command stands in.
+    Line { line: Bytes, command: Option<u32> },
+    /// The lines of these notes, since all calls are made.
+    Notes(Bytes),
+}
+
+/// What a run of a script has behind so many lines of a text, on a mount that was not called yet; none where no run
+/// has that many of them. Where the text goes on with a line of a caller that has a call to make, it is that
+/// caller's. The one error is want of memory.
+pub fn due_behind<S: Stretch, T: OneThread>(
+    alloc: Global,
+    stretches: &S,
+    script: &Script,
+    seed: &[u8; 32],
+    text: &[u8],
+    place: u64,
+    mount: &mut T,
+) -> Result<Option<Due>, AllocError>
+    requires ready { S.ready stretches.now }
+    requires spelled { IsSpelled script.now }
+    requires led { T.led [] mount.old }
+    ensures { IfOk result (λ due. IfSome due (IsDue seed.now script.now text.now place)) }
+{
+    let ways = remembering_ways(alloc, stretches, script.len())?;
+    let due = read_due(alloc, ways.as_slice(), script, seed, text, place, mount);
+    forget(ways);
+    scrub_stack();
+    due
+}
+
+// The same, with a way to stretch for each caller.
+fn read_due<'w, S: Stretch, T: OneThread>(
+    alloc: Global,
+    ways: &[Remembering<'w, S>],
+    script: &Script,
+    seed: &[u8; 32],
+    text: &[u8],
+    place: u64,
+    mount: &mut T,
+) -> Result<Option<Due>, AllocError>
+    requires ready { All S.ready ways.now }
+    requires ways { length ways.now ≡ length script.now }
+    requires spelled { IsSpelled script.now }
+    requires led { T.led [] mount.old }
+    ensures { IfOk result (λ due. IfSome due (IsDue seed.now script.now text.now place)) }
+{
+    let mut reading = Reading {
+        callers: begin_callers(alloc, ways, script, seed)?,
+        place: 0,
+        rest: text,
+    };
+    'lines: loop {
+        if reading.place == place {
+            let due = reading.due(alloc, mount);
+            forget_callers(alloc, reading.callers);
+            return Ok(Some(due?));
+        }
+        if !reading.read_line(alloc, false, ways, seed, mount)? {
+            forget_callers(alloc, reading.callers);
+            return Ok(None);
+        }
+    }
+}
+
+impl<'a, 't> Reading<'a, 't> {
+    // What comes next.
+    fn due<T: OneThread>(&self, alloc: Global, mount: &mut T) -> Result<Due, AllocError>
+        ensures { IfOk result (IsDueHere T.led self.now.callers.items self.now.place self.now.rest.now mount.old) }
+    {
+        match waiting_caller(alloc, self.callers.as_slice(), self.rest)? {
+            Some((number, call)) => {
+                let own = &self.callers[number];
+                let caller = own.caller();
+                let command = own.line();
+                let line = due_line(alloc, self.place, caller, call, mount)?;
+                Ok(Due::Line { line, command })
+            }
+            None => Ok(Due::Notes(notes_of(alloc, self.callers.as_slice())?)),
+        }
+    }
+}
+
+// The line of the caller's call, with the mount's reply to it. What no log shows of the call is overwritten.
+fn due_line<T: OneThread>(
+    alloc: Global,
+    place: u64,
+    caller: u32,
+    call: Call,
+    mount: &mut T,
+) -> Result<Bytes, AllocError>
+    requires fits { Fits call }
+    ensures { IfOk result (IsAnsweredLine T.led mount.old mount.new place caller call) }
+{
+    let reply = mount.answer(caller, &call);
+    let mut answered = Entry {
+        who: caller,
+        call,
+        reply,
+    };
+    entry_in_range(&answered);
+    let line = entry_line(alloc, place, &answered);
+    wipe_call(alloc, &mut answered.call);
+    line
+}
+
+// A caller that waits for a reply, by its number, with the call: the one that the text's next line names, where it
+// waits, and else the first.
+fn waiting_caller<'a>(
+    alloc: Global,
+    callers: &[Caller<'a>],
+    text: &[u8],
+) -> Result<Option<(usize, Call)>, AllocError>
+    ensures { IfOk result (IsWaiting callers.now) }
+{
+    if let Some(number) = named_caller(text) {
+        if let Some(call) = call_at(alloc, callers, number)? {
+            return Ok(Some((number, call)));
+        }
+    }
+    'callers: for number in 0..callers.len() {
+        if let Some(call) = call_at(alloc, callers, number)? {
+            return Ok(Some((number, call)));
+        }
+    }
+    Ok(None)
+}
+
+// The caller that the next line names in its second word.
+fn named_caller(text: &[u8]) -> Option<usize> {
+    let number = decimal_value(nth_word(next_line(text).bytes, 1)?)?;
+    Some(number as usize)
+}
+
+// The call that the caller of this number makes next.
+fn call_at<'a>(
+    alloc: Global,
+    callers: &[Caller<'a>],
+    number: usize,
+) -> Result<Option<Call>, AllocError>
+    ensures { IfOk result (IsCallAt callers.now number) }
+{
+    let Some(caller) = callers.get(number) else {
+        return Ok(None);
+    };
+    let Some(call) = caller.waiting() else {
+        return Ok(None);
+    };
+    Ok(Some(call.copy(alloc)?))
+}

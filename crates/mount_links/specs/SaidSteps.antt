@@ -1,0 +1,34 @@
+-- Which step the replies say: what became of a caller's call is told by what was asked and what was replied.
+use Rattle.std.specs.Prelude.{◌≡◌, ◌⊎◌, ℕ, List, [], ◌∷◌, if◌then◌else◌}
+use Rattle.mount_model.specs.declared.reply.Reply.{Reply}
+use Rattle.mount_model.specs.History.{MountEntry, is_want_of_memory}
+use Rattle.mount_model.specs.Port.{PlacedCalls}
+use Rattle.mount_links.specs.declared.asked.Asked.{Asked}
+use Rattle.mount_links.specs.declared.asked.Asked.TheVariants.{Load, Store, Other}
+use Rattle.mount_links.specs.declared.step.LinkStep.{LinkStep}
+use Rattle.mount_links.specs.declared.step.LinkStep.TheVariants.{Alone, Followed, Looked, NotMade}
+use Rattle.mount_links.specs.Linked.{own_part, far_part}
+use Rattle.mount_links.specs.LinkSteps.{asked_of, is_link}
+use Rattle.mount_links.specs.LinkCalls.{load_call, IsStep}
+
+-- what becomes of a call that asks for this, where the first call on the own mount has this place and this
+-- reply, and the one on the far mount, where there is one, that place
+abbrev pub step_said : Asked → ℕ → Reply → ℕ → LinkStep
+step_said (Load label) place first there = if is_link label first then Followed label first there else Alone
+step_said (Store label) place first there =
+    if is_link label first then Followed label first there
+    else if is_want_of_memory first then NotMade label
+    else Looked label place first
+step_said Other place first there = Alone
+
+-- the step is the one that the replies say, and a call on the far mount is the caller's own
+pub record IsSaid (step : LinkStep) (x : ℕ × MountEntry) : Type 0 where
+  pub first : ℕ × MountEntry
+  pub others : PlacedCalls
+  pub on_own : own_part load_call step x ≡ first ∷ others
+  pub there : ℕ
+  pub on_far : (far_part step x ≡ []) ⊎ (far_part step x ≡ (there, x.1) ∷ [])
+  pub said : step ≡ step_said (asked_of x.1.call.op) first.0 first.1.reply there
+
+abbrev pub StepsAreSaid : Type 0
+StepsAreSaid = (step : LinkStep) (x : ℕ × MountEntry) → IsStep step x → IsSaid step x
