@@ -11,7 +11,7 @@ from bookkeeping import CREATIONS, MOST_NAME, length_of, parts_of
 from refusals import causes, is_policy, names_root, own_causes
 from scripts import names_of
 
-TOP = os.path.dirname(os.path.dirname(os.path.dirname(os.path.abspath(__file__))))
+TOP = os.path.dirname(os.path.dirname(os.path.dirname(os.path.realpath(__file__))))
 PAGE = "docs/LINUX.md"
 ORDERS = {
     "creation": {("no-key", "exists")},
@@ -274,13 +274,13 @@ def kind_of(step):
     return next((it for it in KINDS if it.holds(step)), None)
 
 
-def rows():
-    """The first cells of the tables of differences in docs/LINUX.md, each with its line."""
+def rows(head="what"):
+    """The first cells of the tables of differences in docs/LINUX.md that begin with this head, each with its line."""
     found, within = {}, False
     with open(os.path.join(TOP, PAGE), encoding="utf-8") as page:
         for number, line in enumerate(page, 1):
             first = line.removeprefix("| ").partition(" | ")[0]
-            within = line.startswith("|") and (within or first == "what")
-            if within and first != "what" and not first.startswith("|-"):
+            within = line.startswith("|") and (within or first == head)
+            if within and first != head and not first.startswith("|-"):
                 found[first] = number
     return found

@@ -94,5 +94,11 @@ def report(result):
 
 def read(name):
     """The lines of a file."""
-    with open(name, encoding="utf-8") as it:
+    with open(name, encoding="utf-8", errors="replace") as it:
         return it.read().splitlines()
+
+
+def answered(logs, answers):
+    """The logs and answers of the scripts that were answered whole, where the machine ended early."""
+    logs, answers = scripts_of(logs), scripts_of(answers)[:-1]
+    return sum(logs[:len(answers)], []), sum(answers, [])

@@ -130,6 +130,8 @@ def commands_of(script, log):
             waiting[caller].pop(0)
         else:
             at[caller] += 1
+            while script.commands[caller][at[caller]] == "pause":
+                at[caller] += 1
             waiting[caller] = steps_of(script.commands[caller][at[caller]])[1:]
         if " = refused" in line:
             waiting[caller] = []

@@ -340,7 +340,7 @@ void answer(char *line)
 	char *words[MOST_WORDS];
 	size_t verb = 0;
 
-	split(line, words);
+	split(line, words, MOST_WORDS);
 	struct call call = { .expected = !strcmp(words[3], "ok"), .verb = words[5], .words = words + 6 };
 	put("%s = ", words[4]);
 	while (verb < sizeof VERBS / sizeof *VERBS && strcmp(VERBS[verb].name, call.verb))

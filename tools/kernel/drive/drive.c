@@ -1,11 +1,11 @@
 /* Makes the calls of fsc's scripts on a real kernel, and prints the lines of fsc's log.
  *
- *     drive CALLS TEMPLATE ANSWERS
+ *     drive CALLS TEMPLATE ANSWERS FOLDER
  *
  * CALLS is a text that ends with a line `END`, TEMPLATE an ext4 image; CALLS and ANSWERS may be
- * disks. drive runs as root in an emulated machine. Each script gets a file system of its own, the
- * template's blocks in a file in memory; each caller is a process of its own with its own user,
- * whose root is that file system.
+ * disks. drive runs as root. Each script gets a file system of its own, the template's blocks in a
+ * file in FOLDER; each caller is a process of its own with its own user, whose root is that file
+ * system.
  *
  * The lines of CALLS, fields parted by tabs:
  *     S NAME MODE                       the next script; MODE is `settle` or `raw`
@@ -21,27 +21,22 @@
  */
 #define _GNU_SOURCE
 #include "drive.h"
+#include "../common/file_system.h"
 
 #include <errno.h>
 #include <fcntl.h>
 #include <grp.h>
 #include <linux/fscrypt.h>
-#include <linux/loop.h>
 #include <stdio.h>
 #include <stdlib.h>
 #include <string.h>
-#include <sys/ioctl.h>
 #include <sys/mman.h>
-#include <sys/mount.h>
 #include <sys/resource.h>
 #include <sys/stat.h>
 #include <sys/wait.h>
 #include <unistd.h>
 
 #define MOST_CALLERS 8
-#define BLOCK 4096
-#define MOUNTED "/m"
-#define LOOP "/dev/loop0"
 
 struct shared *shared;
 
@@ -53,12 +48,14 @@ static void serve(unsigned user, int from, int to)
 	char byte;
 
 	no_handles();
-	if (chroot(MOUNTED) || chdir("/") || setgroups(0, NULL))
+	if (chroot(mounted) || chdir("/") || setgroups(0, NULL))
 		_exit(1);
 	if (user && (setgid(user) || setuid(user)))
 		_exit(1);
 	while (read(from, &byte, 1) == 1) {
+		begin_reply(shared->out, sizeof shared->out);
 		answer(shared->line);
+		shared->written = reply_length();
 		if (write(to, "", 1) != 1)
 			break;
 	}
@@ -99,63 +96,7 @@ static void stop_callers(void)
 	}
 }
 
-static struct { off_t at; unsigned char bytes[BLOCK]; } *blocks;	/* of the template, but for zeros */
-static long block_count;
-static off_t image_size;
-static int image, loop_device, caches;
-
-static int load_template(const char *name)
-{
-	static const unsigned char ZEROS[BLOCK];
-	unsigned char bytes[BLOCK];
-	int file = open(name, O_RDONLY);
-
-	image_size = lseek(file, 0, SEEK_END);
-	for (off_t at = 0; at < image_size; at += BLOCK) {
-		if (pread(file, bytes, BLOCK, at) != BLOCK)
-			return -1;
-		if (!memcmp(bytes, ZEROS, BLOCK))
-			continue;
-		blocks = realloc(blocks, (block_count + 1) * sizeof *blocks);
-		blocks[block_count].at = at;
-		memcpy(blocks[block_count++].bytes, bytes, BLOCK);
-	}
-	return close(file);
-}
-
-static void open_loop(void)
-{
-	if (loop_device > 0)
-		close(loop_device);
-	loop_device = open(LOOP, O_RDWR | O_CLOEXEC);
-}
-
-static int mount_fresh(void)
-{
-	if (ftruncate(image, 0) || ftruncate(image, image_size))
-		return -1;
-	for (long i = 0; i < block_count; i++)
-		if (pwrite(image, blocks[i].bytes, BLOCK, blocks[i].at) != BLOCK)
-			return -1;
-	for (int tries = 0; ioctl(loop_device, LOOP_SET_FD, image); tries++) {
-		if (errno != EBUSY || tries == 200)
-			return -1;
-		usleep(5000);
-		open_loop();
-	}
-	return mount(LOOP, MOUNTED, "ext4", 0, "") ? -1 : chmod(MOUNTED, 0777);
-}
-
-/* From Linux 6.10 on a loop device is free only with its last close. */
-static int unmount(void)
-{
-	int result = umount(MOUNTED);
-
-	for (int tries = 0; tries < 100 && ioctl(loop_device, LOOP_CLR_FD, 0); tries++)
-		usleep(10000);
-	open_loop();
-	return result;
-}
+static int caches = -1;
 
 /* What the mount's last close does: a key without claims goes where nothing holds it. */
 static void settle(void)
@@ -166,9 +107,9 @@ static void settle(void)
 
 		memcpy(status.key_spec.u.identifier, shared->key[i], ID_BYTES);
 		memcpy(removed.key_spec.u.identifier, shared->key[i], ID_BYTES);
-		if (!key_call(MOUNTED, FS_IOC_GET_ENCRYPTION_KEY_STATUS, &status) &&
+		if (!key_call(mounted, FS_IOC_GET_ENCRYPTION_KEY_STATUS, &status) &&
 		    status.status == FSCRYPT_KEY_STATUS_INCOMPLETELY_REMOVED)
-			key_call(MOUNTED, FS_IOC_REMOVE_ENCRYPTION_KEY, &removed);
+			key_call(mounted, FS_IOC_REMOVE_ENCRYPTION_KEY, &removed);
 	}
 }
 
@@ -180,7 +121,7 @@ static void give_to_caller(const char *text, unsigned user)
 	static char path[MOST_PATH];
 	struct stat status;
 
-	resolve(MOUNTED, text, path);
+	resolve(mounted, text, path);
 	if (!lstat(path, &status) && !S_ISLNK(status.st_mode) && lchown(path, user, -1))
 		fprintf(answers, "F chown %s\n", strerror(errno));
 }
@@ -210,7 +151,7 @@ static bool make_call(const char *line, bool settles)
 	char *words[MOST_WORDS], byte;
 	int caller;
 
-	split(strcpy(copy, line), words);
+	split(strcpy(copy, line), words, MOST_WORDS);
 	caller = atoi(words[1]);
 	if (!strcmp(words[5], "set-policy"))
 		give_to_caller(words[6], strtoul(words[2], NULL, 10));
@@ -238,12 +179,10 @@ static int set_up(char **names)
 
 	shared = mmap(NULL, sizeof *shared, PROT_READ | PROT_WRITE, MAP_SHARED | MAP_ANONYMOUS, -1, 0);
 	answers = fopen(names[3], "r+");
-	image = open("/t/image", O_RDWR | O_CREAT | O_CLOEXEC, 0600);
 	caches = open("/proc/sys/vm/drop_caches", O_WRONLY | O_CLOEXEC);
-	open_loop();
 	umask(0);
-	return shared == MAP_FAILED || !answers || image < 0 || caches < 0 || loop_device < 0 ||
-	       setrlimit(RLIMIT_NOFILE, &files) || load_template(names[2]);
+	return shared == MAP_FAILED || !answers || caches < 0 || setrlimit(RLIMIT_NOFILE, &files) ||
+	       !prepare_file_system(names[2], names[4]);
 }
 
 int main(int count, char **names)
@@ -253,7 +192,7 @@ int main(int count, char **names)
 	long scripts = 0;
 	int caller;
 	unsigned user;
-	FILE *calls = count == 4 ? fopen(names[1], "r") : NULL;
+	FILE *calls = count == 5 ? fopen(names[1], "r") : NULL;
 
 	if (!calls || set_up(names)) {
 		perror("drive");

@@ -1,6 +1,8 @@
 /* What the parts of drive share. */
 #pragma once
 
+#include "../common/words.h"
+
 #include <stdbool.h>
 #include <stddef.h>
 #include <sys/types.h>
@@ -33,14 +35,7 @@ struct call {
 	char **words;
 };
 
-/* words.c: the log's texts, and answers. */
-void put(const char *format, ...);
-void put_word(const char *bytes, size_t length);
-void put_bytes(const void *bytes, size_t length);
-int read_bytes(const char *text, unsigned char *bytes);
-int read_word(const char *text, int characters, char *word);
-void split(char *line, char **words);
-void refuse(int error);
+/* answers.c: how a call ends. */
 void cut(const char *why);
 bool done(const struct call *call, int result, int error);
 void taken_back(int result);

@@ -1,19 +1,38 @@
-/* The texts of fsc's log, and the answers of calls. */
+/* The texts of fsc's scripts and logs, and the reply that a thread or process is writing. */
 #define _GNU_SOURCE
-#include "drive.h"
+#include "words.h"
 
 #include <errno.h>
 #include <stdarg.h>
+#include <stdbool.h>
 #include <stdio.h>
 #include <string.h>
+
+static __thread struct { char *buffer; size_t size, length; } reply;
+
+void begin_reply(char *buffer, size_t size)
+{
+	reply.buffer = buffer;
+	reply.size = size;
+	reply.length = 0;
+	*buffer = 0;
+}
+
+size_t reply_length(void)
+{
+	return reply.length;
+}
 
 void put(const char *format, ...)
 {
 	va_list list;
+	size_t left = reply.size - reply.length;
+	int length;
 
 	va_start(list, format);
-	shared->written += vsnprintf(shared->out + shared->written, sizeof shared->out - shared->written, format, list);
+	length = vsnprintf(reply.buffer + reply.length, left, format, list);
 	va_end(list);
+	reply.length += length < 0 ? 0 : (size_t)length < left ? (size_t)length : left - 1;
 }
 
 /* Writes bytes as a WORD of the log. */
@@ -66,19 +85,19 @@ int read_word(const char *text, int characters, char *word)
 	return length;
 }
 
-/* Cuts a line at its tabs; words that are not there are empty. */
-void split(char *line, char **words)
+/* Cuts a line at its tabs into this many words; those that are missing are empty. */
+void split(char *line, char **words, int count)
 {
-	int count = 0;
+	int found = 0;
 
-	for (char *at = line; at && count < MOST_WORDS;) {
-		words[count++] = at;
+	for (char *at = line; at && found < count;) {
+		words[found++] = at;
 		at = strchr(at, '\t');
 		if (at)
 			*at++ = 0;
 	}
-	for (int i = count; i < MOST_WORDS; i++)
-		words[i] = "";
+	while (found < count)
+		words[found++] = "";
 }
 
 static const struct { int error; const char *name; } REFUSALS[] = {
@@ -88,6 +107,7 @@ static const struct { int error; const char *name; } REFUSALS[] = {
 	{ EFBIG, "too-big" }, { ENOSPC, "no-space" }, { ENOMEM, "no-memory" },
 };
 
+/* Replies with the refusal that the error is, and the error's own name after a tab. */
 void refuse(int error)
 {
 	const char *name = strerrorname_np(error);
@@ -96,32 +116,4 @@ void refuse(int error)
 		if (REFUSALS[i].error == error)
 			name = REFUSALS[i].name;
 	put("refused %s\terrno:%s", name, strerrorname_np(error));
-}
-
-void cut(const char *why)
-{
-	put("\tcut:%s", why);
-	shared->cut = true;
-}
-
-/* The answer of a call that tells nothing but whether it was done; true where it was. */
-bool done(const struct call *call, int result, int error)
-{
-	if (result >= 0) {
-		put("ok");
-		return true;
-	}
-	refuse(error);
-	if (call->expected)
-		cut("refused");
-	return false;
-}
-
-/* What the mount refuses was taken back with this result, and else the script is cut. */
-void taken_back(int result)
-{
-	if (result < 0)
-		cut(strerrorname_np(errno));
-	else
-		put("\tundone:1");
 }
