@@ -72,6 +72,61 @@ def mixed(column):
                  for at in range(4))
 
 
+# The images of the bits of a byte in the basis in which the code inverts it, for the S-box and for its inverse
+# (after Hamburg, "Accelerating AES with vector permute instructions", 2009), and what the second adds.
+BASIS = (0x70, 0x2A, 0x98, 0x08, 0x4D, 0x7C, 0x7D, 0x81)
+INVERSE_BASIS = (0x5F, 0x54, 0x04, 0x1A, 0x65, 0x05, 0xE6, 0x94)
+INVERSE_BASIS_CONSTANT = 0xE8
+SUBSTITUTION_CONSTANT = bytes([0x63] * 16)
+
+
+def in_basis(images, state):
+    """Each byte of a state as the sum of the images of its bits."""
+    def image(byte):
+        return functools.reduce(lambda found, bit: found ^ images[bit] * (byte >> bit & 1), range(8), 0)
+    return bytes(map(image, state))
+
+
+def rotated(state, times):
+    """A state with each row rotated to the left by its number, so many times."""
+    return bytes(state[at % 4 + 4 * ((at // 4 + times * (at % 4)) % 4)] for at in range(16))
+
+
+def mixed_back(column):
+    """A column of the state after InvMixColumns (FIPS 197, 5.3.3)."""
+    return bytes(times(column[at], 14) ^ times(column[(at + 1) % 4], 11) ^ times(column[(at + 2) % 4], 13)
+                 ^ times(column[(at + 3) % 4], 9) for at in range(4))
+
+
+def middle_keys(key):
+    """The round keys between the first and the last."""
+    keys = round_keys(key)
+    return [keys[16 * number:16 * number + 16] for number in range(1, 14)]
+
+
+def forward_keys(key):
+    """These as `aes_core` prepares them to encrypt single blocks."""
+    return b"".join(rotated(in_basis(BASIS, xored(it, SUBSTITUTION_CONSTANT)), 3 - number % 4)
+                    for number, it in enumerate(middle_keys(key)))
+
+
+def inverse_keys(key):
+    """These as it prepares them to decrypt single blocks."""
+    def prepared(number, it):
+        columns = b"".join(mixed_back(it[at:at + 4]) for at in range(0, 16, 4))
+        based = bytes(byte ^ INVERSE_BASIS_CONSTANT for byte in in_basis(INVERSE_BASIS, columns))
+        return rotated(based, (number + 1) % 4)
+    return b"".join(prepared(number, it) for number, it in enumerate(reversed(middle_keys(key))))
+
+
+def key_planes(key):
+    """These in planes of bits, as it has them for eight blocks at a time: a byte of ones for each bit that is set."""
+    def planes(number, it):
+        state = rotated(xored(it, SUBSTITUTION_CONSTANT), 3 - number % 4)
+        return b"".join(bytes(255 * (byte >> bit & 1) for byte in state) for bit in range(8))
+    return b"".join(planes(number, it) for number, it in enumerate(middle_keys(key)))
+
+
 def keystream(key, iv, length):
     """The keystream of AES-256 in counter mode, the counter being a number of 128 bits."""
     first = int.from_bytes(iv, "big")

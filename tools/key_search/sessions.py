@@ -5,7 +5,9 @@ What is drawn, derived and wrapped is said in docs/FORMATS.md.
 import hashlib
 
 from key_search.argon import argon2id
-from key_search.ciphers import expanded, extracted, keystream, mac, padded, round_keys, states, xored
+from key_search.ciphers import (expanded, extracted, forward_keys, inverse_keys, key_planes, keystream, mac,
+                                padded, round_keys, states, xored)
+from key_search.counts import PIECE
 
 PASSES, KIB = 1, 8
 SEED = hashlib.sha256(b"the seed of the run").digest()
@@ -16,11 +18,15 @@ CALLER = 1
 HEADS = ["caller 1001", "drop-caches", "caller 1000"]
 
 
-class Key:
-    """Bytes to look for. The row is the line of the table that they count for."""
+# Each byte of a plane is 0 or 255, as in much other memory: so the eight planes of a round key are one piece.
+PLANES_OF_A_KEY = 128
 
-    def __init__(self, row, value, has_words=True):
-        self.row, self.value, self.has_words = row, value, has_words
+
+class Key:
+    """Bytes to look for, by pieces of a length. The row is the line of the table that they count for."""
+
+    def __init__(self, row, value, has_words=True, piece=PIECE):
+        self.row, self.value, self.has_words, self.piece = row, value, has_words, piece
 
     def forms(self):
         """The bytes as they are, and as words of four and eight bytes with the last byte first, as a hash reads them."""
@@ -218,7 +224,7 @@ def wrap_keys(key, iv):
     for it in (middle, stretched[:32], stretched[32:]):
         yield Key("keys of a wrap", it)
     yield Key("keystreams of a wrap", keystream(stretched[:32], iv, 64))
-    yield Key("round keys of a wrap", round_keys(stretched[:32])[32:])
+    yield from cipher_keys("round keys of a wrap", stretched[:32])
     for it in (middle, stretched[32:]):
         yield from mac_keys("HMAC's padded keys and states of a wrap", "sha256", it)
 
@@ -245,10 +251,18 @@ def node_keys(policy, shared):
 
 
 def with_round_keys(row, key):
-    """A key of one or two ciphers, and the round keys behind each of its halves."""
+    """A key of one or two ciphers, and the round keys of each of its halves."""
     yield Key(row, key)
     for at in range(0, len(key), 32):
-        yield Key("round keys: " + row, round_keys(key[at:at + 32])[32:])
+        yield from cipher_keys("round keys: " + row, key[at:at + 32])
+
+
+def cipher_keys(row, key):
+    """The round keys after the key, in each form in which a cipher has them."""
+    yield Key(row, round_keys(key)[32:])
+    yield Key(row, forward_keys(key), has_words=False)
+    yield Key(row, inverse_keys(key), has_words=False)
+    yield Key(row, key_planes(key), has_words=False, piece=PLANES_OF_A_KEY)
 
 
 def seed_keys():
