@@ -133,20 +133,22 @@ def faulty_certificates(tally):
 
 
 def told_faults(tally):
-    """Behind the number of a line at fault stands why it is; of one behind the script's last, that --- parts it from a log."""
+    """Behind the number of a line at fault stands why it is, and before that, where no line --- parts the input, that it lacks one."""
     script = b"caller 1000\ncreate /a\n"
-    parting = b"a line --- stands between the script and its log"
+    parting = b"no line --- stands between the script and its log"
+    behind = parting + b"\nfsc: "
     not_ended = b"is not ended by a line feed; end the last line by a line feed"
     is_none = b'line 2: "mkdri" is no command; fsc --help lists the commands'
     bad = b"caller 1000\nmkdri /a\n"
     no_room = b"line 2: there was no room to tell why it is at fault; try the script alone, or where more memory is free"
     for what, given, line, told in (
             ("no input", b"", 1, parting), ("a script alone", script, 3, parting), ("an empty line behind a script", script + b"\n", 4, parting),
-            ("a last line that isn't ended", script[:-1], 2, b'line 2: "create" ' + not_ended),
-            ("a parting line that isn't ended", script + b"---", 3, b'line 3: "---" ' + not_ended),
-            ("a caller's line that isn't ended", b"caller 1000", 1, b'line 1: "caller" ' + not_ended),
-            ("a parting line with a space", script + b"--- \n", 3, b'line 3: "---" is no command; fsc --help lists the commands'),
-            ("a bad line alone", bad, 2, is_none), ("a bad line with a log", bad + b"---\n0 0 1000 create /a = ok\n", 2, is_none),
+            ("a last line that isn't ended", script[:-1], 2, behind + b'line 2: "create" ' + not_ended),
+            ("a parting line that isn't ended", script + b"---", 3, behind + b'line 3: "---" ' + not_ended),
+            ("a caller's line that isn't ended", b"caller 1000", 1, behind + b'line 1: "caller" ' + not_ended),
+            ("a parting line with a space", script + b"--- \n", 3, behind + b'line 3: "---" is no command; fsc --help lists the commands'),
+            ("a script with a log right behind it", script + b"0 0 1000 create /a = ok\n1 0 1000 stat /a = ok\n", 3, behind + b'line 3: "0" is no command; fsc --help lists the commands'),
+            ("a bad line alone", bad, 2, behind + is_none), ("a bad line with a log", bad + b"---\n0 0 1000 create /a = ok\n", 2, is_none),
             ("a bad line with as long a log as is kept", bad + b"---\n" + b"\n" * (MOST_PART + 1 - len(bad) - 4), 2, is_none),
             ("a bad line with a log of a byte more", bad + b"---\n" + b"\n" * (MOST_PART + 2 - len(bad) - 4), 2, no_room),
             ("a bad line with a long log", bad + b"---\n" + b"\n" * 2 * MOST_PART, 2, no_room)):
@@ -154,4 +156,42 @@ def told_faults(tally):
         tally.wants(f"{what} is told", (status, got, said) == (BAD_LINE, b"", b"fsc: bad line %d\nfsc: " % line + told + b"\n"), repr(said))
 
 
-CHECKS = (examples_certified, one_key, two_callers, threads_certified, faulty_certificates, told_faults)
+def strictly(tally):
+    """A strict check takes a log of a run, and none that tells of want of memory."""
+    script, log = row("one_key_added_and_removed")
+    strict = ["check", "--strict", "--seed", ZEROS]
+    tally.wants("a strict check takes the log of one key", checked(script, log, strict) == (0, b"", None))
+    lines = log.splitlines(keepends=True)
+    wanting = lines[0].split(b" = ")[0] + b" = refused no-memory\n"
+    rest = [lines[1].replace(b"present self=1 users=1", b"absent self=0 users=0"), lines[2].split(b" = ")[0] + b" = refused no-key\n", lines[3]]
+    told = b"".join([wanting, *rest])
+    tally.wants("a check takes an addition that wants memory", checked(script, told) == (0, b"", None))
+    tally.wants("a strict one doesn't", checked(script, told, strict) == (REFUSED, b"", 0))
+
+
+def differences(tally):
+    """Behind a refusal stands what the log has there, and what a run has."""
+    script, log = row("one_key_added_and_removed")
+    lines = log.splitlines(keepends=True)
+    due = lines[3][:-1] + b" (line %d of the script)" % len(script.splitlines())
+    changed = lines[3].replace(b"absent", b"present")
+    last = b"fsc: that is after the last entry of the log\n"
+    session = os.path.join(TOP, "examples", "whole-session")
+    notes = [it for it in read(session + ".log").splitlines(keepends=True) if it.startswith(b"note ")]
+    entries = read(session + ".log")[:-len(b"".join(notes))]
+    wrong = notes[0].rsplit(b" ", 1)[0] + b" wrong-key\n"
+    for what, given, wanted in (
+            ("another reply", script + b"---\n" + b"".join(lines[:3]) + changed, b"fsc: the log has: " + changed + b"fsc: a run has: " + due + b"\n"),
+            ("the end", script + b"---\n" + b"".join(lines[:3]), last + b"fsc: the log has: nothing more\nfsc: a run has: " + due + b"\n"),
+            ("a line more", script + b"---\n" + log + b"4 0 1000 stat / = ok\n", b"fsc: the log has: 4 0 1000 stat / = ok\nfsc: a run has: nothing more\n"),
+            ("a carriage return", script + b"---\n" + b"".join(lines[:3]) + lines[3][:-1] + b"\r\n", b"fsc: the log has: " + lines[3][:-1] + b"?\nfsc: a run has: " + due
+             + b"\nfsc: the log's line ends in a carriage return: save the log with line feeds alone\n"),
+            ("a last line feed that is missing", script + b"---\n" + log[:-1], b"fsc: the log has: " + lines[3] + b"fsc: a run has: " + due
+             + b"\nfsc: no line feed ends the log's line\n"),
+            ("another note", read(session + ".fsc") + b"---\n" + entries + wrong + b"".join(notes[1:]), last + b"fsc: the log has: " + wrong + b"fsc: a run has: " + notes[0]),
+            ("no notes", read(session + ".fsc") + b"---\n" + entries, last + b"fsc: the log has: nothing more\nfsc: a run has: " + notes[0])):
+        status, got, told = run(CHECK, given)
+        tally.wants(f"{what} is told beside what a run has", (status, got) == (REFUSED, b"") and told.split(b"\n", 2)[2] == wanted, repr(told))
+
+
+CHECKS = (strictly, differences, examples_certified, one_key, two_callers, threads_certified, faulty_certificates, told_faults)

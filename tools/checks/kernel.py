@@ -1,12 +1,21 @@
 """What Linux 6.1 answered, beside stored logs: no difference but those of docs/LINUX.md, and a changed refusal is found."""
+import collections
 import os
 import re
 import subprocess
+import sys
 import tempfile
 
 from checks.running import TOP
 
 TOOLS = os.path.join(TOP, "tools", "kernel")
+sys.path.insert(0, TOOLS)
+
+from comparison import same, scripts_of, steps  # noqa: E402
+from kinds import kind_of  # noqa: E402
+from known import KNOWN, known_answer  # noqa: E402
+from report import read  # noqa: E402
+
 DATA = os.path.join(TOOLS, "data")
 MANY = 10
 
@@ -37,4 +46,24 @@ def stored_answers(tally):
                     status == wanted and last and last[0].endswith(f" lines, {wanted} unexplained"), str(last))
 
 
-CHECKS = (stored_answers,)
+def known_answers(tally):
+    """What Linux is known to answer otherwise it answered, by the row that is told, in each of the stored calls.
+
+    With its last close a key stays in Linux only where user 0 does not remove it again, as in scripts of mode raw.
+    """
+    logs, answers = (read(os.path.join(DATA, it)) for it in ("logs.txt", "answers.txt"))
+    told = collections.Counter()
+    for log, answer in zip(scripts_of(logs), scripts_of(answers), strict=True):
+        for step in steps(log, answer):
+            known = known_answer(step)
+            if known is None or (known[1].startswith("the status after") and not step.raw):
+                continue
+            words, kind = known[0].split(" "), kind_of(step)
+            is_so = step.theirs.split(" ")[:len(words)] == words and not same(step) and kind and kind.row == known[1]
+            tally.wants(f"Linux answered {step.line} by {known[1]}", is_so, step.theirs)
+            told[known[1]] += 1
+    for it in KNOWN:
+        tally.wants(f"the stored calls have one of {it.row}", told[it.row] > 0)
+
+
+CHECKS = (stored_answers, known_answers)

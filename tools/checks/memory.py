@@ -1,4 +1,4 @@
-"""Allocations that fail, keys in a core of the program, and wipes in its machine code."""
+"""Allocations that fail, keys in a core of the program, wipes in its machine code, and what depends on a secret there."""
 import shutil
 import subprocess
 import tempfile
@@ -57,8 +57,12 @@ def bad_lines_without_memory(tally):
                 status, _, told, *_ = failing.run(words, BAD, number, number)
                 if status != NO_MEMORY:
                     reasons.add(told)
-            wanted = {b"fsc: bad line 2\nfsc: line 2: " + it + b"\n" for it in (known, no_room)}
-            tally.wants(f"{words[0]} tells of a line in two ways", reasons == wanted, repr(reasons))
+            head, parting = b"fsc: bad line 2\nfsc: ", b"no line --- stands between the script and its log\nfsc: "
+            wanted = {head + b"line 2: " + it + b"\n" for it in (known, no_room)}
+            if words[0] == "check":
+                # of a text that isn't kept nobody knows whether such a line is there
+                wanted = {head + parting + b"line 2: " + it + b"\n" for it in (known, no_room)} | {head + b"line 2: " + no_room + b"\n"}
+            tally.wants(f"{words[0]} tells of a line as far as there is memory", reasons == wanted, repr(reasons))
 
 
 def judged_logs(tally):
@@ -107,4 +111,15 @@ def wipes_in_code(tally):
     tally.wants("the machine code overwrites what the sources promise", tool.returncode == 0, tool.stdout.decode())
 
 
-CHECKS = (failing_allocations, shown_commands, bad_lines_without_memory, judged_logs, keys_in_core, wipes_in_code)
+def secret_flow(tally):
+    """No branch, address or division depends on a secret but those in the table of docs/SECURITY.md."""
+    tool = subprocess.run([f"{TOP}/tools/secret_flow", "--short", PROGRAM], stdout=subprocess.PIPE, stderr=subprocess.STDOUT,
+                          check=False)
+    output = tool.stdout.decode()
+    if tool.returncode == NO_TOOL:
+        print("check: " + output.strip())
+        return
+    tally.wants("no other place depends on a secret than docs/SECURITY.md has", tool.returncode == 0, output)
+
+
+CHECKS = (failing_allocations, shown_commands, bad_lines_without_memory, judged_logs, keys_in_core, wipes_in_code, secret_flow)

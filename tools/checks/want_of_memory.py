@@ -112,6 +112,8 @@ def counts_of(command, entries, outcome):
 
     Where a record ended it, the entries alone may not tell: then the next command's may look like its own.
     """
+    if command.words[0] == "pause":
+        return [0]
     shape = SHAPES.get(command.words[0], [""])
     count = 0
     for head, entry in zip(shape, entries):
