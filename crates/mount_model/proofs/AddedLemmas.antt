@@ -1,4 +1,4 @@
--- Nodes stay well formed where a raw key is added that agrees with what was added before.
+-- Nodes are well formed after a raw key is added that agrees with what was added before.
 use Rattle.std.proofs.Common.{◌≡◌, ℕ, true, cond, List, [], Option, Some, None, is_some, sym, refl, ap, ◌∙◌, subst, ⊎_elim}
 use Rattle.std.specs.Option.{unwrap_or}
 use Rattle.std.proofs.lemmas.Bool.{cond-true, cond-false, cases_Bool, true≢false}

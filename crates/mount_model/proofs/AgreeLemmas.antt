@@ -1,4 +1,4 @@
--- Where raw keys agree, they agree up to any place, and each one that is added agrees with those before.
+-- If raw keys agree, they agree up to any place, and each one that is added agrees with those before.
 use Rattle.std.proofs.Common.{◌≡◌, false, cond, List, [], ◌∷◌, ◌++◌, ℕ, refl, sym, ap, ◌∙◌, subst, append_assoc}
 use Rattle.std.specs.Prelude.{Contains}
 use Rattle.std.proofs.lemmas.List.Elements.{Contains-append_left, Contains-append_right}

@@ -1,4 +1,4 @@
--- What the refusals of the calls on policies and contents leave: that the nodes stay as they may be.
+-- What the refusals of the calls on policies and contents leave: that the nodes remain as they may be.
 use Rattle.std.proofs.Common.{nat_lt, ◌≡◌, ℕ, ◌+◌, ◌-◌, ◌≤◌, true, false, cond, List, [], ◌∷◌, length, take, drop, max, eqb, Some, is_some, inl, inr, refl, sym, ap, subst, ◌∙◌, arith}
 use Rattle.std.proofs.lemmas.Bool.{cases_Bool, true≢false, ltb-false, eqb-true}
 use Rattle.std.proofs.lemmas.List.{length-take-le}

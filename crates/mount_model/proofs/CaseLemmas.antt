@@ -1,5 +1,5 @@
--- Each answer, case by case: what holds of every refusal and of every reply that changes nothing, and of
--- what the call makes of the mount where it is done, holds of the answer.
+-- Each answer, case by case: a property of every refusal, of every reply that changes nothing, and of the
+-- mount once the call is done is a property of the answer.
 use Rattle.std.proofs.Common.{nat_lt, ◌≡◌, ℕ, Bool, true, false, cond, not, ◌&&◌, List, [], ◌∷◌, length, eqb, Option, Some, None, is_some, Ok, Err, refl, sym}
 use Rattle.std.proofs.lemmas.Bool.{cond_both}
 use Rattle.policy_ctx.specs.declared.policy.KeyId.{KeyId}
@@ -45,7 +45,7 @@ pub record Covers (R : Answer → Type 0) (m : PlainMount) : Type 0 where
 pub when : (R : Answer → Type 0) {b : Bool} {x y : Answer} → (b ≡ true → R x) → (b ≡ false → R y) → R (cond b x y)
 when R {b} {x} {y} yes_case no_case = cond_both b x y R yes_case no_case
 
--- ---- walks end in refusals that are due
+-- ---- walks end in refusals that are expected
 
 abbrev pub IsDueWalk : Walked → Type 0
 IsDueWalk (Err r) = is_want_of_memory (Refused r) ≡ false

@@ -54,7 +54,7 @@ left_length keep (h ∷ hs) = let rest = left_length keep hs in elim (keep h) as
   | false ↦ omega arith
 ]
 
--- where no handle is the one, all are left
+-- if no handle is the one, all are left
 none_lost : (caller number : ℕ) (hs : HandleList) → AllByRecursion (λ h. is_handle caller number h ≡ false) hs → without_handle caller number hs ≡ hs
 none_lost caller number [] none = refl
 none_lost caller number (h ∷ hs) none =

@@ -1,4 +1,4 @@
--- Contents stay as they are as long as nobody writes them.
+-- Contents remain as they are as long as no call writes them.
 use Rattle.std.proofs.Common.{◌≡◌, ◌≢◌, ℕ, ◌<◌, ◌+◌, Bool, true, false, cond, not, ◌&&◌, ◌||◌, ◌==◌, nat_lt, eqb, List, [], ◌∷◌, ◌++◌, append_assoc, length, Option, Some, None, is_some, option_map, inl, inr, refl, sym, ap, ◌∙◌, subst, ⊎_elim, arith}
 use Rattle.std.specs.Prelude.{All}
 use Rattle.std.specs.Option.{option_map_or}
@@ -229,7 +229,7 @@ on_node (h ∷ hs) caller number n it = elim (cases_Bool (is_handle caller numbe
     right true rest = refl
     right false rest = rest
 
--- a read is told what the node has
+-- a read returns what the node has
 read_told : (m : PlainMount) (e : MountEntry) (n start len : ℕ) (got : List ℕ) → IsStepAt m e → Reads m n start len got e
     → got ≡ bytes_from start len (contents_at m.nodes n)
 read_told m e n start len got step r =

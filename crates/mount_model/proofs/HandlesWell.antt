@@ -25,7 +25,7 @@ use Rattle.mount_model.proofs.NodeParts.{link_in, link_edited, link_dropped, lin
 unfoldable pub openable_in : Option Node → Bool
 openable_in o = is_some o && not (link_in o)
 
--- ---- handles stay where the nodes change
+-- ---- handles remain well formed after the nodes change
 
 module _ (nodes : Nodes) (handles : HandleList) (opened : Numbered ℕ) (well : HasHandles nodes handles opened) where
   -- what is asked of the nodes after a change
@@ -90,7 +90,7 @@ module _ (nodes : Nodes) (handles : HandleList) (opened : Numbered ℕ) (well : 
         (sym (before_made (λ o. is_some o) (edit_there nodes d (with_child name next)) n differ) ∙ there)
         (sym (before_made is_named_in (edit_named nodes d (with_child name next)) n differ) ∙ none))
 
-  -- a node that loses its name: it stays where a handle is on it, else it goes
+  -- a node that loses its name: it remains if a handle is on it, else it is removed
   module _ (d : ℕ) (name : Name) (x : ℕ) where
     abbrev unnamed : Nodes
     unnamed = dropped nodes d name x

@@ -28,13 +28,13 @@ use Rattle.mount_model.specs.ClaimHistory.{claims_left}
 use Rattle.mount_model.specs.Lawful.{KeysAgree, is_load_told, TellsStore, TellsBy, TellsClaim, TellsClaimsFrom, IsLawful}
 use Rattle.mount_model.proofs.StepLemmas.{claims_left-step}
 
--- ---- legal histories tell the claims
+-- ---- replies of legal histories agree with the claims
 
 reply_of : (b : Bool) (x y : Answer) → (cond b x y).reply ≡ cond b x.reply y.reply
 reply_of true x y = refl
 reply_of false x y = refl
 
--- the answers to the calls on keys are those that are told by the claims
+-- the answers to the calls on keys are those that the claims determine
 pub addition_reply : (m : PlainMount) (uid : ℕ) (raw : List ℕ) → (answer_to_add_key m uid raw).reply ≡ addition_by m.claims uid raw
 addition_reply m uid raw = by (not (is_raw_key raw)) (is_over_quota m.claims (key_id_of raw) uid)
   where
@@ -86,7 +86,7 @@ answer_tells m caller uid (op.MetaStore name expected bytes) =
     store_tells m name bytes (nat_lt MOST_RECORD_BYTES (length bytes)) (not (version_of m.records name == expected)) (is_out_of_records m name)
 answer_tells m caller uid other = tt
 
--- want of memory may be told wherever memory may be taken
+-- a call that may take memory may be out of memory
 store_wants : (big : Bool) → TellsStore big (Refused NoMemory)
 store_wants true = inr refl
 store_wants false = refl

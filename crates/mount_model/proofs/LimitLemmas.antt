@@ -1,4 +1,4 @@
--- The limits, and the page behind a page.
+-- The limits, and the page after a page.
 use Rattle.std.proofs.Common.{◌≡◌, ℕ, ◌+◌, ◌-◌, false, ◌||◌, nat_lt, nat_le, min, List, [], length, take, drop, sym, ap, ◌∙◌, arith}
 use Rattle.std.proofs.lemmas.Bool.{le-ltb, ltb-false}
 use Rattle.std.proofs.lemmas.List.{drop_all, length-take, length-drop}
@@ -19,7 +19,7 @@ limits_exact = record {
   long_name = λ name is fits. let most = fits.1 in absurd (omega (arith, is, most));
 }
 
--- nothing stands from a number on exactly where the list ends before it
+-- there are no names from a number on exactly when the list ends before it
 none_behind : (names : List Name) (n : ℕ) → nat_lt n (length names) ≡ false → take MOST_LISTED (drop n names) ≡ []
 none_behind names n ends = ap (take MOST_LISTED) (drop_all n names (ltb-false n (length names) ends))
 

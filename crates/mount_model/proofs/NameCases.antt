@@ -1,4 +1,4 @@
--- The answers to the calls that make, move and take away names, case by case.
+-- The answers to the calls that make, move and remove names, case by case.
 use Rattle.std.proofs.Common.{◌≡◌, ℕ, Bool, true, false, cond, not, List, length, eqb, Option, Some, None, is_some}
 use Rattle.std.proofs.Common.{inl, inr, ◌⊎◌, Ok, refl}
 use Rattle.std.proofs.lemmas.Bool.{cond_both, or_parts}
@@ -45,7 +45,7 @@ at_make R m path nonce body covers ok =
 
 -- ---- Unlink and Rmdir
 
--- an entry that goes: what it leads to is no directory, or an empty one
+-- an entry that is removed: its node is no directory, or an empty one
 pub record CanGo (m : PlainMount) (d : ℕ) (part : Name) (e : Name × ℕ) : Type 0 where
   pub entry_found : found m d part ≡ Some e
   pub empty : (is_dir_at m.nodes e.1 ≡ false) ⊎ (eqb (length (children m.nodes e.1)) 0 ≡ true)
@@ -83,7 +83,7 @@ pub record CanMove (m : PlainMount) (d : ℕ) (part : Name) (e : Name × ℕ) (p
   pub apart : clashes m to (last_part path) ≡ false
   pub room : is_full_elsewhere m d to ≡ false
 
--- a name moves, or one of the causes against it is told
+-- a name moves, or one of the causes against it is the refusal
 at_refusal : (R : Answer → Type 0) (m after : PlainMount) (b : Bool) (r : Refusal) (more : Option Refusal)
     → R (refused m r) → (b ≡ false → R (done_unless m more after)) → R (done_unless m (cond b (Some r) more) after)
 at_refusal R m after b r more stopped rest =

@@ -96,7 +96,7 @@ total_gone nodes x = by_case (get nodes x) refl
     by_case None is = let same : block_total (gone nodes x) ≡ block_total nodes = ap block_total (remove_same nodes x is) in omega arith
     by_case (Some v) is = fewer nodes x v is
 
--- contents that are written: so many blocks more as are free at most
+-- contents that are written: at most as many further blocks as are free
 module _ (nodes : Nodes) (n : ℕ) (f : List ℕ → List ℕ) (few : block_total nodes ≤ MOST_BLOCKS) where
   same_blocks : (v : Node) → get nodes n ≡ Some v → contents_of (with_contents f v.body) ≡ contents_of v.body → block_total (written nodes n f) ≤ MOST_BLOCKS
   unfolding block_total

@@ -84,7 +84,7 @@ module _ (m : PlainMount) (well : AreNodes m) where
       (λ _. well)
       (λ free. gone_well m.raws m.nodes m.next well n (or_parts (is_named m.nodes n) (has_handle (without_handle caller handle m.handles) n) free).0)
 
--- an AddKey needs that no other raw key stands under its identifier: what then holds of it is handed in
+-- an AddKey needs that no other raw key is under its identifier: what then holds of it is an argument
 pub nodes_step : (m : PlainMount) (caller uid : ℕ) (o : Op) → HasKeys m.claims m.raws → AreNodes m → OpFits o
     → ((raw : List ℕ) → o ≡ op.AddKey raw → HasNodes (with_raw m.raws (key_id_of raw) raw) m.nodes m.next) → AreNodes (answer_to m caller uid o).mount
 nodes_step m caller uid (op.AddKey raw) keys well fits added = at_add_key Kept m uid raw (covers m well).of_refusals (λ _ _. added raw refl)

@@ -1,5 +1,5 @@
--- Nodes stay well formed: after a node is made, loses its name, goes, is moved, is written or gets its
--- policy.
+-- Nodes remain well formed after a node is made, loses its name, is removed, is moved, is written or gets
+-- its policy.
 use Rattle.std.proofs.Common.{◌≡◌, ◌≢◌, ℕ, ◌+◌, ◌-◌, ◌<◌, ◌≤◌, false, List, [], Some, None, arith}
 use Rattle.policy_ctx.specs.declared.policy.Context.{Context}
 use Rattle.number_map.specs.Numbered.{get}
@@ -68,7 +68,7 @@ module _ (raws : Raws) (nodes : Nodes) (next : ℕ) (well : HasNodes raws nodes 
         omega arith;
   }
 
-  -- a name that goes, and leaves its node without one
+  -- a name that is removed, and leaves its node without one
   pub dropped_well : (d : ℕ) (name : Name) (x : ℕ) → entry nodes d name ≡ Some x → children nodes x ≡ [] → HasNodes raws (dropped nodes d name x) next
   dropped_well d name x led none = record {
     tree = dropped_tree nodes d name x next well.tree led none;
@@ -80,7 +80,7 @@ module _ (raws : Raws) (nodes : Nodes) (next : ℕ) (well : HasNodes raws nodes 
     blocks = let same = total_dropped nodes d name x in let few = well.blocks in omega arith;
   }
 
-  -- a node without name that goes
+  -- a node without name that is removed
   pub gone_well : (x : ℕ) → is_named nodes x ≡ false → HasNodes raws (gone nodes x) next
   gone_well x nameless = record {
     tree = gone_tree nodes next x well.tree nameless;

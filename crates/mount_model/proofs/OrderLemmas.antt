@@ -1,4 +1,4 @@
--- Which refusal comes first where several would hold.
+-- Which refusal comes first if several would hold.
 use Rattle.std.proofs.Common.{◌≡◌, ◌≢◌, ℕ, Bool, true, false, cond, not, ◌||◌, List, [], ◌∷◌, length, eqb, eqb-true, Option, Some, None, is_some, refl, ap, ◌∙◌, arith}
 use Rattle.std.proofs.lemmas.Bool.{cond-true, cond-false}
 use Rattle.policy_ctx.specs.declared.policy.Context.{Context}
@@ -27,7 +27,7 @@ handles_keep_keyed m n held = by (context_at m.nodes n)
     by None = refl
     by (Some c) = ap (λ b. is_present m.claims c.policy.id || b) held ∙ or_true (is_present m.claims c.policy.id)
 
--- what stands first in a choice whose test holds, or last in one whose test doesn't
+-- what is first in a choice whose test holds, or last in one whose test doesn't
 yes_first : (b : Bool) (x y : Answer) → b ≡ true → cond b x y ≡ x
 yes_first b x y is = cond-true b x y is
 

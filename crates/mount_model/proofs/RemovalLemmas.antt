@@ -1,4 +1,4 @@
--- What removals leave of claims, and what is told of a key without claims.
+-- What removals leave of claims, and the status of a key without claims.
 use Rattle.std.proofs.Common.{◌≡◌, ◌≢◌, ℕ, Bool, true, false, cond, not, ◌&&◌, ◌||◌, ◌==◌, eqb-true, [], ◌∷◌, refl, sym, ap, ◌∙◌}
 use Rattle.std.specs.List.{list_any}
 use Rattle.std.proofs.lemmas.Bool.{cond-false}
@@ -26,7 +26,7 @@ handles_keep m id none = cond-false (is_present m.claims id) Present (cond (is_b
 
 -- ---- a status while something is open
 
--- a test that the node n passes is passed by some handle, where one is open on n
+-- a test that the node n passes is passed by some handle, if one is open on n
 some_handle : (handles : HandleList) (n : ℕ) (test : ℕ → Bool) → has_handle handles n ≡ true → test n ≡ true → list_any (λ h. test h.node) handles ≡ true
 some_handle [] n test held passes = absurd (cc)
 some_handle (h ∷ hs) n test held passes = cases (h.node == n) refl (λ later. some_handle hs n test later passes)
@@ -47,7 +47,7 @@ not_absent true busy is = λ same. cc
 not_absent false true is = λ same. cc
 not_absent false false is = absurd (cc)
 
--- the state that a reply tells, if it is a status
+-- the state in a reply, if it is a status
 abbrev state_in : Reply → KeyState
 state_in (Status state by_self users) = state
 state_in other = Absent

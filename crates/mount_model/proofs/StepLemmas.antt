@@ -22,7 +22,7 @@ use Rattle.mount_model.proofs.CaseLemmas.{CoversRefusals, Covers, at_add_key, at
 use Rattle.mount_model.proofs.NameCases.{at_make, at_unlink, at_rmdir, at_rename}
 use Rattle.mount_model.proofs.FileCases.{at_read_link, at_list, at_stat, at_open_node, at_read, at_write, at_close, at_meta_load, at_meta_store}
 
--- a reply that is no refusal is no want of memory
+-- a reply that is no refusal is not out of memory
 not_refused : (r : Reply) → is_refused r ≡ false → is_want_of_memory r ≡ false
 not_refused (reply.Added id) told = refl
 not_refused (reply.Removed others busy) told = refl
@@ -38,7 +38,7 @@ not_refused (reply.Held version bytes) told = refl
 not_refused (reply.Stored version) told = refl
 not_refused (reply.Refused r) told = absurd (true≢false told)
 
--- ---- no answer is want of memory
+-- ---- no answer is out of memory
 
 abbrev IsDue : Answer → Type 0
 IsDue a = is_want_of_memory a.reply ≡ false
@@ -107,11 +107,11 @@ refusal_keeps m caller uid (op.MetaStore name expected bytes) = at_meta_store (K
 abbrev Leaves : ClaimSet → ClaimSet → Answer → Type 0
 Leaves before made a = a.mount.claims ≡ cond (is_refused a.reply) before made
 
--- where the call makes no claims
+-- if the call makes no claims
 leaves_covers : (m : PlainMount) → Covers (Leaves m.claims m.claims) m
 leaves_covers m = record { of_refusals = λ r due. refl; of_replies = λ r told. sym (cond-false (is_refused r) m.claims m.claims told) }
 
--- each refusal keeps them, whatever the call would make
+-- each refusal leaves them, whatever the call would make
 leaves_refusals : (m : PlainMount) (made : ClaimSet) → CoversRefusals (Leaves m.claims made) m
 leaves_refusals m made r due = refl
 
@@ -147,7 +147,7 @@ refused-step m caller call refusal after step = ⊎_elim
     (λ w. w.2)
     step
 
--- want of memory comes only of calls that may take memory
+-- only calls that may take memory can be out of memory
 pub wanting-step : (m : PlainMount) (caller : ℕ) (call : Call) (after : PlainMount) → IsMountStep m caller call (Refused NoMemory) after → takes_memory call.op ≡ true
 wanting-step m caller call after step = ⊎_elim
     (λ a. absurd (true≢false (ap is_want_of_memory a.0 ∙ answer_due m caller call.uid call.op)))
@@ -171,6 +171,6 @@ claims_left-step m e after step = ⊎_elim
     (λ w. ap (λ (x : PlainMount). x.claims) w.2 ∙ ap (λ r. cond (is_refused r) m.claims (claims_made m.claims e.call.uid e.call.op)) (sym w.1))
     step
 
--- a reply that isn't want of memory is the answer's
+-- a reply that isn't out of memory is the answer's
 pub answered-step : (m : PlainMount) (e : MountEntry) (after : PlainMount) → IsMountStep m e.who e.call e.reply after → e.reply ≢ Refused NoMemory → e.reply ≡ (answer_of m e.who e.call).reply
 answered-step m e after step no_want = ⊎_elim (λ a. a.0) (λ w. absurd (no_want w.1)) step

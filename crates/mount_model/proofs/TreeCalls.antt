@@ -49,7 +49,7 @@ below_last n last le differ = elim (cases_Bool (nat_lt n last)) [
   | inr other ↦ let high : last ≤ n = ltb-false n last other in absurd (differ (omega arith))
 ]
 
--- the last part of a path that fits is a name, where it is short
+-- the last part of a path that fits is a name, if it is short
 pub is_name : (m : PlainMount) (path : PathParts) (d : ℕ) → IsPath path → is_root path ≡ false → IsParent m path d → IsName (last_part path)
 is_name m path d fits named at =
     let some : 0 < length path = above_zero (length path) (eqb-false (length path) 0 named) in
@@ -101,7 +101,7 @@ module _ (m : PlainMount) (well : HasNodes m.raws m.nodes m.next) where
         room = below_last m.next LAST_NODE well.numbers (eqb-false m.next LAST_NODE all.1);
       }
 
-  -- ---- a name that goes
+  -- ---- a name that is removed
 
   no_dir_no_children : (o : Option Node) → is_dir_in o ≡ false → children_in o ≡ []
   no_dir_no_children None is = refl

@@ -1,4 +1,4 @@
--- Where walks end: at nodes that are reached from the root by names.
+-- The ends of walks: nodes that are reached from the root by names.
 use Rattle.std.proofs.Common.{nat_lt, ◌≡◌, ◌≢◌, ℕ, ◌≤◌, true, false, cond, not, [], ◌∷◌, length, eqb, Option, Some, None, Ok, Err, inl, inr, refl, sym, ap, subst, ◌∙◌}
 use Rattle.std.specs.List.{list_any}
 use Rattle.std.specs.Str.{bytes_eq}
@@ -54,7 +54,7 @@ led_ok : (o : Option (Name × ℕ)) (y : ℕ) → led o ≡ ok_at y → (e : Nam
 led_ok None y is = absurd (no_end NotFound y is)
 led_ok (Some e) y is = (e, refl, same_end e.1 y is)
 
--- a part leads to a node under some name
+-- a part resolves to a node under some name
 pub stepped_ok : (m : PlainMount) (d : ℕ) (part : Name) (y : ℕ) → stepped m d part ≡ ok_at y → (name : Name) × (entry m.nodes d name ≡ Some y)
 stepped_ok m d part y is =
     let went = went_on (λ _. led (found m d part)) (looked_in m d part) y is in

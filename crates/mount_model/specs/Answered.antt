@@ -11,11 +11,11 @@ pub record Answer : Type 0 where
   pub reply : Reply
   pub mount : PlainMount
 
--- refused: the mount stays as it is
+-- refused: the mount is as before
 abbrev pub refused : PlainMount → Refusal → Answer
 refused m refusal = record { reply = Refused refusal; mount = m }
 
--- told: this is the reply, and the mount stays as it is
+-- answered with this reply: the mount is as before
 abbrev pub told : PlainMount → Reply → Answer
 told m reply = record { reply = reply; mount = m }
 
@@ -23,17 +23,17 @@ told m reply = record { reply = reply; mount = m }
 abbrev pub done : PlainMount → Answer
 done m = record { reply = Done; mount = m }
 
--- refused where there is a refusal; else done: this is the mount now
+-- refused if there is a refusal; else done: this is the mount now
 abbrev pub done_unless : PlainMount → Option Refusal → PlainMount → Answer
 done_unless m None after = done after
 done_unless m (Some refusal) after = refused m refusal
 
--- what is answered at the node that was reached; where none was, its refusal
+-- what is answered at the node that was reached; if none was, its refusal
 abbrev pub at_node : PlainMount → Result ℕ Refusal → (ℕ → Answer) → Answer
 at_node m (Err refusal) f = refused m refusal
 at_node m (Ok n) f = f n
 
--- what is answered at the entry that was found; NotFound where there is none
+-- what is answered at the entry that was found; NotFound if there is none
 abbrev pub at_entry : PlainMount → Option (Name × ℕ) → (Name → ℕ → Answer) → Answer
 at_entry m None f = refused m NotFound
 at_entry m (Some e) f = f e.0 e.1

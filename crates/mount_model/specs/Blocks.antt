@@ -1,4 +1,4 @@
--- The blocks that the contents of files need, and whether so many are free.
+-- The blocks that the contents of files need, and whether that many are free.
 use Rattle.std.specs.Prelude.{ℕ, ◌-◌, Bool, List, length, nat_lt}
 use Rattle.std.specs.List.{sum_by}
 use Rattle.std.specs.Int.{div_ceil}
@@ -7,7 +7,7 @@ use Rattle.plain_tree.specs.Nodes.{Nodes, contents_of}
 use Rattle.mount_limits.specs.declared.TheConstants.{BLOCK_SIZE, MOST_BLOCKS}
 use Rattle.mount_model.specs.PlainMount.{PlainMount}
 
--- how many blocks contents have, the last of them perhaps begun
+-- the number of blocks of contents; the last one may be partly filled
 abbrev pub block_count : List ℕ → ℕ
 block_count contents = div_ceil (length contents) BLOCK_SIZE
 

@@ -4,7 +4,7 @@ use Rattle.byte_words.specs.Bytes.{AreBytes}
 use Rattle.mount_limits.specs.declared.TheConstants.{MOST_PARTS, MOST_PART_BYTES}
 use Rattle.mount_model.specs.declared.limits.TheConstants.{MOST_TARGET_BYTES}
 
--- at least one byte and at most so many
+-- at least one byte and at most `most`
 abbrev pub HasLength : List ℕ → ℕ → Type 0
 HasLength bytes most = (1 ≤ length bytes) × (length bytes ≤ most)
 
@@ -28,6 +28,6 @@ pub record IsTarget (target : List ℕ) : Type 0 where
   pub size : HasLength target MOST_TARGET_BYTES
   pub nul : ¬ Contains target 0
 
--- at most so many bytes
+-- at most `most` bytes
 abbrev pub AreFewBytes : List ℕ → ℕ → Type 0
 AreFewBytes bytes most = AreBytes bytes × (length bytes ≤ most)

@@ -1,4 +1,4 @@
--- The claims that a history leaves, told from who called with what and which calls were refused.
+-- The claims that a history leaves, by each call with its caller, and which calls were refused.
 use Rattle.std.specs.Prelude.{ℕ, Bool, true, false, [], ◌∷◌, if◌then◌else◌}
 use Rattle.fsc_keys.specs.Keys.{key_id_of}
 use Rattle.user_claims.specs.Claims.{ClaimSet, no_claims, with_claim, without_claim, without_id}
@@ -12,7 +12,7 @@ abbrev pub is_refused : Reply → Bool
 is_refused (Refused refusal) = true
 is_refused other = false
 
--- a user's operation makes a claim, takes one away, takes all on a key away, or does nothing to claims
+-- a user's operation makes a claim, removes one, removes all on a key, or changes no claims
 abbrev pub claims_made : ClaimSet → ℕ → Op → ClaimSet
 claims_made claims uid (AddKey raw) = with_claim claims (key_id_of raw) uid
 claims_made claims uid (RemoveKey id) = without_claim claims id uid

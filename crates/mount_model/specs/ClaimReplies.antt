@@ -1,4 +1,4 @@
--- What is told of each call whatever raw keys were added.
+-- The replies to each call that are possible whatever raw keys were added.
 use Rattle.std.specs.Prelude.{◌≡◌, ⊤, ℕ, Bool, true, false, ◌⊎◌, length, nat_lt}
 use Rattle.user_claims.specs.Claims.{ClaimSet}
 use Rattle.meta_files.specs.declared.files.TheConstants.{MOST_RECORD_BYTES}
@@ -10,7 +10,7 @@ use Rattle.mount_model.specs.declared.reply.Refusal.TheVariants.{NotFound, TooBi
 use Rattle.mount_model.specs.declared.reply.Refusal.TheVariants.{BadHandle, NoMemory}
 use Rattle.mount_model.specs.KeyReplies.{IsToldOrNoMemory, addition_by, removal_by, clearing_by, status_by}
 
--- what may be replied to loading a record, and to storing one that isn't too big
+-- the possible replies to loading a record, and to storing one that isn't too big
 abbrev pub is_load_told : Reply → Bool
 is_load_told (Held version bytes) = true
 is_load_told (Refused NotFound) = true
@@ -29,8 +29,9 @@ abbrev pub TellsStore : Bool → Reply → Type 0
 TellsStore true reply = IsToldOrNoMemory (Refused TooBig) reply
 TellsStore false reply = is_store_told reply ≡ true
 
--- A reply to a user's operation, by the claims before it. Of a key all is told by these but whether some
--- open handle needs it. Removing keys, a status, closing and dropping caches never want memory.
+-- A reply to a user's operation, by the claims before it. Of a key the claims determine all but whether
+-- some open handle needs it. Removing keys, a status, closing and dropping caches are never out of
+-- memory.
 abbrev pub TellsBy : ClaimSet → ℕ → Op → Reply → Type 0
 TellsBy claims uid (op.AddKey raw) reply = IsToldOrNoMemory (addition_by claims uid raw) reply
 TellsBy claims uid (op.RemoveKey id) reply = (busy : Bool) × (reply ≡ removal_by claims busy uid id)

@@ -1,4 +1,4 @@
--- The call that closes what is open: what it answers, and the mount that it leaves.
+-- The call that closes a handle: what it answers, and the mount that it leaves.
 use Rattle.std.specs.Prelude.{ℕ, ◌||◌, if◌then◌else◌}
 use Rattle.plain_tree.specs.Nodes.{Nodes}
 use Rattle.plain_tree.specs.NodesByNumber.{is_named}
@@ -8,7 +8,7 @@ use Rattle.mount_model.specs.OpenHandles.{node_of, has_handle, without_handle}
 use Rattle.mount_model.specs.Answered.{Answer, done}
 use Rattle.mount_model.specs.FileAnswers.{at_handle}
 
--- a node without name goes with its last handle; the root counts as named
+-- a node without name is removed with its last handle; the root counts as named
 abbrev pub kept_by : HandleList → Nodes → ℕ → Nodes
 kept_by handles nodes n = if is_named nodes n || has_handle handles n then nodes else gone nodes n
 

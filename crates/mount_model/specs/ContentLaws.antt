@@ -1,4 +1,4 @@
--- That contents which were written are those that are read, as long as nobody writes between.
+-- A read returns the contents that were written, as long as no call writes between.
 use Rattle.std.specs.Prelude.{◌≡◌, ⊤, ℕ, Bool, true, false, ◌==◌, ◌&&◌, not, List, [], ◌∷◌, ◌++◌, Option, None, Some}
 use Rattle.byte_words.specs.Contents.{with_bytes, bytes_from}
 use Rattle.number_map.specs.Numbered.{get}
@@ -40,15 +40,16 @@ pub record Writes (m : PlainMount) (n offset : ℕ) (bytes contents : List ℕ) 
   pub there : get m.nodes n ≡ Some node
   pub file : node.body ≡ File contents
 
--- an entry that is told so many bytes of node n from a start on
+-- an entry that reads at most `len` bytes of node n from a start on
 pub record Reads (m : PlainMount) (n start len : ℕ) (got : List ℕ) (e : MountEntry) : Type 0 where
   pub number : ℕ
   pub call : e.call.op ≡ op.Read number start len
   pub told : e.reply ≡ Content got
   pub on : node_of m.handles e.who number ≡ Some n
 
--- what is read are the contents that the write left, whatever calls were made between, as long as none writes to
--- the node: keys that are removed and added again, handles that are closed and opened, names that move
+-- a read returns the contents that the write left, whatever calls were made between, as long as none
+-- writes to the node: keys that are removed and added again, handles that are closed and opened, names
+-- that move
 abbrev pub WrittenIsRead : Type 0
 WrittenIsRead =
     (before between : History) (write read : MountEntry) (n offset start len : ℕ) (bytes contents got : List ℕ)

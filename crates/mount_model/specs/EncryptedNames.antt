@@ -1,4 +1,4 @@
--- What an encrypted directory asks of a name that is to stand in it: the key, and a no-key text of its own.
+-- What an encrypted directory requires of a new name in it: the key, and a no-key text of its own.
 use Rattle.std.specs.Prelude.{ℕ, Bool, false, Option, Some, None, not}
 use Rattle.policy_ctx.specs.declared.policy.Context.{Context}
 use Rattle.user_claims.specs.ClaimCounts.{is_present}

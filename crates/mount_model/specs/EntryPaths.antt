@@ -1,4 +1,4 @@
--- Paths that name an entry: the directory in which it is to be looked up, and what stands above that.
+-- Paths that name an entry: the directory in which it is to be looked up, and the directories above that.
 use Rattle.std.specs.Prelude.{ℕ, ◌-◌, Bool, List, [], ◌∷◌, length, take, Ok, Err, ◌==◌, slice_index_or}
 use Rattle.std.specs.List.{list_any}
 use Rattle.plain_tree.specs.Nodes.{Name}
@@ -27,6 +27,6 @@ abbrev pub passed_from : PlainMount → ℕ → PathParts → List ℕ
 passed_from m n [] = n ∷ []
 passed_from m n (part ∷ parts) = n ∷ passed_on (λ x. passed_from m x parts) (stepped m n part)
 
--- node x is the directory that holds the path's last part, or stands above it
+-- node x is the directory that holds the path's last part, or is above it
 abbrev pub is_at_or_above : PlainMount → ℕ → PathParts → Bool
 is_at_or_above m x path = list_any (λ n. n == x) (passed_from m 0 (parent_parts path))

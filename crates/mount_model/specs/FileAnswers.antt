@@ -16,23 +16,23 @@ use Rattle.mount_model.specs.OpenHandles.{node_of}
 use Rattle.mount_model.specs.Answered.{Answer, refused, told, done}
 use Rattle.mount_model.specs.Blocks.{lacks_blocks}
 
--- what is answered at the node that is open under the number; BadHandle where the caller has none
+-- what is answered at the node of the handle; BadHandle if the caller has none of that number
 abbrev pub at_handle : PlainMount → Option ℕ → (ℕ → Answer) → Answer
 at_handle m None f = refused m BadHandle
 at_handle m (Some n) f = f n
 
--- the same where what is open has to be a file
+-- the same if the node has to be a file
 abbrev pub at_file : PlainMount → ℕ → ℕ → (ℕ → Answer) → Answer
 at_file m caller handle f =
     at_handle m (node_of m.handles caller handle) λ n.
     if is_dir_at m.nodes n then refused m IsDir else
     f n
 
--- the contents of the file; empty where there is none
+-- the contents of the file; empty if there is none
 abbrev pub contents_at : Nodes → ℕ → List ℕ
 contents_at nodes n = option_map_or (λ v. contents_of v.body) (get nodes n) []
 
--- the bytes from the offset on, at most len, as far as the file goes
+-- the bytes from the offset to the end of the file, at most len
 abbrev pub content_of : PlainMount → ℕ → ℕ → ℕ → Reply
 content_of m n offset len = Content (bytes_from offset len (contents_at m.nodes n))
 

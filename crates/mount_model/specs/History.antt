@@ -1,4 +1,4 @@
--- Histories of a mount: who called with what, and what was replied, in order of place from 0.
+-- Histories of a mount: each call with its caller and its reply, in order of place from 0.
 use Rattle.std.specs.Prelude.{◌≢◌, ⊤, ℕ, Bool, true, false, List, [], ◌∷◌, All, map, if◌then◌else◌}
 use Rattle.call_history.specs.declared.entry.Entry.{Entry}
 use Rattle.call_history.specs.Entries as entries
@@ -21,7 +21,7 @@ abbrev pub is_want_of_memory : Reply → Bool
 is_want_of_memory (Refused NoMemory) = true
 is_want_of_memory other = false
 
--- the mount that an entry leaves: the answer's, or the same one where there was no memory
+-- the mount that an entry leaves: the answer's, or the same one if the call was out of memory
 abbrev pub mount_left : PlainMount → MountEntry → PlainMount
 mount_left m e = if is_want_of_memory e.reply then m else (answer_of m e.who e.call).mount
 
@@ -49,6 +49,6 @@ IsLegal history = IsLegalFrom empty_mount history
 abbrev pub calls_of : History → List (ℕ × Call)
 calls_of history = map (λ e. (e.who, e.call)) history
 
--- no reply is want of memory
+-- no reply is out of memory
 abbrev pub NeverWantsMemory : History → Type 0
 NeverWantsMemory history = All (λ e. e.reply ≢ Refused NoMemory) history

@@ -1,5 +1,5 @@
--- The calls that add a key and tell its status: what each answers, its refusals in the order in which
--- they are tried, and the mount that it leaves. They are tried by the raw key and the claims alone; in a
+-- The calls that add a key and return its status: what each answers, its refusals in the order in which
+-- they are tried, and the mount that it leaves. They are tried by the raw key and the claims alone. In a
 -- status `busy` is whether something open needs the key.
 use Rattle.std.specs.Prelude.{ℕ, Bool, List, length, not, ◌&&◌, nat_le, if◌then◌else◌}
 use Rattle.policy_ctx.specs.declared.policy.KeyId.{KeyId}
@@ -26,7 +26,7 @@ is_raw_key raw = nat_le LEAST_RAW_KEY_BYTES (length raw) && nat_le (length raw) 
 abbrev pub is_over_quota : ClaimSet → KeyId → ℕ → Bool
 is_over_quota claims id uid = not (has_claim claims id uid) && nat_le MOST_CLAIMS (count_of_user claims uid)
 
--- what comes of a user's claim on a raw key: a refusal, or what is due
+-- the outcome of a user's claim on a raw key: a refusal, or `due`
 abbrev pub adding : {A : Type 0} → (Refusal → A) → A → ClaimSet → ℕ → List ℕ → A
 adding refuse due claims uid raw =
     if not (is_raw_key raw) then refuse Inval else

@@ -1,4 +1,4 @@
--- What removals leave of claims, and what is told of a key without claims.
+-- What removals leave of claims, and the status of a key without claims.
 use Rattle.std.specs.Prelude.{◌≡◌, ◌≢◌, ℕ, Bool, true, false, ◌&&◌, ◌==◌, if◌then◌else◌}
 use Rattle.policy_ctx.specs.declared.policy.KeyId.{KeyId}
 use Rattle.policy_ctx.specs.KeyIds.{same_id}
@@ -19,13 +19,13 @@ OtherClaimsStay = (m : PlainMount) (uid : ℕ) (id other : KeyId) (user : ℕ)
     → (same_id other id && (user == uid)) ≡ false
     → has_claim (answer_to_remove_key m uid id).mount.claims other user ≡ has_claim m.claims other user
 
--- the state of a key without claims is Incomplete where an open handle is on a node whose policy names
--- it, else Absent
+-- the state of a key without claims is Incomplete if an open handle is on a node whose policy names it,
+-- else Absent
 abbrev pub OpenHandlesKeepKeys : Type 0
 OpenHandlesKeepKeys = (m : PlainMount) (id : KeyId) → is_present m.claims id ≡ false
     → key_state_of m id ≡ (if is_busy m id then Incomplete else Absent)
 
--- while a handle is open on a node whose policy names the key, no status that is told is Absent
+-- while a handle is open on a node whose policy names the key, no status is Absent
 abbrev pub OpenHandlesAreTold : Type 0
 OpenHandlesAreTold = (m : PlainMount) (n : ℕ) (id : KeyId) → has_handle m.handles n ≡ true
     → names_key m.nodes n id ≡ true → (uid : ℕ) (state : KeyState) (by_self : Bool) (users : ℕ)

@@ -1,5 +1,5 @@
--- What the calls on keys tell by the claims alone, whatever raw keys were added: all of it but whether some
--- open handle needs the key, which is told as `busy` here.
+-- What the calls on keys reply by the claims alone, whatever raw keys were added. The claims don't
+-- determine whether some open handle needs the key, which is `busy` here.
 use Rattle.std.specs.Prelude.{◌≡◌, ℕ, Bool, false, List, Option, Some, None, ◌⊎◌}
 use Rattle.policy_ctx.specs.declared.policy.KeyId.{KeyId}
 use Rattle.fsc_keys.specs.Keys.{key_id_of}
@@ -13,7 +13,7 @@ use Rattle.mount_model.specs.KeyAnswers.{adding}
 use Rattle.mount_model.specs.RemovalAnswers.{removing, removing_all, removal_told}
 pub use Rattle.mount_model.specs.KeyAnswers.{is_over_quota, status_by}
 
--- this was told, or there was no memory
+-- this was the reply, or the call was out of memory
 abbrev pub IsToldOrNoMemory : Reply → Reply → Type 0
 IsToldOrNoMemory told reply = (reply ≡ told) ⊎ (reply ≡ Refused NoMemory)
 

@@ -1,4 +1,4 @@
--- What is asked of a history whatever raw keys were added, and what where they agree.
+-- What holds of a history whatever raw keys were added, and what holds if they agree.
 use Rattle.std.specs.Prelude.{◌≡◌, ⊤, ℕ, Some, List, [], ◌∷◌, ◌++◌, All, Contains, if◌then◌else◌}
 use Rattle.fsc_keys.specs.Keys.{key_id_of}
 use Rattle.user_claims.specs.Claims.{ClaimSet, no_claims}
@@ -35,7 +35,7 @@ abbrev pub KeyAgrees : Raws → Op → Type 0
 KeyAgrees raws (AddKey raw) = AgreesWith raws raw
 KeyAgrees raws other = ⊤
 
--- ---- what is told whatever raw keys were added
+-- ---- the replies, whatever raw keys were added
 
 abbrev pub TellsClaim : ClaimSet → MountEntry → Type 0
 TellsClaim claims e = TellsBy claims e.call.uid e.call.op e.reply
@@ -44,7 +44,7 @@ abbrev pub TellsClaimsFrom : ClaimSet → History → Type 0
 TellsClaimsFrom claims [] = ⊤
 TellsClaimsFrom claims (e ∷ es) = TellsClaim claims e × TellsClaimsFrom (claims_left claims e) es
 
--- each reply tells what the claims allow that the entries before it leave
+-- each reply is one that the claims after the entries before it allow
 abbrev pub TellsClaims : History → Type 0
 TellsClaims history = TellsClaimsFrom no_claims history
 
@@ -55,7 +55,7 @@ pub record IsLawful (history : History) : Type 0 where
   pub legal : KeysAgree history → IsLegal history
   -- and so is each beginning of it whose raw keys agree, whatever keys were added later
   pub begun : (start rest : History) → history ≡ start ++ rest → KeysAgree start → IsLegal start
-  -- in any case its replies tell the claims that its calls leave
+  -- in any case its replies agree with the claims that its calls leave
   pub claims : TellsClaims history
 
 -- each call fits

@@ -24,7 +24,7 @@ pub record LimitsAreExact : Type 0 where
   pub last_name : (name : List ℕ) → length name ≡ 64 → OpFits (MetaLoad name)
   pub long_name : (name : List ℕ) → length name ≡ 65 → ¬ OpFits (MetaLoad name)
 
--- it is told that further names follow exactly where the next page is not empty
+-- a page reports further names exactly when the next page is not empty
 abbrev pub FurtherNamesFollow : Type 0
 FurtherNamesFollow = (m : PlainMount) (d start : ℕ) (first next : List Name) (more further : Bool)
     → page_of m d start ≡ Names first more → page_of m d (start + MOST_LISTED) ≡ Names next further

@@ -31,7 +31,7 @@ node_kind (Dir entries) = kind.Dir
 node_kind (File contents) = kind.File
 node_kind (Link target) = kind.Link
 
--- a directory's number of entries, a file's length, the length of what ReadLink tells
+-- a directory's number of entries, a file's length, the length of what ReadLink returns
 abbrev pub size_of : PlainMount → ℕ → Body → ℕ
 size_of m n (Dir entries) = length entries
 size_of m n (File contents) = length contents

@@ -27,8 +27,8 @@ may_hold (Some c) held = has_policy c.policy held
 abbrev pub is_full_elsewhere : PlainMount → ℕ → ℕ → Bool
 is_full_elsewhere m d to = not (to == d) && nat_le MOST_CHILDREN (length (children m.nodes to))
 
--- why x, of the directory d, can't get this name in the directory to; above tells whether x is that directory
--- or stands above it
+-- why x, of the directory d, can't get this name in the directory to; above is true if x is that
+-- directory or is above it
 abbrev pub move_refusal : PlainMount → ℕ → ℕ → ℕ → Bool → Name → Option Refusal
 move_refusal m d x to above new_name =
     if not (is_keyed m to) then Some NoKey else

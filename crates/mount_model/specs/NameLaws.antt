@@ -1,4 +1,4 @@
--- What well-formed mounts say of names: policies below policies, and what leads where.
+-- What holds of names in well-formed mounts: policies below policies, and what each part resolves to.
 use Rattle.std.specs.Prelude.{◌≡◌, ℕ, Some}
 use Rattle.policy_ctx.specs.declared.policy.Context.{Context}
 use Rattle.plain_tree.specs.Nodes.{Name}
@@ -21,13 +21,13 @@ TextsDiffer = (m : PlainMount) (d : ℕ) (a b : Name) (x y : ℕ) (c : Context) 
     → context_at m.nodes d ≡ Some c → entry m.nodes d a ≡ Some x → entry m.nodes d b ≡ Some y
     → texts m.raws d c a ≡ texts m.raws d c b → a ≡ b
 
--- what a name is shown as, be it itself or its text, leads to exactly the node that the name names
+-- the shown form of a name, be it itself or its text, resolves to exactly the node that the name names
 abbrev pub ShownNamesLead : Type 0
 ShownNamesLead = (m : PlainMount) (d : ℕ) (name : Name) (x : ℕ) → IsWellFormed m
     → entry m.nodes d name ≡ Some x
     → found m d (shown m d name) ≡ Some (name, x)
 
--- and a part leads to nothing that is not shown so
+-- and a part resolves to nothing that is not shown so
 abbrev pub OnlyShownNamesLead : Type 0
 OnlyShownNamesLead = (m : PlainMount) (d : ℕ) (part : Name) (e : Name × ℕ) → found m d part ≡ Some e
     → (entry m.nodes d e.0 ≡ Some e.1) × (shown m d e.0 ≡ part)

@@ -1,4 +1,4 @@
--- The node that a call makes, and the mount in which a name leads to it.
+-- The node that a call makes, and the mount in which a name names it.
 use Rattle.std.specs.Prelude.{ℕ, ◌+◌, true, List, Option, Some, None}
 use Rattle.policy_ctx.specs.declared.policy.Context.{Context}
 use Rattle.plain_tree.specs.Nodes.{Name, Body, Node}
@@ -18,6 +18,6 @@ new_node m d nonce body = record {
   body = body;
 }
 
--- the mount in which the name leads to a new node
+-- the mount in which the name names a new node
 abbrev pub with_node : PlainMount → ℕ → Name → Node → PlainMount
 with_node m d name v = record m { nodes = made m.nodes d name m.next v; next = m.next + 1 }

@@ -20,7 +20,7 @@ with_handle m caller n = record m {
   opened = insert m.opened caller (opens_of m.opened caller + 1);
 }
 
--- 4,096 handles are open, or the caller has opened as many as a number can tell
+-- 4,096 handles are open, or the caller has opened as many as there are numbers
 abbrev pub is_out_of_handles : PlainMount → ℕ → Bool
 is_out_of_handles m caller =
     nat_le MOST_HANDLES (length m.handles) || nat_le MOST_OPENS (opens_of m.opened caller)

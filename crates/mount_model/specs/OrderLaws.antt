@@ -1,4 +1,4 @@
--- Which refusal comes first where several would hold, and that a handle keeps its node's key at hand.
+-- Which refusal comes first if several would hold, and that a node is keyed while a handle is open on it.
 use Rattle.std.specs.Prelude.{◌≡◌, ◌≢◌, ℕ, true, false, List, [], Ok, None, is_some}
 use Rattle.policy_ctx.specs.PolicyFaults.{policy_fault}
 use Rattle.plain_tree.specs.Nodes.{Body}
@@ -18,7 +18,7 @@ use Rattle.mount_model.specs.EncryptedNames.{lacks_key}
 abbrev pub HandlesKeepNodesKeyed : Type 0
 HandlesKeepNodesKeyed = (m : PlainMount) (n : ℕ) → has_handle m.handles n ≡ true → is_keyed m n ≡ true
 
--- a creation where the key isn't present is NoKey, also where the name is there
+-- if the key isn't present, a creation is NoKey, even if the name is there
 abbrev pub CreationsNeedTheKey : Type 0
 CreationsNeedTheKey = (m : PlainMount) (path : PathParts) (nonce : List ℕ) (body : Body) (d : ℕ)
     → is_root path ≡ false → parent m path ≡ Ok d → lacks_key m (context_at m.nodes d) ≡ true

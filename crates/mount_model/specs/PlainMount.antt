@@ -1,5 +1,5 @@
--- The one-thread mount as plain data: nodes, claims with the raw keys, open handles, records. Nothing
--- of what is stored, cached or enciphered stands in it.
+-- The one-thread mount as plain data: nodes, claims with the raw keys, open handles, records. It contains
+-- nothing that is stored, cached or encrypted.
 use Rattle.std.specs.Prelude.{ℕ, List, [], Option}
 use Rattle.std.specs.Ordering.{nat_cmp}
 use Rattle.std.specs.Cmp.Lexicographic.{slice_cmp}
@@ -24,7 +24,8 @@ pub record PlainMount : Type 0 where
   -- the nodes by number, and the number of the next one
   pub nodes : Nodes
   pub next : ℕ
-  -- who holds which keys, and the raw key that was last added under each identifier; none is taken out
+  -- which user holds which keys, and the raw key that was last added under each identifier; none is
+  -- removed
   pub claims : ClaimSet
   pub raws : Raws
   -- what is open, and how many handles each caller ever opened

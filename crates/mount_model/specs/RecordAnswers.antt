@@ -20,7 +20,7 @@ answer_to_meta_load m name = record_told m (record_of m.records name)
 
 -- ---- MetaStore
 
--- a new record where there are 1,024, or a version that is the last
+-- a new record while there are 1,024, or a version that is the last
 abbrev pub is_out_of_records : PlainMount → List ℕ → Bool
 is_out_of_records m name =
     (is_none (record_of m.records name) && nat_le MOST_RECORDS (length m.records))

@@ -1,4 +1,4 @@
--- The calls that take claims on keys away: what each answers, its refusals in the order in which they are
+-- The calls that remove claims on keys: what each answers, its refusals in the order in which they are
 -- tried, and the mount that it leaves. They are tried by the claims alone, and by whether something open
 -- needs the key, which is `busy` here.
 use Rattle.std.specs.Prelude.{ℕ, Bool, false, not, ◌==◌, ◌&&◌, if◌then◌else◌}
@@ -13,18 +13,18 @@ use Rattle.mount_model.specs.PlainMount.{PlainMount}
 use Rattle.mount_model.specs.States.{is_busy}
 use Rattle.mount_model.specs.Answered.{Answer, refused}
 
--- neither a claim stands on the key nor anything open needs it
+-- there is no claim on the key, and nothing open needs it
 abbrev pub is_absent : ClaimSet → Bool → KeyId → Bool
 is_absent claims busy id = not (is_present claims id) && not busy
 
--- what comes of taking the user's claim away: a refusal, or what is due
+-- the outcome of removing the user's claim: a refusal, or `due`
 abbrev pub removing : {A : Type 0} → (Refusal → A) → A → ClaimSet → Bool → ℕ → KeyId → A
 removing refuse due claims busy uid id =
     if is_absent claims busy id then refuse NoKey else
     if is_present claims id && not (has_claim claims id uid) then refuse NoKey else
     due
 
--- others tells whether a claim is left; busy, where none is, whether something open needs the key
+-- others is whether a claim is left; busy, if none is, whether something open needs the key
 abbrev pub removal_told : Bool → Bool → Reply
 removal_told left busy = Removed left (not left && busy)
 
@@ -37,7 +37,7 @@ removed m uid id = record {
 abbrev pub answer_to_remove_key : PlainMount → ℕ → KeyId → Answer
 answer_to_remove_key m uid id = removing (refused m) (removed m uid id) m.claims (is_busy m id) uid id
 
--- what comes of taking all claims on it away
+-- the outcome of removing all claims on the key: a refusal, or `due`
 abbrev pub removing_all : {A : Type 0} → (Refusal → A) → A → ClaimSet → Bool → ℕ → KeyId → A
 removing_all refuse due claims busy uid id =
     if not (uid == 0) then refuse Access else

@@ -11,12 +11,12 @@ use Rattle.mount_model.specs.EntryPaths.{is_root, last_part, parent, is_at_or_ab
 use Rattle.mount_model.specs.Answered.{Answer, refused, done_unless, at_node, at_entry}
 use Rattle.mount_model.specs.MoveRefusal.{move_refusal}
 
--- the node keeps its policy, nonce and contents
+-- the node retains its policy, nonce and contents
 abbrev pub with_moved : PlainMount → ℕ → Name → ℕ → Name → ℕ → PlainMount
 with_moved m d name to new_name x = record m { nodes = moved m.nodes d name to new_name x }
 
--- what is answered once the old path has led to x, by this name of d: the name is to lead to x at the end of
--- the new path
+-- what is answered once the old path has resolved to x, by this name of d: the last part of the new path
+-- becomes the name of x
 abbrev pub answer_to_move_from : PlainMount → PathParts → ℕ → Name → ℕ → Answer
 answer_to_move_from m path d name x =
     at_node m (parent m path) λ to.

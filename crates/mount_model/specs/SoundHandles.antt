@@ -27,7 +27,7 @@ pub record HasHandles (nodes : Nodes) (handles : HandleList) (opened : Numbered 
   -- a node without name has one
   pub nameless : (n : ℕ) → is_some (get nodes n) ≡ true → is_named nodes n ≡ false
       → has_handle handles n ≡ true
-  -- its number lies below the count of its caller
+  -- its number is below the count of its caller
   pub numbered : (caller number : ℕ) → is_live handles caller number ≡ true → number < opens_of opened caller
   -- no two of a caller have one number
   pub distinct : IsDistinct is_same_handle handles

@@ -26,7 +26,7 @@ policy_in bytes = record {
   id = id_in bytes;
 }
 
--- what a node of the policy that the bytes spell keeps
+-- the context of a node whose policy the bytes spell
 abbrev pub context_of : List ℕ → List ℕ → Context
 context_of policy nonce = record { policy = policy_in policy; nonce = nonce }
 

@@ -1,4 +1,4 @@
--- What a mount holds of a key, and which nodes have their keys at hand.
+-- What a mount holds of a key, and which nodes have their keys available.
 use Rattle.std.specs.Prelude.{ℕ, Bool, true, false, ◌||◌, Option, Some, None, if◌then◌else◌}
 use Rattle.std.specs.List.{list_any}
 use Rattle.policy_ctx.specs.declared.policy.KeyId.{KeyId}
@@ -26,7 +26,7 @@ names_key nodes n id = is_of_id id (context_at nodes n)
 abbrev pub is_busy : PlainMount → KeyId → Bool
 is_busy m id = list_any (λ h. names_key m.nodes h.node id) m.handles
 
--- Present where some user has a claim, else Incomplete where the key is busy: something open still needs it
+-- Present if some user has a claim, else Incomplete if the key is busy: something open still needs it
 abbrev pub key_state_by : ClaimSet → Bool → KeyId → KeyState
 key_state_by claims busy id = if is_present claims id then Present else if busy then Incomplete else Absent
 
@@ -45,7 +45,7 @@ abbrev pub shown_under : PlainMount → ℕ → Name → Option Context → Name
 shown_under m n name None = name
 shown_under m n name (Some c) = if is_keyed m n then name else texts m.raws n c name
 
--- how a name of the directory n, or the target of the symlink n, is shown: plain where the node is
--- keyed, else by its no-key text
+-- how a name of the directory n, or the target of the symlink n, is shown: plain if the node is keyed,
+-- else by its no-key text
 abbrev pub shown : PlainMount → ℕ → Name → Name
 shown m n name = shown_under m n name (context_at m.nodes n)

@@ -10,8 +10,8 @@ use Rattle.mount_model.specs.declared.reply.Refusal.TheVariants.{NoMemory}
 use Rattle.mount_model.specs.PlainMount.{PlainMount}
 use Rattle.mount_model.specs.Answer.{answer_of}
 
--- whether the operation may take memory: removing keys, asking for a status, closing and dropping
--- caches never do
+-- whether the operation may take memory: removing keys, asking for a status, closing and dropping caches
+-- never do
 abbrev pub takes_memory : Op → Bool
 takes_memory (RemoveKey id) = false
 takes_memory (RemoveKeyAll id) = false
@@ -20,16 +20,17 @@ takes_memory (Close handle) = false
 takes_memory DropCaches = false
 takes_memory other = true
 
--- the mount answers as it has to, and is then as the answer leaves it
+-- the reply and the mount after it are those of the answer
 abbrev pub IsAnswered : PlainMount → ℕ → Call → Reply → PlainMount → Type 0
 IsAnswered m caller call reply after =
     (reply ≡ (answer_of m caller call).reply) × (after ≡ (answer_of m caller call).mount)
 
--- there was no memory, and nothing changed: this may come in place of any answer
+-- out of memory, and nothing changed: this may come in place of any answer to an operation that may take
+-- memory
 abbrev pub IsWantOfMemory : PlainMount → Call → Reply → PlainMount → Type 0
 IsWantOfMemory m call reply after = IsTrue (takes_memory call.op) × (reply ≡ Refused NoMemory) × (after ≡ m)
 
--- a call, and what comes of it
+-- a call, its reply, and the mount after it
 abbrev pub IsMountStep : PlainMount → ℕ → Call → Reply → PlainMount → Type 0
 IsMountStep m caller call reply after =
     IsAnswered m caller call reply after ⊎ IsWantOfMemory m call reply after

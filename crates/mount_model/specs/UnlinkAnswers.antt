@@ -1,4 +1,4 @@
--- The calls that take names away: what each answers, its refusals in the order in which they are tried, and
+-- The calls that remove names: what each answers, its refusals in the order in which they are tried, and
 -- the mount that it leaves.
 use Rattle.std.specs.Prelude.{ℕ, length, not, ◌==◌, if◌then◌else◌}
 use Rattle.plain_tree.specs.Nodes.{Name, Nodes}
@@ -14,7 +14,7 @@ use Rattle.mount_model.specs.Answered.{Answer, refused, done, at_node, at_entry}
 abbrev pub left_by : PlainMount → Nodes → ℕ → Nodes
 left_by m nodes x = if has_handle m.handles x then nodes else gone nodes x
 
--- the mount without the name for x; x itself goes where no handle is open on it
+-- the mount without the name for x; x itself is removed if no handle is open on it
 abbrev pub without_name : PlainMount → ℕ → Name → ℕ → PlainMount
 without_name m d name x = record m { nodes = left_by m (dropped m.nodes d name x) x }
 

@@ -1,4 +1,4 @@
--- Where paths lead.
+-- What paths resolve to.
 use Rattle.std.specs.Prelude.{ℕ, List, [], ◌∷◌, length, Result, Ok, Err, Option}
 use Rattle.std.specs.Prelude.{Some, None, not, nat_lt, if◌then◌else◌}
 use Rattle.std.specs.Str.{bytes_eq}
@@ -17,8 +17,8 @@ PathParts = List Name
 abbrev pub Walked : Type 0
 Walked = Result ℕ Refusal
 
--- the first entry of the directory that is shown as the part: a plain name where the directory is
--- keyed, else a no-key text
+-- the first entry of the directory that is shown as the part: a plain name if the directory is keyed,
+-- else a no-key text
 abbrev pub found : PlainMount → ℕ → Name → Option (Name × ℕ)
 found m d part = lookup_entry (λ name. bytes_eq part (shown m d name)) (children m.nodes d)
 
@@ -26,8 +26,8 @@ abbrev pub led : Option (Name × ℕ) → Walked
 led None = Err NotFound
 led (Some e) = Ok e.1
 
--- the directory in which the part is to be looked up: NotDir where it is none, NameTooLong for a part
--- of more than 255 bytes
+-- the directory in which the part is to be looked up: NotDir if it is none, NameTooLong for a part of
+-- more than 255 bytes
 abbrev pub looked_in : PlainMount → ℕ → Name → Walked
 looked_in m d part =
     if not (is_dir_at m.nodes d) then Err NotDir else
@@ -46,6 +46,6 @@ abbrev pub walked_from : PlainMount → ℕ → PathParts → Walked
 walked_from m n [] = Ok n
 walked_from m n (part ∷ parts) = walked_on (λ x. walked_from m x parts) (stepped m n part)
 
--- the node to which the path leads from the root
+-- the node to which the path resolves from the root
 abbrev pub walked : PlainMount → PathParts → Walked
 walked m path = walked_from m 0 path

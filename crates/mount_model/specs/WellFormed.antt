@@ -24,7 +24,7 @@ pub record HasKeys (claims : ClaimSet) (raws : Raws) : Type 0 where
   pub added : (id : KeyId) (uid : ℕ) → has_claim claims id uid ≡ true → is_some (raw_in raws id) ≡ true
   -- each raw key has 32 to 64 bytes
   pub sizes : (id : KeyId) (raw : List ℕ) → raw_in raws id ≡ Some raw → is_raw_key raw ≡ true
-  -- and stands under its own identifier
+  -- and is stored under its own identifier
   pub filed : (id : KeyId) (raw : List ℕ) → raw_in raws id ≡ Some raw → key_id_of raw ≡ id
 
 -- ---- records

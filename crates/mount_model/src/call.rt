@@ -1,4 +1,4 @@
-//! What a mount can be asked.
+//! The calls of a mount.
 
 ghost use Rattle.std.specs.Prelude.{◌≡◌, ◌↔◌, false, IsTrue, IsOk, IfOk};
 ghost use Rattle.mount_model.specs.Carried.{AreFewBytes, HasLength, IsTarget};
@@ -11,30 +11,30 @@ use super::limits::{
 use super::{Bytes, KeyId, Path};
 use std::alloc::{AllocError, Global};
 
-/// A call of the mount: who asks, by user number, and for what.
+/// A call of the mount: the number of the calling user, and the operation.
 #[derive(Drop)]
 pub struct Call {
     pub uid: u32,
     pub op: Op,
 }
 
-/// What is asked for. A policy is the 24 bytes that Linux lays one out in, a nonce what the keys
-/// of a single node are derived with.
+/// An operation of the mount. A policy is 24 bytes in Linux's layout. The keys of a single node are
+/// derived with a nonce.
 #[derive(Drop)]
 pub enum Op {
     /// Claim the master key of these bytes for the user.
     AddKey {
         raw: Bytes,
     },
-    /// Give up the user's claim on the key.
+    /// Remove the user's claim on the key.
     RemoveKey {
         id: KeyId,
     },
-    /// Take away every user's claim on the key.
+    /// Remove every user's claim on the key.
     RemoveKeyAll {
         id: KeyId,
     },
-    /// Tell whether the key is there, and how many users hold it.
+    /// Return the key's state, and how many users have a claim on it.
     KeyStatus {
         id: KeyId,
     },
@@ -44,7 +44,7 @@ pub enum Op {
         policy: [u8; 24],
         nonce: [u8; 16],
     },
-    /// Tell the policy of a node.
+    /// Return the policy of a node.
     GetPolicy {
         path: Path,
     },
@@ -64,15 +64,15 @@ pub enum Op {
         target: Bytes,
         nonce: [u8; 16],
     },
-    /// Tell a symlink's target.
+    /// Return a symlink's target.
     ReadLink {
         path: Path,
     },
-    /// Take the name of a file or a symlink away.
+    /// Remove the name of a file or a symlink.
     Unlink {
         path: Path,
     },
-    /// Take the name of an empty directory away.
+    /// Remove the name of an empty directory.
     Rmdir {
         path: Path,
     },
@@ -81,12 +81,12 @@ pub enum Op {
         old_path: Path,
         new_path: Path,
     },
-    /// Tell names of a directory, from number `start` of their order on.
+    /// Return names of a directory, from number `start` of their order on.
     List {
         path: Path,
         start: u32,
     },
-    /// Tell what a node is.
+    /// Return the kind, the size and the encryption of a node.
     Stat {
         path: Path,
     },
@@ -106,17 +106,17 @@ pub enum Op {
         offset: u32,
         bytes: Bytes,
     },
-    /// Close what is open under the number.
+    /// Close the handle of this number.
     Close {
         handle: u32,
     },
-    /// Let go of all that is kept for speed alone.
+    /// Drop all that is cached.
     DropCaches,
-    /// Tell a record.
+    /// Return a record.
     MetaLoad {
         name: Bytes,
     },
-    /// Store a record, in place of the version that is expected; 0 stands for none.
+    /// Store a record, in place of the version that is expected: 0 if there is no record.
     MetaStore {
         name: Bytes,
         expected: u32,
@@ -125,19 +125,19 @@ pub enum Op {
 }
 
 impl Call {
-    /// Whether the mount may be asked this.
+    /// Returns whether the mount may be asked this call, which has to fit these limits.
     ///
-    /// A raw key has 1 to 128 bytes. A path has at most 32 parts, each of 1 to 1,000 bytes without
-    /// `/` and NUL, and neither `.` nor `..`. A target has 1 to 1,000 bytes without NUL, written
-    /// bytes are at most 65,536, a record's name has 1 to 64 bytes, its bytes are at most 9,000.
+    /// A raw key has 1 to 128 bytes. A path has at most 32 parts, each of 1 to 1,000 bytes without `/`
+    /// and NUL, and neither `.` nor `..`. A target has 1 to 1,000 bytes without NUL. Written bytes are at
+    /// most 65,536. A record's name has 1 to 64 bytes, its bytes are at most 9,000.
     pub fn fits(&self) -> bool
         ensures { IsTrue result ↔ Fits self.now }
     {
         self.op.fits()
     }
 
-    /// An equal call, in memory of its own: for who hands a call to a port and keeps it too. A call
-    /// that carries neither a path nor bytes takes none.
+    /// Returns an equal call with its own memory, for a caller that passes a call to a port and retains
+    /// it too. Never fails if the call carries neither a path nor bytes.
     pub fn copy(&self, alloc: Global) -> Result<Call, AllocError>
         ensures equal { IfOk result (λ copy. copy ≡ self.now) }
         ensures takes_none { carries_bytes self.now.op ≡ false → IsOk result }
@@ -148,7 +148,7 @@ impl Call {
 }
 
 impl Op {
-    // Whether what it carries fits.
+    // Whether what the operation carries fits.
     fn fits(&self) -> bool
         ensures { IsTrue result ↔ OpFits self.now }
     {
@@ -181,7 +181,7 @@ impl Op {
     }
 }
 
-// Whether there is a byte, and at most so many.
+// Whether there are 1 to `most` bytes.
 fn has_length(bytes: &Bytes, most: usize) -> bool
     ensures { IsTrue result ↔ HasLength bytes.now most }
 {
@@ -195,7 +195,7 @@ fn is_target(bytes: &Bytes) -> bool
     has_length(bytes, MOST_TARGET_BYTES) && bytes.as_slice().iter().all(|byte| *byte != 0)
 }
 
-// Whether there are at most so many bytes.
+// Whether there are at most `most` bytes.
 fn are_few(bytes: &[u8], most: usize) -> bool
     ensures { IsTrue result ↔ AreFewBytes bytes.now most }
 {

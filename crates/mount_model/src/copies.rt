@@ -1,4 +1,4 @@
-//! Copies of what a call asks for.
+//! Copies of operations.
 
 ghost use Rattle.std.specs.Prelude.{◌≡◌, true, false, IsOk, IfOk};
 ghost use Rattle.mount_model.specs.Carriers.{carries_bytes, carries_path, carries_path_alone};
@@ -7,7 +7,7 @@ use super::Op;
 use std::alloc::{AllocError, Global};
 
 impl Op {
-    // The same, in memory of its own.
+    // Returns an equal operation with its own memory.
     pub(crate) fn copy(&self, alloc: Global) -> Result<Op, AllocError>
         ensures equal { IfOk result (λ copy. copy ≡ self.now) }
         ensures takes_none { carries_bytes self.now ≡ false → IsOk result }
@@ -47,7 +47,7 @@ impl Op {
         }
     }
 
-    // The same, of what carries neither a path nor bytes.
+    // Copies an operation that carries neither a path nor bytes.
     fn copy_without_bytes(&self) -> Op
         requires { carries_bytes self.now ≡ false }
         ensures { result ≡ self.now }
@@ -71,7 +71,7 @@ impl Op {
         }
     }
 
-    // The same, of what carries a path.
+    // Copies an operation that carries a path.
     fn copy_with_path(&self, alloc: Global) -> Result<Op, AllocError>
         requires { carries_path self.now ≡ true }
         ensures { IfOk result (λ copy. copy ≡ self.now) }
@@ -115,7 +115,7 @@ impl Op {
         })
     }
 
-    // The same, of what carries a path alone.
+    // Copies an operation that carries a path and nothing else.
     fn copy_with_path_alone(&self, alloc: Global) -> Result<Op, AllocError>
         requires { carries_path_alone self.now ≡ true }
         ensures { IfOk result (λ copy. copy ≡ self.now) }

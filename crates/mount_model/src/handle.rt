@@ -1,6 +1,6 @@
-//! What is open.
+//! Handles of open nodes.
 
-/// A handle: the caller who opened it, its number among that caller's, and the node that it is on.
+/// A handle: its caller, its number among that caller's, and the node that it is on.
 #[derive(Clone, Copy, Debug, PartialEq, Eq)]
 pub struct Handle {
     pub caller: u32,

@@ -1,4 +1,4 @@
-//! Laws of the mount and of its histories, each a function without work whose contract is the law.
+//! Laws of the mount and of its histories: each is an empty function whose contract is the law.
 
 ghost use Rattle.std.specs.Prelude.{◌≡◌, ℕ, true, false, ◌++◌};
 ghost use Rattle.mount_model.specs.PlainMount.{PlainMount, empty_mount};
@@ -20,7 +20,7 @@ ghost use Rattle.mount_model.specs.KeyLaws.{OtherClaimsStay, OpenHandlesKeepKeys
 
 use super::{Call, Refusal, Reply};
 
-/// The calls of a legal history in which no reply is want of memory determine the whole history.
+/// The calls of a legal history determine the whole history if no reply is out of memory.
 pub fn calls_determine_replies()
     ensures { (g h : History) → IsLegal g → IsLegal h → NeverWantsMemory g → NeverWantsMemory h
         → calls_of g ≡ calls_of h → g ≡ h }
@@ -32,22 +32,22 @@ pub fn refusals_change_nothing()
         → IsMountStep m caller call (Reply.Refused refusal) after → after ≡ m }
 {}
 
-/// Want of memory is told only of calls that may take memory: never of removing keys, of a status,
-/// of closing or of dropping caches.
+/// Only calls that may take memory can be out of memory: never removing keys, a status, closing or
+/// dropping caches.
 pub fn some_calls_never_want_memory()
     ensures { (m : PlainMount) (caller : ℕ) (call : Call) (after : PlainMount)
         → IsMountStep m caller call (Reply.Refused Refusal.NoMemory) after → takes_memory call.op ≡ true }
 {}
 
-/// The claims of the mount that a legal history leaves can be told from its entries alone: from
-/// who called with what, and which calls were refused.
+/// The claims of the mount that a legal history leaves follow from its entries alone: from each caller's
+/// call, and which calls were refused.
 pub fn claims_come_from_calls()
     ensures { (history : History) → IsLegal history → (mount_after history).claims ≡ claims_after history }
 {}
 
-/// The empty mount is well formed, and a step from a well-formed mount leaves one: for every call
-/// that fits, where a raw key that it adds is the one that was added under its identifier before,
-/// if there is one.
+/// The empty mount is well formed, and a step from a well-formed mount leaves one, for every call that
+/// fits. A raw key that the call adds must be the one that was added under its identifier before, if
+/// there is one.
 pub fn steps_leave_well_formed_mounts()
     ensures first { IsWellFormed empty_mount }
     ensures step { (m : PlainMount) (caller : ℕ) (call : Call) (reply : Reply) (after : PlainMount)
@@ -55,7 +55,7 @@ pub fn steps_leave_well_formed_mounts()
         → IsMountStep m caller call reply after → IsWellFormed after }
 {}
 
-/// The mount that a legal history leaves is well formed, where its calls fit and its raw keys agree.
+/// The mount that a legal history leaves is well formed, if its calls fit and its raw keys agree.
 pub fn mounts_are_well_formed()
     ensures { (history : History) → AllFit history → KeysAgree history → IsLegal history
         → IsWellFormed (mount_after history) }
@@ -67,9 +67,9 @@ pub fn legal_histories_are_lawful()
     ensures begun { (begun rest : History) → IsLawful (begun ++ rest) → IsLawful begun }
 {}
 
-/// In a well-formed mount an entry of an encrypted directory has that directory's policy, two names
-/// of it have two no-key texts, and what a name is shown as, itself or its text, leads to exactly
-/// the node that the name names; a part leads to nothing else.
+/// In a well-formed mount an entry of an encrypted directory has that directory's policy, and two names
+/// of it have two no-key texts. The shown form of a name, itself or its text, resolves to exactly the
+/// node that the name names. A part resolves to nothing else.
 pub fn names_lead_as_they_are_shown()
     ensures inherited { PoliciesAreInherited }
     ensures apart { TextsDiffer }
@@ -77,16 +77,16 @@ pub fn names_lead_as_they_are_shown()
     ensures only { OnlyShownNamesLead }
 {}
 
-/// A removal by one user leaves every other claim. Without a claim a key is Incomplete exactly
-/// where something open still needs it; so no status is Absent while something does.
+/// A removal by one user leaves every other claim. Without a claim a key is Incomplete exactly when
+/// something open still needs it. So no status is Absent while something does.
 pub fn removals_leave_other_claims()
     ensures others { OtherClaimsStay }
     ensures state { OpenHandlesKeepKeys }
     ensures told { OpenHandlesAreTold }
 {}
 
-/// A handle keeps its node keyed. A creation where the key isn't present is NoKey before it is
-/// Exists; a policy for a directory with entries is NotEmpty before it is NoKey.
+/// A node is keyed while a handle is open on it. If the key isn't present, a creation is NoKey before it
+/// is Exists. A policy for a directory with entries is NotEmpty before it is NoKey.
 pub fn refusals_come_in_their_order()
     ensures keyed { HandlesKeepNodesKeyed }
     ensures create { CreationsNeedTheKey }
@@ -100,8 +100,8 @@ pub fn locked_nodes_show_texts()
     ensures keyed { KeysOrHandlesKeyNodes }
 {}
 
-/// Contents that were written are those that are read, whatever calls are made between, a lock and an unlock too, as
-/// long as none of them writes to the file.
+/// A read returns the contents that were last written, whatever calls were made between, a lock and an
+/// unlock too, as long as none of them writes to the file.
 pub fn written_contents_are_read()
     ensures { WrittenIsRead }
 {}
@@ -116,7 +116,7 @@ pub fn limits_are_exact()
     ensures { LimitsAreExact }
 {}
 
-/// A page of names tells that further ones follow exactly where the next page is not empty.
+/// A page of names reports further names exactly when the next page is not empty.
 pub fn further_names_follow()
     ensures { FurtherNamesFollow }
 {}

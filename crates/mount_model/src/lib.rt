@@ -1,4 +1,4 @@
-//! The one-thread mount: what its calls are, and in `specs/` what it answers to each.
+//! The one-thread mount: its calls and, in `specs/`, the answer to each.
 #![tactic(auto)]
 
 mod call;

@@ -1,4 +1,4 @@
-//! Paths, and the parts that they are lists of.
+//! Paths and their parts.
 
 ghost use Rattle.std.specs.Prelude.{◌≡◌, ◌↔◌, ℕ, List, [], ◌∷◌, ◌++◌, IsTrue, IfOk};
 ghost use Rattle.std.specs.Prelude.{OnOk, OnErr, length, option_copied, slice_get};
@@ -10,13 +10,13 @@ use item_list::Items;
 use std::alloc::{AllocError, Global};
 use std::marker::Model;
 
-/// One part of a path: a name, or in a directory whose key is absent the text of a name. In
-/// clauses it is its bytes.
+/// One part of a path: a name, or in a directory whose key is absent the text of a name. In clauses it is
+/// its bytes.
 pub struct Part {
     bytes: Bytes,
 }
 
-// Written, and not derived, so that a crate that lets one go needn't prove how that is done.
+// Written, not derived, so that a crate that drops a part needn't prove how that is done.
 impl Drop for Part {
     fn drop(self) {
         let Part { bytes: _ } = self;
@@ -30,21 +30,21 @@ impl Model for Part {
 }
 
 impl Part {
-    /// The part of these bytes. Whether a call may carry it is `Call::fits`' to say.
+    /// Returns the part of these bytes. `Call::fits` decides whether a call may carry it.
     pub fn new(bytes: Bytes) -> Part
         ensures { result ≡ bytes }
     {
         Part { bytes }
     }
 
-    /// The bytes of the part.
+    /// Returns the bytes of the part.
     pub fn bytes(&self) -> &[u8]
         ensures { result.now ≡ self.now }
     {
         self.bytes.as_slice()
     }
 
-    /// A part of the same bytes, in memory of its own.
+    /// Returns a part of the same bytes, in memory of its own.
     pub fn copy(&self, alloc: Global) -> Result<Part, AllocError>
         ensures { IfOk result (λ copy. copy ≡ self.now) }
     {
@@ -65,13 +65,13 @@ impl Part {
     }
 }
 
-/// A path from the root of the mount: its parts in order, none for the root itself. In clauses
-/// it is the list of their bytes.
+/// A path from the root of the mount: its parts in order, none for the root itself. In clauses it is the
+/// list of their bytes.
 pub struct Path {
     parts: Items<Part>,
 }
 
-// Written, and not derived, so that a crate that lets one go needn't prove how that is done.
+// Written, not derived, so that a crate that drops a path needn't prove how that is done.
 impl Drop for Path {
     fn drop(self) {
         let Path { parts: _ } = self;
@@ -85,7 +85,7 @@ impl Model for Path {
 }
 
 impl Path {
-    /// The path of the root, which has no part. It takes no memory.
+    /// Returns the path of the root, which has no part. It takes no memory.
     pub fn root(alloc: Global) -> Path
         ensures { result ≡ [] }
     {
@@ -94,7 +94,7 @@ impl Path {
         }
     }
 
-    /// Puts a part behind the others. After want of memory the path is as before.
+    /// Appends a part. After an error the path is as before.
     pub fn push(&mut self, part: Part) -> Result<(), AllocError>
         ensures appended { OnOk result (self.new ≡ self.old ++ part ∷ []) }
         ensures kept { OnErr result (self.new ≡ self.old) }
@@ -102,35 +102,35 @@ impl Path {
         self.parts.push(part)
     }
 
-    /// The part at the index, counted from 0; `None` from the number of parts on.
+    /// Returns the part at the index, counted from 0; `None` from the number of parts on.
     pub fn part(&self, index: usize) -> Option<&Part>
         ensures { option_copied result ≡ slice_get self.now index }
     {
         self.parts.get(index)
     }
 
-    /// The parts, from the root on.
+    /// Returns the parts, from the root on.
     pub fn parts(&self) -> &[Part]
         ensures { result.now ≡ self.now }
     {
         self.parts.as_slice()
     }
 
-    /// How many parts the path has.
+    /// Returns the number of parts.
     pub fn len(&self) -> usize
         ensures { result ≡ length self.now }
     {
         self.parts.len()
     }
 
-    /// Whether the path has no part, and so leads to the root.
+    /// Returns whether the path has no part, and so is the path of the root.
     pub fn is_empty(&self) -> bool
         ensures { IsTrue result ↔ (self.now ≡ []) }
     {
         self.parts.is_empty()
     }
 
-    /// A path of the same parts, in memory of its own.
+    /// Returns a path of the same parts, in memory of its own.
     pub fn copy(&self, alloc: Global) -> Result<Path, AllocError>
         ensures { IfOk result (λ copy. copy ≡ self.now) }
     {

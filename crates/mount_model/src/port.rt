@@ -1,4 +1,4 @@
-//! Ports: one caller's way to a mount.
+//! Ports: one caller's access to a mount.
 
 ghost use Rattle.std.specs.Prelude.{◌≡◌, ◌+◌, ◌<◌, ◌≤◌, ℕ, [], ◌∷◌, ◌++◌};
 ghost use Rattle.call_history.specs.Entries.{entry};
@@ -7,10 +7,9 @@ ghost use Rattle.mount_model.specs.Port.{PlacedCalls};
 
 use super::{Call, Placed};
 
-/// One caller's way to a mount, with a number of calls that it has left. No port need keep what
-/// it was asked.
+/// One caller's access to a mount, with the number of calls left. A port need not retain its calls.
 pub trait MountPort {
-    // The caller whose calls these are.
+    // The caller of these calls.
     ghost who: { Self → ℕ };
 
     // How many calls are left.
@@ -19,19 +18,19 @@ pub trait MountPort {
     // No call from now on has a place below this one.
     ghost floor: { Self → ℕ };
 
-    // The one port has become the other by these calls.
+    // These calls turn the first port into the second.
     ghost came: { Self → PlacedCalls → Self → Type 0 };
 
-    /// The caller's number.
+    /// Returns the caller's number.
     fn caller(&self) -> u32
         ensures { result ≡ who self.now };
 
-    /// How many calls are left.
+    /// Returns the number of calls left.
     fn left(&self) -> u64
         ensures { result ≡ calls_left self.now };
 
-    /// Makes a call of the caller, and answers its reply with its place in the history. The call is lent:
-    /// who asks can wipe what it carries.
+    /// Makes a call of the caller, and returns its reply with its place in the history. The call is
+    /// borrowed, so its owner can wipe what it carries.
     fn call(&mut self, call: &Call) -> Placed
         requires left { 0 < calls_left self.old }
         requires fits { Fits call.now }

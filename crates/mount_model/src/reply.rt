@@ -1,4 +1,4 @@
-//! What a mount answers.
+//! The replies of a mount.
 
 ghost use Rattle.std.specs.Prelude.{◌≡◌};
 ghost use Rattle.mount_model.specs.Numbers.{refusal_number, state_number};
@@ -10,29 +10,30 @@ use super::{Bytes, KeyId, NameList};
 pub enum Reply {
     /// The key of this identifier is claimed.
     Added(KeyId),
-    /// The user's claim is gone. `others`: another user still has one. `busy`: no user has, and
-    /// a file or directory that needs the key is still open.
+    /// The user's claim is removed. `others`: another user still has one. `busy`: no user has one, and a
+    /// file or directory that needs the key is still open.
     Removed {
         others: bool,
         busy: bool,
     },
-    /// What stands of the key: its state, whether the user has a claim, how many users have one.
+    /// The key's state, whether the user has a claim, and how many users have one.
     Status {
         state: KeyState,
         by_self: bool,
         users: u32,
     },
-    /// It is done, and there is nothing to tell.
+    /// The call is done, and there is no value to return.
     Done,
-    /// The policy of the node, as Linux lays one out.
+    /// The policy of the node, in Linux's layout.
     PolicyIs([u8; 24]),
-    /// Names in the order of their bytes; `more` where further ones follow.
+    /// Names in the order of their bytes. `more`: further ones follow.
     Names {
         names: NameList,
         more: bool,
     },
-    /// What the node is: a file's length, a directory's number of entries or the length of what
-    /// reading a symlink tells; whether it has a policy, and whether its key is at hand.
+    /// The node's kind and number; `size` is a file's length in bytes, a directory's number of entries,
+    /// or the length in bytes of what reading a symlink returns. `encrypted`: the node has a policy.
+    /// `keyed`: its key is available.
     Stat {
         kind: NodeKind,
         node: u32,
@@ -42,9 +43,9 @@ pub enum Reply {
     },
     /// The number of the caller's new handle.
     Opened(u32),
-    /// What was read of a file.
+    /// The bytes that were read of a file.
     Content(Bytes),
-    /// Where a symlink points, or the text that stands for it where its key is absent.
+    /// A symlink's target, or the text shown in its place while its key is absent.
     Target(Bytes),
     /// A record and its version.
     Held {
@@ -78,7 +79,7 @@ pub enum NodeKind {
 /// Whether a mount holds a key.
 #[derive(Clone, Copy, Debug, PartialEq, Eq)]
 pub enum KeyState {
-    /// Nothing of the key is held.
+    /// No part of the key is held.
     Absent,
     /// Some user has a claim on it.
     Present,
@@ -89,13 +90,13 @@ pub enum KeyState {
 /// Why a call did nothing.
 #[derive(Clone, Copy, Debug, PartialEq, Eq)]
 pub enum Refusal {
-    /// There is no such key, or none that the user holds, or it is not at hand.
+    /// There is no such key, the user has no claim on it, or it is not available.
     NoKey,
-    /// The user may not ask this.
+    /// The user may not make this call.
     Access,
-    /// The user holds as many keys as a user may.
+    /// The user holds the maximum number of keys.
     Quota,
-    /// What was given can't be taken.
+    /// An argument is invalid.
     Inval,
     /// The name is there already, or the policy is another one.
     Exists,
@@ -107,7 +108,7 @@ pub enum Refusal {
     IsDir,
     /// The directory has entries.
     NotEmpty,
-    /// The directory has a policy, and what is to be moved hasn't the same one.
+    /// The directory has a policy, and the node to be moved hasn't the same one.
     XDev,
     /// There is no policy.
     NoData,
@@ -115,20 +116,20 @@ pub enum Refusal {
     BadHandle,
     /// A name or a target has more than 255 bytes.
     NameTooLong,
-    /// More is read, written or stored than may be.
+    /// More bytes are read, written or stored than are allowed.
     TooBig,
-    /// Something is full.
+    /// A limit of the mount is reached.
     NoSpace,
-    /// The name would be told apart from another one only by the key.
+    /// Only the key would distinguish the name from another one.
     NoKeyClash,
-    /// The record has another version, 0 where there is none.
+    /// The record has another version, 0 if there is no record.
     Changed { version: u32 },
-    /// There was no memory for it.
+    /// The mount is out of memory.
     NoMemory,
 }
 
 impl KeyState {
-    /// The state's number, as Linux's `FS_IOC_GET_ENCRYPTION_KEY_STATUS` gives it: 1 to 3.
+    /// Returns the state's number, as Linux's `FS_IOC_GET_ENCRYPTION_KEY_STATUS` gives it: 1 to 3.
     pub fn number(self) -> u8
         ensures { result ≡ state_number self }
     {
@@ -141,7 +142,7 @@ impl KeyState {
 }
 
 impl Refusal {
-    /// The refusal's number, which is the same in every version: 1 to 18.
+    /// Returns the refusal's number, which is the same in every version: 1 to 18.
     pub fn number(self) -> u8
         ensures { result ≡ refusal_number self }
     {

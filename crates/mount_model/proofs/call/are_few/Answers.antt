@@ -1,4 +1,4 @@
--- What lies in a slice of bytes are bytes.
+-- The elements of a slice of bytes are bytes.
 use Rattle.std.proofs.Common.{length, arith}
 use Rattle.std.proofs.lemmas.Bool.{leb-true, le-leb}
 use Rattle.mount_model.proofs.call.are_few.Goals as goal
