@@ -42,7 +42,7 @@ optional_some P form h words =
 if_read-some : {A : Type 0} (P : A → Type 0) (x : A × List (List ℕ)) → P x.0 → IfSome (if_read x) P
 if_read-some P x h = chosen_some P (length x.1 == 0) (Some x.0) None h tt
 
--- what the words behind a name spell
+-- what the words after a name spell
 form_of-askable : (name : CommandName) (words : List (List ℕ)) → IfSome (form_of name words) (λ x. IsAskable x.0)
 form_of-askable name.AddKey words = only_some (λ (bytes : List ℕ). (1 ≤ length bytes) × ((length bytes ≤ MOST_ADDED_BYTES) × IsBytes bytes)) IsAskable _ (hex_of_size 1 MOST_ADDED_BYTES) (hex_of_size-bytes 1 MOST_ADDED_BYTES) (λ a h. h) words
 form_of-askable name.RemoveKey words = only_some IsKey IsAskable _ key_ref_of key_ref_of-key (λ a h. h) words

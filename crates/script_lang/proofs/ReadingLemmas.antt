@@ -21,7 +21,7 @@ use Rattle.script_lang.specs.declared.reader.ScriptFault.TheVariants.{BadLine, N
 
 -- ---- more commands of the last section
 
--- the last section written anew, with one command more
+-- the last section replaced by one with one command more
 pub with_command-set : (sections : List Section) (last : Section) (command : Command) (commands : List Command)
     → 0 < length sections → last ≡ slice_index_or sections (length sections - 1) last → commands ≡ last.commands ++ command ∷ []
     → slice_set sections (length sections - 1) (record { uid = last.uid; commands = commands }) ≡ with_commands sections (command ∷ [])
@@ -55,7 +55,7 @@ no_section n [] count None there len none some = refl
 no_section n [] count (Some verb) there len none some = refl
 no_section n (x ∷ xs) count said there len none some = absurd (true≢false (sym (some (omega (arith, len))) ∙ none))
 
--- what the answer tells
+-- what a true answer means
 pub line_added : (after : Option (List Section)) (new : List Section) (answer : Bool) → AddsStatement after new answer → answer ≡ true → after ≡ Some new
 line_added None new answer h is = absurd (true≢false (sym is ∙ h))
 line_added (Some sections) new answer h is = ap Some (sym h.1)
@@ -90,8 +90,8 @@ with_commands-new (first ∷ next ∷ more) uid commands = ap (λ ss. first ∷ 
 
 -- ---- from line to line
 
--- the number of the first line that may not stand where it is; so many callers stand before the
--- lines, of which the first has the number n
+-- the number of the first line that is not allowed after those before it; `callers` is the number of
+-- callers before the lines, and n the number of the first line
 unfoldable pub first_bad_from : ℕ → ℕ → List (Option Statement) → Option ℕ
 first_bad_from n callers [] = None
 first_bad_from n callers (line ∷ more) =
@@ -112,7 +112,7 @@ first_bad_from-line before (line ∷ more) =
     one_more n true = refl
     one_more n false = omega arith
 
--- what lines say behind these sections, the first of them line n: the script, or the first bad line
+-- what the lines after these sections make, the first of them line n: the script, or the first bad line
 pub read_from : ℕ → List Section → List (Option Statement) → Result (List Section) ℕ
 read_from n sections lines =
     option_map_or Err (first_bad_from n (length sections) lines) (Ok (with_commands sections (commands_of n lines) ++ sections_of n lines))
@@ -168,14 +168,14 @@ unfolding statements_in
 statements_of-nil [] none = refl
 statements_of-nil (b ∷ bytes) none = absurd (omega arith)
 
--- a line in the grammar goes over to what follows
+-- after a line in the grammar reading continues with the rest
 pub line_taken : (n : ℕ) (sections after : List Section) (text line rest : List ℕ) (parsed : Result (List Section) ℕ)
     → parsed ≡ read_from n sections (statements_of text) → pieces_of text ≡ line ∷ pieces_of rest
     → after_line n sections (statement_of line) ≡ Some after → parsed ≡ read_from (n + 1) after (statements_of rest)
 line_taken n sections after text line rest parsed told cut took =
     told ∙ rw (cut, statements_in-line line rest, read_from-line n sections (statement_of line) (statements_of rest), took) refl
 
--- a line that is refused is where reading ends
+-- reading ends at a line that is refused
 pub line_refused : (n : ℕ) (sections after : List Section) (text line rest : List ℕ) (parsed : Result (List Section) ℕ) (fault : ScriptFault)
     → parsed ≡ read_from n sections (statements_of text) → pieces_of text ≡ line ∷ pieces_of rest
     → TakesLine n (after_line n sections (statement_of line)) (Err fault) after → Reads (Err fault) parsed

@@ -20,9 +20,9 @@ use Rattle.script_lang.proofs.ReadingLemmas.{statements_in-line, statements_of-n
 use Rattle.script_lang.proofs.SpelledLemmas.{IsWritable-spelled}
 use Rattle.script_lang.proofs.TextLemmas.{statement_of-caller, caller_text-feedless, statement_of-verb, verb_text-feedless}
 
--- ---- what the lines of a written script say
+-- ---- the statements of the lines of a written script
 
--- so many empty lines, and then these
+-- that many empty lines, and then these
 nothings : ℕ → List (Option Statement) → List (Option Statement)
 nothings zero lines = lines
 nothings (suc n) lines = Some Nothing ∷ nothings n lines
@@ -38,7 +38,7 @@ section_lines n [] = []
 section_lines n (section ∷ more) =
     Some (Caller section.uid) ∷ command_lines (n + 1) section.commands (section_lines (line_behind (n + 1) section.commands) more)
 
--- a line in front of a text
+-- a line before a text
 statements_of-line : (line text : List ℕ) → All (λ b. is_line_feed b ≡ false) line
     → statements_of (line ++ 10 ∷ text) ≡ statement_of line ∷ statements_of text
 statements_of-line line text clean = rw (slice_split_at is_line_feed line 10 text clean refl) (statements_in-line line text)
@@ -114,7 +114,7 @@ sections_of-command_lines n (command ∷ more) lines h =
     sections_of-nothings n (command.line - n) _
     ∙ rw here (sections_of-command_lines (command.line + 1) more lines h.1.1)
 
--- no command stands in front of the first caller
+-- there is no command before the first caller
 commands_of-section_lines : (k n : ℕ) (sections : List Section) → commands_of k (section_lines n sections) ≡ []
 unfolding commands_of section_lines
 commands_of-section_lines k n [] = refl
@@ -130,7 +130,7 @@ sections_of-section_lines n (section ∷ more) h =
     ap (λ cs. record { uid = section.uid; commands = cs } ∷ sections_of (n + 1) (command_lines (n + 1) section.commands (section_lines next more))) own
     ∙ ap (λ ss. section ∷ ss) others
 
--- ---- each of those lines may stand where it is
+-- ---- each of those lines is allowed after those before it
 
 first_bad_from-nothings : (m n callers : ℕ) (lines : List (Option Statement)) → ((k : ℕ) → first_bad_from k callers lines ≡ None)
     → first_bad_from m callers (nothings n lines) ≡ None

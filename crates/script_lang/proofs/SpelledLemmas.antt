@@ -1,4 +1,5 @@
--- What a text spells can be written: lines and words leave room for one another.
+-- What a text spells can be written: each command can be asked for, and each caller and command has a
+-- line.
 use Rattle.std.proofs.Common.{◌≡◌, ℕ, ◌≤◌, ◌+◌, ◌==◌, Bool, true, false, inl, inr, List, [], ◌∷◌, length, Option, Some, None, Ok, Err, refl, sym, ◌∙◌, arith}
 use Rattle.std.specs.Prelude.{IfSome, nat_lt, if◌then◌else◌}
 use Rattle.std.specs.Option.{option_map_or}
@@ -16,7 +17,7 @@ use Rattle.script_lang.specs.declared.statements.Statement.TheVariants.{Nothing,
 use Rattle.script_lang.proofs.StatementLemmas.{IsSaid, statement_of-said}
 use Rattle.script_lang.proofs.ReadingLemmas.{first_bad_from, first_bad_from-line}
 
--- what all lines say can be said
+-- all statements of lines can be made
 abbrev AreSaid : List (Option Statement) → Type 0
 AreSaid [] = Unit {0}
 AreSaid (line ∷ more) = IfSome line IsSaid × AreSaid more
@@ -65,7 +66,7 @@ HaveRoom-le m n (section ∷ more) le h = (
   ),
 )
 
--- the sections of lines have room behind the commands that come before them
+-- the sections of lines begin after the commands before them
 HaveRoom-sections_of : (n : ℕ) (lines : List (Option Statement)) → AreSaid lines
     → HaveRoom (line_behind n (commands_of n lines)) (sections_of n lines)
 unfolding commands_of sections_of
@@ -80,7 +81,7 @@ HaveRoom-sections_of n (Some (Order verb) ∷ more) said = HaveRoom-sections_of 
 
 -- ---- how many callers there are
 
--- where each line may stand, there are few enough
+-- if each line is allowed after those before it, there are few enough callers
 sections_of-few : (n m callers : ℕ) (lines : List (Option Statement)) → callers ≤ MOST_CALLERS → first_bad_from n callers lines ≡ None
     → callers + length (sections_of m lines) ≤ MOST_CALLERS
 unfolding first_bad_from sections_of

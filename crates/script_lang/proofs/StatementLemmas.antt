@@ -1,4 +1,4 @@
--- What a line of a script can say.
+-- The statements that a line of a script can make.
 use Rattle.std.proofs.Common.{ℕ, ◌<◌, ◌^◌, List, [], ◌∷◌, codes, Option, Some, None}
 use Rattle.std.specs.Prelude.{IfSome}
 use Rattle.std.specs.Str.{bytes_eq}
@@ -15,7 +15,7 @@ use Rattle.script_lang.specs.declared.statements.Statement.TheVariants.{Nothing,
 use Rattle.script_words.proofs.WordSpells.{chosen_some, mapped_some, then_some}
 use Rattle.script_lang.proofs.AskedLemmas.{command_named-askable, uid-small}
 
--- what a line can say
+-- a statement that a line can make
 abbrev pub IsSaid : Statement → Type 0
 IsSaid Nothing = Unit {0}
 IsSaid (Caller uid) = uid < 2 ^ 32

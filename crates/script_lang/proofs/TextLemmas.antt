@@ -1,4 +1,4 @@
--- What the lines say that are written of callers and commands.
+-- The statements of the lines that are written of callers and commands.
 use Rattle.std.proofs.Common.{◌≡◌, ℕ, suc, ◌<◌, ◌^◌, ◌==◌, ◌||◌, not, Bool, true, false, List, [], ◌∷◌, ◌++◌, length, codes, Option, Some, refl, sym, ap, ◌∙◌, arith, append-nil, subst}
 use Rattle.std.specs.Prelude.{slice_index, if◌then◌else◌}
 use Rattle.std.specs.List.{All}
@@ -51,7 +51,7 @@ feedless : (first : List ℕ) (words : List (List ℕ)) → IsPlain first → Ar
 feedless first words h each =
     All-append (λ (b : ℕ). is_line_feed b ≡ false) first (spaced words) (without first 10 h (omega arith)) (spaced-feedless words each)
 
--- a line that is not empty and begins no comment says what its words say
+-- the statement of a line that is not empty and begins no comment is that of its words
 statement_of-line : (line : List ℕ) → 0 < length line → (slice_index line 0 == 35) ≡ false → statement_of line ≡ statement_of_words (words_of line)
 statement_of-line [] some other = absurd (omega arith)
 statement_of-line (b ∷ line) some other =
@@ -127,7 +127,7 @@ named first words other = chosen (bytes_eq first (codes "caller")) (option_map C
     chosen : (b : Bool) (x y : Option Statement) → b ≡ false → (let o : Option Statement = if b then x else y in o ≡ y)
     chosen b x y h = rw h refl
 
--- the line of a command says that command
+-- the statement of a command's line is that command
 pub statement_of-verb : (verb : Verb) → IsAskable verb → statement_of (verb_text verb) ≡ Some (Order verb)
 unfolding verb_text
 statement_of-verb verb asked =

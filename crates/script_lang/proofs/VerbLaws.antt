@@ -24,7 +24,7 @@ use Rattle.script_words.proofs.PathLemmas.{path_of-path_text}
 use Rattle.script_words.proofs.PlainWords.{IsPlain, ArePlain, IsPlain-encode_lower, IsPlain-number, IsPlain-decimal_of, IsPlain-pad_text, IsPlain-unit_text, IsPlain-hex_or_none, IsPlain-word_text, IsPlain-path_text, IsPlain-label, IsPlain-record_name, IsPlain-key_ref_text, IsPlain-secret_text, IsPlain-new_secret_text}
 use Rattle.script_words.proofs.WordReadings.{hex_of_size-encode_lower, hex_bytes_of_length-encode_lower, hex_or_none-text, key_ref_of-text, number_of-text, number_up_to-text, pad_of-text, unit_of-text, label_of-label, record_of-name, secret_of-text, new_secret_of-text}
 
--- ---- what the words say
+-- ---- the values of the words
 
 set_policy_words : (path : List ScriptPart) (key : KeyRef) (pad : Pad) (unit : Option DataUnit)
     → (let settings : Settings = record { pad = pad; unit = unit } in IsAskable (verb.SetPolicy path key settings)

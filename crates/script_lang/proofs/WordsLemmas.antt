@@ -7,7 +7,7 @@ use Rattle.std.proofs.lemmas.List.Splits.{length-slice_split}
 use Rattle.text_words.specs.Words.{words_of, is_space}
 use Rattle.text_words.proofs.LineLemmas.{pieces_first, pieces_none}
 
--- a word before a space, and those behind it
+-- a word before a space, and those after it
 pub first_of : (text : List ℕ) (now : List (List ℕ)) (end : ℕ) → now ≡ words_of text → end ≡ position_or_len is_space text → end < length text
     → (Some (take end text) ≡ slice_get now 0) × (words_of (take (length text - (end + 1)) (drop (end + 1) text)) ≡ drop 1 now)
 first_of text now end same place inside =

@@ -1,4 +1,4 @@
--- The table of commands: the words behind each name, and what they say together.
+-- The table of commands: the words after each name, and the verb that they spell.
 use Rattle.std.specs.Prelude.{ℕ, List, Option}
 use Rattle.std.specs.Option.{option_and_then}
 use Rattle.short_bytes.specs.Label.{label_of}
@@ -57,10 +57,10 @@ form_of name.Encrypt = encrypt
 form_of name.Migrate = only verb.Migrate label_of
 form_of name.Pause = says verb.Pause
 
--- the command of a name and the words behind it
+-- the command of a name and the words after it
 unfoldable pub command_named : CommandName → List (List ℕ) → Option Verb
 command_named name words = whole (form_of name) words
 
--- the command of a word and the words behind it, if the word is a name
+-- the command of a word and the words after it, if the word is a name
 abbrev pub verb_of : List ℕ → List (List ℕ) → Option Verb
 verb_of first words = option_and_then (λ name. command_named name words) (name_of first)

@@ -1,4 +1,4 @@
--- Groups of names, by the words that each takes behind it.
+-- Groups of names, by the words that each takes after it.
 use Rattle.std.specs.Prelude.{⊤}
 use Rattle.script_lang.specs.declared.names.CommandName.{CommandName}
 use Rattle.script_lang.specs.declared.names.CommandName.TheVariants as name
@@ -30,7 +30,7 @@ TakesLabel name.Status = ⊤
 TakesLabel name.Migrate = ⊤
 TakesLabel other = ⊥
 
--- one that takes several words, which say one call
+-- one that takes several words, which are one call
 abbrev pub TakesCallWords : CommandName → Type 0
 TakesCallWords name.SetPolicy = ⊤
 TakesCallWords name.SetPolicyBytes = ⊤
@@ -43,7 +43,7 @@ TakesCallWords name.Fill = ⊤
 TakesCallWords name.MetaPut = ⊤
 TakesCallWords other = ⊥
 
--- one that takes several words, which say the work of a session
+-- one that takes several words, which are the work of a session
 abbrev pub TakesSessionWords : CommandName → Type 0
 TakesSessionWords name.Protector = ⊤
 TakesSessionWords name.ProtectorChange = ⊤

@@ -1,5 +1,4 @@
--- The single calls of several numbers, or of a record and a number: behind each name, the words that it
--- takes.
+-- The single calls of several numbers, or of a record and a number: the words that each name takes.
 use Rattle.script_words.specs.Keys.{hex_or_none}
 use Rattle.script_words.specs.Numbers.{number_of, number_up_to}
 use Rattle.script_words.specs.Records.{record_of}

@@ -27,14 +27,14 @@ with_section sections uid =
     if nat_lt (length sections) MOST_CALLERS
     then Some (sections ++ record { uid = uid; commands = [] } ∷ []) else None
 
--- the sections after line n, if the line may stand behind them
+-- the sections after line n, if the line is allowed after them
 abbrev pub after_line : ℕ → List Section → Option Statement → Option (List Section)
 after_line n sections None = None
 after_line n sections (Some Nothing) = Some sections
 after_line n sections (Some (Caller uid)) = with_section sections uid
 after_line n sections (Some (Order verb)) = with_command sections (record { line = n; verb = verb })
 
--- the answer is whether the words of line n say a command, and it stands behind the others
+-- the answer is whether the words of line n are a command; if so, it is appended
 abbrev pub AddsCommand : ℕ → Option Verb → List Command → List Command → Bool → Type 0
 AddsCommand n said old new answer =
     MatchOption said (answer ≡ false)
@@ -45,7 +45,7 @@ abbrev pub AddsStatement : Option (List Section) → List Section → Bool → T
 AddsStatement after new answer =
     MatchOption after (answer ≡ false) (λ sections. (answer ≡ true) × (new ≡ sections))
 
--- line n is refused exactly where there are no such sections; else the new ones are they
+-- line n is refused exactly when there are no such sections; else the new ones are they
 abbrev pub TakesLine : ℕ → Option (List Section) → Result (Unit {0}) ScriptFault → List Section → Type 0
 TakesLine n after (Ok done) new = after ≡ Some new
 TakesLine n after (Err (BadLine line)) new = (after ≡ None) × (line ≡ n)

@@ -1,5 +1,5 @@
--- What lines say together: where each may stand, and the sections that they make. What a line says
--- by itself is an `Option`: `None` where it is outside the grammar by itself.
+-- The sections that lines make together, and which line is allowed after which. The statement of a line
+-- is an `Option`: `None` if the line on its own is outside the grammar.
 use Rattle.std.specs.Prelude.{ℕ, ◌+◌, nat_lt, Bool, false, true, List, [], ◌∷◌, ◌++◌}
 use Rattle.std.specs.Prelude.{length, count_by, Option, Some, None, if◌then◌else◌}
 use Rattle.script_lang.specs.declared.limits.TheConstants.{MOST_CALLERS}
@@ -13,16 +13,16 @@ abbrev pub is_caller : Option Statement → Bool
 is_caller (Some (Caller uid)) = true
 is_caller _ = false
 
--- whether a line may stand behind so many callers: a further caller behind fewer than eight, and a
--- command behind one at least
+-- whether a line is allowed after that many callers: a further caller after fewer than eight, and a
+-- command after at least one
 abbrev pub may_stand : ℕ → Option Statement → Bool
 may_stand callers None = false
 may_stand callers (Some Nothing) = true
 may_stand callers (Some (Caller uid)) = nat_lt callers MOST_CALLERS
 may_stand callers (Some (Order verb)) = nat_lt 0 callers
 
--- the number of the first line that may not stand behind all those before it: `before` stand before
--- the lines that are left
+-- the number of the first line that is not allowed after all those before it; `before` are the lines
+-- before the ones that are left
 unfoldable pub first_misplaced_line : List (Option Statement) → List (Option Statement) → Option ℕ
 first_misplaced_line before [] = None
 first_misplaced_line before (line ∷ more) =
@@ -37,7 +37,7 @@ commands_of n (Some Nothing ∷ more) = commands_of (n + 1) more
 commands_of n (Some (Caller uid) ∷ more) = []
 commands_of n (Some (Order verb) ∷ more) = record { line = n; verb = verb } ∷ commands_of (n + 1) more
 
--- a section for each caller, with the commands behind it; the first line's number is n
+-- a section for each caller, with the commands after it; the first line's number is n
 unfoldable pub sections_of : ℕ → List (Option Statement) → List Section
 sections_of n [] = []
 sections_of n (None ∷ more) = sections_of (n + 1) more

@@ -1,4 +1,4 @@
--- The session commands: behind each name, the words that it takes.
+-- The session commands: the words that each name takes.
 use Rattle.std.specs.Prelude.{ℕ, List}
 use Rattle.short_bytes.specs.Label.{label_of}
 use Rattle.script_words.specs.Secrets.{secret_of}
@@ -30,7 +30,7 @@ policy_new = do
   options ← optional options
   says (verb.PolicyNew policy protector secret options)
 
--- what stands behind the policy and its protector
+-- the words after the policy and its protector
 abbrev pub policy_added : List ℕ → List ℕ → Form Verb
 policy_added policy protector = do
   secret ← word secret_of

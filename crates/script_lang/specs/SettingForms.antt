@@ -1,10 +1,10 @@
--- The words for what directories get: a padding and a unit.
+-- The words for the settings of directories: a padding and a unit.
 use Rattle.script_words.specs.Numbers.{pad_of, unit_of}
 use Rattle.script_lang.specs.Forms.{Form, ◌>>=◌, says, word, optional}
 use Rattle.script_lang.specs.declared.verb.Settings.{Settings}
 use Rattle.script_lang.specs.declared.verb.Options.{Options}
 
--- a padding, and a unit where one is said
+-- a padding, and a unit if one is given
 abbrev pub settings : Form Settings
 settings = do
   pad ← word pad_of

@@ -1,4 +1,4 @@
--- The words in which settings, options and a number are written that may be left out.
+-- The words in which optional settings, options and numbers are written.
 use Rattle.std.specs.Prelude.{ℕ, List, [], ◌∷◌, Option, Some, None}
 use Rattle.text_words.specs.Numbers.{decimal_of}
 use Rattle.policy_ctx.specs.declared.policy.Unit.{Unit as DataUnit}

@@ -11,13 +11,13 @@ use Rattle.script_lang.specs.declared.commands.Section.{Section}
 abbrev pub IsSpelled : List Section → Type 0
 IsSpelled script = (text : List ℕ) × (parsed_script text ≡ Ok script)
 
--- each command can be asked for and stands behind the one before it, and the first in line n or behind it
+-- each command can be asked for and its line is after the one before it; the first is in line n or later
 abbrev pub StandBehind : ℕ → List Command → Type 0
 StandBehind n [] = Unit {0}
 StandBehind n (command ∷ more) =
     (n ≤ command.line) × (IsAskable command.verb × StandBehind (command.line + 1) more)
 
--- each section has a user below 2^32 and a line for its caller, in line n or behind it, between the
+-- each section has a user below 2^32 and a line for its caller, line n or a later one, between the
 -- commands before it and its own
 abbrev pub HaveRoom : ℕ → List Section → Type 0
 HaveRoom n [] = Unit {0}
@@ -25,6 +25,6 @@ HaveRoom n (section ∷ more) =
     (section.uid < 2 ^ 32) ×
     (StandBehind (n + 1) section.commands × HaveRoom (line_behind (n + 1) section.commands) more)
 
--- at most eight callers, keys and users that words can spell, and lines that leave room for one another
+-- at most eight callers, keys and users that words can spell, and a line for each caller and command
 abbrev pub IsWritable : List Section → Type 0
 IsWritable script = (length script ≤ MOST_CALLERS) × HaveRoom 1 script

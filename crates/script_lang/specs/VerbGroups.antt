@@ -1,9 +1,9 @@
--- Groups of commands, by the words in which each is written behind its name.
+-- Groups of commands, by the words that are written after each name.
 use Rattle.std.specs.Prelude.{⊤}
 use Rattle.script_lang.specs.declared.verb.Verb.{Verb}
 use Rattle.script_lang.specs.declared.verb.Verb.TheVariants as verb
 
--- a command with a path, and further words behind it
+-- a command with a path, and further words after it
 abbrev pub BeginsWithPath : Verb → Type 0
 BeginsWithPath (verb.SetPolicy path key settings) = ⊤
 BeginsWithPath (verb.SetPolicyBytes path policy) = ⊤
@@ -21,7 +21,7 @@ HasNumbers (verb.Fill handle offset len byte) = ⊤
 HasNumbers (verb.MetaPut name expected bytes) = ⊤
 HasNumbers other = ⊥
 
--- one with a label, and further words behind it
+-- one with a label, and further words after it
 abbrev pub BeginsWithLabel : Verb → Type 0
 BeginsWithLabel (verb.Protector protector secret) = ⊤
 BeginsWithLabel (verb.ProtectorChange protector secret new) = ⊤

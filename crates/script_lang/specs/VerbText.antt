@@ -1,4 +1,4 @@
--- The words in which a command is written: its name, and the others behind it.
+-- The words in which a command is written: its name, and the others after it.
 use Rattle.std.specs.Prelude.{ℕ, List, [], ◌∷◌, ◌++◌}
 use Rattle.std.specs.List.{flat_map}
 use Rattle.script_lang.specs.Names.{name_text}
@@ -10,11 +10,11 @@ use Rattle.script_lang.specs.VerbWords.{verb_words}
 abbrev pub spaced : List (List ℕ) → List ℕ
 spaced words = flat_map (λ word. 32 ∷ word) words
 
--- the same behind a text, word by word
+-- the same after a text, word by word
 abbrev pub behind : List ℕ → List (List ℕ) → List ℕ
 behind text [] = text
 behind text (word ∷ more) = behind (text ++ 32 ∷ word) more
 
--- a command: its name, and a space before each word behind it
+-- a command: its name, and a space before each further word
 unfoldable pub verb_text : Verb → List ℕ
 verb_text verb = name_text (name_in verb) ++ spaced (verb_words verb)

@@ -1,4 +1,4 @@
--- The words in which a command is written behind its name.
+-- The words in which a command is written after its name.
 use Rattle.std.specs.Prelude.{ℕ, List, [], ◌∷◌}
 use Rattle.hex.specs.Hex.{encode_lower}
 use Rattle.text_words.specs.Numbers.{decimal_of}
@@ -13,7 +13,7 @@ use Rattle.script_lang.specs.declared.verb.Verb.TheVariants as verb
 use Rattle.script_lang.specs.SettingWords.{words_of_number, words_of_settings, words_of_said_settings}
 use Rattle.script_lang.specs.SettingWords.{words_of_options}
 
--- the words behind the name
+-- the words after the name
 abbrev pub verb_words : Verb → List (List ℕ)
 verb_words (verb.AddKey bytes) = encode_lower bytes ∷ []
 verb_words (verb.RemoveKey key) = key_ref_text key ∷ []

@@ -1,4 +1,4 @@
--- The single calls of a path and further words: behind each name, the words that it takes.
+-- The single calls of a path and further words: the words that each name takes.
 use Rattle.text_words.specs.Digits.{hex_bytes_of_length}
 use Rattle.script_words.specs.Keys.{key_ref_of}
 use Rattle.script_words.specs.Numbers.{number_of}

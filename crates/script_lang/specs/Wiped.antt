@@ -1,4 +1,4 @@
--- A command whose secrets were overwritten: zeros stand in their place, as many.
+-- A command whose secrets were wiped: as many zeros are in their place.
 use Rattle.std.specs.Prelude.{ℕ, List, length, replicate}
 use Rattle.script_words.specs.declared.key_words.KeyRef.{KeyRef}
 use Rattle.script_words.specs.declared.key_words.KeyRef.TheVariants as key

@@ -1,12 +1,12 @@
--- The text in which a script is written: a line for each caller and each command, and empty lines
--- where the commands' line numbers leave room.
+-- The text in which a script is written: a line for each caller and each command, and empty lines between
+-- them, so that each command is in its own line.
 use Rattle.std.specs.Prelude.{ℕ, ◌+◌, ◌-◌, List, [], ◌∷◌, ◌++◌, replicate, codes}
 use Rattle.text_words.specs.Numbers.{decimal_of}
 use Rattle.script_lang.specs.VerbText.{verb_text}
 use Rattle.script_lang.specs.declared.commands.Command.{Command}
 use Rattle.script_lang.specs.declared.commands.Section.{Section}
 
--- so many lines that say nothing
+-- that many empty lines
 abbrev pub empty_lines : ℕ → List ℕ
 empty_lines count = replicate count 10
 
@@ -23,7 +23,7 @@ unfoldable pub commands_text : ℕ → List Command → List ℕ
 commands_text n [] = []
 commands_text n (command ∷ more) = command_text n command ++ commands_text (command.line + 1) more
 
--- the first free line behind the commands; line n where there is none
+-- the first free line after the commands; line n if there is none
 abbrev pub line_behind : ℕ → List Command → ℕ
 line_behind n [] = n
 line_behind n (command ∷ more) = line_behind (command.line + 1) more
@@ -32,7 +32,7 @@ line_behind n (command ∷ more) = line_behind (command.line + 1) more
 abbrev pub section_text : ℕ → Section → List ℕ
 section_text n section = caller_text section.uid ++ (codes "\n" ++ commands_text (n + 1) section.commands)
 
--- sections, of which the first begins in line n, and each other behind the last command before it
+-- sections, of which the first begins in line n, and each other after the last command before it
 unfoldable pub sections_text : ℕ → List Section → List ℕ
 sections_text n [] = []
 sections_text n (section ∷ more) =

@@ -1,4 +1,4 @@
-//! The words behind a command's name, each read as what it must be.
+//! The words after a command's name, each read as the value that it must be.
 ghost use Rattle.text_words.specs.Digits.{hex_bytes_of_length};
 ghost use Rattle.short_bytes.specs.Label.{label_of};
 ghost use Rattle.script_lang.specs.Forms.{Takes, word, optional};
@@ -39,7 +39,7 @@ impl Words<'_> {
         decimal_value(word).ok_or(Unread::OutsideGrammar)
     }
 
-    // How many bytes to fill.
+    // The number of bytes to fill.
     pub(crate) fn filled_len(&mut self) -> Result<u32, Unread>
         ensures { Takes result (word (numbers.number_up_to MOST_FILLED_BYTES) self.old) self.new }
     {
@@ -159,7 +159,7 @@ impl Words<'_> {
         read_new_secret(alloc, word)?.ok_or(Unread::OutsideGrammar)
     }
 
-    // A number, where a word is left.
+    // A number, if a word is left.
     pub(crate) fn said_number(&mut self) -> Result<Option<u32>, Unread>
         ensures { Takes result (optional (word numbers.number_of) self.old) self.new }
     {
@@ -169,7 +169,7 @@ impl Words<'_> {
         Ok(Some(self.number()?))
     }
 
-    // A unit, where a word is left.
+    // A unit, if a word is left.
     pub(crate) fn said_unit(&mut self) -> Result<Option<Unit>, Unread>
         ensures { Takes result (optional (word numbers.unit_of) self.old) self.new }
     {
@@ -179,7 +179,7 @@ impl Words<'_> {
         Ok(Some(self.unit()?))
     }
 
-    // A padding, and a unit where a further word is left.
+    // A padding, and a unit if a further word is left.
     pub(crate) fn settings(&mut self) -> Result<Settings, Unread>
         ensures { Takes result (forms.settings self.old) self.new }
     {
@@ -189,7 +189,7 @@ impl Words<'_> {
         })
     }
 
-    // Settings, where a word is left.
+    // Settings, if a word is left.
     pub(crate) fn said_settings(&mut self) -> Result<Option<Settings>, Unread>
         ensures { Takes result (optional forms.settings self.old) self.new }
     {
@@ -209,7 +209,7 @@ impl Words<'_> {
         })
     }
 
-    // A padding and a unit, where a word is left.
+    // A padding and a unit, if a word is left.
     pub(crate) fn said_options(&mut self) -> Result<Option<Options>, Unread>
         ensures { Takes result (optional forms.options self.old) self.new }
     {

@@ -1,20 +1,20 @@
-//! What a script says: sections of one caller each, with their commands.
+//! Scripts: sections of one caller each, with their commands.
 
 use crate::verb::Verb;
 use item_list::Items;
 
-/// What the callers of a script ask for. Callers are numbered from 0, in the order of their
-/// sections, of which there are at most eight.
+/// A script: the commands of each caller. Callers are numbered from 0, in the order of their sections;
+/// there are at most eight.
 pub type Script = Items<Section>;
 
-/// One caller, and what it asks for, in order.
+/// One caller and its commands, in order.
 pub struct Section {
-    /// The user for whom the caller calls.
+    /// The user that the caller is.
     pub uid: u32,
     pub commands: CommandList,
 }
 
-// Written, and not derived, so that a crate that lets one go needn't prove how that is done.
+// Written, not derived, so that a crate that drops a section needn't prove how that is done.
 impl Drop for Section {
     fn drop(self) {
         let Section {
@@ -27,7 +27,7 @@ impl Drop for Section {
 /// Commands, in order.
 pub type CommandList = Items<Command>;
 
-/// A command, and the line that it stands in, counted from 1.
+/// A command and the number of its line, counted from 1.
 #[derive(Drop)]
 pub struct Command {
     pub line: u32,

@@ -1,4 +1,4 @@
-//! The commands of more than one word that make one call.
+//! The commands of several words that make one call.
 
 ghost use Rattle.script_lang.specs.Forms.{Takes};
 ghost use Rattle.script_lang.specs.NumberVerbs as number_forms;

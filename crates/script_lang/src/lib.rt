@@ -1,4 +1,4 @@
-//! The language of scripts: what callers ask for, line by line, read and written exactly.
+//! The language of scripts: the commands of callers, line by line, read and written exactly.
 #![tactic(auto)]
 
 mod argument_words;

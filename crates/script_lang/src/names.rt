@@ -1,4 +1,4 @@
-//! The names of commands: the word that a command's line begins with.
+//! The names of commands: the first word of a command's line.
 
 ghost use Rattle.std.specs.Prelude.{◌≡◌, option_copied};
 ghost use Rattle.std.specs.List.{find};
@@ -7,7 +7,7 @@ ghost use Rattle.script_lang.specs.VerbNames.{name_in};
 
 use crate::verb::Verb;
 
-/// Which command it is. Each name belongs to one variant of `Verb`.
+/// The name of a command. Each belongs to one variant of `Verb`.
 #[derive(Clone, Copy, Debug, PartialEq, Eq)]
 pub enum CommandName {
     AddKey,
@@ -89,7 +89,7 @@ const ALL_NAMES: [CommandName; 36] = [
 ];
 
 impl CommandName {
-    /// The name that the word is, if it is one.
+    /// Returns the name that the word is, if it is one.
     pub fn read(word: &[u8]) -> Option<CommandName>
         ensures { result ≡ spec.name_of word.now }
     {
@@ -156,7 +156,7 @@ fn name_among<'a>(names: &'a [CommandName], word: &[u8]) -> Option<&'a CommandNa
 }
 
 impl Verb {
-    /// The name of the command.
+    /// Returns the name of the command.
     pub fn name(&self) -> CommandName
         ensures { result ≡ name_in self.now }
     {

@@ -24,7 +24,7 @@ pub enum ScriptFault {
     /// The first line outside the grammar, counted from 1.
     #[error("line {line} is outside the grammar")]
     BadLine { line: u32 },
-    /// There was no memory.
+    /// The reader is out of memory.
     #[error("out of memory")]
     NoMemory,
 }
@@ -40,8 +40,8 @@ impl From<AllocError> for ScriptFault {
     }
 }
 
-/// Reads a script of fewer than 2^32 bytes, so that the number of each line fits. `BadLine` comes
-/// exactly where a line is outside the grammar, with the number of the first; `NoMemory` may come on
+/// Reads a script of fewer than 2^32 bytes, so that the number of each line fits. Returns `BadLine`
+/// exactly when a line is outside the grammar, with the number of the first. `NoMemory` is possible for
 /// any text.
 pub fn read_script(alloc: Global, text: &[u8]) -> Result<Script, ScriptFault>
     requires { length text.now < 2 ^ 32 }
@@ -63,7 +63,8 @@ pub fn read_script(alloc: Global, text: &[u8]) -> Result<Script, ScriptFault>
     Ok(Script::from_vec(sections))
 }
 
-// Adds what the line with that number says to the sections so far. `behind` is the text behind it.
+// Adds the statement of the line with that number to the sections so far. `behind` is the text after the
+// line.
 fn take_line(
     alloc: Global,
     sections: &mut Vec<Section>,
@@ -81,8 +82,9 @@ fn take_line(
     }
 }
 
-// Adds what a line says to the sections so far. False where the line may not stand there. A command goes
-// from its form right into its section: it is large, and each hand that it goes through copies it.
+// Adds the statement of a line to the sections so far. Returns false if the line is not allowed after
+// them. A command goes from its form right into its section: it is large, and each function that passes
+// it on copies it.
 fn add_line(
     alloc: Global,
     sections: &mut Vec<Section>,
@@ -99,7 +101,7 @@ fn add_line(
     add_words(alloc, sections, number, &mut Words::new(line), behind)
 }
 
-// Adds what the words of a line say.
+// Adds the statement of a line's words.
 fn add_words(
     alloc: Global,
     sections: &mut Vec<Section>,
@@ -116,7 +118,7 @@ fn add_words(
     }
 }
 
-// Adds what a name and the words behind it say.
+// Adds the statement of a name and the words after it.
 fn add_named(
     alloc: Global,
     sections: &mut Vec<Section>,
@@ -137,8 +139,8 @@ fn add_named(
     add_command(alloc, sections, number, name, words)
 }
 
-// Adds a section with room for so many commands, so that they needn't move when others come: a move would
-// leave their secrets behind. False where there are as many sections as may be.
+// Adds a section with capacity for `room` commands, so that they needn't move when others are added: a
+// move would leave copies of their secrets. Returns false if there are as many sections as allowed.
 fn add_section(
     alloc: Global,
     sections: &mut Vec<Section>,
@@ -155,7 +157,7 @@ fn add_section(
     Ok(false)
 }
 
-// Adds a command to the last section. False where there is none, or the words say no command.
+// Adds a command to the last section. Returns false if there is no section, or the words are no command.
 fn add_command(
     alloc: Global,
     sections: &mut Vec<Section>,
@@ -172,7 +174,7 @@ fn add_command(
     }
 }
 
-// Reads a command behind the others. False where the words say none.
+// Reads a command and appends it. Returns false if the words are no command.
 fn push_command(
     alloc: Global,
     commands: &mut CommandList,

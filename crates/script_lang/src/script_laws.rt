@@ -1,4 +1,4 @@
-//! Laws of scripts and their texts, each a function without work whose contract is the law.
+//! Laws of scripts and their texts: each is an empty function whose contract is the law.
 
 ghost use Rattle.std.specs.Prelude.{◌≡◌, ◌↔◌, List, Ok};
 ghost use Rattle.script_lang.specs.declared.commands.Section.{Section};
@@ -6,7 +6,7 @@ ghost use Rattle.script_lang.specs.Script.{parsed_script};
 ghost use Rattle.script_lang.specs.Writing.{script_text};
 ghost use Rattle.script_lang.specs.Spelled.{IsSpelled, IsWritable};
 
-/// What is written of a script is in the grammar, and spells that script.
+/// The text that is written of a script is in the grammar, and spells that script.
 pub fn what_is_written_is_a_script()
     ensures { (script : List Section) → IsSpelled script → parsed_script (script_text script) ≡ Ok script }
 {}
@@ -17,8 +17,8 @@ pub fn distinct_scripts_have_distinct_texts()
         → script_text one ≡ script_text other → one ≡ other }
 {}
 
-/// A script is spelled by some text exactly where it has at most eight callers, keys and users that
-/// words can spell, and lines that leave room for one another.
+/// A script is spelled by some text exactly when it is writable: at most eight callers, keys and users
+/// that words can spell, and line numbers that leave a line for each caller and command.
 pub fn spelled_scripts_are_the_writable_ones()
     ensures { (script : List Section) → IsSpelled script ↔ IsWritable script }
 {}

@@ -1,4 +1,4 @@
-//! The session commands of more than one word.
+//! The session commands of several words.
 
 ghost use Rattle.script_lang.specs.Forms.{Takes};
 ghost use Rattle.script_lang.specs.Sessions as forms;
@@ -46,7 +46,7 @@ pub(crate) fn policy_add(alloc: Global, words: &mut Words<'_>) -> Result<Verb, U
     policy_added(alloc, policy, protector, words)
 }
 
-// The same, whose policy and protector are read.
+// The same, once its policy and protector are read.
 fn policy_added(
     alloc: Global,
     policy: Label,

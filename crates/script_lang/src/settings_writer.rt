@@ -1,4 +1,4 @@
-//! The writer of words that may be left out, and of what a command says of a policy.
+//! The writer of optional words, and of the settings of a policy.
 
 ghost use Rattle.std.specs.Prelude.{◌≡◌, OnOk};
 ghost use Rattle.script_lang.specs.VerbText.{behind};

@@ -1,4 +1,4 @@
-//! What one line of a script says by itself, wherever it stands.
+//! The statement of one line of a script, independent of the other lines.
 
 ghost use Rattle.std.specs.Prelude.{◌≡◌, ◌==◌, ◌||◌, IfOk, length, slice_index};
 ghost use Rattle.script_lang.specs.Forms.{word, whole};
@@ -11,18 +11,18 @@ use crate::words::Words;
 use std::alloc::{AllocError, Global};
 use text_words::decimal_value;
 
-/// What a line says.
+/// The statement of a line.
 #[derive(Drop)]
 pub enum Statement {
     /// It is empty, or a comment.
     Nothing,
-    /// From here on this user calls.
+    /// The commands from here on are this user's.
     Caller(u32),
-    /// The caller asks for this.
+    /// The caller makes this command.
     Order(Verb),
 }
 
-/// What a line says, or none where it is outside the grammar by itself.
+/// Returns the statement of a line, or `None` if the line on its own is outside the grammar.
 pub fn read_statement(alloc: Global, line: &[u8]) -> Result<Option<Statement>, AllocError>
     ensures { IfOk result (λ said. said ≡ statement_of line.now) }
 {
@@ -39,7 +39,7 @@ pub(crate) fn says_nothing(line: &[u8]) -> bool
     line.is_empty() || line[0] == b'#'
 }
 
-// What the words of a line say.
+// The statement of a line's words.
 fn read_words(alloc: Global, words: &mut Words<'_>) -> Result<Option<Statement>, AllocError>
     ensures { IfOk result (λ said. said ≡ statement_of_words words.old) }
 {
@@ -49,7 +49,7 @@ fn read_words(alloc: Global, words: &mut Words<'_>) -> Result<Option<Statement>,
     }
 }
 
-// What a name and the words behind it say.
+// The statement of a name and the words after it.
 fn read_named(
     alloc: Global,
     name: &[u8],

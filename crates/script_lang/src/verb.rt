@@ -1,20 +1,20 @@
-//! What a command asks for. The fields of a verb are the values of its words.
+//! Commands. The fields of a verb are the values of its words.
 
 use item_list::Bytes;
 use policy_ctx::{Pad, Unit};
 use script_words::{KeyRef, NewSecret, Record, ScriptPath, Secret};
 use short_bytes::Label;
 
-/// What a command asks for: a call of the mount, a session's work with protectors and policies, or nothing.
+/// A command: a call of the mount, a session's work with protectors and policies, or nothing.
 #[derive(Drop)]
 pub enum Verb {
     /// To add the key of these 1 to 128 bytes. A mount may refuse them, since a raw key has 32 to 64.
     AddKey(Bytes),
-    /// To remove the caller's claim to the key.
+    /// To remove the caller's claim on the key.
     RemoveKey(KeyRef),
-    /// To remove every user's claim to the key.
+    /// To remove every user's claim on the key.
     RemoveKeyAll(KeyRef),
-    /// To tell whether the key is there.
+    /// To return the state of the key.
     KeyStatus(KeyRef),
     /// To encrypt an empty directory from now on, under this key.
     SetPolicy {
@@ -22,12 +22,12 @@ pub enum Verb {
         key: KeyRef,
         settings: Settings,
     },
-    /// The same by the bytes of a policy, which may be none.
+    /// The same by the bytes of a policy, which may be invalid.
     SetPolicyBytes {
         path: ScriptPath,
         policy: [u8; 24],
     },
-    /// To tell the policy of a node.
+    /// To return the policy of a node.
     GetPolicy(ScriptPath),
     /// To make a directory.
     Mkdir(ScriptPath),
@@ -38,28 +38,28 @@ pub enum Verb {
         path: ScriptPath,
         target: Bytes,
     },
-    /// To tell a symlink's target.
+    /// To return a symlink's target.
     ReadLink(ScriptPath),
-    /// To take the name of a file or a symlink away.
+    /// To remove the name of a file or a symlink.
     Unlink(ScriptPath),
-    /// To take the name of an empty directory away.
+    /// To remove the name of an empty directory.
     Rmdir(ScriptPath),
     /// To move a node to another name.
     Rename {
         old_path: ScriptPath,
         new_path: ScriptPath,
     },
-    /// To tell names of a directory from this number of their order on; from the first where no
-    /// number is said, which is another command than with the number 0.
+    /// To return names of a directory from this number of their order on. Without a number it begins at
+    /// the first; that is another command than with the number 0.
     List {
         path: ScriptPath,
         start: Option<u32>,
     },
-    /// To tell what a node is.
+    /// To return the kind, the size and the encryption of a node.
     Stat(ScriptPath),
     /// To open a file or a directory.
     Open(ScriptPath),
-    /// To close what is open under the number.
+    /// To close the handle of this number.
     Close(u32),
     /// To read at most `len` bytes from `offset` on.
     Read {
@@ -73,16 +73,16 @@ pub enum Verb {
         offset: u32,
         bytes: Bytes,
     },
-    /// To write one byte again and again, at most 65,536 times.
+    /// To write one byte repeatedly, at most 65,536 times.
     Fill {
         handle: u32,
         offset: u32,
         len: u32,
         byte: u8,
     },
-    /// To let go of all that is kept for speed alone.
+    /// To drop all that is cached.
     DropCaches,
-    /// To tell a record.
+    /// To return a record.
     MetaGet(Record),
     /// To store these 0 to 9,000 bytes as a record, in place of the version that is expected.
     MetaPut {
@@ -95,13 +95,13 @@ pub enum Verb {
         protector: Label,
         secret: NewSecret,
     },
-    /// To give a protector another secret.
+    /// To replace a protector's secret.
     ProtectorChange {
         protector: Label,
         secret: Secret,
         new_secret: NewSecret,
     },
-    /// To say that a protector lies on another mount, by a record in its name's place.
+    /// To mark a protector as stored on another mount, by a record in its name's place.
     ProtectorLink(Label),
     /// To make a policy that a protector opens.
     PolicyNew {
@@ -118,7 +118,7 @@ pub enum Verb {
         added: Label,
         added_secret: Secret,
     },
-    /// To let a protector open a policy no longer.
+    /// To remove a protector from those that open a policy.
     PolicyDrop {
         policy: Label,
         protector: Label,
@@ -129,11 +129,11 @@ pub enum Verb {
         protector: Label,
         secret: Secret,
     },
-    /// To remove the caller's claim to the key of a policy.
+    /// To remove the caller's claim on the key of a policy.
     Lock(Label),
-    /// To tell whether the key of a policy is there.
+    /// To return the state of the key of a policy.
     Status(Label),
-    /// To encrypt an empty directory under a policy, with its options where no settings are said.
+    /// To encrypt an empty directory under a policy, with the policy's options if no settings are given.
     Encrypt {
         path: ScriptPath,
         policy: Label,
@@ -145,15 +145,14 @@ pub enum Verb {
     Pause,
 }
 
-/// What a command says of a directory's policy: the padding of names, and the unit of contents where
-/// it says one.
+/// The settings of a directory's policy: the padding of names, and the unit of contents if it is given.
 #[derive(Clone, Copy, Debug, PartialEq, Eq)]
 pub struct Settings {
     pub pad: Pad,
     pub unit: Option<Unit>,
 }
 
-/// What a command says of a new policy.
+/// The options of a new policy.
 #[derive(Clone, Copy, Debug, PartialEq, Eq)]
 pub struct Options {
     pub pad: Pad,

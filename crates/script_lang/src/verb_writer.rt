@@ -1,4 +1,4 @@
-//! The writer of commands: a name, and the words behind it, each behind a space.
+//! The writer of commands: a name, and the other words, each after a space.
 
 ghost use Rattle.std.specs.Prelude.{◌≡◌, ◌++◌, OnOk};
 ghost use Rattle.script_lang.specs.VerbText.{verb_text, behind};
@@ -15,7 +15,7 @@ use script_words::{
 };
 use std::alloc::{AllocError, Global};
 
-// Writes a command behind a text.
+// Appends a command to a text.
 #[tactic(auto, unfolding(crate::specs::VerbText::verb_text))]
 pub(crate) fn write_verb(alloc: Global, text: &mut Vec<u8>, verb: &Verb) -> Result<(), AllocError>
     ensures { OnOk result (text.new.items ≡ text.old.items ++ verb_text verb.now) }
@@ -24,7 +24,7 @@ pub(crate) fn write_verb(alloc: Global, text: &mut Vec<u8>, verb: &Verb) -> Resu
     write_words(alloc, text, verb)
 }
 
-// Writes the words behind the name.
+// Appends the words after the name.
 fn write_words(alloc: Global, text: &mut Vec<u8>, verb: &Verb) -> Result<(), AllocError>
     ensures { OnOk result (text.new.items ≡ behind text.old.items (verb_words verb.now)) }
 {
@@ -110,7 +110,7 @@ fn write_behind_path(alloc: Global, text: &mut Vec<u8>, verb: &Verb) -> Result<(
     }
 }
 
-// Writes several numbers, and what stands before or behind them.
+// Writes several numbers, and the words before or after them.
 fn write_numbers(text: &mut Vec<u8>, verb: &Verb) -> Result<(), AllocError>
     requires { HasNumbers verb.now }
     ensures { OnOk result (text.new.items ≡ behind text.old.items (verb_words verb.now)) }

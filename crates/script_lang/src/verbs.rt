@@ -1,4 +1,4 @@
-//! The table of commands: the words behind each name, taken in order.
+//! The table of commands: the words after each name, taken in order.
 
 ghost use Rattle.std.specs.Prelude.{◌≡◌, IfOk};
 ghost use Rattle.script_lang.specs.Forms.{Takes, if_read};
@@ -17,7 +17,7 @@ use crate::verb::Verb;
 use crate::words::{Unread, Words};
 use std::alloc::{AllocError, Global};
 
-// The command of a name and of the words behind it, which are all to be taken.
+// The command of a name and of the words after it, all of which must be taken.
 pub(crate) fn read_verb(
     alloc: Global,
     first: &[u8],
@@ -31,7 +31,7 @@ pub(crate) fn read_verb(
     }
 }
 
-// The command of this name and of the words behind it.
+// The command of this name and of the words after it.
 #[tactic(auto, unfolding(crate::specs::Commands::command_named))]
 fn read_command(
     alloc: Global,
@@ -54,7 +54,7 @@ fn if_none_left(verb: Verb, words: &Words<'_>) -> Option<Verb>
     if words.is_empty() { Some(verb) } else { None }
 }
 
-// What the words that a command takes say together.
+// The verb of the words that a command takes.
 fn take_form(alloc: Global, name: CommandName, words: &mut Words<'_>) -> Result<Verb, Unread>
     ensures { Takes result (form_of name words.old) words.new }
 {
@@ -146,7 +146,7 @@ fn take_label(name: CommandName, words: &mut Words<'_>) -> Result<Verb, Unread>
     }
 }
 
-// Several words, which say one call.
+// Several words, which are one call.
 fn take_call_words(alloc: Global, name: CommandName, words: &mut Words<'_>) -> Result<Verb, Unread>
     requires { TakesCallWords name }
     ensures { Takes result (form_of name words.old) words.new }
@@ -165,7 +165,7 @@ fn take_call_words(alloc: Global, name: CommandName, words: &mut Words<'_>) -> R
     }
 }
 
-// Several words, which say the work of a session.
+// Several words, which are the work of a session.
 fn take_session_words(
     alloc: Global,
     name: CommandName,

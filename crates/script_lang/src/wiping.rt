@@ -1,4 +1,4 @@
-//! A script's secrets are overwritten where they stand.
+//! Wipes a script's secrets in place.
 
 ghost use Rattle.std.specs.Prelude.{◌≡◌, [], length, replicate};
 ghost use Rattle.script_lang.specs.Wiped as spec;
@@ -11,8 +11,8 @@ use script_words::{KeyRef, NewSecret, Secret};
 use std::alloc::Global;
 use std::mem;
 
-/// Empties a script. Its raw keys, wrapping keys and passphrases are overwritten first, where they stand, and
-/// so are the targets of symlinks and the bytes that are written or stored. It takes no memory.
+/// Empties a script. Before that its raw keys, wrapping keys and passphrases are wiped in place, and so
+/// are the targets of symlinks and the bytes that are written or stored. It takes no memory.
 pub fn wipe_script(alloc: Global, script: &mut Script)
     ensures { script.new ≡ [] }
 {
@@ -22,7 +22,7 @@ pub fn wipe_script(alloc: Global, script: &mut Script)
     }
 }
 
-// Empties a list of commands, whose secrets are overwritten first.
+// Empties a list of commands, whose secrets are wiped first.
 fn wipe_commands(alloc: Global, list: &mut CommandList)
     ensures { list.new ≡ [] }
 {
@@ -32,7 +32,7 @@ fn wipe_commands(alloc: Global, list: &mut CommandList)
     }
 }
 
-// Writes zeros over the secrets of a command, as many.
+// Replaces the secrets of a command by as many zeros.
 fn wipe_verb(alloc: Global, verb: &mut Verb)
     ensures { verb.new ≡ spec.wiped_verb verb.old }
 {

@@ -13,7 +13,7 @@ use std::marker::Model;
 pub(crate) enum Unread {
     // They are outside the grammar.
     OutsideGrammar,
-    // There was no memory.
+    // The reader is out of memory.
     NoMemory,
 }
 
@@ -45,14 +45,14 @@ impl<'a> Model for Words<'a> {
 }
 
 impl<'a> Words<'a> {
-    /// All words of the line.
+    /// Returns all words of the line.
     pub fn new(line: &'a [u8]) -> Words<'a>
         ensures { result ≡ words_of line.now }
     {
         Words { rest: Some(line) }
     }
 
-    /// Takes the first of the words that are left.
+    /// Removes the first of the words that are left and returns it; `None` if there is none.
     pub fn next(&mut self) -> Option<&'a [u8]>
         ensures word { option_map (λ word. word.now) result ≡ slice_get self.old 0 }
         ensures left { self.new ≡ drop 1 self.old }
@@ -68,7 +68,7 @@ impl<'a> Words<'a> {
         }
     }
 
-    /// Whether no word is left.
+    /// Returns whether no word is left.
     pub fn is_empty(&self) -> bool
         ensures { IsTrue result ↔ (self.now ≡ []) }
     {

@@ -12,8 +12,8 @@ use item_list::Bytes;
 use std::alloc::{AllocError, Global};
 use text_words::push_decimal;
 
-/// Writes a script as a text that reads back as it. Each command stands in its own line again, each
-/// caller right behind the last line before it, and the other lines are empty.
+/// Writes a script as a text that reads back as it. Each command is in its own line again, and each
+/// caller is right after the last line before it. The other lines are empty.
 pub fn write_script(alloc: Global, script: &Script) -> Result<Bytes, AllocError>
     requires { IsSpelled script.now }
     ensures value { IfOk result (λ text. text ≡ script_text script.now) }
@@ -38,7 +38,7 @@ fn write_caller(text: &mut Vec<u8>, uid: u32) -> Result<(), AllocError>
     Ok(())
 }
 
-// Writes commands in their own lines. The first free line is given, and the next one comes back.
+// Writes commands in their own lines, from the first free line `first` on. Returns the next free line.
 fn write_commands(
     alloc: Global,
     text: &mut Vec<u8>,
@@ -60,7 +60,7 @@ fn write_commands(
     Ok(next)
 }
 
-// Writes so many lines that say nothing.
+// Writes `count` empty lines.
 fn write_empty_lines(text: &mut Vec<u8>, count: u64) -> Result<(), AllocError>
     ensures { OnOk result (text.new.items ≡ text.old.items ++ empty_lines count) }
 {
