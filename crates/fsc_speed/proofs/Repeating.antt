@@ -1,4 +1,4 @@
--- A function that is applied again and again, counted up.
+-- A function that is applied repeatedly, counted up.
 use Rattle.std.proofs.Common.{◌≡◌, ℕ, zero, suc, ◌+◌, refl, add-one}
 use Rattle.std.specs.Fn.{iterate}
 

@@ -1,4 +1,4 @@
--- How many threads call.
+-- The number of calling threads.
 use Rattle.std.specs.Prelude.{ℕ}
 use Rattle.fsc_speed.specs.declared.callers.Callers.{Callers}
 use Rattle.fsc_speed.specs.declared.callers.Callers.TheVariants.{One, Two, Four}

@@ -1,8 +1,8 @@
-//! How many threads call, for the kernels of the shared machines and of the shared mount.
+//! The number of calling threads, for the kernels of the shared machines and of the shared mount.
 ghost use Rattle.std.specs.Prelude.{◌≡◌, ◌<◌};
 ghost use Rattle.fsc_speed.specs.Callers.{number_of};
 
-/// How many threads call, each under a number of its own.
+/// The number of calling threads, each under a number of its own.
 #[derive(Clone, Copy)]
 pub(crate) enum Callers {
     One,
@@ -11,7 +11,7 @@ pub(crate) enum Callers {
 }
 
 impl Callers {
-    /// The callers of which `1`, `2` or `4` tells.
+    /// Returns the callers for the digits `1`, `2` or `4`; `None` for others.
     pub(crate) fn read(digits: &str) -> Option<Callers> {
         match digits {
             "1" => Some(Callers::One),
@@ -21,7 +21,7 @@ impl Callers {
         }
     }
 
-    /// How many they are: 1, 2 or 4.
+    /// Returns their number: 1, 2 or 4.
     pub(crate) fn count(self) -> u32
         ensures value { result ≡ number_of self }
         ensures some { 0 < result }

@@ -1,4 +1,4 @@
-//! The kernels of ciphers. Each run works on what the run before it left.
+//! The kernels of ciphers. Each run works on the result of the run before.
 ghost use Rattle.std.specs.Prelude.{◌≡◌, ◌≤◌, ◌%◌, IfOk, length, replicate};
 ghost use Rattle.std.specs.Fn.{iterate};
 ghost use Rattle.sha2.specs.Sha256.{sha256};
@@ -18,7 +18,7 @@ const UNIT_KEY: [u8; 64] = [0x5a; 64];
 
 const IV: [u8; 16] = [0xa5; 16];
 
-/// Encrypts a block again and again, with the round keys made once.
+/// Encrypts a block repeatedly, with the round keys made once.
 #[tactic(auto, using(crate::proofs::Repeating::iterate_more))]
 pub(crate) fn aes_block(count: u32) -> [u8; 32]
     ensures { result ≡ sha256 (iterate (encrypted_block KEY) count (replicate 16 0)) }
@@ -31,7 +31,7 @@ pub(crate) fn aes_block(count: u32) -> [u8; 32]
     Sha256::digest(&block)
 }
 
-/// Decrypts a block again and again, with the round keys made once.
+/// Decrypts a block repeatedly, with the round keys made once.
 #[tactic(auto, using(crate::proofs::Repeating::iterate_more))]
 pub(crate) fn aes_block_back(count: u32) -> [u8; 32]
     ensures { result ≡ sha256 (iterate (decrypted_block KEY) count (replicate 16 0)) }
@@ -44,7 +44,7 @@ pub(crate) fn aes_block_back(count: u32) -> [u8; 32]
     Sha256::digest(&block)
 }
 
-/// Enciphers a unit of `length` bytes in place again and again, as the unit with index 7.
+/// Encrypts a unit of `length` bytes in place repeatedly, as the unit with index 7.
 pub(crate) fn xts(alloc: Global, length: usize, count: u32) -> Result<[u8; 32], AllocError>
     requires { length % 16 ≡ 0 }
     ensures { IfOk result (λ digest.
@@ -66,7 +66,7 @@ fn repeat_xts(unit: &mut [u8], count: u32)
     }
 }
 
-/// Deciphers a unit of `length` bytes in place again and again, as the unit with index 7.
+/// Decrypts a unit of `length` bytes in place repeatedly, as the unit with index 7.
 pub(crate) fn xts_back(alloc: Global, length: usize, count: u32) -> Result<[u8; 32], AllocError>
     requires { length % 16 ≡ 0 }
     ensures { IfOk result (λ digest. digest
@@ -88,7 +88,7 @@ fn repeat_xts_back(unit: &mut [u8], count: u32)
     }
 }
 
-/// Enciphers a text of `length` bytes in place again and again.
+/// Encrypts a text of `length` bytes in place repeatedly.
 pub(crate) fn cts(alloc: Global, length: usize, count: u32) -> Result<[u8; 32], AllocError>
     requires { 16 ≤ length }
     ensures { IfOk result (λ digest.

@@ -1,16 +1,16 @@
-//! The kernel of claims. It tells how many claims stand in the end, and no contract says how many
-//! that are.
+//! The kernel of claims. It returns the number of claims in the end, and no contract says what that
+//! number is.
 use crate::scattering::scattered;
 use std::alloc::{AllocError, Global};
 use user_claims::{Claims, KeyId};
 
-/// How many users make claims.
+/// The number of users that make claims.
 const USERS: u32 = 600;
 
-/// The most claims that so many users may make.
+/// The maximum number of claims of that many users.
 const MOST_MADE: u32 = 38_400;
 
-/// How many claims a run makes.
+/// The number of claims that a run makes.
 #[derive(Clone, Copy)]
 pub(crate) struct ClaimCount {
     claims: u32,
@@ -25,7 +25,7 @@ impl ClaimCount {
     }
 }
 
-/// Makes so many claims of 600 users, one key after another, and again from none in each run.
+/// Makes that many claims of 600 users, one key after another, and again from none in each run.
 pub(crate) fn make_claims(alloc: Global, size: ClaimCount, count: u32) -> Result<u32, AllocError> {
     let mut found = 0u32;
     for _ in 0..count {
@@ -34,7 +34,7 @@ pub(crate) fn make_claims(alloc: Global, size: ClaimCount, count: u32) -> Result
     Ok(found)
 }
 
-// Makes the claims, and tells how many of them the first key has.
+// Makes the claims, and returns how many of them the first key has.
 fn claims_of_first(alloc: Global, size: ClaimCount) -> Result<u32, AllocError> {
     let mut claims = Claims::new(alloc);
     for made in 0..size.claims {

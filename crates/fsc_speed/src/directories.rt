@@ -1,5 +1,5 @@
-//! What the directories that kernels work on have in common: the key under which they are encrypted, and
-//! parts of their paths.
+//! What the directories of kernels have in common: the key under which they are encrypted, and parts of
+//! their paths.
 use fsc_keys::{RawKey, key_id};
 use item_list::Bytes;
 use mount_model::{Part, Path};
@@ -15,7 +15,7 @@ pub(crate) const RAW: [u8; 64] = [0x5a; 64];
 /// The nonce of each node.
 pub(crate) const NONCE: [u8; 16] = [7; 16];
 
-/// The identifier of the key.
+/// Returns the identifier of the key.
 pub(crate) fn id_of_key() -> KeyId {
     match RawKey::read(&RAW) {
         Ok(raw) => key_id(&raw),
@@ -23,7 +23,7 @@ pub(crate) fn id_of_key() -> KeyId {
     }
 }
 
-/// The policy under the key, with names that are padded to 32 bytes.
+/// Returns the policy under the key, with names that are padded to 32 bytes.
 pub(crate) fn policy_of_key() -> [u8; 24] {
     let mut policy = [
         2, 1, 4, 3, 0, 0, 0, 0, 0, 0, 0, 0, 0, 0, 0, 0, 0, 0, 0, 0, 0, 0, 0, 0,
@@ -32,7 +32,7 @@ pub(crate) fn policy_of_key() -> [u8; 24] {
     policy
 }
 
-/// Puts a part of these bytes behind the others.
+/// Appends a part of these bytes.
 pub(crate) fn push_part(path: &mut Path, alloc: Global, name: &[u8]) -> Result<(), AllocError> {
     let name = Bytes::from_vec(Vec::from_slice(alloc, name)?);
     path.push(Part::new(name))

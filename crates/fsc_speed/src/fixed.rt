@@ -1,4 +1,4 @@
-//! The kernels whose names tell no length.
+//! The kernels whose names contain no length.
 use crate::stretching::{self, ONE_PASS, THREE_PASSES};
 use crate::{ciphers, hashes, names, sealing};
 use argon_kdf::{LaneStretch, PlainStretch};
@@ -9,7 +9,7 @@ use std::sync::Wait;
 use std::sync::ledger::Blank;
 use std::thread::Threads;
 
-/// A kernel whose name is all that tells of it.
+/// A kernel that is given by its name alone.
 #[derive(Clone, Copy)]
 pub(crate) enum Fixed {
     Plain(Plain),
@@ -18,7 +18,7 @@ pub(crate) enum Fixed {
     EntryLine,
 }
 
-/// What takes no memory.
+/// Kernels that take no memory.
 #[derive(Clone, Copy)]
 pub(crate) enum Plain {
     AesBlock,
@@ -71,7 +71,7 @@ pub(crate) static FIXED: [(&str, Fixed); 16] = [
 ];
 
 impl Plain {
-    /// Runs the kernel `count` times, and hashes what came out.
+    /// Runs the kernel `count` times, and returns a hash of the result.
     pub(crate) fn run(self, count: u32) -> [u8; 32] {
         match self {
             Plain::AesBlock => ciphers::aes_block(count),
@@ -88,7 +88,7 @@ impl Plain {
 }
 
 impl Stretching {
-    /// Runs the kernel `count` times, and hashes what came out.
+    /// Runs the kernel `count` times, and returns a hash of the result.
     pub(crate) fn run<R: Threads + Wait + Sync>(
         self,
         rt: &R,

@@ -1,4 +1,4 @@
-//! The kernels of hashes and derivations. Each run works on what the run before it left.
+//! The kernels of hashes and derivations. Each run works on the result of the run before.
 ghost use Rattle.std.specs.Prelude.{◌≡◌, ◌++◌, [], drop, replicate};
 ghost use Rattle.std.specs.Fn.{iterate};
 ghost use Rattle.sha2.specs.Sha256.{sha256};
@@ -8,7 +8,7 @@ ghost use Rattle.hmac_kdf.specs.Hkdf.{hkdf_sha512};
 use hmac_kdf::hkdf512;
 use sha2::{Digest, Sha256, Sha512};
 
-// As long as what a file's key is derived with.
+// As long as the info from which a file's key is derived.
 const INFO: [u8; 25] = [0x3c; 25];
 
 /// Derives 64 bytes by HKDF-SHA512 from the 64 that were derived before.

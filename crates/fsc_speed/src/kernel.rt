@@ -1,4 +1,4 @@
-//! The kernels whose work a digest tells, by name.
+//! The kernels that return a digest of their work, by name.
 use crate::callers::Callers;
 use crate::claims::{self, ClaimCount};
 use crate::fixed::{FIXED, Fixed};
@@ -14,7 +14,7 @@ use std::sync::Wait;
 use std::sync::ledger::Blank;
 use std::thread::Threads;
 
-/// What is measured.
+/// A kernel to be measured.
 #[derive(Clone, Copy)]
 pub(crate) enum Kernel {
     Fixed(Fixed),
@@ -29,7 +29,7 @@ pub(crate) enum Kernel {
 }
 
 impl Kernel {
-    /// The kernel of this name, such as `aes-block`, `cts-255` or `turn-2`.
+    /// Returns the kernel of this name, such as `aes-block`, `cts-255` or `turn-2`.
     pub(crate) fn named(name: &str) -> Option<Kernel> {
         for (fixed, kernel) in &FIXED {
             if *fixed == name {
@@ -39,7 +39,7 @@ impl Kernel {
         Kernel::sized(name)
     }
 
-    // The kernel whose name tells a length, a number or a kind behind its family.
+    // The kernel whose name has a length, a number or a kind after its family.
     fn sized(name: &str) -> Option<Kernel> {
         let (family, size) = name.split_once('-')?;
         match family {
@@ -53,7 +53,7 @@ impl Kernel {
         }
     }
 
-    // A unit's length, with `back-` before it where the unit is deciphered.
+    // A unit's length, with `back-` before it if the unit is decrypted.
     fn of_units(length: &str) -> Option<Kernel> {
         match length.strip_prefix("back-") {
             Some(length) => UnitLength::read(length).map(Kernel::XtsBack),
@@ -67,7 +67,7 @@ impl Kernel {
         Some(Kernel::Wipe(Wiped::named(bytes)?, TextLength::read(length)?))
     }
 
-    // What is done to a tree, and how many nodes or entries it has.
+    // The work on a tree, and how many nodes or entries it has.
     fn of_trees(name: &str) -> Option<Kernel> {
         let (call, size) = name.rsplit_once('-')?;
         let (work, most) = match call {
@@ -79,7 +79,7 @@ impl Kernel {
         Some(Kernel::Tree(work, ItemCount::read(size, most)?))
     }
 
-    /// Runs the kernel `count` times, and hashes what came out.
+    /// Runs the kernel `count` times, and returns a hash of the result.
     pub(crate) fn run<R: Threads + Wait + Sync>(
         self,
         rt: &R,
@@ -107,7 +107,7 @@ impl Kernel {
     }
 }
 
-// The hash of how much was told.
+// The hash of the number that a kernel returned.
 fn hashed(told: Result<u32, AllocError>) -> Result<[u8; 32], AllocError> {
     Ok(Sha256::digest(&told?.to_be_bytes()))
 }

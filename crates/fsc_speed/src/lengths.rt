@@ -1,7 +1,7 @@
-//! The lengths and numbers that a kernel's name may give.
+//! The lengths and numbers in a kernel's name.
 ghost use Rattle.std.specs.Prelude.{◌≡◌, ◌<◌, ◌≤◌, ◌%◌};
 
-/// How many bytes a name or text has that is enciphered with ciphertext stealing.
+/// The length in bytes of a name or text that is encrypted with ciphertext stealing.
 #[derive(Clone, Copy)]
 pub(crate) struct TextLength {
     bytes: usize,
@@ -23,7 +23,7 @@ impl TextLength {
     }
 }
 
-/// How many bytes a unit of XTS has: whole blocks, and at least one.
+/// The length of a unit of XTS in bytes: whole blocks, and at least one.
 #[derive(Clone, Copy)]
 pub(crate) struct UnitLength {
     bytes: usize,
@@ -49,7 +49,7 @@ impl UnitLength {
     }
 }
 
-/// How many nodes, entries or names there are: at least one.
+/// The number of nodes, entries or names: at least one.
 #[derive(Clone, Copy)]
 pub(crate) struct ItemCount {
     items: u32,
@@ -57,7 +57,7 @@ pub(crate) struct ItemCount {
 }
 
 impl ItemCount {
-    /// The number of which the digits tell, unless it is higher than `most`.
+    /// Returns the number in the digits, unless it is 0 or higher than `most`.
     pub(crate) fn read(digits: &str, most: u32) -> Option<ItemCount> {
         match digits.parse::<u32>() {
             Ok(items) if items > 0 && items <= most => Some(ItemCount { items }),
@@ -71,7 +71,7 @@ impl ItemCount {
         self.items
     }
 
-    /// A place below the number, another one for each run.
+    /// Returns a place below the number, another one for each run.
     pub(crate) fn place(self, run: u32) -> u32 {
         run.wrapping_mul(2654435761) % self.items
     }

@@ -1,6 +1,6 @@
-//! Measures: the words `NAME COUNT` run the kernel of that name so many times. A kernel over fixed bytes
-//! prints the name, the count and a SHA-256 of what came out, so that no work can be left out; a kernel of a
-//! mount's calls prints the name, the count and how many calls were refused.
+//! Measures: the arguments `NAME COUNT` run the kernel of that name COUNT times. A kernel over fixed
+//! bytes prints the name, the count and a SHA-256 of the result, so that no work can be left out. A
+//! kernel of a mount's calls prints the name, the count and how many calls were refused.
 #![tactic(auto)]
 
 mod callers;
@@ -56,7 +56,7 @@ fn main(rt: HostRuntime) -> io::Result<ExitCode> {
     Ok(ExitCode::from(2))
 }
 
-// The name and the number that the words tell; none where they tell anything else.
+// The name and the number in the arguments; none if they are anything else.
 fn asked(rt: &HostRuntime) -> io::Result<Option<(String, u32)>> {
     let mut words = env::args(rt)?.skip(1);
     let (Some(name), Some(count), None) = (words.next(), words.next(), words.next()) else {
@@ -68,7 +68,8 @@ fn asked(rt: &HostRuntime) -> io::Result<Option<(String, u32)>> {
     }
 }
 
-// Runs the kernel of this name so many times, and tells so in a line; none where there is no such kernel.
+// Runs the kernel of this name `count` times, and returns the line to print; none if there is no such
+// kernel.
 fn measured<R: Threads + Wait + Sync>(
     rt: &R,
     alloc: Global,
@@ -81,7 +82,7 @@ fn measured<R: Threads + Wait + Sync>(
     }
 }
 
-// The digest of what came out, or how many calls were refused.
+// The digest of the result, or how many calls were refused.
 fn outcome<R: Threads + Wait + Sync>(
     rt: &R,
     alloc: Global,

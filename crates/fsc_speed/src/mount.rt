@@ -1,6 +1,6 @@
-//! Kernels of a mount's calls: each prepares a mount, makes the calls of its run so many times, and tells
-//! how many of all were refused. No contract says what is measured: those that stand are what the calls of
-//! the libraries ask for.
+//! Kernels of a mount's calls. Each prepares a mount, makes the calls of its run `count` times, and
+//! returns how many of all calls were refused. No contract describes what is measured: the ones here are
+//! what the calls of the libraries require.
 mod asking;
 mod calls;
 mod kernel;

@@ -1,4 +1,4 @@
-//! The kernels of keys and names. Each run works on what the run before it left.
+//! The kernels of keys and names. Each run works on the result of the run before.
 ghost use Rattle.std.specs.Prelude.{◌≡◌, ◌<◌, replicate};
 ghost use Rattle.std.specs.Fn.{iterate};
 ghost use Rattle.sha2.specs.Sha256.{sha256};
@@ -16,7 +16,7 @@ const KEY: [u8; 32] = [0x5a; 32];
 
 const NAME: [u8; 32] = [0x61; 32];
 
-/// Draws the names key of a nonce again and again, from a key that is prepared once.
+/// Derives the names key of a nonce repeatedly, from a key that is prepared once.
 #[tactic(auto, using(crate::proofs::Repeating::iterate_more))]
 pub(crate) fn draw_file_keys(count: u32) -> [u8; 32]
     ensures { result ≡ sha256 (iterate (next_nonce RAW) count (replicate 16 0)) }
@@ -43,7 +43,7 @@ fn nonce_after(key: &PreparedKey, nonce: &[u8; 16]) -> [u8; 16]
     next
 }
 
-/// Draws the mode key for contents of a raw key, which is the next raw key, again and again.
+/// Derives the mode key for contents of a raw key, which is the next raw key, repeatedly.
 #[tactic(auto, using(crate::proofs::Repeating::iterate_more))]
 pub(crate) fn draw_mode_keys(count: u32) -> [u8; 32]
     ensures { result ≡ sha256 (iterate next_raw count (replicate 64 90)) }
@@ -67,7 +67,7 @@ fn raw_after(bytes: &[u8; 64]) -> [u8; 64]
     key
 }
 
-/// Encrypts a name of 32 bytes at padding 32 again and again, with the round keys made once.
+/// Encrypts a name of 32 bytes at padding 32 repeatedly, with the round keys made once.
 #[tactic(auto, using(crate::proofs::Repeating::iterate_more))]
 pub(crate) fn encrypt_names<L: Ledger>(blank: Blank, count: u32) -> [u8; 32]
     requires name { blank.name ≡ L.name }
@@ -96,7 +96,7 @@ fn iv_after<L: Ledger>(key: &Aes256, iv: [u8; 16], name: &Plain, steps: &mut Ste
     next
 }
 
-/// Makes the no-key text of a stored name of 255 bytes again and again.
+/// Makes the no-key text of a stored name of 255 bytes repeatedly.
 #[tactic(auto, using(crate::proofs::Repeating::iterate_more))]
 pub(crate) fn show_names(count: u32) -> [u8; 32]
     ensures { result ≡ sha256 (iterate next_stored count (replicate 255 165)) }

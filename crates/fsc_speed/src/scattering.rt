@@ -1,4 +1,4 @@
-//! Bytes that scatter as enciphered names do.
+//! Bytes that scatter as encrypted names do.
 ghost use Rattle.std.specs.Prelude.{◌≡◌, ◌++◌, ◌*◌, ◌^◌, ◌%◌, replicate};
 ghost use Rattle.byte_words.specs.Numbers.{big_endian_bytes};
 
@@ -6,8 +6,8 @@ use item_list::Bytes;
 use std::alloc::{AllocError, Global};
 use text_words::push_lower_hex;
 
-/// 16 bytes that differ from those of each other number: four of the number times an odd one, and twelve
-/// alike.
+/// Returns 16 bytes that differ from those of each other number: four of the number times an odd one, and
+/// twelve alike.
 pub(crate) fn scattered(number: u32) -> [u8; 16]
     ensures { result ≡ big_endian_bytes 4 ((number * 2246822519) % 2 ^ 32) ++ replicate 12 0x61 }
 {
@@ -16,7 +16,7 @@ pub(crate) fn scattered(number: u32) -> [u8; 16]
     bytes
 }
 
-/// The name of this number: the 32 digits of these bytes.
+/// Returns the name of this number: the 32 digits of these bytes.
 pub(crate) fn scattered_name(alloc: Global, number: u32) -> Result<Bytes, AllocError> {
     let mut name = Vec::new(alloc);
     push_lower_hex(&mut name, &scattered(number))?;

@@ -1,5 +1,5 @@
-//! The kernels of scripts and logs. They tell how much was read or told, and no contract says how much
-//! that is.
+//! The kernels of scripts and logs. They return how much was read or written, and no contract says how
+//! much that is.
 use crate::scattering::{scattered, scattered_name};
 use call_history::Entry;
 use mount_model::{Call, NameList, Op, Path, Reply};
@@ -11,13 +11,13 @@ use text_words::push_lower_hex;
 /// As many lines as a script may have.
 const LINES: u32 = 20_000;
 
-/// More bytes than so many lines have here.
+/// More bytes than that many lines have here.
 const MOST_BYTES: usize = 1_048_576;
 
-/// As many names as a listing tells.
+/// The maximum number of names in a listing.
 const NAMES: u32 = 128;
 
-/// Reads a script of 20,000 lines. How many commands were read in all.
+/// Reads a script of 20,000 lines `count` times. Returns how many commands were read in all.
 pub(crate) fn read_scripts(alloc: Global, count: u32) -> Result<u32, AllocError> {
     let text = script_text(alloc)?;
     read_often(alloc, text.as_slice(), count)
@@ -31,7 +31,7 @@ fn read_often(alloc: Global, text: &[u8], count: u32) -> Result<u32, AllocError>
     Ok(read)
 }
 
-/// Makes the line of a listing of 128 names. How many bytes were told in all.
+/// Makes the line of a listing of 128 names `count` times. Returns how many bytes were written in all.
 pub(crate) fn tell_listings(alloc: Global, count: u32) -> Result<u32, AllocError> {
     let listing = listing(alloc)?;
     tell_often(alloc, &listing, count)
@@ -46,7 +46,7 @@ fn tell_often(alloc: Global, listing: &Entry<Call, Reply>, count: u32) -> Result
     Ok(told)
 }
 
-// How many commands the first caller has.
+// The number of commands of the first caller.
 fn commands_in(alloc: Global, text: &[u8]) -> Result<u32, AllocError> {
     if text.len() > MOST_BYTES {
         return Err(AllocError);

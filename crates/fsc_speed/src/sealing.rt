@@ -1,4 +1,4 @@
-//! The kernel of contents: a block that is sealed again and again, whole or in smaller units.
+//! The kernel of contents: a block that is sealed repeatedly, whole or in smaller units.
 ghost use Rattle.std.specs.Prelude.{◌≡◌, length, replicate};
 ghost use Rattle.std.specs.Fn.{iterate};
 ghost use Rattle.sha2.specs.Sha256.{sha256};
@@ -11,7 +11,7 @@ use xts_mode::XtsKey;
 
 const SEAL_KEY: [u8; 64] = [0x5a; 64];
 
-/// Seals a block of contents in place again and again, its first unit with index 7.
+/// Seals a block of contents in place repeatedly, its first unit with index 7.
 pub(crate) fn seal_blocks(unit: Unit, count: u32) -> [u8; 32]
     ensures { result ≡ sha256 (iterate (sealed_block SEAL_KEY unit 7) count (replicate BLOCK_SIZE 0)) }
 {

@@ -1,4 +1,4 @@
-//! The kernels that stretch passwords. Each run works on what the run before it left.
+//! The kernels that stretch passwords. Each run works on the result of the run before.
 ghost use Rattle.std.specs.Prelude.{◌≡◌, [], ◌++◌, ◌<◌, IfOk, Ok, replicate};
 ghost use Rattle.std.specs.Fn.{iterate};
 ghost use Rattle.sha2.specs.Sha256.{sha256};
@@ -27,14 +27,15 @@ pub(crate) const THREE_PASSES: Costs = Costs {
     lanes: 4,
 };
 
-/// 64 MiB. No more is said of the number, since proofs would write out so many zeros.
+/// Returns 64 MiB in bytes. The contract says only that there are some, since proofs would write out that
+/// many zeros.
 pub(crate) fn message_len() -> usize
     ensures { 0 < result }
 {
     67_108_864
 }
 
-/// Hashes the digest of the run before and `length` zeros, again and again.
+/// Hashes the digest of the run before and `length` zeros, repeatedly.
 pub(crate) fn blake2b(alloc: Global, length: usize, count: u32) -> Result<[u8; 32], AllocError>
     ensures { IfOk result (λ digest. digest
         ≡ sha256 (iterate (λ d. blake2b_digest 64 (d ++ replicate length 0)) count (replicate 64 0))) }
@@ -66,7 +67,7 @@ fn blake2b_of(start: &[u8; 64], message: &[u8]) -> [u8; 64]
     digest
 }
 
-/// Stretches the tag of the run before in this way, again and again.
+/// Stretches the tag of the run before in this way, repeatedly.
 #[tactic(auto, using(crate::proofs::Repeating::iterate_more))]
 pub(crate) fn argon2id_tags<S: Stretch>(
     stretches: &S,

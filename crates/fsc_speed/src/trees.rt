@@ -1,21 +1,21 @@
-//! The kernels of the tree of stored nodes. They tell how many look-ups found something, and no
+//! The kernels of the tree of stored nodes. They return how many look-ups found something, and no
 //! contract says how many that are.
 use crate::lengths::ItemCount;
 use disk_tree::{Body, DirEntries, DiskTree, StoredNode};
 use std::alloc::{AllocError, Global};
 
-/// What is done again and again.
+/// The repeated work.
 #[derive(Clone, Copy)]
 pub(crate) enum TreeWork {
     /// Nodes of a tree are looked up by number.
     GetNodes,
     /// Entries of a directory are looked up by stored name.
     GetEntries,
-    /// Entries are taken out of a directory and put back at its end.
+    /// Entries are removed from a directory and added again at its end.
     PutEntries,
 }
 
-/// Works on a tree with so many nodes or entries. How many look-ups found something.
+/// Works on a tree with that many nodes or entries. Returns how many look-ups found something.
 pub(crate) fn work(
     alloc: Global,
     work: TreeWork,
@@ -26,7 +26,7 @@ pub(crate) fn work(
     work_on(alloc, &mut tree, work, size, count)
 }
 
-// The same on a tree that is lent, since all calls of a function that owns one are dear to prove.
+// The same on a borrowed tree, since each call of a function that owns one is expensive to prove.
 fn work_on(
     alloc: Global,
     tree: &mut DiskTree,
@@ -107,7 +107,7 @@ fn add_dir(alloc: Global, tree: &mut DiskTree, number: u32) -> Result<(), AllocE
     tree.add_node(number, node).map_err(|_| AllocError)
 }
 
-// Puts so many entries into the root.
+// Adds that many entries to the root.
 fn fill_dir(alloc: Global, tree: &mut DiskTree, size: ItemCount) -> Result<(), AllocError> {
     add_dir(alloc, tree, 1)?;
     for place in 0..size.items() {
@@ -123,7 +123,7 @@ fn put(alloc: Global, tree: &mut DiskTree, name: &[u8]) -> Result<(), AllocError
     tree.put_entry(alloc, 0, name, 1).map_err(|_| AllocError)
 }
 
-// As long as most enciphered names are, and scattered as they are.
+// As long as most encrypted names are, and scattered as they are.
 fn stored_name(place: u32) -> [u8; 32] {
     let mut name = [0x61; 32];
     name[..4].copy_from_slice(&place.wrapping_mul(2246822519).to_be_bytes());

@@ -10,7 +10,7 @@ use std::thread::{Threads, join};
 use sum_machine::Sum;
 use turn_lock::{Pass, Shared};
 
-/// Adds 7 `count` times, rounded down to as many calls for each caller, and hashes the sum.
+/// Adds 7 `count` times, rounded down to as many calls for each caller, and returns a hash of the sum.
 pub(crate) fn add_sevens<R: Threads + Wait + Sync>(
     rt: &R,
     alloc: Global,
@@ -60,7 +60,7 @@ fn call_all<R: Threads + Wait + Sync>(
     lower
 }
 
-// Ends early where the pass has no calls left.
+// Ends early if the pass has no calls left.
 fn call_one<W: Wait>(rt: &W, shared: &Shared<Sum>, pass: &mut Pass<Sum>, calls: u32)
     requires { pass.old.table ≡ shared.now.table }
     ensures { (pass.new.table ≡ pass.old.table) × (pass.new.who ≡ pass.old.who)

@@ -1,4 +1,5 @@
-//! The kernels of walks. They tell the sum of the nodes that were found, and no contract says which that is.
+//! The kernels of walks. They return the sum of the nodes that were found, and no contract says which
+//! that is.
 ghost use Rattle.std.specs.Prelude.{◌≡◌, ◌<◌};
 
 mod dirs;
@@ -11,18 +12,18 @@ use name_crypt::Steps;
 use std::alloc::{AllocError, Global};
 use std::sync::ledger::{Blank, Ledger};
 
-/// What the directories are walked with.
+/// The kind of the directories that are walked through.
 #[derive(Clone, Copy)]
 pub(crate) enum Walk {
     Plain,
-    /// Encrypted, and the key is there.
+    /// Encrypted, and the key is present.
     Keyed,
-    /// Encrypted, and the key is gone: each part is the text that stands for a name.
+    /// Encrypted, and the key is absent: each part is the no-key text of a name.
     Locked,
 }
 
 impl Walk {
-    /// The walk of this name.
+    /// Returns the walk of this name.
     pub(crate) fn named(name: &str) -> Option<Walk> {
         match name {
             "3-plain" => Some(Walk::Plain),
@@ -33,8 +34,8 @@ impl Walk {
     }
 }
 
-/// Walks from a root of one name through three directories of 4,096 names each. The sum of the nodes that
-/// so many walks find.
+/// Walks `count` times from a root of one name through three directories of 4,096 names each. Returns the
+/// sum of the nodes that the walks find.
 pub(crate) fn walk_often<L: Ledger>(
     alloc: Global,
     blank: Blank,
@@ -50,7 +51,7 @@ pub(crate) fn walk_often<L: Ledger>(
     walk_in(alloc, &mut state, walk, count, &mut steps)
 }
 
-// The same in a mount that is lent, since all calls of a function that owns one are dear to prove.
+// The same in a borrowed mount, since each call of a function that owns one is expensive to prove.
 fn walk_in<L: Ledger>(
     alloc: Global,
     state: &mut MountState,

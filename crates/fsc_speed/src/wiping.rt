@@ -14,7 +14,7 @@ pub(crate) enum Wiped {
 }
 
 impl Wiped {
-    /// The bytes of this name.
+    /// Returns the bytes of this name.
     pub(crate) fn named(name: &str) -> Option<Wiped> {
         match name {
             "zeros" => Some(Wiped::Zeros),
@@ -23,7 +23,8 @@ impl Wiped {
         }
     }
 
-    // The difference of the numbers of two neighbours; a byte is the first of the four bytes of its number.
+    // The difference of the numbers of two neighbours; a byte is the first of the four bytes of its
+    // number.
     fn step(self) -> u32 {
         match self {
             Wiped::Zeros => 0,
@@ -32,7 +33,7 @@ impl Wiped {
     }
 }
 
-/// Copies `size` bytes and wipes the copy, again and again.
+/// Copies `size` bytes and wipes the copy, repeatedly.
 pub(crate) fn wipe_copies(
     alloc: Global,
     wiped: Wiped,

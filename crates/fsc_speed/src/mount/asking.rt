@@ -16,7 +16,8 @@ struct Asked {
     refused: u64,
 }
 
-/// Makes the calls before, and then those of a run so many times. How many of all were refused.
+/// Makes the calls before, and then those of a run `count` times. Returns how many of all calls were
+/// refused.
 pub(crate) fn run_alone(
     alloc: Global,
     before: &Before,
@@ -30,7 +31,7 @@ pub(crate) fn run_alone(
     Ok(asked.refused)
 }
 
-/// What is looked at of a reply.
+/// The part of a reply that is examined.
 #[derive(Clone, Copy)]
 pub(crate) enum Came {
     /// A file was opened, under this handle.
@@ -40,7 +41,7 @@ pub(crate) enum Came {
     Other,
 }
 
-/// What is looked at of this reply.
+/// Returns that part of this reply.
 pub(crate) fn what_came(reply: &Reply) -> Came {
     match reply {
         Reply::Opened(handle) => Came::Opened(*handle),
@@ -57,7 +58,7 @@ impl Asked {
         Ok(())
     }
 
-    // Makes the run so many times, beside so many names.
+    // Makes the run `count` times, beside `names` names.
     fn repeat(
         &mut self,
         alloc: Global,
@@ -77,7 +78,7 @@ impl Asked {
         Ok(())
     }
 
-    // Makes the calls so many times. Where one of them may not be made, none is, and all are refused.
+    // Makes the calls `count` times. If one of them may not be made, none is, and all count as refused.
     fn ask_often(&mut self, calls: &[Call], count: u32) {
         if calls.iter().all(|call| call.fits()) {
             for _ in 0..count {
@@ -97,7 +98,7 @@ impl Asked {
         }
     }
 
-    // Opens so many times, and closes what was opened.
+    // Opens `count` times, and closes what was opened.
     fn open_often(&mut self, open: &Call, count: u32) {
         if !open.fits() {
             return;
@@ -109,7 +110,7 @@ impl Asked {
         }
     }
 
-    // Tells the status of the key so many times.
+    // Asks for the status of the key `count` times.
     fn tell_anew(&mut self, count: u32) {
         let id = id_of_key();
         for _ in 0..count {

@@ -8,7 +8,7 @@ use item_list::Bytes;
 use mount_model::{Call, KeyId, Op, Part, Path};
 use std::alloc::{AllocError, Global};
 
-/// What is asked of a path.
+/// A call on a path.
 #[derive(Clone, Copy)]
 pub(crate) enum OnPath {
     Mkdir,
@@ -20,7 +20,7 @@ pub(crate) enum OnPath {
 }
 
 impl OnPath {
-    /// The call that asks so of the path.
+    /// Returns this call on the path.
     pub(crate) fn call(self, path: Path) -> Call {
         let nonce = NONCE;
         call(match self {
@@ -33,27 +33,27 @@ impl OnPath {
         })
     }
 
-    /// The call that asks so of the name with this number.
+    /// Returns this call on the name with this number.
     pub(crate) fn numbered(self, alloc: Global, number: u32) -> Result<Call, AllocError> {
         Ok(self.call(numbered_path(alloc, number)?))
     }
 }
 
-/// The call of user 0.
+/// Returns the call of user 0.
 pub(crate) fn call(op: Op) -> Call
     ensures { result.op ≡ op }
 {
     Call { uid: 0, op }
 }
 
-/// The path of the directory whose names are made and looked up.
+/// Returns the path of the directory whose names are made and looked up.
 pub(crate) fn top_path(alloc: Global) -> Result<Path, AllocError> {
     let mut path = Path::root(alloc);
     push_part(&mut path, alloc, TOP)?;
     Ok(path)
 }
 
-/// The path of the name with this number in that directory: 32 digits.
+/// Returns the path of the name with this number in that directory: 32 digits.
 pub(crate) fn numbered_path(alloc: Global, number: u32) -> Result<Path, AllocError> {
     let mut path = top_path(alloc)?;
     path.push(Part::new(scattered_name(alloc, number)?))?;
@@ -65,7 +65,7 @@ pub(crate) fn add_key(alloc: Global) -> Result<Call, AllocError> {
     Ok(call(Op::AddKey { raw }))
 }
 
-/// Encrypts the directory under the key.
+/// Returns the call that encrypts the directory under the key.
 pub(crate) fn set_policy(alloc: Global) -> Result<Call, AllocError> {
     Ok(call(Op::SetPolicy {
         path: top_path(alloc)?,
@@ -74,7 +74,7 @@ pub(crate) fn set_policy(alloc: Global) -> Result<Call, AllocError> {
     }))
 }
 
-/// Gives the name with the old number that with the new one.
+/// Returns the call that renames the name with the old number to that with the new one.
 pub(crate) fn rename(alloc: Global, old: u32, new: u32) -> Result<Call, AllocError> {
     Ok(call(Op::Rename {
         old_path: numbered_path(alloc, old)?,
@@ -82,20 +82,20 @@ pub(crate) fn rename(alloc: Global, old: u32, new: u32) -> Result<Call, AllocErr
     }))
 }
 
-/// Tells 128 names of the directory, from this number on.
+/// Returns the call that lists 128 names of the directory, from this number on.
 pub(crate) fn list(alloc: Global, start: u32) -> Result<Call, AllocError> {
     let path = top_path(alloc)?;
     Ok(call(Op::List { path, start }))
 }
 
-/// Tells the status of the key with this identifier.
+/// Returns the call for the status of the key with this identifier.
 pub(crate) fn status(id: KeyId) -> Call
     ensures { Fits result }
 {
     call(Op::KeyStatus { id })
 }
 
-/// Reads the first block of the file that is open under the handle.
+/// Returns the call that reads the first block of the file that is open under the handle.
 pub(crate) fn read(handle: u32) -> Call
     ensures { Fits result }
 {
@@ -106,7 +106,8 @@ pub(crate) fn read(handle: u32) -> Call
     })
 }
 
-/// Writes so many bytes from an offset on of the file that is open under the caller's first handle.
+/// Returns the call that writes `len` bytes at an offset of the file that is open under the caller's
+/// first handle.
 pub(crate) fn write(alloc: Global, offset: u32, len: usize) -> Result<Call, AllocError> {
     let bytes = Bytes::from_vec(vec![in alloc; 0x62; len]?);
     Ok(call(Op::Write {

@@ -10,17 +10,17 @@ use std::alloc::{AllocError, Global};
 use std::sync::Wait;
 use std::thread::Threads;
 
-/// What is measured.
+/// A kernel to be measured.
 #[derive(Clone, Copy)]
 pub(crate) enum MountKernel {
-    /// One thread asks.
+    /// One thread calls.
     Alone(Before, Run),
-    /// Threads ask in turns.
+    /// Threads call in turns.
     Shared(Subject, Callers),
 }
 
 impl MountKernel {
-    /// The kernel of this name, such as `mkdir`, `stat-4096` or `shared-read-2`.
+    /// Returns the kernel of this name, such as `mkdir`, `stat-4096` or `shared-read-2`.
     pub(crate) fn named(name: &str) -> Option<MountKernel> {
         for (fixed, kernel) in &KERNELS {
             if *fixed == name {
@@ -30,7 +30,7 @@ impl MountKernel {
         MountKernel::numbered(name)
     }
 
-    // The kernel whose name ends with how many names or callers there are.
+    // The kernel whose name ends with the number of names or callers.
     fn numbered(name: &str) -> Option<MountKernel> {
         let (family, number) = name.rsplit_once('-')?;
         match family {
@@ -43,21 +43,21 @@ impl MountKernel {
         }
     }
 
-    // Names are made and taken away, of which each is there beside all others but one.
+    // Names are made and removed, each of them beside all others but one.
     fn beside(number: &str, steps: &'static [Step]) -> Option<MountKernel> {
         let names = ItemCount::read(number, MOST)?.items();
         let run = Run::Steps(steps, names, RUN_NAMES);
         Some(MountKernel::Alone(Before::files(names - 1), run))
     }
 
-    // Names are looked up, where there are so many.
+    // Names are looked up among that many.
     fn among(number: &str) -> Option<MountKernel> {
         let names = ItemCount::read(number, MOST)?.items();
         let run = Run::Steps(LOOK_UP, 0, RUN_NAMES);
         Some(MountKernel::Alone(Before::files(names), run))
     }
 
-    /// Prepares a mount, makes the calls of a run `count` times, and tells how many of all calls were
+    /// Prepares a mount, makes the calls of a run `count` times, and returns how many of all calls were
     /// refused.
     pub(crate) fn run<R: Threads + Wait + Sync>(
         self,

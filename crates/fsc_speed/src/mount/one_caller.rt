@@ -1,4 +1,4 @@
-//! What a caller asks of a mount, each call in its turn.
+//! The calls of one caller of a mount, each in its turn.
 ghost use Rattle.std.specs.Prelude.{◌≡◌};
 ghost use Rattle.mount_model.specs.Fits.{Fits};
 
@@ -13,7 +13,7 @@ use std::alloc::{AllocError, Global};
 use std::sync::Wait;
 use turn_lock::{Pass, Shared};
 
-/// What is asked.
+/// The object of the calls.
 #[derive(Clone, Copy)]
 pub(crate) enum Subject {
     /// The status of a key that 4,096 open files need.
@@ -22,7 +22,7 @@ pub(crate) enum Subject {
     Read,
 }
 
-/// What each caller asks, so many times.
+/// The calls of each caller: `calls` on the subject.
 #[derive(Clone, Copy)]
 pub(crate) struct Asking {
     pub(crate) alloc: Global,
@@ -31,7 +31,7 @@ pub(crate) struct Asking {
 }
 
 impl Asking {
-    /// Makes the calls that prepare the mount. How many of them were refused.
+    /// Makes the calls that prepare the mount. Returns how many of them were refused.
     pub(crate) fn prepare<W: Wait, M: MountMachine>(
         &self,
         rt: &W,
@@ -61,7 +61,8 @@ impl Asking {
         }
     }
 
-    /// The calls of one caller, which opens the file first that it reads. How many were refused.
+    /// Makes the calls of one caller, which first opens the file that it reads. Returns how many were
+    /// refused.
     pub(crate) fn ask_often<W: Wait, M: MountMachine>(
         &self,
         rt: &W,
@@ -120,7 +121,7 @@ fn open_first<W: Wait, M: MountMachine>(
     Ok(ask(rt, shared, pass, &open))
 }
 
-// Makes each of these calls. How many of them were refused.
+// Makes each of these calls. Returns how many of them were refused.
 fn ask_each<W: Wait, M: MountMachine>(
     rt: &W,
     shared: &Shared<M>,
@@ -139,7 +140,8 @@ fn ask_each<W: Wait, M: MountMachine>(
     refused
 }
 
-// What came to the pass's caller. What may not be asked is refused, and so is a call when none is left.
+// The examined part of the reply to the pass's caller. A call that may not be made counts as refused, and
+// so does a call when none is left.
 fn ask<W: Wait, M: MountMachine>(
     rt: &W,
     shared: &Shared<M>,

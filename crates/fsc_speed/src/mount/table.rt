@@ -1,9 +1,9 @@
-//! The kernels of a mount whose names tell no number, and what their runs ask.
+//! The kernels of a mount whose names contain no number, and the calls of their runs.
 use crate::mount::calls::OnPath;
 use crate::mount::kernel::MountKernel;
 use crate::mount::work::{Before, Run, Step};
 
-/// Each directory is made, and taken away.
+/// Each directory is made, and removed.
 pub(crate) const DIRS: &[Step] = &[Step::Name(OnPath::Mkdir), Step::Name(OnPath::Rmdir)];
 
 /// The same with files.
@@ -12,22 +12,22 @@ pub(crate) const FILES: &[Step] = &[Step::Name(OnPath::Create), Step::Name(OnPat
 /// Names are looked up.
 pub(crate) const LOOK_UP: &[Step] = &[Step::LookUp];
 
-/// The names of a run.
+/// The number of names of a run.
 pub(crate) const RUN_NAMES: u32 = 64;
 
-/// As many names as a directory may have, and files as may be open.
+/// The maximum number of names of a directory, and of open files.
 pub(crate) const MOST: u32 = 4096;
 
-// The names where a kernel's name tells none.
+// The number of names if a kernel's name contains none.
 const FEW: u32 = 128;
 
 // More names than a mount caches.
 const ROUND_NAMES: u32 = 320;
 
-// The first name that is told: in the middle.
+// The first name that is listed: in the middle.
 const PAGE_START: u32 = 2048;
 
-// Names of a run and what is asked of them.
+// Names of a run and the calls on them.
 const MAKE_DIRS: Run = Run::Steps(DIRS, FEW, RUN_NAMES);
 
 const MAKE_FILES: Run = Run::Steps(FILES, FEW, RUN_NAMES);

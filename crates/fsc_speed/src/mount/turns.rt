@@ -13,7 +13,8 @@ use turn_lock::{Pass, Shared};
 /// More calls than all callers make together, so that each half of them is enough for a half of the callers.
 const ALLOWANCE: u64 = 1 << 36;
 
-/// Asks `count` times, rounded down to as many calls for each caller. How many of all calls were refused.
+/// Calls `count` times, rounded down to as many calls for each caller. Returns how many of all calls were
+/// refused.
 pub(crate) fn ask_in_turns<R: Threads + Wait + Sync>(
     rt: &R,
     alloc: Global,
@@ -32,7 +33,7 @@ pub(crate) fn ask_in_turns<R: Threads + Wait + Sync>(
     refused
 }
 
-// Prepares the mount, and asks in all threads. The pass again, and how many of all calls were refused.
+// Prepares the mount, and calls in all threads. Returns the pass, and how many of all calls were refused.
 fn prepare_and_ask<R: Threads + Wait + Sync, M: MountMachine + Send>(
     rt: &R,
     shared: &Shared<M>,
@@ -46,7 +47,8 @@ fn prepare_and_ask<R: Threads + Wait + Sync, M: MountMachine + Send>(
     (pass, sum(refused, more))
 }
 
-// Each caller of the pass asks in a thread of its own. The pass again, and how many calls were refused.
+// Each caller of the pass calls in a thread of its own. Returns the pass, and how many calls were
+// refused.
 fn ask_all<R: Threads + Wait + Sync, M: MountMachine + Send>(
     rt: &R,
     shared: &Shared<M>,

@@ -1,4 +1,4 @@
-//! What the kernels ask of a mount.
+//! The calls that the kernels make.
 use crate::directories::id_of_key;
 use crate::mount::calls::{
     OnPath, add_key, call, list, read, rename, set_policy, status, top_path, write,
@@ -6,26 +6,26 @@ use crate::mount::calls::{
 use mount_model::{Call, Op};
 use std::alloc::{AllocError, Global};
 
-/// What is asked for a number.
+/// One call, for a number.
 #[derive(Clone, Copy)]
 pub(crate) enum Step {
-    /// Of the name with the number.
+    /// On the name with the number.
     Name(OnPath),
     /// A name is looked up, another one for each of the first numbers.
     LookUp,
-    /// All that is kept for speed is let go.
+    /// All that is cached is dropped.
     DropCaches,
     /// The name with the number becomes another one.
     MoveThere,
     /// It becomes its own again.
     MoveBack,
-    /// Names of the directory are told, from the number on.
+    /// Names of the directory are listed, from the number on.
     List,
     /// The first block of the first open file is read.
     Read,
-    /// So many bytes are written into it, from the number on.
+    /// That many bytes are written into it, from the number on.
     Write(usize),
-    /// The status of the key is told.
+    /// The status of the key is returned.
     Status,
 }
 
@@ -36,14 +36,14 @@ pub(crate) struct Before {
     pub(crate) is_encrypted: bool,
     /// How many files it has.
     pub(crate) files: u32,
-    /// What is asked for each of the files that are used.
+    /// The calls for each of the files that are used.
     pub(crate) then: &'static [Step],
-    /// How many are.
+    /// The number of files that are used.
     pub(crate) used: u32,
 }
 
 impl Before {
-    /// The encrypted directory with so many files, of which none is used.
+    /// Returns the encrypted directory with that many files, of which none is used.
     pub(crate) fn files(files: u32) -> Before {
         Before {
             is_encrypted: true,
@@ -54,15 +54,14 @@ impl Before {
     }
 }
 
-/// What is measured.
+/// The measured calls.
 #[derive(Clone, Copy)]
 pub(crate) enum Run {
-    /// The calls of these steps, which are made before, for each number from the first on, so many numbers.
+    /// The calls of these steps, which are made before, for each of that many numbers from the first on.
     Steps(&'static [Step], u32, u32),
     /// The first file is opened, and what was opened is closed.
     OpenClose,
-    /// The status of the key is told by a call that is made for each, as who asks in turn makes one for
-    /// each.
+    /// The status of the key, each time by a new call, as a caller in turns makes one for each.
     StatusAnew,
 }
 
@@ -87,7 +86,7 @@ fn push_files(calls: &mut Vec<Call>, alloc: Global, before: &Before) -> Result<(
     push_steps(calls, alloc, before.then, 0, before.used, before.files)
 }
 
-/// Adds the calls of these steps for so many numbers from the first on, beside so many names.
+/// Adds the calls of these steps for `numbers` numbers from the first on, beside `names` names.
 pub(crate) fn push_steps(
     calls: &mut Vec<Call>,
     alloc: Global,
@@ -104,7 +103,7 @@ pub(crate) fn push_steps(
     Ok(())
 }
 
-// The call of the step for the number, beside so many names.
+// The call of the step for the number, beside `names` names.
 fn step_call(alloc: Global, step: Step, number: u32, names: u32) -> Result<Call, AllocError> {
     match step {
         Step::Name(asked) => asked.numbered(alloc, number),
@@ -119,7 +118,7 @@ fn step_call(alloc: Global, step: Step, number: u32, names: u32) -> Result<Call,
     }
 }
 
-// Another one of so many names for each of the first numbers.
+// Another one of that many names for each of the first numbers.
 fn another(number: u32, names: u32) -> u32 {
     match names {
         0 => 0,

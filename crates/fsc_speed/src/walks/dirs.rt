@@ -11,10 +11,11 @@ use name_crypt::Steps;
 use std::alloc::{AllocError, Global};
 use std::sync::ledger::Ledger;
 
-/// How many files lie in each beside the next directory, so that it has as many entries as it may.
+/// The number of files in each directory beside the next one, so that it has the maximum number of
+/// entries.
 const FILES: u32 = 4095;
 
-/// Makes them for the walk, for which the key is there, or gone in the end.
+/// Makes the directories for the walk. In the end the key is present, or absent for a locked walk.
 pub(crate) fn make_dirs<L: Ledger>(
     alloc: Global,
     state: &mut MountState,

@@ -5,13 +5,13 @@ use mount_model::Path;
 use name_crypt::{StoredName, nokey_text};
 use std::alloc::{AllocError, Global};
 
-/// How many directories of so many names are walked through.
+/// The number of directories of 4,096 names that are walked through.
 pub(crate) const DEPTH: u32 = 3;
 
 /// The name of each but the top one.
 pub(crate) const NEXT: &[u8] = b"the next directory";
 
-/// The path to a name at that depth: the root is at depth 0.
+/// Returns the path to a name at that depth: the root is at depth 0.
 pub(crate) fn path_to(alloc: Global, depth: u32, name: &[u8]) -> Result<Path, AllocError> {
     let mut path = Path::root(alloc);
     for above in 0..depth {
@@ -21,15 +21,15 @@ pub(crate) fn path_to(alloc: Global, depth: u32, name: &[u8]) -> Result<Path, Al
     Ok(path)
 }
 
-/// The path of texts to the last directory, when the key is gone. Each directory is the newest entry of the
-/// one that it lies in.
+/// Returns the path of texts to the last directory, when the key is absent. Each directory is the newest
+/// entry of the one that contains it.
 pub(crate) fn locked_path(alloc: Global, disk: &DiskTree) -> Result<Path, AllocError> {
     let mut path = path_to(alloc, 0, TOP)?;
     push_texts(&mut path, alloc, disk)?;
     Ok(path)
 }
 
-// Puts the texts of the directories below the top one.
+// Appends the texts of the directories below the top one.
 fn push_texts(path: &mut Path, alloc: Global, disk: &DiskTree) -> Result<(), AllocError> {
     let mut dir = disk.entry(0, TOP).ok_or(AllocError)?;
     for _ in 0..DEPTH {
@@ -51,7 +51,7 @@ fn newest_in(disk: &DiskTree, dir: u32) -> Option<(&[u8], u32)> {
     }
 }
 
-// Puts the text that stands for the stored name.
+// Appends the no-key text of the stored name.
 fn push_text(path: &mut Path, alloc: Global, stored: &[u8]) -> Result<(), AllocError> {
     match StoredName::read(stored) {
         Ok(stored) => push_part(path, alloc, nokey_text(&stored).bytes()),

@@ -1,4 +1,4 @@
--- So many runs are done.
+-- The counter is the number of runs that are done.
 use Rattle.std.proofs.Common.{◌≡◌, replicate}
 use Rattle.std.specs.Fn.{iterate}
 use Rattle.aes_core.specs.Aes.{decrypted_block}
