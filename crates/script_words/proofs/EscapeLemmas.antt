@@ -23,7 +23,7 @@ plain_characters = refl
 beyond_ascii : (b : ℕ) → 128 ≤ b → is_plain_character b ≡ false
 beyond_ascii b high = grind (arith, nat_tests)
 
--- just what isn't a plain character is escaped
+-- exactly the bytes that aren't plain characters are escaped
 should_percent_encode-ESCAPED : (b : ℕ) → should_percent_encode ESCAPED b ≡ not (is_plain_character b)
 unfolding should_percent_encode
 should_percent_encode-ESCAPED b =

@@ -78,7 +78,7 @@ few_parts-all done texts n told whole few =
     let all : Some done ≡ parts_of texts = ap Some (sym (append-nil done)) ∙ ap (λ more. onto done (parts_of more)) (sym none) ∙ told in
     rw (le-leb (length texts) MOST_PARTS (omega arith)) all
 
--- a text without `/` in front
+-- a text that doesn't begin with `/`
 pub path_of-empty : (text : List ℕ) → (length text == 0) ≡ true → None ≡ path_of text
 unfolding path_of
 path_of-empty [] none = refl
@@ -105,7 +105,7 @@ path_of-pieces [] slash some more = absurd (some refl)
 path_of-pieces (first ∷ []) slash some more = absurd (more refl)
 path_of-pieces (first ∷ b ∷ rest) slash some more = rw (slash, suc-ne-zero (length rest)) refl
 
--- what is read of the pieces behind the first `/` is what the text spells
+-- what is read of the pieces after the first `/` is what the text spells
 pub path_of-read : (text : List ℕ) (read : Option (List ScriptPart)) → get_or text 0 0 ≡ 47 → (length text == 0) ≡ false → length text ≢ 1
     → read ≡ few_parts (slice_split is_slash (take (length text - 1) (drop 1 text))) → read ≡ path_of text
 path_of-read text read slash some more told =

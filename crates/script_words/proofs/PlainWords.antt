@@ -42,7 +42,7 @@ use Rattle.script_words.specs.declared.secrets.NewSecret.{NewSecret}
 use Rattle.script_words.specs.declared.secrets.NewSecret.TheVariants as new
 use Rattle.script_words.proofs.EscapeLemmas.{graphic_text}
 
--- each byte stands behind the space
+-- each byte is greater than the space
 abbrev pub IsPlain : List ℕ → Type 0
 IsPlain word = All (λ b. 33 ≤ b) word
 

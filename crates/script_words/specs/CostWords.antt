@@ -12,7 +12,7 @@ use Rattle.script_words.specs.Numbers.{number_of}
 abbrev pub is_colon : ℕ → Bool
 is_colon b = b == 58
 
--- a number before the first `:`, and what stands behind it
+-- a number before the first `:`, and the text after it
 abbrev pub number_and_rest : List ℕ → Option (ℕ × List ℕ)
 number_and_rest text =
     if nat_lt (position_or_len is_colon text) (length text)

@@ -11,7 +11,7 @@ use Rattle.fsc_keys.specs.declared.raw_key.TheConstants.{LEAST_RAW_KEY_BYTES, MO
 use Rattle.script_words.specs.declared.key_words.KeyRef.{KeyRef}
 use Rattle.script_words.specs.declared.key_words.KeyRef.TheVariants.{Id, Raw}
 
--- the bytes that digits of either case spell, where there are from low to high of them
+-- the bytes that digits of either case spell, if there are from low to high of them
 abbrev pub hex_of_size : ℕ → ℕ → List ℕ → Option (List ℕ)
 hex_of_size low high word =
     if nat_le (2 * low) (length word) && nat_le (length word) (2 * high) then hex_bytes word else None
@@ -49,6 +49,6 @@ abbrev pub IsKey : KeyRef → Type 0
 IsKey (Id id) = (length id.0 ≡ 16) × IsBytes id.0
 IsKey (Raw raw) = (LEAST_RAW_KEY_BYTES ≤ length raw) × ((length raw ≤ MOST_RAW_KEY_BYTES) × IsBytes raw)
 
--- at most so many bytes
+-- at most `most` bytes
 abbrev pub AreFewBytes : List ℕ → ℕ → Type 0
 AreFewBytes bytes most = (length bytes ≤ most) × IsBytes bytes

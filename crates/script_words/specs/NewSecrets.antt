@@ -11,7 +11,7 @@ use Rattle.script_words.specs.declared.secrets.NewSecret.TheVariants as new
 use Rattle.script_words.specs.CostWords.{number_and_rest, costs_of, costs_text}
 use Rattle.script_words.specs.Secrets.{raw_secret_of, IsRawSecret}
 
--- a passphrase, behind costs
+-- a passphrase, after costs
 abbrev pub behind_costs : Costs → List ℕ → Option NewSecret
 behind_costs costs text = option_map (λ passphrase. new.Pass costs passphrase) (word_bytes text)
 

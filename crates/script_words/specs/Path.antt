@@ -10,7 +10,7 @@ use Rattle.script_words.specs.declared.limits.TheConstants.{MOST_PARTS}
 use Rattle.script_words.specs.declared.path.ScriptPart.{ScriptPart}
 use Rattle.script_words.specs.declared.path.ScriptPart.TheVariants.{Given, Star}
 
--- the number of a star: `*` and a decimal number, as they stand
+-- the number of a star: `*` and a decimal number, unescaped
 abbrev pub star_number : List ℕ → Option ℕ
 star_number [] = None
 star_number (c ∷ number) = if c == 42 then number_below (2 ^ 32) number else None
@@ -31,25 +31,25 @@ abbrev pub parts_of : List (List ℕ) → Option (List ScriptPart)
 parts_of [] = Some []
 parts_of (text ∷ texts) = before_parts (part_of text) (parts_of texts)
 
--- the same, where the texts are at most 32
+-- the same, if there are at most 32 texts
 abbrev pub few_parts : List (List ℕ) → Option (List ScriptPart)
 few_parts texts = if nat_le (length texts) MOST_PARTS then parts_of texts else None
 
--- the path that a text spells: `/` is the root, and else what stands between the slashes, behind the
--- first, is the parts
+-- the path that a text spells: `/` is the root; else the parts are the texts between the slashes, after
+-- the first
 unfoldable pub path_of : List ℕ → Option (List ScriptPart)
 path_of [] = None
 path_of (first ∷ rest) =
     if not (is_slash first) then None else if length rest == 0 then Some []
     else few_parts (slice_split is_slash rest)
 
--- what a part may be: a word without `/` and NUL that is neither `.` nor `..`, or a star with a number
--- below 2^32
+-- the parts that are possible: a word without `/` and NUL that is neither `.` nor `..`, or a star with a
+-- number below 2^32
 abbrev pub IsPart : ScriptPart → Type 0
 IsPart (Given bytes) = IsWord bytes × IsTrue (may_be_part bytes)
 IsPart (Star number) = number < 2 ^ 32
 
--- what a path may be: at most 32 parts
+-- the paths that are possible: at most 32 parts
 pub record IsPath (parts : List ScriptPart) : Type 0 where
   pub bounded : length parts ≤ MOST_PARTS
   pub each : All IsPart parts

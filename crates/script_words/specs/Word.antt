@@ -1,5 +1,5 @@
--- Words of a script: characters from `!` to `~`, where `%` and two hexadecimal digits stand for the
--- byte that they spell.
+-- Words of a script: characters from `!` to `~`, in which `%` and two hexadecimal digits are the byte
+-- that they spell.
 use Rattle.std.specs.Prelude.{ℕ, ◌<◌, ◌≤◌, ◌==◌, Bool, true, false, not, ◌&&◌, ◌||◌, nat_le}
 use Rattle.std.specs.Prelude.{List, [], ◌∷◌, length, Option, Some, None, if◌then◌else◌}
 use Rattle.std.specs.List.{All, list_all, list_any, flat_map}

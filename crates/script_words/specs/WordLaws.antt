@@ -19,7 +19,7 @@ TargetsReadBack =
 abbrev pub TextsSpellWords : Type 0
 TextsSpellWords = (text bytes : List ℕ) → word_bytes text ≡ Some bytes → IsWord bytes
 
--- and as a target it has no NUL besides
+-- and as a target it has no NUL either
 abbrev pub TextsSpellTargets : Type 0
 TextsSpellTargets =
     (text bytes : List ℕ) → target_bytes text ≡ Some bytes → IsWord bytes × IsTrue (may_be_target bytes)

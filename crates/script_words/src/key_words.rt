@@ -8,14 +8,15 @@ use item_list::Bytes;
 use std::alloc::{AllocError, Global};
 use text_words::{hex_bytes, hex_bytes_into};
 
-/// A key: by its identifier, or by its bytes, which stand for their identifier.
+/// A key: by its identifier, or by its bytes, which determine their identifier.
 #[derive(Drop)]
 pub enum KeyRef {
     Id(KeyId),
     Raw(RawKey),
 }
 
-/// The bytes that the digits spell, if there are from `least` to `most` of them.
+/// Returns the bytes that the digits spell, if they are `least` to `most` bytes in two digits each; else
+/// `None`.
 pub fn read_hex(
     alloc: Global,
     word: &[u8],
@@ -36,7 +37,7 @@ pub fn read_hex(
     Ok(Some(Bytes::from_vec(bytes)))
 }
 
-/// The 1 to `most` bytes that the digits spell, or none for `-`.
+/// Returns the 1 to `most` bytes that the digits spell, or no bytes for `-`; else `None`.
 pub fn read_hex_or_none(
     alloc: Global,
     word: &[u8],
@@ -51,7 +52,7 @@ pub fn read_hex_or_none(
     read_hex(alloc, word, 1, most)
 }
 
-/// The key that the word names.
+/// Returns the key that the word names, if it names one.
 pub fn read_key_ref(word: &[u8]) -> Option<KeyRef>
     ensures { result ≡ spec.key_ref_of word.now }
 {

@@ -1,5 +1,5 @@
-//! The words of scripts: what each spells, as bytes, paths, numbers, keys, records or secrets, and the text
-//! in which it is written.
+//! The words of scripts: what each spells, as bytes, paths, numbers, keys, records or secrets, and the
+//! text in which it is written.
 #![tactic(auto)]
 
 mod key_words;

@@ -1,10 +1,10 @@
-//! The limits of words. Those that a mount has too are the mount's.
+//! The limits of words. A limit that a mount has too is the mount's.
 
-// The parts of a path.
+// The maximum number of parts of a path.
 pub(crate) const MOST_PARTS: usize = mount_limits::MOST_PARTS;
 
-// The bytes that a word stands for.
+// The maximum number of bytes that a word spells.
 pub(crate) const MOST_WORD_BYTES: usize = mount_limits::MOST_PART_BYTES;
 
-// The bytes of a raw secret.
+// The length of a raw secret, in bytes.
 pub(crate) const RAW_SECRET_BYTES: usize = 32;

@@ -17,18 +17,18 @@ use text_words::{decimal_value, may_be_part};
 pub enum ScriptPart {
     /// The name itself.
     Given(Bytes),
-    /// The name of this number, from 0, in the caller's last listing. Where there is none that can
-    /// be a part, the part is its own text, `*` and the number.
+    /// The name of this number, from 0, in the caller's last listing. If no such name can be a part, the
+    /// part is its own text, `*` and the number.
     Star(u32),
 }
 
-/// A path of at most 32 parts; the root has none. A given part has 1 to 1,000 bytes, without `/`
-/// and NUL, and is neither `.` nor `..`. In clauses a path is the list of its parts.
+/// A path of at most 32 parts; the root has none. A given part has 1 to 1,000 bytes, without `/` and NUL,
+/// and is neither `.` nor `..`. In clauses a path is the list of its parts.
 pub struct ScriptPath {
     parts: Items<ScriptPart>,
 }
 
-// Written, and not derived, so that a crate that lets one go needn't prove how that is done.
+// Written, not derived, so that a crate that drops a path needn't prove how that is done.
 impl Drop for ScriptPath {
     fn drop(self) {
         let ScriptPath { parts: _ } = self;
@@ -48,7 +48,7 @@ impl Model for ScriptPath {
 }
 
 impl ScriptPath {
-    /// The parts, the one behind the first `/` first.
+    /// Returns the parts, the one after the first `/` first.
     pub fn parts(&self) -> &[ScriptPart]
         ensures value { result.now ≡ self.now }
         ensures path { IsPath result.now }
@@ -57,8 +57,8 @@ impl ScriptPath {
     }
 }
 
-/// Reads a path. `None` exactly where the text is outside the grammar: no `/` in front, more than
-/// 32 parts, or a piece behind a `/` that is no part. `AllocError` may come on any text.
+/// Reads a path. Returns `None` exactly when the text is outside the grammar: no `/` at the start, more
+/// than 32 parts, or a piece after a `/` that is no part. `AllocError` is possible for any text.
 pub fn read_path(alloc: Global, text: &[u8]) -> Result<Option<ScriptPath>, AllocError>
     ensures { IfOk result (λ path. path ≡ path_of text.now) }
 {
@@ -92,9 +92,9 @@ fn read_parts(alloc: Global, text: &[u8]) -> Result<Option<Items<ScriptPart>>, A
     Ok(Some(parts))
 }
 
-/// Reads a part: `*` and a number, as they stand, are a star; every other text is a word, without
-/// `/` and NUL and neither `.` nor `..`. `None` exactly where the text is no part; `AllocError` may
-/// come on any.
+/// Reads a part. `*` and a number, unescaped, are a star; every other text is a word, without `/` and NUL
+/// and neither `.` nor `..`. Returns `None` exactly when the text is no part. `AllocError` is possible
+/// for any text.
 #[tactic(auto, unfolding(crate::specs::Path::part_of))]
 pub fn read_part(alloc: Global, text: &[u8]) -> Result<Option<ScriptPart>, AllocError>
     ensures { IfOk result (λ part. part ≡ part_of text.now) }
@@ -147,7 +147,7 @@ fn path_text(alloc: Global, parts: &[ScriptPart]) -> Result<String, AllocError>
     Ok(text)
 }
 
-// Writes a part behind a text.
+// Appends a part to a text.
 fn append_part(text: &mut String, part: &ScriptPart) -> Result<(), AllocError>
     ensures { OnOk result (string_bytes text.new ≡ string_bytes text.old ++ part_text part.now) }
 {

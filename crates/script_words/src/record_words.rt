@@ -12,7 +12,7 @@ pub enum Record {
     Policy(Label),
 }
 
-/// The record that the word names.
+/// Returns the record that the word names, if it names one.
 pub fn read_record(word: &[u8]) -> Option<Record>
     ensures { result ≡ records.record_of word.now }
 {

@@ -13,7 +13,7 @@ use argon_kdf::Costs;
 use std::alloc::{AllocError, Global};
 use text_words::{decimal_value, hex_bytes};
 
-/// The secret that the word tells.
+/// Returns the secret that the word spells, if it spells one.
 pub fn read_secret(alloc: Global, word: &[u8]) -> Result<Option<Secret>, AllocError>
     ensures { IfOk result (λ secret. secret ≡ spec.secret_of word.now) }
 {
@@ -26,7 +26,7 @@ pub fn read_secret(alloc: Global, word: &[u8]) -> Result<Option<Secret>, AllocEr
     Ok(None)
 }
 
-/// The new secret that the word tells.
+/// Returns the new secret that the word spells, if it spells one.
 pub fn read_new_secret(alloc: Global, word: &[u8]) -> Result<Option<NewSecret>, AllocError>
     ensures { IfOk result (λ secret. secret ≡ new_secrets.new_secret_of word.now) }
 {
@@ -45,7 +45,7 @@ fn read_raw(digits: &[u8]) -> Option<[u8; 32]>
     hex_bytes(digits)
 }
 
-// Costs, and the passphrase behind them.
+// Costs, and the passphrase after them.
 fn read_stretched(alloc: Global, text: &[u8]) -> Result<Option<NewSecret>, AllocError>
     ensures { IfOk result (λ secret. secret ≡ new_secrets.stretched_of text.now) }
 {
@@ -64,7 +64,7 @@ fn read_stretched(alloc: Global, text: &[u8]) -> Result<Option<NewSecret>, Alloc
     read_behind_costs(alloc, costs, text)
 }
 
-// The passphrase behind costs.
+// The passphrase after costs.
 fn read_behind_costs(
     alloc: Global,
     costs: AllowedCosts,
@@ -83,7 +83,7 @@ fn allowed_costs(passes: u32, kib: u32, lanes: u32) -> Option<AllowedCosts>
     AllowedCosts::new(Costs { passes, kib, lanes }).ok()
 }
 
-// A number before the first `:`, and what stands behind it.
+// A number before the first `:`, and the text after it.
 fn number_and_rest(text: &[u8]) -> Option<(u32, &[u8])>
     ensures { option_map (λ x. (x.0, x.1.now)) result ≡ cost_words.number_and_rest text.now }
 {

@@ -1,4 +1,4 @@
-//! The secrets of protectors, as a script tells them.
+//! The secrets of protectors, as a script gives them.
 
 ghost use Rattle.std.specs.Prelude.{◌≡◌, ◌↔◌, IfOk, IfErr, IsOk, Ok, Err};
 ghost use Rattle.argon_kdf.specs.CostLimits.{checked_costs};
@@ -7,7 +7,7 @@ use argon_kdf::{CostFault, Costs};
 use item_list::Bytes;
 use std::marker::Model;
 
-/// What opens a protector.
+/// The secret that opens a protector.
 #[derive(Drop)]
 pub enum Secret {
     /// The wrapping key itself.
@@ -16,12 +16,12 @@ pub enum Secret {
     Pass(Bytes),
 }
 
-/// What a new protector, or one that changes, is to be opened with.
+/// The secret of a new protector, or the next secret of one that changes.
 #[derive(Drop)]
 pub enum NewSecret {
     /// The wrapping key itself.
     Raw([u8; 32]),
-    /// A passphrase of 1 to 1,000 bytes, and what stretching it costs.
+    /// A passphrase of 1 to 1,000 bytes, and the costs of stretching it.
     Pass {
         costs: AllowedCosts,
         passphrase: Bytes,
@@ -50,7 +50,7 @@ impl Model for AllowedCosts {
 }
 
 impl AllowedCosts {
-    /// Takes costs that are in their ranges alone. Else the fault is the one of `Costs::check`.
+    /// Returns the costs if they are in their ranges. Else the fault is the one of `Costs::check`.
     pub fn new(costs: Costs) -> Result<AllowedCosts, CostFault>
         ensures value { IfOk result (λ allowed. allowed ≡ costs) }
         ensures exact { IsOk result ↔ (checked_costs costs ≡ Ok tt) }
@@ -60,7 +60,7 @@ impl AllowedCosts {
         Ok(AllowedCosts { costs })
     }
 
-    /// The costs.
+    /// Returns the costs.
     pub fn costs(&self) -> Costs
         ensures value { result ≡ self.now }
         ensures in_range { checked_costs result ≡ Ok tt }

@@ -1,4 +1,4 @@
-//! Words: characters from `!` to `~`, where `%` and two hexadecimal digits stand for a byte.
+//! Words: characters from `!` to `~`, in which `%` and two hexadecimal digits are one byte.
 
 ghost use Rattle.std.specs.Prelude.{◌≡◌, ◌≤◌, true, Some, IfOk, length, string_bytes, OnOk, OnErr, ◌++◌};
 ghost use Rattle.std.specs.List.{list_all};
@@ -22,9 +22,9 @@ const ESCAPED: AsciiSet = ascii_set!(
         .remove(b'~')
 );
 
-/// Reads a word: 1 to 1,000 bytes. `None` exactly where the text is outside the grammar: a
-/// character outside `!` to `~`, a `%` without two hexadecimal digits behind it, no byte or more
-/// than 1,000. `AllocError` may come on any text.
+/// Reads a word: 1 to 1,000 bytes. Returns `None` exactly when the text is outside the grammar: a
+/// character outside `!` to `~`, a `%` without two hexadecimal digits after it, no byte or more than
+/// 1,000. `AllocError` is possible for any text.
 #[tactic(auto, unfolding(crate::specs::Word::word_bytes))]
 pub fn read_word(alloc: Global, text: &[u8]) -> Result<Option<Bytes>, AllocError>
     ensures { IfOk result (λ word. word ≡ word_bytes text.now) }
@@ -40,8 +40,8 @@ pub fn read_word(alloc: Global, text: &[u8]) -> Result<Option<Bytes>, AllocError
     Ok(Some(Bytes::from_vec(bytes)))
 }
 
-/// Reads a symlink's target: a word of 1 to 1,000 bytes without NUL. `None` exactly for other texts;
-/// `AllocError` may come on any.
+/// Reads a symlink's target: a word of 1 to 1,000 bytes without NUL. Returns `None` exactly for other
+/// texts. `AllocError` is possible for any text.
 #[tactic(auto, unfolding(crate::specs::Word::target_bytes))]
 pub fn read_target(alloc: Global, text: &[u8]) -> Result<Option<Bytes>, AllocError>
     ensures { IfOk result (λ target. target ≡ target_bytes text.now) }
@@ -75,7 +75,7 @@ pub fn write_word(alloc: Global, bytes: &[u8]) -> Result<String, AllocError>
     Ok(text)
 }
 
-// Writes bytes as a word behind a text. After want of memory the text is as before.
+// Appends bytes to a text, as a word. After an error the text is as before.
 pub(crate) fn append_word(text: &mut String, bytes: &[u8]) -> Result<(), AllocError>
     ensures appended { OnOk result (string_bytes text.new ≡ string_bytes text.old ++ word_text bytes.now) }
     ensures kept { OnErr result (string_bytes text.new ≡ string_bytes text.old) }

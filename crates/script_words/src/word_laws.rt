@@ -1,4 +1,4 @@
-//! What holds of all words and paths: what is written reads back, and what is read can be written.
+//! Laws of all words and paths: what is written reads back, and what is read can be written.
 
 ghost use Rattle.script_words.specs.WordLaws.{WordsReadBack, TargetsReadBack, PathsReadBack};
 ghost use Rattle.script_words.specs.WordLaws.{TextsSpellWords, TextsSpellTargets};

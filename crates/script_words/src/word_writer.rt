@@ -1,5 +1,5 @@
-//! The writer of words. Each writes a space behind a text, and then the word; after want of memory the text
-//! may have a part of it.
+//! The writer of words. Each function appends a space to a text, and then the word. After an error the
+//! text may have a part of it.
 
 ghost use Rattle.std.specs.Prelude.{◌≡◌, ◌<◌, ◌++◌, ◌∷◌, OnOk};
 ghost use Rattle.hex.specs.Hex.{encode_lower};
@@ -22,7 +22,7 @@ use short_bytes::Label;
 use std::alloc::{AllocError, Global};
 use text_words::{push_decimal, push_lower_hex};
 
-// A space, and a text behind it.
+// Appends a space, and a text after it.
 fn push_text(text: &mut Vec<u8>, word: &[u8]) -> Result<(), AllocError>
     ensures { OnOk result (text.new.items ≡ text.old.items ++ 32 ∷ word.now) }
 {
@@ -30,7 +30,7 @@ fn push_text(text: &mut Vec<u8>, word: &[u8]) -> Result<(), AllocError>
     text.extend_from_slice(word)
 }
 
-/// A number below 2^32, by its decimal numeral.
+/// Appends a number below 2^32, as its decimal numeral.
 pub fn push_number(text: &mut Vec<u8>, number: u32) -> Result<(), AllocError>
     ensures { OnOk result (text.new.items ≡ text.old.items ++ 32 ∷ decimal_of number) }
 {
@@ -38,7 +38,7 @@ pub fn push_number(text: &mut Vec<u8>, number: u32) -> Result<(), AllocError>
     push_decimal(text, u64::from(number))
 }
 
-/// Bytes in lower-case digits.
+/// Appends bytes in lower-case digits.
 pub fn push_hex(text: &mut Vec<u8>, bytes: &[u8]) -> Result<(), AllocError>
     ensures { OnOk result (text.new.items ≡ text.old.items ++ 32 ∷ encode_lower bytes.now) }
 {
@@ -46,7 +46,7 @@ pub fn push_hex(text: &mut Vec<u8>, bytes: &[u8]) -> Result<(), AllocError>
     push_lower_hex(text, bytes)
 }
 
-/// The digits of the bytes, or `-` for none.
+/// Appends the digits of the bytes, or `-` for none.
 pub fn push_hex_or_none(text: &mut Vec<u8>, bytes: &[u8]) -> Result<(), AllocError>
     ensures { OnOk result (text.new.items ≡ text.old.items ++ 32 ∷ hex_or_none_text bytes.now) }
 {
@@ -57,14 +57,14 @@ pub fn push_hex_or_none(text: &mut Vec<u8>, bytes: &[u8]) -> Result<(), AllocErr
     }
 }
 
-/// A label, as it is.
+/// Appends a label, as it is.
 pub fn push_label(text: &mut Vec<u8>, label: &Label) -> Result<(), AllocError>
     ensures { OnOk result (text.new.items ≡ text.old.items ++ 32 ∷ label.now) }
 {
     push_text(text, label.bytes())
 }
 
-/// Bytes as a word.
+/// Appends bytes as a word.
 pub fn push_word(alloc: Global, text: &mut Vec<u8>, bytes: &[u8]) -> Result<(), AllocError>
     ensures { OnOk result (text.new.items ≡ text.old.items ++ 32 ∷ word_text bytes.now) }
 {
@@ -72,7 +72,7 @@ pub fn push_word(alloc: Global, text: &mut Vec<u8>, bytes: &[u8]) -> Result<(), 
     push_text(text, word.as_bytes())
 }
 
-/// A path.
+/// Appends a path.
 pub fn push_path(alloc: Global, text: &mut Vec<u8>, path: &ScriptPath) -> Result<(), AllocError>
     ensures { OnOk result (text.new.items ≡ text.old.items ++ 32 ∷ path_text path.now) }
 {
@@ -80,7 +80,7 @@ pub fn push_path(alloc: Global, text: &mut Vec<u8>, path: &ScriptPath) -> Result
     push_text(text, word.as_bytes())
 }
 
-/// A key.
+/// Appends a key.
 pub fn push_key(text: &mut Vec<u8>, key: &KeyRef) -> Result<(), AllocError>
     ensures { OnOk result (text.new.items ≡ text.old.items ++ 32 ∷ key_ref_text key.now) }
 {
@@ -96,7 +96,7 @@ pub fn push_key(text: &mut Vec<u8>, key: &KeyRef) -> Result<(), AllocError>
     }
 }
 
-/// A record.
+/// Appends a record.
 pub fn push_record(text: &mut Vec<u8>, record: &Record) -> Result<(), AllocError>
     ensures { OnOk result (text.new.items ≡ text.old.items ++ 32 ∷ record_name «record».now) }
 {
@@ -112,7 +112,7 @@ pub fn push_record(text: &mut Vec<u8>, record: &Record) -> Result<(), AllocError
     }
 }
 
-/// A secret.
+/// Appends a secret.
 pub fn push_secret(alloc: Global, text: &mut Vec<u8>, secret: &Secret) -> Result<(), AllocError>
     ensures { OnOk result (text.new.items ≡ text.old.items ++ 32 ∷ secret_text secret.now) }
 {
@@ -129,7 +129,7 @@ pub fn push_secret(alloc: Global, text: &mut Vec<u8>, secret: &Secret) -> Result
     }
 }
 
-/// A new secret.
+/// Appends a new secret.
 pub fn push_new_secret(
     alloc: Global,
     text: &mut Vec<u8>,
