@@ -1,4 +1,5 @@
--- A beginning of a text that is a log tells what its entries tell; and a log ends where its notes begin.
+-- A beginning of a text that is a log determines the values of its entries; and a log ends at its first
+-- note.
 use Rattle.std.proofs.Common.{◌≡◌, ℕ, suc, ◌+◌, ◌<◌, ◌^◌, true, List, [], ◌∷◌, ◌++◌, length, map, get_or, refl, ap, sym, ◌∙◌, append_assoc, arith}
 use Rattle.std.specs.Prelude.{nat_lt}
 use Rattle.std.specs.List.{All, list_all}
@@ -78,7 +79,7 @@ logs_end_from place (e ∷ g) (f ∷ h) x y sg sh hg hh same =
     joined (told e) (told f) (map told g) (map told h) parts.0
     (logs_end_from (place + 1) g h x y (next place (length g) sg) (next place (length h) sh) (All-tail EntryIsInRange e g hg) (All-tail EntryIsInRange f h hh) parts.1)
 
--- two logs with notes behind that are one text tell the same
+-- two logs with notes after them that are one text have the same values
 pub whole_logs_tell : (g h : History) (x y : List Note) → length g < 2 ^ 64 → length h < 2 ^ 64 → All EntryIsInRange g → All EntryIsInRange h
     → log_text g ++ notes_text x ≡ log_text h ++ notes_text y → map told g ≡ map told h
 whole_logs_tell g h x y sg sh hg hh same = logs_end_from 0 g h x y (omega (arith, sg)) (omega (arith, sh)) hg hh same

@@ -1,4 +1,4 @@
--- Of which bytes calls and replies are: no `=` stands in a call, and no line feed in either.
+-- The bytes of calls and replies: no `=` is in a call, and no line feed in either.
 use Rattle.std.proofs.Common.{◌≡◌, ℕ, ◌<◌, ◌≤◌, ◌^◌, ◌==◌, ◌&&◌, Bool, true, not, List, [], ◌∷◌, ◌++◌, length, codes, refl, leb-true, arith}
 use Rattle.std.specs.Prelude.{nat_le}
 use Rattle.std.specs.List.{All, list_all}

@@ -1,4 +1,4 @@
--- Of which bytes the fields of a line are, where a field ends, and that a field tells its value.
+-- The bytes of the fields of a line, the end of a field, and that a field determines its value.
 use Rattle.std.proofs.Common.{◌≡◌, ◌≢◌, ℕ, ◌<◌, ◌≤◌, ◌^◌, ◌==◌, ◌&&◌, Bool, true, false, not, List, [], ◌∷◌, ◌++◌, length, codes, refl, ap, sym, subst, ◌∙◌, inl, inr, append_assoc, leb-true, arith}
 use Rattle.std.specs.Prelude.{nat_le, ◌⊎◌}
 use Rattle.std.specs.List.{All, AllPass, list_all, flat_map}
@@ -22,13 +22,13 @@ use Rattle.reply_text.specs.Names.{bytes_text, part_text, path_text, record_text
 use Rattle.reply_text.specs.declared.names.TheConstants.{ESCAPED_IN_WORDS, ESCAPED_IN_RECORDS}
 use Rattle.reply_text.proofs.NameLemmas.{escaped_word, escaped_record, kept_in_record}
 
--- ---- where a field ends
+-- ---- the end of a field
 
 -- a byte of a field: neither a space nor a line feed, nor `=`
 abbrev pub IsFieldByte : ℕ → Type 0
 IsFieldByte b = (33 ≤ b) × (b ≢ 61)
 
--- a byte of what was asked: a space besides
+-- a byte of a call: a space is allowed too
 abbrev pub IsCallByte : ℕ → Type 0
 IsCallByte b = (32 ≤ b) × (b ≢ 61)
 
@@ -44,7 +44,7 @@ EndsBy P (b ∷ rest) = P b → ⊥
 pub no_space : IsFieldByte 32 → ⊥
 no_space h = let low : 33 ≤ 32 = h.0 in absurd (omega arith)
 
--- what begins with bytes of a kind, behind which none follows, has these bytes and this rest
+-- what begins with bytes of a kind, after which none follows, has these bytes and this rest
 pub parted : (P : ℕ → Type 0) (a b x y : List ℕ) → All P a → All P b → EndsBy P x → EndsBy P y → a ++ x ≡ b ++ y
     → (a ≡ b) × (x ≡ y)
 parted P [] [] x y ha hb ex ey e = (refl, e)
@@ -140,7 +140,7 @@ pub IsField-path : (path : List (List ℕ)) → All IsFieldByte (path_text path)
 IsField-path [] = IsField-root
 IsField-path (part ∷ more) = IsField-parts (part ∷ more)
 
--- ---- what fields tell
+-- ---- the values of fields
 
 pub bit-small : (value : Bool) → bit value < 2 ^ 64
 bit-small false = omega arith

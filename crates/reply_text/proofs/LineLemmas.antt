@@ -1,4 +1,4 @@
--- A line tells what its entry tells, and a log what its entries tell.
+-- A line determines the values of its entry, and a log those of its entries.
 use Rattle.std.proofs.Common.{◌≡◌, ℕ, suc, ◌+◌, ◌<◌, ◌^◌, List, [], ◌∷◌, ◌++◌, length, map, codes, refl, ap, sym, ◌∙◌, append_assoc, arith}
 use Rattle.std.specs.Prelude.{if◌then◌else◌}
 use Rattle.std.specs.List.{All}
@@ -44,7 +44,7 @@ entry_text-by_fields place e = regrouped (decimal_of place) (decimal_of e.who) (
 not_equals : IsCallByte 61 → ⊥
 not_equals h = h.1 refl
 
--- a call and a reply are told apart by the first `=`
+-- a call and a reply are separated by the first `=`
 call_and_reply : (a b x y : List ℕ) → All IsCallByte a → All IsCallByte b
     → codes " " ++ (a ++ (codes " = " ++ (x ++ codes "\n"))) ≡ codes " " ++ (b ++ (codes " = " ++ (y ++ codes "\n"))) → (a ≡ b) × (x ≡ y)
 call_and_reply a b x y ha hb e =

@@ -1,4 +1,4 @@
--- A log goes on by one line, and what is shown of a history has the history's log.
+-- A log goes on by one line, and the shown form of a history has the history's log.
 use Rattle.std.proofs.Common.{◌≡◌, ℕ, suc, ◌+◌, ◌<◌, [], ◌∷◌, ◌++◌, length, take, get_or, refl, ap, ap₂, sym, ◌∙◌, add-zero, append-nil, append_assoc, arith}
 use Rattle.std.proofs.lemmas.List.{take_more, length-take-le}
 use Rattle.std.specs.Prelude.{List}
@@ -6,7 +6,7 @@ use Rattle.mount_model.specs.History.{MountEntry, History}
 use Rattle.reply_text.specs.Log.{entry_text, log_from, log_text}
 use Rattle.reply_text.specs.Shown.{ShownEntry, ShownHistory, shown_entry, shown_history, shown_text, shown_from, shown_log}
 
--- by the line of the entry behind the others
+-- by the line of the entry after the others
 shown_from-append : (place : ℕ) (h : ShownHistory) (e : ShownEntry) → shown_from place (h ++ e ∷ []) ≡ shown_from place h ++ shown_text (place + length h) e
 unfolding shown_from
 shown_from-append place [] e = append-nil (shown_text place e) ∙ ap (λ n. shown_text n e) (sym (add-zero place))
@@ -29,7 +29,7 @@ pub shown_from-none : shown_from 0 [] ≡ []
 unfolding shown_from
 shown_from-none = refl
 
--- ---- what is shown of a history
+-- ---- the shown form of a history
 
 line_shown : (place : ℕ) (e : MountEntry) → shown_text place (shown_entry e) ≡ entry_text place e
 unfolding shown_text entry_text
@@ -40,6 +40,6 @@ unfolding shown_from log_from
 lines_shown place [] = refl
 lines_shown place (e ∷ h) = ap₂ (λ (a b : List ℕ). a ++ b) (line_shown place e) (lines_shown (place + 1) h)
 
--- the log of what is shown of a history is the history's
+-- the log of the shown form of a history is the history's
 pub log_shown : (h : History) → shown_log (shown_history h) ≡ log_text h
 log_shown h = lines_shown 0 h

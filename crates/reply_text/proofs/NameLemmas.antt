@@ -1,4 +1,4 @@
--- What is written of names, one after the other, and what is escaped in them.
+-- The text of names, one after the other, and the bytes that are escaped in them.
 use Rattle.std.proofs.Common.{◌≡◌, ℕ, ◌+◌, ◌<◌, ◌≤◌, ◌==◌, ◌&&◌, Bool, true, false, not, cond, List, [], ◌∷◌, ◌++◌, length, take, get_or, Some, None, refl, ap, sym, ◌∙◌, inl, inr, append-nil, append_assoc, take_all, arith}
 use Rattle.std.specs.Prelude.{slice_get, ◌⊎◌}
 use Rattle.std.specs.List.{flat_map}

@@ -1,4 +1,4 @@
--- The text of a reply tells the reply.
+-- The text of a reply determines the reply.
 use Rattle.std.proofs.Common.{◌≡◌, ℕ, ◌+◌, ◌*◌, ◌<◌, ◌^◌, Bool, List, length, drop, codes, refl, ap, sym, ◌∙◌, arith}
 use Rattle.std.specs.Prelude.{if◌then◌else◌, slice_index}
 use Rattle.std.specs.List.{All}
@@ -59,7 +59,7 @@ kind_told-text Link = refl
 kind_text-injective : (a b : NodeKind) → kind_text a ≡ kind_text b → a ≡ b
 kind_text-injective a b e = sym (kind_told-text a) ∙ ap kind_told e ∙ kind_told-text b
 
--- the refusal of a text; one that begins with `c` tells a version
+-- the refusal of a text; one that begins with `c` has a version
 refusal_told : List ℕ → Refusal
 refusal_told text =
     if bytes_eq text (codes "no-key") then NoKey

@@ -1,5 +1,5 @@
--- What the values of a call's types hold, as far as its text shows them: bytes below 256, and numbers that their
--- types have room for.
+-- The ranges of a call's values, as far as its text shows them: bytes below 256, and numbers within their
+-- types.
 use Rattle.std.specs.Prelude.{◌<◌, ◌^◌, ⊤, length}
 use Rattle.hex.specs.Hex.{IsBytes}
 use Rattle.mount_model.specs.declared.call.Op.{Op}

@@ -1,5 +1,5 @@
--- The text of what was asked. Raw keys, nonces and written bytes are never shown: of a key and of
--- written bytes their number is.
+-- The text of a call. Raw keys, nonces and written bytes are never shown: of a key and of written bytes
+-- only the number is.
 use Rattle.std.specs.Prelude.{ℕ, List, ◌++◌, length, codes}
 use Rattle.hex.specs.Hex.{encode_lower}
 use Rattle.text_words.specs.Numbers.{decimal_of}
@@ -13,12 +13,12 @@ abbrev pub span_text : ℕ → ℕ → ℕ → List ℕ
 span_text handle offset count =
     decimal_of handle ++ (codes " " ++ (decimal_of offset ++ (codes " " ++ decimal_of count)))
 
--- a record, the version that is expected of it, and the number of bytes that it gets
+-- a record, its expected version, and the number of bytes that it gets
 abbrev pub store_text : List ℕ → ℕ → ℕ → List ℕ
 store_text name expected count =
     record_text name ++ (codes " " ++ (decimal_of expected ++ (codes " " ++ decimal_of count)))
 
--- the name of the call, and what it asks of
+-- the name of the call, and its arguments
 abbrev pub call_text : Op → List ℕ
 call_text (op.AddKey raw) = codes "add-key " ++ decimal_of (length raw)
 call_text (op.RemoveKey id) = codes "remove-key " ++ encode_lower id.0

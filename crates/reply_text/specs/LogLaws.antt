@@ -1,4 +1,4 @@
--- What a line tells: whoever has it can say who was answered what.
+-- What a line determines: a reader of it can say which caller got which reply.
 use Rattle.std.specs.Prelude.{◌≡◌, ◌<◌, ◌^◌, ℕ, List, ◌++◌, length, All, map}
 use Rattle.mount_model.specs.declared.call.Call.{Call}
 use Rattle.mount_model.specs.declared.reply.Reply.{Reply}
@@ -9,7 +9,7 @@ use Rattle.reply_text.specs.Notes.{note_text}
 use Rattle.reply_text.specs.Ranges.{ReplyIsInRange, EntryIsInRange, NoteIsInRange}
 use Rattle.reply_text.specs.declared.notes.Note.{Note}
 
--- caller, user, the words of what was asked, and the reply
+-- caller, user, the text of the call, and the reply
 abbrev pub told : MountEntry → ℕ × ℕ × List ℕ × Reply
 told e = (e.who, e.call.uid, call_text e.call.op, e.reply)
 
@@ -21,20 +21,20 @@ DifferentRepliesHaveDifferentLines =
     ≡ entry_text place (record { who = who; call = call; reply = b })
     → a ≡ b
 
--- a line determines the place and what the entry tells
+-- a line determines the place and these values of the entry
 abbrev pub LinesTellTheirEntries : Type 0
 LinesTellTheirEntries =
     (place other : ℕ) (e f : MountEntry) → place < 2 ^ 64 → other < 2 ^ 64
     → EntryIsInRange e → EntryIsInRange f
     → entry_text place e ≡ entry_text other f → (place ≡ other) × (told e ≡ told f)
 
--- a log determines what its entries tell, one after the other
+-- a log determines these values of its entries, one after the other
 abbrev pub LogsTellTheirEntries : Type 0
 LogsTellTheirEntries =
     (g h : History) → length g < 2 ^ 64 → length h < 2 ^ 64 → All EntryIsInRange g → All EntryIsInRange h
     → log_text g ≡ log_text h → map told g ≡ map told h
 
--- a beginning of a text that is a log of so many entries determines what they tell, and what follows it
+-- a beginning of a text that is a log of that many entries determines their values, and what follows it
 abbrev pub BeginningsTellTheirEntries : Type 0
 BeginningsTellTheirEntries =
     (g h : History) (x y : List ℕ) → length g ≡ length h → length g < 2 ^ 64

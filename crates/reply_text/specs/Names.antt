@@ -1,12 +1,12 @@
--- How a log writes bytes and names. A word stands as a script writes it: letters, digits, `-`, `.`,
--- `_` and `~` as they are, every other byte as `%` and two upper-case digits. So neither a space nor
--- `=` nor a line feed stands in it.
+-- How a log writes bytes and names. A word is written as in a script: letters, digits, `-`, `.`, `_` and
+-- `~` as they are, every other byte as `%` and two upper-case digits. So it contains no space, no `=` and
+-- no line feed.
 use Rattle.std.specs.Prelude.{ℕ, ◌==◌, List, [], ◌∷◌, codes, if◌then◌else◌}
 use Rattle.std.specs.List.{flat_map}
 use Rattle.hex.specs.Hex.{encode_lower}
 use Rattle.script_words.specs.Word.{byte_text, word_text}
 
--- two lower-case digits for each byte, and `-` where there is none
+-- two lower-case digits for each byte, and `-` if there is none
 abbrev pub bytes_text : List ℕ → List ℕ
 bytes_text [] = codes "-"
 bytes_text (byte ∷ more) = encode_lower (byte ∷ more)
@@ -20,7 +20,7 @@ abbrev pub path_text : List (List ℕ) → List ℕ
 path_text [] = codes "/"
 path_text (part ∷ more) = flat_map part_text (part ∷ more)
 
--- a byte of a record's name: as in a word, but a `/` stands as it is
+-- a byte of a record's name: as in a word, but a `/` is written as it is
 abbrev pub record_byte_text : ℕ → List ℕ
 record_byte_text byte = if byte == 47 then byte ∷ [] else byte_text byte
 

@@ -1,5 +1,5 @@
--- What the values of a line's types hold: bytes below 256, and numbers that their types have room
--- for. Each value of a program is so; lists and numbers in clauses range over all.
+-- The ranges of a line's values: bytes below 256, and numbers within their types. Each value of a program
+-- is in range; lists and numbers in clauses range over all.
 use Rattle.std.specs.Prelude.{◌<◌, ◌^◌, ⊤, length, All}
 use Rattle.hex.specs.Hex.{IsBytes}
 use Rattle.mount_model.specs.declared.reply.Refusal.{Refusal}

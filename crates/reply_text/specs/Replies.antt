@@ -1,4 +1,4 @@
--- The text of what was replied.
+-- The text of a reply.
 use Rattle.std.specs.Prelude.{ℕ, Bool, List, ◌++◌, length, codes}
 use Rattle.hex.specs.Hex.{encode_lower}
 use Rattle.text_words.specs.Numbers.{decimal_of}
@@ -14,7 +14,7 @@ use Rattle.reply_text.specs.Names.{bytes_text, names_text}
 abbrev pub removed_text : Bool → Bool → List ℕ
 removed_text others busy = flag_text (codes "removed others=") others ++ flag_text (codes " busy=") busy
 
--- what stands of a key, whether the user has a claim, and how many users have one
+-- the state of a key, whether the user has a claim, and how many users have one
 abbrev pub status_reply_text : KeyState → Bool → ℕ → List ℕ
 status_reply_text state by_self users =
     codes "status " ++ (state_text state ++ (flag_text (codes " self=") by_self
@@ -25,13 +25,13 @@ abbrev pub listing_text : List (List ℕ) → Bool → List ℕ
 listing_text names more =
     codes "names " ++ (decimal_of (length names) ++ (flag_text (codes " more=") more ++ names_text names))
 
--- what a node is: kind, number, size, whether it has a policy and whether its key is at hand
+-- a node's kind, number, size, whether it has a policy and whether its key is available
 abbrev pub stat_text : NodeKind → ℕ → ℕ → Bool → Bool → List ℕ
 stat_text kind node size encrypted keyed =
     codes "stat " ++ (kind_text kind ++ (codes " " ++ (decimal_of node ++ (codes " " ++ (decimal_of size
     ++ (flag_text (codes " enc=") encrypted ++ flag_text (codes " key=") keyed))))))
 
--- the word of the reply, and what it tells
+-- the word of the reply, and its values
 abbrev pub reply_text : Reply → List ℕ
 reply_text (reply.Added id) = codes "added " ++ encode_lower id.0
 reply_text (reply.Removed others busy) = removed_text others busy

@@ -1,5 +1,5 @@
--- What a log shows of calls: in place of a call its user, and the words of what was asked. Nothing else of a
--- call is needed for its line.
+-- The form of calls in a log: in place of a call its user and its text. A line needs nothing else of a
+-- call.
 use Rattle.std.specs.Prelude.{ℕ, ◌+◌, List, [], ◌∷◌, ◌++◌, map, codes}
 use Rattle.call_history.specs.Entries as entries
 use Rattle.text_words.specs.Numbers.{decimal_of}
@@ -21,7 +21,7 @@ ShownHistory = entries.History Shown Reply
 abbrev pub PlacedShown : Type 0
 PlacedShown = entries.PlacedList Shown Reply
 
--- what is shown of a call
+-- the form of a call in a log
 abbrev pub shown_call : Call → Shown
 shown_call call = record { uid = call.uid; words = call_text call.op }
 
@@ -40,7 +40,7 @@ abbrev pub line_head : ℕ → ℕ → ℕ → List ℕ
 line_head place who uid =
     decimal_of place ++ (codes " " ++ (decimal_of who ++ (codes " " ++ decimal_of uid)))
 
--- the line of what is shown of an entry at a place
+-- the line of a shown entry at a place
 unfoldable pub shown_text : ℕ → ShownEntry → List ℕ
 shown_text place e =
     line_head place e.who e.call.uid ++ (codes " " ++ (e.call.words
@@ -51,6 +51,6 @@ unfoldable pub shown_from : ℕ → ShownHistory → List ℕ
 shown_from place [] = []
 shown_from place (e ∷ es) = shown_text place e ++ shown_from (place + 1) es
 
--- the log of what is shown
+-- the log of a shown history
 abbrev pub shown_log : ShownHistory → List ℕ
 shown_log history = shown_from 0 history

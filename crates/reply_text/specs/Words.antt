@@ -29,7 +29,7 @@ kind_text Dir = codes "dir"
 kind_text File = codes "file"
 kind_text Link = codes "link"
 
--- the name of a refusal, with a space behind it where a version follows
+-- the name of a refusal, with a space after it if a version follows
 abbrev pub refusal_name : Refusal → List ℕ
 refusal_name NoKey = codes "no-key"
 refusal_name Access = codes "access"

@@ -1,4 +1,4 @@
-//! The text of what was asked for.
+//! The text of a call.
 
 ghost use Rattle.std.specs.Prelude.{◌≡◌, ◌++◌, List, OnOk, codes};
 ghost use Rattle.hex.specs.Hex.{encode_lower};
@@ -12,7 +12,7 @@ use crate::names::{put_path, put_record, put_word};
 use mount_model::{Op, Path};
 use std::alloc::AllocError;
 
-// Puts what was asked for behind the text.
+// Appends a call to the text.
 pub(crate) fn put_call(text: &mut Vec<u8>, op: &Op) -> Result<(), AllocError>
     ensures { OnOk result (text.new.items ≡ text.old.items ++ call_text op.now) }
 {
@@ -54,7 +54,7 @@ pub(crate) fn put_call(text: &mut Vec<u8>, op: &Op) -> Result<(), AllocError>
     }
 }
 
-// Puts a directory and its policy behind the text.
+// Appends a directory and its policy to the text.
 fn put_set_policy(text: &mut Vec<u8>, path: &Path, policy: &[u8]) -> Result<(), AllocError>
     ensures { OnOk result (text.new.items ≡ text.old.items
         ++ (codes "set-policy " ++ (path_text path.now ++ (codes " " ++ encode_lower policy.now)))) }
@@ -63,7 +63,7 @@ fn put_set_policy(text: &mut Vec<u8>, path: &Path, policy: &[u8]) -> Result<(), 
     put_digits(text, b" ", policy)
 }
 
-// Puts a symlink and its target behind the text.
+// Appends a symlink and its target to the text.
 fn put_symlink(text: &mut Vec<u8>, path: &Path, target: &[u8]) -> Result<(), AllocError>
     ensures { OnOk result (text.new.items ≡ text.old.items
         ++ (codes "symlink " ++ (path_text path.now ++ (codes " " ++ word_text target.now)))) }
@@ -72,7 +72,7 @@ fn put_symlink(text: &mut Vec<u8>, path: &Path, target: &[u8]) -> Result<(), All
     put_word(text, b" ", target)
 }
 
-// Puts where a node was and where it goes behind the text.
+// Appends the old and the new path of a node to the text.
 fn put_rename(text: &mut Vec<u8>, old_path: &Path, new_path: &Path) -> Result<(), AllocError>
     ensures { OnOk result (text.new.items ≡ text.old.items
         ++ (codes "rename " ++ (path_text old_path.now ++ (codes " " ++ path_text new_path.now)))) }
@@ -81,7 +81,7 @@ fn put_rename(text: &mut Vec<u8>, old_path: &Path, new_path: &Path) -> Result<()
     put_path(text, b" ", new_path)
 }
 
-// Puts a directory and the number of the first name behind the text.
+// Appends a directory and the number of the first name to the text.
 fn put_list(text: &mut Vec<u8>, path: &Path, start: u32) -> Result<(), AllocError>
     ensures { OnOk result (text.new.items ≡ text.old.items
         ++ (codes "list " ++ (path_text path.now ++ (codes " " ++ decimal_of start)))) }
@@ -90,7 +90,7 @@ fn put_list(text: &mut Vec<u8>, path: &Path, start: u32) -> Result<(), AllocErro
     put_number(text, b" ", u64::from(start))
 }
 
-// Puts a record, the version expected of it and the number of its bytes behind the text.
+// Appends a record, its expected version and the number of its bytes to the text.
 fn put_store(text: &mut Vec<u8>, name: &[u8], expected: u32, count: u64) -> Result<(), AllocError>
     ensures { OnOk result (text.new.items ≡ text.old.items
         ++ (codes "meta-put " ++ store_text name.now expected count)) }

@@ -1,4 +1,4 @@
-//! The fields of a line, each behind the words before it.
+//! The fields of a line, each after the words before it.
 
 ghost use Rattle.std.specs.Prelude.{◌≡◌, ◌++◌, OnOk};
 ghost use Rattle.hex.specs.Hex.{encode_lower};
@@ -10,7 +10,7 @@ ghost use Rattle.reply_text.specs.Calls.{span_text};
 use std::alloc::AllocError;
 use text_words::{push_decimal, push_lower_hex};
 
-// Puts words and a number behind the text.
+// Appends words and a number to the text.
 pub(crate) fn put_number(text: &mut Vec<u8>, words: &[u8], number: u64) -> Result<(), AllocError>
     ensures { OnOk result (text.new.items ≡ text.old.items ++ (words.now ++ decimal_of number)) }
 {
@@ -18,7 +18,7 @@ pub(crate) fn put_number(text: &mut Vec<u8>, words: &[u8], number: u64) -> Resul
     push_decimal(text, number)
 }
 
-// Puts words and a flag, 1 or 0, behind the text.
+// Appends words and a flag, 1 or 0, to the text.
 pub(crate) fn put_flag(text: &mut Vec<u8>, words: &[u8], value: bool) -> Result<(), AllocError>
     ensures { OnOk result (text.new.items ≡ text.old.items ++ flag_text words.now value) }
 {
@@ -31,7 +31,7 @@ fn bit(value: bool) -> u64
     u64::from(value)
 }
 
-// Puts words and the digits of bytes behind the text.
+// Appends words and the digits of bytes to the text.
 pub(crate) fn put_digits(text: &mut Vec<u8>, words: &[u8], bytes: &[u8]) -> Result<(), AllocError>
     ensures { OnOk result (text.new.items ≡ text.old.items ++ (words.now ++ encode_lower bytes.now)) }
 {
@@ -39,7 +39,7 @@ pub(crate) fn put_digits(text: &mut Vec<u8>, words: &[u8], bytes: &[u8]) -> Resu
     push_lower_hex(text, bytes)
 }
 
-// Puts words and bytes behind the text: their digits, or `-` where there is no byte.
+// Appends words and bytes to the text: their digits, or `-` if there is no byte.
 pub(crate) fn put_bytes(text: &mut Vec<u8>, words: &[u8], bytes: &[u8]) -> Result<(), AllocError>
     ensures { OnOk result (text.new.items ≡ text.old.items ++ (words.now ++ bytes_text bytes.now)) }
 {
@@ -50,7 +50,7 @@ pub(crate) fn put_bytes(text: &mut Vec<u8>, words: &[u8], bytes: &[u8]) -> Resul
     put_digits(text, words, bytes)
 }
 
-// Puts words, a handle, an offset and a number of bytes behind the text.
+// Appends words, a handle, an offset and a number of bytes to the text.
 pub(crate) fn put_span(
     text: &mut Vec<u8>,
     words: &[u8],

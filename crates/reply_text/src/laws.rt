@@ -1,4 +1,5 @@
-//! What holds of all lines: they tell who was answered what. Each law is a function without work.
+//! Laws of all lines: they determine each caller and its reply. Each law is an empty function whose
+//! contract is the law.
 
 ghost use Rattle.reply_text.specs.LogLaws.{BeginningsTellTheirEntries, DifferentRepliesHaveDifferentLines};
 ghost use Rattle.reply_text.specs.LogLaws.{LinesTellTheirEntries, LogsTellTheirEntries, NoteLinesTellTheirNotes};
@@ -8,7 +9,7 @@ pub fn different_replies_have_different_lines()
     ensures { DifferentRepliesHaveDifferentLines }
 {}
 
-/// A line determines place, caller, user, the words of what was asked, and the reply.
+/// A line determines place, caller, user, the text of the call, and the reply.
 pub fn lines_tell_their_entries()
     ensures { LinesTellTheirEntries }
 {}
@@ -18,8 +19,8 @@ pub fn logs_tell_their_entries()
     ensures { LogsTellTheirEntries }
 {}
 
-/// So do its beginnings: a text that begins with two logs of equally many entries has one log there, and one
-/// rest behind it.
+/// So do its beginnings: a text that begins with two logs of equally many entries has one log there, and
+/// one rest after it.
 pub fn beginnings_tell_their_entries()
     ensures { BeginningsTellTheirEntries }
 {}

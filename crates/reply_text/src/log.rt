@@ -1,4 +1,4 @@
-//! The text of a log: a line for each call, with who made it and what it was answered.
+//! The text of a log: a line for each call, with its caller and its reply.
 
 ghost use Rattle.std.specs.Prelude.{◌≡◌, ◌++◌, codes, IfOk, OnOk};
 ghost use Rattle.reply_text.specs.Log.{entry_text};
@@ -14,7 +14,8 @@ use mount_model::{Call, Reply};
 use std::alloc::{AllocError, Global};
 use text_words::push_decimal;
 
-/// The line of an entry at a place of the history: `PLACE CALLER UID CALL = REPLY` and a line feed.
+/// Returns the line of an entry at a place of the history: `PLACE CALLER UID CALL = REPLY` and a line
+/// feed.
 #[tactic(auto, unfolding(crate::specs::Log::entry_text))]
 pub fn entry_line(
     alloc: Global,
@@ -31,8 +32,8 @@ pub fn entry_line(
     Ok(Bytes::from_vec(text))
 }
 
-/// The bytes of a history's log, of what is shown of its entries: a line for each, in order of place. Places
-/// count from 0.
+/// Returns the bytes of a history's log, given the shown form of each call: a line for each entry, in
+/// order of place. Places count from 0.
 pub fn write_log(alloc: Global, history: &[Entry<Shown, Reply>]) -> Result<Bytes, AllocError>
     ensures { IfOk result (λ text. text ≡ shown_log history.now) }
 {
@@ -43,7 +44,7 @@ pub fn write_log(alloc: Global, history: &[Entry<Shown, Reply>]) -> Result<Bytes
     Ok(Bytes::from_vec(text))
 }
 
-// Puts the line of what is shown of an entry at a place behind the text.
+// Appends the line of a shown entry at a place to the text.
 #[tactic(auto, unfolding(crate::specs::Shown::shown_text))]
 fn put_shown(text: &mut Vec<u8>, place: u64, entry: &Entry<Shown, Reply>) -> Result<(), AllocError>
     ensures { OnOk result (text.new.items ≡ text.old.items ++ shown_text place entry.now) }
@@ -55,7 +56,7 @@ fn put_shown(text: &mut Vec<u8>, place: u64, entry: &Entry<Shown, Reply>) -> Res
     Ok(())
 }
 
-// Puts place, caller and user of an entry behind the text.
+// Appends place, caller and user of an entry to the text.
 fn put_head(text: &mut Vec<u8>, place: u64, who: u32, uid: u32) -> Result<(), AllocError>
     ensures { OnOk result (text.new.items ≡ text.old.items ++ line_head place who uid) }
 {
@@ -66,7 +67,7 @@ fn put_head(text: &mut Vec<u8>, place: u64, who: u32, uid: u32) -> Result<(), Al
     push_decimal(text, u64::from(uid))
 }
 
-// Puts what was replied, and the line's end, behind the text.
+// Appends the reply and the line's end to the text.
 fn put_end(text: &mut Vec<u8>, reply: &Reply) -> Result<(), AllocError>
     ensures { OnOk result (text.new.items
         ≡ text.old.items ++ (codes " = " ++ (reply_text reply.now ++ codes "\n"))) }

@@ -1,4 +1,4 @@
-//! Words, paths and the names of records, with all escaped that could be taken for more than them.
+//! Words, paths and the names of records, with all bytes escaped that could be read as anything else.
 
 ghost use Rattle.std.specs.Prelude.{◌≡◌, ◌++◌, OnOk};
 ghost use Rattle.percent_encoding.specs.Percent.{percent_encode};
@@ -10,7 +10,7 @@ use mount_model::Path;
 use percent_encoding::{AsciiSet, NON_ALPHANUMERIC, ascii_set, percent_encode};
 use std::alloc::AllocError;
 
-/// What is escaped in a word: all but letters, digits, `-`, `.`, `_` and `~`.
+/// The bytes that are escaped in a word: all but letters, digits, `-`, `.`, `_` and `~`.
 const ESCAPED_IN_WORDS: AsciiSet = ascii_set!(
     NON_ALPHANUMERIC
         .remove(b'-')
@@ -19,10 +19,10 @@ const ESCAPED_IN_WORDS: AsciiSet = ascii_set!(
         .remove(b'~')
 );
 
-/// What is escaped in a record's name, in which a `/` stands as it is.
+/// The bytes that are escaped in a record's name, in which a `/` is written as it is.
 const ESCAPED_IN_RECORDS: AsciiSet = ascii_set!(ESCAPED_IN_WORDS.remove(b'/'));
 
-// Puts words and a path behind the text.
+// Appends words and a path to the text.
 pub(crate) fn put_path(text: &mut Vec<u8>, words: &[u8], path: &Path) -> Result<(), AllocError>
     ensures { OnOk result (text.new.items ≡ text.old.items ++ (words.now ++ path_text path.now)) }
 {
@@ -39,7 +39,7 @@ pub(crate) fn put_path(text: &mut Vec<u8>, words: &[u8], path: &Path) -> Result<
     Ok(())
 }
 
-// Puts a space and a word for each name behind the text.
+// Appends a space and a word for each name to the text.
 pub(crate) fn put_names(text: &mut Vec<u8>, names: &[Bytes]) -> Result<(), AllocError>
     ensures { OnOk result (text.new.items ≡ text.old.items ++ names_text names.now) }
 {
@@ -49,7 +49,7 @@ pub(crate) fn put_names(text: &mut Vec<u8>, names: &[Bytes]) -> Result<(), Alloc
     Ok(())
 }
 
-// Puts words, and bytes as one word, behind the text.
+// Appends words, and bytes as one word, to the text.
 pub(crate) fn put_word(text: &mut Vec<u8>, words: &[u8], bytes: &[u8]) -> Result<(), AllocError>
     ensures { OnOk result (text.new.items ≡ text.old.items ++ (words.now ++ word_text bytes.now)) }
 {
@@ -57,7 +57,7 @@ pub(crate) fn put_word(text: &mut Vec<u8>, words: &[u8], bytes: &[u8]) -> Result
     put_escaped(text, bytes, ESCAPED_IN_WORDS)
 }
 
-// Puts words and the name of a record behind the text.
+// Appends words and the name of a record to the text.
 pub(crate) fn put_record(text: &mut Vec<u8>, words: &[u8], name: &[u8]) -> Result<(), AllocError>
     ensures { OnOk result (text.new.items ≡ text.old.items ++ (words.now ++ record_text name.now)) }
 {
@@ -65,7 +65,7 @@ pub(crate) fn put_record(text: &mut Vec<u8>, words: &[u8], name: &[u8]) -> Resul
     put_escaped(text, name, ESCAPED_IN_RECORDS)
 }
 
-// Puts bytes behind the text, those of the set and those beyond ASCII escaped.
+// Appends bytes to the text, those of the set and those beyond ASCII escaped.
 fn put_escaped(text: &mut Vec<u8>, bytes: &[u8], escaped: AsciiSet) -> Result<(), AllocError>
     ensures { OnOk result (text.new.items ≡ text.old.items ++ percent_encode escaped bytes.now) }
 {

@@ -1,4 +1,4 @@
-//! The notes behind a log: a line for each session command, with how it ended.
+//! The notes after a log: a line for each session command, with its outcome.
 
 ghost use Rattle.std.specs.Prelude.{◌≡◌, ◌++◌, IfOk, OnOk};
 ghost use Rattle.reply_text.specs.Notes.{note_text, notes_text};
@@ -8,7 +8,7 @@ use crate::outcome::Outcome;
 use item_list::Bytes;
 use std::alloc::{AllocError, Global};
 
-/// How the session command in a line of the script ended.
+/// The outcome of the session command in a line of the script.
 #[derive(Clone, Copy, Debug, PartialEq, Eq)]
 pub struct Note {
     /// The command's caller, counted from 0.
@@ -18,7 +18,7 @@ pub struct Note {
     pub outcome: Outcome,
 }
 
-/// The line of a note: `note CALLER LINE OUTCOME` and a line feed.
+/// Returns the line of a note: `note CALLER LINE OUTCOME` and a line feed.
 pub fn note_line(alloc: Global, note: &Note) -> Result<Bytes, AllocError>
     ensures { IfOk result (λ text. text ≡ note_text note.now) }
 {
@@ -27,7 +27,7 @@ pub fn note_line(alloc: Global, note: &Note) -> Result<Bytes, AllocError>
     Ok(Bytes::from_vec(text))
 }
 
-/// The lines of notes, in their order.
+/// Returns the lines of notes, in their order.
 pub fn write_notes(alloc: Global, notes: &[Note]) -> Result<Bytes, AllocError>
     ensures { IfOk result (λ text. text ≡ notes_text notes.now) }
 {
@@ -38,7 +38,7 @@ pub fn write_notes(alloc: Global, notes: &[Note]) -> Result<Bytes, AllocError>
     Ok(Bytes::from_vec(text))
 }
 
-// Puts the line of a note behind the text.
+// Appends the line of a note to the text.
 #[tactic(auto, unfolding(crate::specs::Notes::note_text))]
 fn put_note(text: &mut Vec<u8>, note: &Note) -> Result<(), AllocError>
     ensures { OnOk result (text.new.items ≡ text.old.items ++ note_text note.now) }

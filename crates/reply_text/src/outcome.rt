@@ -1,20 +1,20 @@
-//! How a session command ends.
+//! Outcomes of session commands.
 
 ghost use Rattle.std.specs.Prelude.{◌≡◌};
 ghost use Rattle.reply_text.specs.Notes.{outcome_word};
 
-/// How a session command ended.
+/// The outcome of a session command.
 #[derive(Clone, Copy, Debug, PartialEq, Eq)]
 pub enum Outcome {
     /// All its calls were made, and none was refused.
     Done,
-    /// A call was refused, for a reason that no other outcome tells.
+    /// A call was refused, for a reason that has no other outcome.
     Refused,
     /// A record has another version than the one that was loaded.
     Conflict,
-    /// A record can't be read, is another's, or holds another key than it says.
+    /// A record can't be read, is another's, or holds another key than its identifier names.
     BadRecord,
-    /// A passphrase was given where the protector is raw, or the other way round.
+    /// A passphrase was given for a raw protector, or a raw secret for one with a passphrase.
     WrongKind,
     /// The secret isn't the protector's, or the protector's key isn't that of the wrap.
     WrongKey,
@@ -26,16 +26,16 @@ pub enum Outcome {
     Full,
     /// The wrap is the policy's only one.
     LastOne,
-    /// There was no memory.
+    /// A call or the session was out of memory.
     NoMemory,
-    /// A reply came that no such call has.
+    /// A call returned a reply that no such call has.
     OddReply,
     /// The record has the newest version of its format.
     Current,
 }
 
 impl Outcome {
-    /// The word that a note tells it by.
+    /// Returns the word of this outcome in a note.
     pub fn word(self) -> &'static str
         ensures { result.now ≡ outcome_word self }
     {

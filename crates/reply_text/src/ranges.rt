@@ -1,5 +1,5 @@
-//! What each value of a program holds: bytes below 256, and numbers that their types have room for. The
-//! functions here do nothing; each says by its contract that the value which it is shown is in range.
+//! The ranges of a program's values: bytes below 256, and numbers within their types. The functions here
+//! do nothing; the contract of each says that its argument is in range.
 
 ghost use Rattle.std.specs.Prelude.{◌<◌, ◌^◌, length, All};
 ghost use Rattle.hex.specs.Hex.{IsBytes};
@@ -20,7 +20,7 @@ pub fn entry_in_range(entry: &Entry<Call, Reply>)
     reply_in_range(&entry.reply);
 }
 
-/// Each call is in range: its user, and what its text shows of what it asks.
+/// Each call is in range: its user, and the part of it that its text shows.
 pub fn call_in_range(call: &Call)
     ensures uid { call.now.uid < 2 ^ 32 }
     ensures asked { CallIsInRange call.now.op }
@@ -54,7 +54,7 @@ pub fn reply_in_range(reply: &Reply)
     }
 }
 
-// What is asked for is in range.
+// The operation is in range.
 fn op_in_range(op: &Op)
     ensures { CallIsInRange op.now }
 {
@@ -113,7 +113,7 @@ fn refusal_in_range(refusal: Refusal)
     }
 }
 
-// There are less names than a list has room for, and each is of bytes.
+// There are fewer than 2^64 names, and each is of bytes.
 fn names_in_range(names: &[Bytes])
     ensures few { length names.now < 2 ^ 64 }
     ensures bytes { All IsBytes names.now }

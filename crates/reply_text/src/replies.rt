@@ -1,4 +1,4 @@
-//! The text of what was replied.
+//! The text of a reply.
 
 ghost use Rattle.std.specs.Prelude.{◌≡◌, ◌++◌, OnOk, codes};
 ghost use Rattle.text_words.specs.Numbers.{decimal_of};
@@ -14,7 +14,7 @@ use mount_model::{KeyState, NodeKind, Refusal, Reply};
 use std::alloc::AllocError;
 use text_words::push_decimal;
 
-// Puts what was replied behind the text.
+// Appends a reply to the text.
 pub(crate) fn put_reply(text: &mut Vec<u8>, reply: &Reply) -> Result<(), AllocError>
     ensures { OnOk result (text.new.items ≡ text.old.items ++ reply_text reply.now) }
 {
@@ -45,7 +45,7 @@ pub(crate) fn put_reply(text: &mut Vec<u8>, reply: &Reply) -> Result<(), AllocEr
     }
 }
 
-// Puts names, and whether further ones follow, behind the text.
+// Appends names, and whether further ones follow, to the text.
 fn put_listing(text: &mut Vec<u8>, names: &[Bytes], more: bool) -> Result<(), AllocError>
     ensures { OnOk result (text.new.items ≡ text.old.items ++ listing_text names.now more) }
 {
@@ -54,7 +54,7 @@ fn put_listing(text: &mut Vec<u8>, names: &[Bytes], more: bool) -> Result<(), Al
     put_names(text, names)
 }
 
-// Puts a record and its version behind the text.
+// Appends a record and its version to the text.
 fn put_held(text: &mut Vec<u8>, version: u32, bytes: &[u8]) -> Result<(), AllocError>
     ensures { OnOk result (text.new.items ≡ text.old.items
         ++ (codes "record " ++ (decimal_of version ++ (codes " " ++ bytes_text bytes.now)))) }
@@ -63,7 +63,7 @@ fn put_held(text: &mut Vec<u8>, version: u32, bytes: &[u8]) -> Result<(), AllocE
     put_bytes(text, b" ", bytes)
 }
 
-// Puts what a node is behind the text.
+// Appends a node's kind, number, size and encryption to the text.
 fn put_stat(
     text: &mut Vec<u8>,
     kind: NodeKind,
@@ -82,7 +82,7 @@ fn put_stat(
     put_flag(text, b" key=", keyed)
 }
 
-// Puts why nothing was done behind the text.
+// Appends a refusal to the text.
 fn put_refusal(text: &mut Vec<u8>, refusal: Refusal) -> Result<(), AllocError>
     ensures { OnOk result (text.new.items ≡ text.old.items ++ (codes "refused " ++ refusal_text refusal)) }
 {
@@ -91,7 +91,7 @@ fn put_refusal(text: &mut Vec<u8>, refusal: Refusal) -> Result<(), AllocError>
     put_version(text, refusal)
 }
 
-// Puts the version that a refusal tells behind the text.
+// Appends the version that a refusal contains to the text.
 fn put_version(text: &mut Vec<u8>, refusal: Refusal) -> Result<(), AllocError>
     ensures { OnOk result (text.new.items ≡ text.old.items ++ version_text refusal) }
 {
@@ -101,7 +101,7 @@ fn put_version(text: &mut Vec<u8>, refusal: Refusal) -> Result<(), AllocError>
     Ok(())
 }
 
-// Puts what is left of a key on which a claim was given up behind the text.
+// Appends the state of a key after the removal of a claim to the text.
 fn put_removed(text: &mut Vec<u8>, others: bool, busy: bool) -> Result<(), AllocError>
     ensures { OnOk result (text.new.items ≡ text.old.items ++ removed_text others busy) }
 {
@@ -109,7 +109,7 @@ fn put_removed(text: &mut Vec<u8>, others: bool, busy: bool) -> Result<(), Alloc
     put_flag(text, b" busy=", busy)
 }
 
-// Puts what stands of a key behind the text.
+// Appends the status of a key to the text.
 fn put_status(
     text: &mut Vec<u8>,
     state: KeyState,
@@ -144,7 +144,7 @@ fn state_text(state: KeyState) -> &'static [u8]
     }
 }
 
-/// The name of a refusal, as a log has it, with a space behind it where a version follows.
+/// Returns the name of a refusal, as it is in a log, with a space after it if a version follows.
 pub fn refusal_name(refusal: Refusal) -> &'static [u8]
     ensures { result.now ≡ refusal_name refusal }
 {

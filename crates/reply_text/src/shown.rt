@@ -1,4 +1,4 @@
-//! What is kept of a call for its line in the log.
+//! The part of a call that is retained for its line in the log.
 
 ghost use Rattle.std.specs.Prelude.{◌≡◌, IfOk};
 ghost use Rattle.reply_text.specs.Shown.{shown_call};
@@ -8,21 +8,21 @@ use item_list::Bytes;
 use mount_model::Call;
 use std::alloc::{AllocError, Global};
 
-/// What a log shows of a call: for which user it was made, and the words of what was asked. Of a raw key
-/// and of written bytes they have the number alone, of a nonce nothing.
+/// The form of a call in a log: the user for whom it was made, and its text. The text has only the length
+/// of a raw key and the number of written bytes, and no nonce.
 pub struct Shown {
     pub uid: u32,
     pub words: Bytes,
 }
 
-// Written, and not derived, so that a crate that lets one go needn't prove how that is done.
+// Written, not derived, so that a crate that drops one needn't prove how that is done.
 impl Drop for Shown {
     fn drop(self) {
         let Shown { uid: _, words: _ } = self;
     }
 }
 
-/// What a log shows of the call.
+/// Returns the form of the call in a log.
 pub fn shown_of(alloc: Global, call: &Call) -> Result<Shown, AllocError>
     ensures { IfOk result (λ shown. shown ≡ shown_call call.now) }
 {
