@@ -1,4 +1,5 @@
--- Texts of four words: the words are cut apart, and joined again, and no line feed stands in the text where none stands in a word. Lists of four items.
+-- Texts of four words. Splitting a text at its spaces gives the words, and joining them gives the text.
+-- The text contains no line feed if no word contains one. Lists of four items.
 use Rattle.std.proofs.Common.{◌≡◌, ℕ, true, List, [], ◌∷◌, ◌++◌, length, Some, sym, ap, ◌∙◌, arith}
 use Rattle.std.specs.List.{join_with_byte, slice_get}
 use Rattle.std.proofs.lemmas.List.Splits.{join_with_byte-slice_split}

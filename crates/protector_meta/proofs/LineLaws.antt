@@ -1,4 +1,5 @@
--- Reading a record line by line: what was read stood there, and what stands there is read. Writing its lines.
+-- Reading a record line by line: a line that was read is in the text, and a line in the text is read.
+-- Writing its lines.
 use Rattle.std.proofs.Common.{◌≡◌, ℕ, suc, ◌<◌, ◌≤◌, ◌+◌, ◌-◌, Bool, true, false, not, ltb, append_assoc, List, [], ◌∷◌, ◌++◌, length, map, take, drop, get_or, Option, Some, None, Result, Ok, Err, refl, sym, ap, ◌∙◌, arith, add-one}
 use Rattle.std.specs.Prelude.{if◌then◌else◌}
 use Rattle.std.specs.List.{before_first, after_first, flat_map, position_or_len}
@@ -109,7 +110,7 @@ pub ended-map : {A : Type 0} (f : A → List ℕ) (xs : List A) → ended (map f
 ended-map f [] = refl
 ended-map f (x ∷ xs) = ap (λ l. f x ++ 10 ∷ l) (ended-map f xs) ∙ sym (append_assoc (f x) (10 ∷ []) (flat_map (λ x. f x ++ 10 ∷ []) xs))
 
--- a line that is written behind others
+-- a line that is written after others
 pub ended-push : (lines : List (List ℕ)) (line old new : List ℕ) → old ≡ ended lines → new ≡ old ++ line ++ 10 ∷ [] → new ≡ ended (lines ++ line ∷ [])
 ended-push lines line old new h e = e ∙ ap (λ (t : List ℕ). t ++ line ++ 10 ∷ []) h ∙ last lines
   where

@@ -114,7 +114,7 @@ module _ (o : Options) where
   text_is_free : is_free_of 10 (size ++ 32 ∷ log) ≡ true
   text_is_free = let f = free 10 (lit< tt) in free_of_both 10 size (32 ∷ log) f.0 f.1
 
--- what two words tell of
+-- the options that two words spell
 module _ (size log : List ℕ) (o : Options) where
   made : (n m : ℕ) (pad : Option Pad) (unit : Option DataUnit) → number_below (2 ^ 32) size ≡ Some n → number_below (2 ^ 32) log ≡ Some m
       → pad_of_size n ≡ pad → unit_of_log2 m ≡ unit → options_of_words (size ∷ log ∷ []) ≡ Some o → (n ≡ pad_size o.pad) × (m ≡ unit_log2 o.unit)

@@ -1,4 +1,5 @@
--- A policy's record is read as the policy, no other text is, and a fault tells the first line at fault.
+-- A policy's record is read as the policy, no other text is read, and a fault names the first line at
+-- fault.
 use Rattle.std.proofs.Common.{◌≡◌, ℕ, Bool, true, false, List, [], ◌∷◌, ◌++◌, map, Option, Some, None, Result, Ok, Err, IfOk, IfErr, refl, sym, ap, ◌∙◌, subst, ◌⊎◌, inl, inr, lit≤, append_assoc}
 use Rattle.std.specs.Prelude.{codes, if◌then◌else◌}
 use Rattle.std.specs.List.{AllByRecursion, flat_map}
@@ -67,7 +68,7 @@ wrap_lines_are_lines : (wraps : List Wrap) → AllByRecursion IsWrap wraps → A
 wrap_lines_are_lines [] each = tt
 wrap_lines_are_lines (w ∷ wraps) each = (wrap_spelled.free w each.0, wrap_lines_are_lines wraps each.1)
 
--- the lines of the policy's wraps, where this stood before them
+-- the lines of the policy's wraps, given what the lines before them spell
 abbrev IsTail : List ℕ → List ℕ → Option Options → PolicyFile → RecordTest
 IsTail name id options p lines =
     (wraps : List Wrap) × ((made name id options wraps ≡ p) × ((lines ≡ map wrap_line wraps) × (AreWraps wraps × AllByRecursion IsWrap wraps)))
@@ -209,7 +210,7 @@ seen_none text r gives line p h is same = elim (seen_every text r gives p is sam
 
 -- ---- writing
 
--- the lines, written one behind the other
+-- the lines, written one after the other
 pub written : (p : PolicyFile) (name t₀ t₁ t₂ t₃ t₄ t₅ : List ℕ) → name ≡ p.name
     → t₀ ≡ [] → t₁ ≡ t₀ ++ version_line p.options ++ 10 ∷ [] → t₂ ≡ t₁ ++ (codes "name " ++ name) ++ 10 ∷ [] → t₃ ≡ t₂ ++ (codes "id " ++ encode_lower p.id.0) ++ 10 ∷ []
     → t₄ ≡ t₃ ++ ended (option_lines p.options) → t₅ ≡ t₄ ++ flat_map (λ wrap. wrap_line wrap ++ 10 ∷ []) p.wraps → t₅ ≡ policy_text p

@@ -1,4 +1,5 @@
--- A protector's record is read from its text, from no other text, and a fault tells the first line at fault.
+-- A protector's record is read from its text, from no other text, and a fault names the first line at
+-- fault.
 use Rattle.std.proofs.Common.{◌≡◌, ℕ, List, [], ◌∷◌, ◌++◌, Result, Ok, Err, refl, sym, ap, ◌∙◌, subst}
 use Rattle.std.specs.Prelude.{IfOk, IfErr, ◌≢◌, codes}
 use Rattle.hex.specs.Hex.{encode_lower}
@@ -92,7 +93,7 @@ IfErr-none text (Err fault) e = λ p h is. absurd (cc (e, ap protector_read is, 
 
 -- ---- writing
 
--- the lines, written one behind the other
+-- the lines, written one after the other
 pub written : (p : Protector) (name descriptor t0 t1 t2 t3 t4 t5 t6 t7 : List ℕ) → name ≡ p.name → descriptor ≡ p.descriptor
     → t0 ≡ [] → t1 ≡ t0 ++ codes "fsc-protector 1" ++ 10 ∷ [] → t2 ≡ t1 ++ (codes "name " ++ name) ++ 10 ∷ []
     → t3 ≡ t2 ++ (codes "kind " ++ kind_text p.kind) ++ 10 ∷ [] → t4 ≡ t3 ++ (codes "descriptor " ++ descriptor) ++ 10 ∷ []

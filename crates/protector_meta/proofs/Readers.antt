@@ -1,4 +1,5 @@
--- Readers of a record's lines: what is found stands in the text, what stands there is found, and reading stops at the first line at fault.
+-- Readers of a record's lines: each value found is in the text, each value in the text is found, and
+-- reading stops at the first line at fault.
 use Rattle.std.proofs.Common.{◌≡◌, ℕ, ◌+◌, ltb, List, [], ◌∷◌, ◌++◌, length, true, false, Option, Some, None, Result, Ok, Err, refl, sym, ap, ◌∙◌, subst, arith, inl, inr}
 use Rattle.std.specs.List.{before_first, after_first, position_or_len}
 use Rattle.std.proofs.lemmas.Bool.{cases_lt, lt-ltb, le-ltb}
@@ -13,7 +14,8 @@ use Rattle.protector_meta.proofs.LineLaws.{ended_more, ended_none, value_again, 
 
 -- ---- the line at which reading stops
 
--- of lines from this place on, the fault tells the first with which no record goes on, or that is missing
+-- for lines from this place on: the fault names the first line with which no record continues, or that is
+-- missing
 pub record Stops (IsRest : RecordTest) (place : ℕ) (lines : List (List ℕ)) (e : MetaFault) : Type 0 where
   pub before : List (List ℕ)
   pub others : List (List ℕ)
@@ -40,7 +42,7 @@ stops_here IsRest place lines e is some unfit =
     let first : place ≡ place + 0 = omega arith in
     record { before = []; others = lines; parts = refl; told = is ∙ ap Bad first; fit = some; unfit = unfit }
 
--- behind the first of the lines
+-- the same after the first of the lines
 pub stops_behind : (A B : RecordTest) (line : List ℕ) (lines : List (List ℕ)) (place : ℕ) (e : MetaFault)
     → ((ls : List (List ℕ)) → B ls → A (line ∷ ls)) → ((ls : List (List ℕ)) → A (line ∷ ls) → B ls) → Stops B (place + 1) lines e → Stops A place (line ∷ lines) e
 stops_behind A B line lines place e to from s =
@@ -61,7 +63,7 @@ stops_told IsRecord text (Bad place) s =
     record { before = s.before; others = s.others; parts = s.parts; counted = omega arith; fit = s.fit; unfit = s.unfit }
 stops_told IsRecord text NoMemory s = cc s.told
 
--- a text has one first line at fault: the lines before it are told by which lines begin a record
+-- a text has one first line at fault: which lines begin a record determines the lines before it
 same_length : (IsRest : RecordTest) (xs others ys more : List (List ℕ)) → xs ++ others ≡ ys ++ more → Begins IsRest xs → Begins IsRest ys
     → ((line : List ℕ) (ls : List (List ℕ)) → others ≡ line ∷ ls → Begins IsRest (xs ++ line ∷ []) → ⊥)
     → ((line : List ℕ) (ls : List (List ℕ)) → more ≡ line ∷ ls → Begins IsRest (ys ++ line ∷ []) → ⊥) → length xs ≡ length ys
@@ -87,7 +89,8 @@ only_one IsRecord text NoMemory place a b = absurd a
 
 -- ---- readers
 
--- a reader of what a record has from this place on; which lines that can be, is said value by value
+-- a reader of the part of a record from this place on; for each value it defines which lines that part
+-- can be
 pub record Reads {P : Type 0} (IsRest : P → RecordTest) (place : ℕ) (read : List ℕ → Result P MetaFault) : Type 0 where
   pub some : (p : P) × ((lines : List (List ℕ)) × IsRest p lines)
   pub found : (text : List ℕ) (p : P) → read text ≡ Ok p → (lines : List (List ℕ)) × ((text ≡ ended lines) × IsRest p lines)
@@ -101,7 +104,7 @@ pub record Spells {A : Type 0} (value : List ℕ → Option A) (Is : A → Type 
   pub again : (x : A) → Is x → value (line_of x) ≡ Some x
   pub free : (x : A) → Is x → is_free_of 10 (line_of x) ≡ true
 
--- the line of a value in form, and what goes on with that value
+-- the line of a value in form, and the lines that follow it for that value
 abbrev pub Then : {A P : Type 0} → (A → Type 0) → (A → List ℕ) → (A → P → RecordTest) → P → RecordTest
 Then {A = A} Is line_of IsRest p lines = (x : A) × ((rest : List (List ℕ)) × ((lines ≡ line_of x ∷ rest) × (Is x × IsRest x p rest)))
 
@@ -140,7 +143,7 @@ module _ {A P : Type 0} {value : List ℕ → Option A} {Is : A → Type 0} {lin
       ∙ ap (λ (r : Result (A × List ℕ) MetaFault). r >>= λ x. next x.0 x.1) (value_again value place (line_of x) (ended rest) x (spells.free x is) (spells.again x is))
       ∙ (reads x).again p rest goes_on
 
-  -- the value of a line with which a record goes on
+  -- the value of a line with which a record continues
   valued_so : (line : List ℕ) (lines : List (List ℕ)) (x : A) (rest : List (List ℕ)) → line ∷ lines ≡ line_of x ∷ rest → Is x → value line ≡ Some x
   valued_so line lines x rest are is =
       let same : line ≡ line_of x = cc are in
@@ -183,7 +186,7 @@ module _ {A P : Type 0} {value : List ℕ → Option A} {Is : A → Type 0} {lin
 
 -- ---- whole records
 
--- a reader of whole records, where the lines of each step are those of the records of values in form
+-- a reader of whole records, if the lines of each step are those of the records of values in form
 module _ {P : Type 0} {IsWhole : P → RecordTest} {read : List ℕ → Result P MetaFault} {IsValue : P → Type 0} {lines_of : P → List (List ℕ)} (reads : Reads IsWhole 1 read)
     (told : (p : P) (lines : List (List ℕ)) → IsWhole p lines → IsValue p × (lines ≡ lines_of p)) (whole : (p : P) → IsValue p → IsWhole p (lines_of p)) where
   pub record_found : (text : List ℕ) (p : P) → read text ≡ Ok p → IsValue p × (text ≡ ended (lines_of p))

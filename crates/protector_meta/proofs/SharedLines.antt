@@ -13,7 +13,7 @@ use Rattle.protector_meta.specs.LineValues.{digits_line_value, name_line_value, 
 use Rattle.protector_meta.proofs.Readers.{Spells}
 use Rattle.protector_meta.proofs.WordLaws.{label_is_free, word_value_again, word_value_found}
 
--- a word, and behind it the text of a value
+-- a word, and after it the text of a value
 pub word_spelled : {A : Type 0} {value : List ℕ → Option A} {Is : A → Type 0} {text_of : A → List ℕ} (word : List ℕ) → is_free_of 10 word ≡ true → Spells value Is text_of
     → Spells (word_value word value) Is (λ x. word ++ text_of x)
 word_spelled {value = value} {text_of = text_of} word plain spells = record {

@@ -1,4 +1,4 @@
--- What stands behind words, and the values there: each is read from what it is spelled as, and from nothing else.
+-- The values after words: each is read from the text that spells it, and from no other text.
 use Rattle.std.proofs.Common.{◌≡◌, ℕ, ◌<◌, ◌==◌, true, not, List, ◌++◌, Option, Some, None, refl, ap, ◌∙◌, arith}
 use Rattle.std.proofs.lemmas.Bool.Decides.{nat_tests}
 use Rattle.std.specs.Option.{option_and_then}
@@ -28,7 +28,7 @@ word_value_found word value text x h =
 
 -- ---- labels
 
--- a byte that stands in no label
+-- a byte that no label contains
 pub label_is_free : (c : ℕ) (xs : List ℕ) → c < 45 → IsLabel xs → is_free_of c xs ≡ true
 label_is_free c xs low is = implied is_label_character (λ b. not (b == c)) (λ x h. above x h) xs (IsLabel-bounds xs is).2
   where

@@ -1,4 +1,4 @@
--- Wraps stay distinct where one is added or dropped.
+-- Wraps stay distinct when one is added or dropped.
 use Rattle.std.proofs.Common.{◌≡◌, ℕ, ◌+◌, ◌<◌, ◌≤◌, Bool, true, false, not, ◌||◌, List, [], ◌∷◌, ◌++◌, length, length-append, filter, refl, sym, ap, ◌∙◌, subst, ⊎_elim, arith}
 use Rattle.std.proofs.lemmas.Bool.{cases_Bool, cond_both, cond-true, cond-false, or_parts, or_from, not_from_true, not_from_false, true≢false}
 use Rattle.std.proofs.lemmas.Cmp.{nat_list_eq_equiv}
@@ -40,7 +40,7 @@ AreDistinct-filter p (x ∷ xs) distinct =
     cond_both (p x) (x ∷ filter p xs) (filter p xs) AreDistinct
     (λ _. (unlisted-filter p x.protector xs distinct.0, AreDistinct-filter p xs distinct.1)) (λ _. AreDistinct-filter p xs distinct.1)
 
--- nothing goes where the protector isn't listed
+-- no wrap is removed if the protector isn't listed
 unlisted_without : (label : List ℕ) (ws : List Wrap) → is_listed label ws ≡ false → wraps_without label ws ≡ ws
 unlisted_without label [] none = refl
 unlisted_without label (x ∷ xs) none =
@@ -48,7 +48,7 @@ unlisted_without label (x ∷ xs) none =
     cond-true (not (is_for label x)) (x ∷ wraps_without label xs) (wraps_without label xs) (not_from_false (is_for label x) apart.0)
     ∙ ap (λ l. x ∷ l) (unlisted_without label xs apart.1)
 
--- one wrap goes where it is
+-- one wrap is removed if the protector is listed
 length-without : (label : List ℕ) (ws : List Wrap) → AreDistinct ws → is_listed label ws ≡ true → length (wraps_without label ws) + 1 ≡ length ws
 length-without label [] distinct listed = absurd (true≢false (sym listed))
 length-without label (x ∷ xs) distinct listed = ⊎_elim

@@ -37,7 +37,7 @@ module _ (w : Wrap) (is : IsWrap w) where
       four_words_are_free w.protector (encode_lower w.iv) (encode_lower w.key) (encode_lower w.tag) (label_is_free 10 w.protector (omega arith) is.protector)
       (digits_are_free 10 w.iv (omega arith) is.iv.1) (digits_are_free 10 w.key (omega arith) is.key.1) (digits_are_free 10 w.tag (omega arith) is.tag.1)
 
--- what four words tell of
+-- the wrap that four words spell
 module _ (label iv key tag : List ℕ) (w : Wrap) where
   tell : (l i k t : Option (List ℕ)) → label_of label ≡ l → lower_hex_bytes_of_length 16 iv ≡ i → lower_hex_bytes_of_length 64 key ≡ k → lower_hex_bytes_of_length 32 tag ≡ t
       → wrap_of_words (label ∷ iv ∷ key ∷ tag ∷ []) ≡ Some w

@@ -80,7 +80,7 @@ taken wraps line wrap is new room =
     let below : nat_le 16 (length wraps) ≡ false = lt-leb 16 (length wraps) room in
     rw (is, new, below) refl
 
--- the next wrap finds room
+-- the next wrap finds a free slot
 room_for : (wraps : List Wrap) (line : List ℕ) (wrap : Wrap) → next_wrap wraps line ≡ Some wrap → (is_listed wrap.protector wraps ≡ false) × (length wraps < 16)
 room_for wraps line wrap h = go (is_listed wrap.protector wraps) (nat_le 16 (length wraps)) refl refl
   where
@@ -92,7 +92,7 @@ room_for wraps line wrap h = go (is_listed wrap.protector wraps) (nat_le 16 (len
     go true full e f = absurd (cc (rw e at told))
     go false true e f = absurd (cc (rw (e, f) at told))
 
--- the last piece, behind which no line ends
+-- the last piece, after which no line ends
 last_piece : (number : ℕ) (wraps : List Wrap) (last : List ℕ) (r : Result (List Wrap) MetaFault) → wraps_from number wraps (last ∷ []) ≡ r
     → ((r ≡ Ok wraps) × ((last ≡ []) × (0 < length wraps))) ⊎ (r ≡ Err (Bad number))
 unfolding wraps_from
@@ -107,9 +107,10 @@ last_piece number wraps last r h =
       | inr unended ↦ inr (sym h ∙ cond-false ((length last == 0) && nat_lt 0 (length wraps)) (Ok wraps) (Err (Bad number)) unended)
     ]
 
--- ---- what was read stands in the text
+-- ---- each wrap that was read is in the text
 
--- what was read are the wraps of the lines behind the earlier ones, and they are 1 to 16 for different protectors
+-- the result is the wraps of the lines after the earlier ones, and they are 1 to 16 for different
+-- protectors
 pub wraps_found : (number : ℕ) (wraps : List Wrap) (pieces : List (List ℕ)) (all : List Wrap) → AreDistinct wraps → length wraps ≤ 16 → wraps_from number wraps pieces ≡ Ok all
     → (more : List Wrap) × ((all ≡ wraps ++ more) × ((pieces ≡ map wrap_line more ++ [] ∷ []) × (AreWraps (wraps ++ more) × AllByRecursion IsWrap more)))
 unfolding wraps_from
@@ -146,7 +147,7 @@ wraps_found number wraps (line ∷ next ∷ more) all distinct few h =
           ),
         )
 
--- ---- what stands in the text is read
+-- ---- each wrap in the text is read
 
 at_pieces : (number : ℕ) (wraps : List Wrap) (line : List ℕ) (pieces : List (List ℕ)) → 0 < length pieces
     → wraps_from number wraps (line ∷ pieces) ≡ (ok_or (next_wrap wraps line) (Bad number) >>= λ wrap. wraps_from (number + 1) (wraps ++ wrap ∷ []) pieces)
@@ -175,7 +176,7 @@ wraps_again number earlier (w ∷ more) distinct few some each =
 
 -- ---- the line at fault
 
--- lines of wraps that can stand behind these
+-- lines of wraps that can follow these
 abbrev pub AreMore : List Wrap → RecordTest
 AreMore wraps lines = (more : List Wrap) × ((lines ≡ map wrap_line more) × (AreWraps (wraps ++ more) × AllByRecursion IsWrap more))
 
@@ -188,7 +189,7 @@ begun (w ∷ wraps) distinct few =
     let kept : AreWraps (w ∷ wraps) = record { some = omega arith; few = few; distinct = distinct } in
     ([], ([], (refl, (subst AreWraps (sym (append-nil (w ∷ wraps))) kept, tt))))
 
--- a line with which lines of wraps go on tells of the next wrap
+-- a line with which lines of wraps continue spells the next wrap
 next_so : (wraps : List Wrap) (line : List ℕ) (lines : List (List ℕ)) → AreMore wraps (line ∷ lines)
     → (wrap : Wrap) × ((next_wrap wraps line ≡ Some wrap) × AreMore (wraps ++ wrap ∷ []) lines)
 next_so wraps line lines ([], (are, more)) = absurd (cc are)

@@ -1,4 +1,4 @@
--- Descriptors, by which a wrong key of a protector is told.
+-- Descriptors, by which a wrong key of a protector is detected.
 use Rattle.std.specs.Prelude.{ℕ, ◌≡◌, List, length, IsTrue}
 use Rattle.std.specs.List.{list_all}
 use Rattle.text_words.specs.Digits.{is_lower_hex_digit}

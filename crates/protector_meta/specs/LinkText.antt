@@ -1,4 +1,4 @@
--- The text of a link: a record under a protector's name which says that the protector lies on another mount.
+-- The text of a link: a record under a protector's name for a protector that is stored on another mount.
 use Rattle.std.specs.Prelude.{ℕ, List, [], ◌∷◌, ◌++◌, codes}
 use Rattle.text_words.specs.Lines.{ended}
 

@@ -8,24 +8,24 @@ use Rattle.policy_ctx.specs.Settings.{pad_of_size, unit_of_log2}
 use Rattle.protector_meta.specs.declared.policy_file.Options.{Options}
 use Rattle.protector_meta.specs.LineValues.{digits_line_value, word_value}
 
--- whether a line of options has its place, which the first line tells by its version
+-- whether the record has a line of options: the version on the first line decides
 abbrev pub head_value : List ℕ → Option Bool
 head_value line =
     if bytes_eq line (codes "fsc-policy 1") then Some false else
     if bytes_eq line (codes "fsc-policy 2") then Some true else
     None
 
--- the 16 bytes whose digits stand behind `id `
+-- the 16 bytes whose digits follow `id `
 abbrev pub id_value : List ℕ → Option (List ℕ)
 id_value line = digits_line_value (codes "id ") 16 line
 
--- go on where there is a value
+-- continue if there is a value
 infixl 10 ◌>>=◌
 abbrev pub ◌>>=◌ : {A B : Type 0} → Option A → (A → Option B) → Option B
 None >>= f = None
 (Some x) >>= f = f x
 
--- the options of which two words tell: the padding in bytes, and the number of the unit
+-- the options that two words spell: the padding in bytes, and the number of the unit
 abbrev pub options_of_words : List (List ℕ) → Option Options
 options_of_words (size ∷ log ∷ []) = do
   size ← number_below (2 ^ 32) size
@@ -35,6 +35,6 @@ options_of_words (size ∷ log ∷ []) = do
   let options : Options = record { pad = pad; unit = unit } in Some options
 options_of_words _ = None
 
--- the options of which a line tells
+-- the options that a line spells
 unfoldable pub options_value : List ℕ → Option Options
 options_value line = word_value (codes "options ") (λ text. options_of_words (words_of text)) line

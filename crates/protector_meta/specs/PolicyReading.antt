@@ -13,7 +13,7 @@ use Rattle.protector_meta.specs.WrapLines.{next_wrap}
 use Rattle.protector_meta.specs.LineValues.{name_line_value}
 use Rattle.protector_meta.specs.Reading.{◌>>=◌, value_at}
 
--- the wraps of the pieces of a text from this line on, behind earlier ones
+-- the wraps of the pieces of a text from this line on, after earlier ones
 unfoldable pub wraps_from : ℕ → List Wrap → List (List ℕ) → Result (List Wrap) MetaFault
 wraps_from number wraps [] = Err (Bad number)
 wraps_from number wraps (last ∷ []) =
@@ -22,14 +22,14 @@ wraps_from number wraps (line ∷ next ∷ more) =
     ok_or (next_wrap wraps line) (Bad number) >>= λ wrap.
     wraps_from (number + 1) (wraps ++ wrap ∷ []) (next ∷ more)
 
--- the policy of what the lines before the wraps told, and of the wraps from this line on
+-- the policy of the values on the lines before the wraps, and of the wraps from this line on
 abbrev pub with_wraps : List ℕ → List ℕ → Option Options → ℕ → List ℕ → Result PolicyFile MetaFault
 with_wraps name id options first text = do
   wraps ← wraps_from first [] (pieces_of text)
   let p : PolicyFile = record { name = name; id = record { 0 = id }; options = options; wraps = wraps }
       in Ok p
 
--- the same from the fourth line on, which tells the options where there are any
+-- the same from the fourth line on, which is the line of options if there is one
 abbrev pub behind_id : Bool → List ℕ → List ℕ → List ℕ → Result PolicyFile MetaFault
 behind_id false name id text = with_wraps name id None 4 text
 behind_id true name id text = do

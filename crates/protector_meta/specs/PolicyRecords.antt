@@ -1,4 +1,4 @@
--- What a policy's record is: the lines of a policy whose fields are such as lines can spell.
+-- What a policy's record is: the lines of a policy whose fields are those that lines can spell.
 use Rattle.std.specs.Prelude.{ℕ, ◌≡◌, List}
 use Rattle.std.specs.List.{All}
 use Rattle.short_bytes.specs.Label.{IsLabel}
@@ -8,14 +8,14 @@ use Rattle.byte_words.specs.Bytes.{AreBytesOfLength}
 use Rattle.protector_meta.specs.Wraps.{AreWraps}
 use Rattle.protector_meta.specs.PolicyText.{policy_lines}
 
--- what the types of the fields keep of every wrap: all of what a line can spell
+-- what the types of the fields guarantee for every wrap: all that a line needs
 pub record IsWrap (wrap : Wrap) : Type 0 where
   pub protector : IsLabel wrap.protector
   pub iv : AreBytesOfLength 16 wrap.iv
   pub key : AreBytesOfLength 64 wrap.key
   pub tag : AreBytesOfLength 32 wrap.tag
 
--- and of every policy: all of what a record can spell
+-- and for every policy: all that a record needs
 pub record IsPolicyFile (p : PolicyFile) : Type 0 where
   pub name : IsLabel p.name
   pub id : AreBytesOfLength 16 p.id.0

@@ -1,4 +1,4 @@
--- The text of a policy's record: its lines, words parted by one space.
+-- The text of a policy's record: its lines, with one space between words.
 use Rattle.std.specs.Prelude.{ℕ, List, [], ◌∷◌, ◌++◌, map, codes, Option, Some, None}
 use Rattle.hex.specs.Hex.{encode_lower}
 use Rattle.text_words.specs.Numbers.{decimal_of}
@@ -23,7 +23,7 @@ abbrev pub version_line : Option Options → List ℕ
 version_line None = codes "fsc-policy 1"
 version_line (Some o) = codes "fsc-policy 2"
 
--- the line of options, where there are any
+-- the line of options, if there are any
 abbrev pub option_lines : Option Options → List (List ℕ)
 option_lines None = []
 option_lines (Some o) = options_line o ∷ []

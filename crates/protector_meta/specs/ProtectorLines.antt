@@ -13,11 +13,11 @@ use Rattle.protector_meta.specs.LineValues.{word_value}
 use Rattle.protector_meta.specs.declared.protector.ProtectorKind.{ProtectorKind}
 use Rattle.protector_meta.specs.declared.protector.ProtectorKind.TheVariants.{Raw, Pass}
 
--- the number below 2^32 that the word at a place, counted from 0, writes
+-- the number below 2^32 that the word at an index, counted from 0, writes
 abbrev pub number_word : ℕ → List ℕ → Option ℕ
 number_word place text = option_and_then (number_below (2 ^ 32)) (slice_get (words_of text) place)
 
--- the n bytes that digits spell in the word at a place, counted from 0
+-- the n bytes that the digits of the word at an index, counted from 0, spell
 abbrev pub digits_word : ℕ → ℕ → List ℕ → Option (List ℕ)
 digits_word n place text = option_and_then (lower_hex_bytes_of_length n) (slice_get (words_of text) place)
 
@@ -41,11 +41,11 @@ kind_value text =
     if bytes_eq text (codes "raw") then Some Raw
     else option_map Pass (word_value (codes "pass ") stretching_value text)
 
--- 16 lower-case digits, which are kept as digits
+-- 16 lower-case digits, which are stored as digits
 abbrev pub descriptor_value : List ℕ → Option (List ℕ)
 descriptor_value text = if length text == 16 && list_all is_lower_hex_digit text then Some text else None
 
--- the first line tells no value
+-- the first line has no value
 abbrev pub head_value : List ℕ → Option (Unit {0})
 head_value line = if bytes_eq line (codes "fsc-protector 1") then Some tt else None
 

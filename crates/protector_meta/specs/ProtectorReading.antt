@@ -1,4 +1,4 @@
--- How a protector's record is read: the values of its seven lines, and nothing behind them.
+-- How a protector's record is read: the values of its seven lines, and no text after them.
 use Rattle.std.specs.Prelude.{ℕ, List, length, ◌==◌, Result, Ok, Err, codes, if◌then◌else◌}
 use Rattle.protector_meta.specs.Reading.{◌>>=◌, value_at}
 use Rattle.protector_meta.specs.ProtectorLines.{head_value, kind_line_value, descriptor_line_value}
@@ -12,7 +12,7 @@ use Rattle.protector_meta.specs.declared.protector.ProtectorKind.{ProtectorKind}
 abbrev pub nothing_left : ℕ → List ℕ → Protector → Result Protector MetaFault
 nothing_left number text p = if length text == 0 then Ok p else Err (Bad number)
 
--- the protector of what the lines before told, and of the last three
+-- the protector of the values on the lines before, and of the last three lines
 abbrev pub behind_descriptor : List ℕ → ProtectorKind → List ℕ → List ℕ → Result Protector MetaFault
 behind_descriptor name kind descriptor text = do
   iv ← value_at (digits_line_value (codes "iv ") 16) 5 text

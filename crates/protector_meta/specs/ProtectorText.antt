@@ -1,4 +1,4 @@
--- The text of a protector's record: seven lines, words parted by one space.
+-- The text of a protector's record: seven lines, with one space between words.
 use Rattle.std.specs.Prelude.{ℕ, ◌≡◌, List, [], ◌∷◌, ◌++◌, codes}
 use Rattle.hex.specs.Hex.{encode_lower}
 use Rattle.text_words.specs.Numbers.{decimal_of}
@@ -44,7 +44,7 @@ abbrev pub IsKind : ProtectorKind → Type 0
 IsKind Raw = Unit {0}
 IsKind (Pass stretching) = IsStretching stretching
 
--- what the types of the fields keep of every protector: all of what a record can spell
+-- what the types of the fields guarantee for every protector: all that a record needs
 pub record IsProtector (p : Protector) : Type 0 where
   pub name : IsLabel p.name
   pub kind : IsKind p.kind

@@ -1,5 +1,5 @@
--- How a record is read, line by line: the value and what follows it, or the fault; words of private
--- functions.
+-- How a record is read, line by line: the value and what follows it, or the fault; definitions for
+-- private functions.
 use Rattle.std.specs.Prelude.{ℕ, ◌≡◌, List, length, nat_lt, Option, Some}
 use Rattle.std.specs.Prelude.{None, Result, Ok, Err, if◌then◌else◌}
 use Rattle.std.specs.List.{before_first, after_first, position_or_len}
@@ -7,13 +7,13 @@ use Rattle.text_words.specs.Lines.{is_line_feed}
 use Rattle.protector_meta.specs.declared.fault.MetaFault.{MetaFault}
 use Rattle.protector_meta.specs.declared.fault.MetaFault.TheVariants.{Bad}
 
--- go on, unless there was a fault
+-- continue, unless there was a fault
 infixl 10 ◌>>=◌
 abbrev pub ◌>>=◌ : {A B : Type 0} → Result A MetaFault → (A → Result B MetaFault) → Result B MetaFault
 (Ok x) >>= f = f x
 (Err e) >>= f = Err e
 
--- the first line, where a line feed ends it, and the text behind the line feed
+-- the first line, if a line feed ends it, and the text after the line feed
 abbrev pub line_at : ℕ → List ℕ → Result (List ℕ × List ℕ) MetaFault
 line_at number text =
     if nat_lt (position_or_len is_line_feed text) (length text)
@@ -25,7 +25,7 @@ abbrev pub required : {A : Type 0} → Option A → ℕ → List ℕ → Result 
 required None number rest = Err (Bad number)
 required (Some x) number rest = Ok (x, rest)
 
--- the value of the first line, and the text behind the line
+-- the value of the first line, and the text after the line
 abbrev pub value_at : {A : Type 0} → (List ℕ → Option A) → ℕ → List ℕ → Result (A × List ℕ) MetaFault
 value_at value number text = line_at number text >>= λ x. required (value x.0) number x.1
 

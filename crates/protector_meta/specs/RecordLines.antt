@@ -4,7 +4,7 @@ use Rattle.text_words.specs.Lines.{pieces_of}
 use Rattle.protector_meta.specs.declared.fault.MetaFault.{MetaFault}
 use Rattle.protector_meta.specs.declared.fault.MetaFault.TheVariants.{Bad, NoMemory}
 
--- the lines of a text that a line feed ends; what stands behind the last line feed is none of them
+-- the lines of a text that a line feed ends; the text after the last line feed is none of them
 abbrev pub ended_lines : List ℕ → List (List ℕ)
 ended_lines text = take (length (pieces_of text) - 1) (pieces_of text)
 
@@ -16,9 +16,9 @@ RecordTest = List (List ℕ) → Type 0
 abbrev pub Begins : RecordTest → List (List ℕ) → Type 0
 Begins IsRecord lines = (more : List (List ℕ)) × IsRecord (lines ++ more)
 
--- a text has its first line at fault at this place, counted from 1: a record begins with the lines before it,
--- and none with them and the line itself, if it isn't missing. A piece that no line feed ended counts as missing,
--- and of a whole record the line behind its last is at fault
+-- the first line at fault in a text is at this place, counted from 1: a record begins with the lines
+-- before it, and the line itself is missing or no record begins with them and it. A piece that no line
+-- feed ends counts as missing. In a whole record the line after its last is at fault
 pub record IsFirstBad (IsRecord : RecordTest) (text : List ℕ) (place : ℕ) : Type 0 where
   pub before : List (List ℕ)
   pub others : List (List ℕ)
@@ -28,7 +28,7 @@ pub record IsFirstBad (IsRecord : RecordTest) (text : List ℕ) (place : ℕ) : 
   pub unfit : (line : List ℕ) (more : List (List ℕ)) → others ≡ line ∷ more
       → Begins IsRecord (before ++ line ∷ []) → ⊥
 
--- the fault tells that place
+-- the fault names that place
 abbrev pub TellsFirstBad : RecordTest → List ℕ → MetaFault → Type 0
 TellsFirstBad IsRecord text (Bad line) = IsFirstBad IsRecord text line
 TellsFirstBad IsRecord text NoMemory = ⊥

@@ -1,4 +1,4 @@
--- A protector's record once its key was wrapped anew.
+-- A protector's record after its key was wrapped again.
 use Rattle.std.specs.Prelude.{ℕ, List}
 use Rattle.key_wrap.specs.Wrapping.{wrapped_secret}
 use Rattle.protector_meta.specs.declared.protector.ProtectorKind.{ProtectorKind}

@@ -8,7 +8,7 @@ use Rattle.protector_meta.specs.LineValues.{word_value}
 use Rattle.protector_meta.specs.Wraps.{adding_fault}
 use Rattle.protector_meta.specs.PolicyLines.{◌>>=◌}
 
--- the wrap of which four words tell
+-- the wrap that four words spell
 abbrev pub wrap_of_words : List (List ℕ) → Option Wrap
 wrap_of_words (label ∷ iv ∷ key ∷ tag ∷ []) = do
   protector ← label_of label
@@ -18,11 +18,11 @@ wrap_of_words (label ∷ iv ∷ key ∷ tag ∷ []) = do
   let wrap : Wrap = record { protector = protector; iv = iv; key = key; tag = tag } in Some wrap
 wrap_of_words _ = None
 
--- the wrap of which a line tells
+-- the wrap that a line spells
 unfoldable pub wrap_value : List ℕ → Option Wrap
 wrap_value line = word_value (codes "wrap ") (λ text. wrap_of_words (words_of text)) line
 
--- the same, where it can be added behind others
+-- the same, if it can be added after others
 abbrev pub next_wrap : List Wrap → List ℕ → Option Wrap
 next_wrap wraps line = do
   wrap ← wrap_value line

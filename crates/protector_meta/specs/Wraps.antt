@@ -27,7 +27,7 @@ pub record AreWraps (wraps : List Wrap) : Type 0 where
   pub few : length wraps ≤ MOST_WRAPS
   pub distinct : AreDistinct wraps
 
--- the wrap for the protector of this label, where it is listed
+-- the wrap for the protector of this label, if it is listed
 abbrev pub wrap_for : List ℕ → List Wrap → Option Wrap
 wrap_for label wraps = find (is_for label) wraps
 

@@ -1,4 +1,4 @@
-//! Descriptors, by which a wrong key of a protector is told.
+//! Descriptors, by which a wrong key of a protector is detected.
 
 ghost use Rattle.std.specs.Prelude.{◌≡◌, ◌↔◌, ℕ, List, IsSome, IfSome};
 ghost use Rattle.std.specs.List.{list_all};
@@ -26,7 +26,8 @@ impl Model for Descriptor {
 }
 
 impl Descriptor {
-    /// The descriptor of a key: the first 8 bytes of SHA-512 taken twice, as the fscrypt tool has it.
+    /// Returns the descriptor of a key: the first 8 bytes of SHA-512 applied twice, as in the fscrypt
+    /// tool.
     pub fn of_key(key: &[u8]) -> Descriptor
         ensures { result ≡ descriptor_of key.now }
     {
@@ -35,7 +36,8 @@ impl Descriptor {
         }
     }
 
-    /// The descriptor of these digits, where they are one.
+    /// Returns the descriptor of these digits, or `None` if they are not 16 lower-case hexadecimal
+    /// digits.
     pub fn read(digits: &[u8]) -> Option<Descriptor>
         ensures value { IfSome result (λ descriptor. descriptor ≡ digits.now) }
         ensures exact { IsSome result ↔ IsDescriptor digits.now }
@@ -48,7 +50,7 @@ impl Descriptor {
         Some(Descriptor { digits: own })
     }
 
-    /// The 16 digits.
+    /// Returns the 16 digits.
     pub fn bytes(&self) -> &[u8]
         ensures value { result.now ≡ self.now }
         ensures descriptor { IsDescriptor result.now }

@@ -6,7 +6,7 @@ use thiserror::Error;
 /// Why a text was not decoded.
 #[derive(Clone, Copy, Debug, PartialEq, Eq, Error)]
 pub enum MetaFault {
-    /// This line, counted from 1, is the first that is not as a record has it.
+    /// The first line at fault, counted from 1: it is missing or not as a record has it.
     #[error("line {line} is not as a record has it")]
     Bad { line: u32 },
     /// There was no memory for the value.

@@ -11,8 +11,8 @@ use short_bytes::Label;
 use std::alloc::AllocError;
 use text_words::{behind, lower_hex_bytes, next_line, push_lower_hex};
 
-// The first line, where a line feed ends it, and the text behind the line feed. Else the line of
-// this number is at fault.
+// The first line, if a line feed ends it, and the text after the line feed. Otherwise the line of this
+// number is at fault.
 pub(crate) fn ended_line(text: &[u8], number: u32) -> Result<(&[u8], &[u8]), MetaFault>
     ensures { Gives (λ x. (x.0.now, x.1.now)) result (line_at number text.now) }
 {
@@ -31,15 +31,15 @@ pub(crate) fn name_line_value(line: &[u8]) -> Option<Label>
     Label::read(behind(line, b"name ")?)
 }
 
-// The bytes that digits spell behind a word with which the line begins.
+// The bytes that the digits after the word spell, if the line begins with the word.
 fn digits_line_value<const N: usize>(line: &[u8], word: &[u8]) -> Option<[u8; N]>
     ensures { result ≡ spec.digits_line_value word.now N line.now }
 {
     lower_hex_bytes(behind(line, word)?)
 }
 
-// The bytes that digits spell behind the word on the first line, and the text behind the line. Else
-// the line of this number is at fault.
+// The bytes that the digits after the word on the first line spell, and the text after the line.
+// Otherwise the line of this number is at fault.
 pub(crate) fn read_digits<'a, const N: usize>(
     text: &'a [u8],
     word: &[u8],
@@ -53,7 +53,7 @@ pub(crate) fn read_digits<'a, const N: usize>(
     Ok((bytes, rest))
 }
 
-// Writes a line at the end of the text: a word, and what stands behind it.
+// Appends a line to the text: a word, and the value after it.
 pub(crate) fn push_line(text: &mut Vec<u8>, word: &[u8], value: &[u8]) -> Result<(), AllocError>
     ensures { OnOk result (text.new.items ≡ text.old.items ++ (word.now ++ value.now) ++ 10 ∷ []) }
 {
@@ -63,7 +63,7 @@ pub(crate) fn push_line(text: &mut Vec<u8>, word: &[u8], value: &[u8]) -> Result
     Ok(())
 }
 
-// Writes a line at the end of the text: a word, and the lower-case digits of the bytes.
+// Appends a line to the text: a word, and the lower-case digits of the bytes.
 pub(crate) fn push_digits_line(
     text: &mut Vec<u8>,
     word: &[u8],

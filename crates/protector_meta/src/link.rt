@@ -1,4 +1,4 @@
-//! Links: records that say that a protector lies on another mount.
+//! Links: records for protectors that are stored on another mount.
 
 ghost use Rattle.std.specs.Prelude.{◌≡◌, ◌≤◌, IfOk, length};
 ghost use Rattle.std.specs.Str.{bytes_eq};
@@ -8,11 +8,12 @@ use item_list::Bytes;
 use short_bytes::{Filled, Label};
 use std::alloc::{AllocError, Global};
 
-/// The most bytes that the text of a link has: 16 before the label and a line feed behind it.
+/// The maximal number of bytes of a link's text: 16 before the label, the label, and a line feed after
+/// it.
 pub const MOST_LINK_BYTES: usize = 49;
 
-/// The text of the link to the protector of this label, of at most 49 bytes: `fsc-link 1`, then `name ` and
-/// the label, each with a line feed.
+/// Returns the text of the link to the protector of this label: `fsc-link 1`, then `name ` and the label,
+/// each line ended by a line feed. The text has at most 49 bytes. The only error is out of memory.
 pub fn encode_link(alloc: Global, label: &Label) -> Result<Bytes, AllocError>
     ensures text { IfOk result (λ text. text ≡ link_text label.now) }
     ensures few { IfOk result (λ text. length text ≤ MOST_LINK_BYTES) }
@@ -21,7 +22,8 @@ pub fn encode_link(alloc: Global, label: &Label) -> Result<Bytes, AllocError>
     Ok(Bytes::from_vec(Vec::from_slice(alloc, link.bytes())?))
 }
 
-/// Whether the bytes are exactly the text of the link to the protector of this label. It takes no memory.
+/// Returns whether the bytes are exactly the text of the link to the protector of this label. Allocates
+/// nothing.
 pub fn is_link(label: &Label, bytes: &[u8]) -> bool
     ensures { result ≡ bytes_eq bytes.now (link_text label.now) }
 {
@@ -29,7 +31,7 @@ pub fn is_link(label: &Label, bytes: &[u8]) -> bool
     bytes == link.bytes()
 }
 
-// The text of the link, without memory.
+// The text of the link, without an allocation.
 #[tactic(auto, unfolding(crate::specs::LinkText::link_text))]
 fn link_to(label: &Label) -> Filled<MOST_LINK_BYTES>
     ensures { result ≡ link_text label.now }

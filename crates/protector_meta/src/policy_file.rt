@@ -9,30 +9,30 @@ use fsc_keys::KeyId;
 use policy_ctx::{Pad, Unit};
 use short_bytes::Label;
 
-/// What a directory gets whose policy is set by a record, unless its caller says otherwise.
+/// The options of a directory whose policy is set by a record, unless its caller chooses others.
 #[derive(Clone, Copy, Debug, PartialEq, Eq)]
 pub struct Options {
-    /// What stored names are padded to.
+    /// The multiple to which stored names are padded.
     pub pad: Pad,
-    /// What contents are cut into.
+    /// The unit into which contents are divided.
     pub unit: Unit,
 }
 
-/// What the record of a policy tells.
+/// The content of a policy's record.
 #[derive(Drop)]
 pub struct PolicyFile {
     /// The label by which the policy is named.
     pub name: Label,
     /// The identifier of the policy's key.
     pub id: KeyId,
-    /// The options of a record of version 2; one of version 1 has none.
+    /// The options of a record of version 2; `None` for version 1.
     pub options: Option<Options>,
     /// The policy's key, wrapped once for each protector that opens it.
     pub wraps: WrapList,
 }
 
-/// Adds a wrap behind the others. Refused with `Listed` where its protector has one already, else
-/// with `Full` where there are 16; else there may be no memory.
+/// Appends a wrap. Returns `Listed` if its protector has a wrap already, and otherwise `Full` if there
+/// are 16 wraps. Otherwise the only error is `NoMemory`. After an error the policy is unchanged.
 pub fn add_protector(policy: &mut PolicyFile, wrap: Wrap) -> Result<(), WrapFault>
     ensures added { OnOk result (policy.new ≡ record policy.old { wraps = policy.old.wraps ++ wrap ∷ [] }) }
     ensures kept { OnErr result (policy.new ≡ policy.old) }
@@ -43,8 +43,9 @@ pub fn add_protector(policy: &mut PolicyFile, wrap: Wrap) -> Result<(), WrapFaul
     policy.wraps.add(wrap)
 }
 
-/// Drops the wrap for the protector of this label; the others keep their order. Refused with
-/// `NotListed` where there is none, else with `LastOne` where there is no other. It takes no memory.
+/// Removes the wrap for the protector of this label; the others stay in order. Returns `NotListed` if
+/// there is no such wrap, and otherwise `LastOne` if there is no other wrap. Allocates nothing. After an
+/// error the policy is unchanged.
 pub fn drop_protector(policy: &mut PolicyFile, protector: &Label) -> Result<(), WrapFault>
     ensures dropped { OnOk result (policy.new
         ≡ record policy.old { wraps = wraps_without protector.now policy.old.wraps }) }

@@ -27,12 +27,14 @@ use text_words::{
     behind, decimal_value, lower_hex_bytes, next_line, nth_word, two_words, word_count,
 };
 
-/// The number of the first line behind the identifier: of the options, or else of the first wrap.
+/// The number of the first line after the identifier: of the options, or else of the first wrap.
 const FOURTH_LINE: u32 = 4;
 
-/// The policy whose record the text is. Else the line at fault: the first that is not as its place
-/// asks, tells of a protector seen before or of a seventeenth one, is missing, or has no line feed at
-/// its end; or there was no memory.
+/// Returns the policy whose record the text is. Otherwise returns the first line at fault, or `NoMemory`.
+/// A line is at fault if it
+/// - is not as its place requires,
+/// - has the wrap of a protector that is listed before, or a seventeenth wrap,
+/// - is missing, or has no line feed at its end.
 pub fn decode_policy_file(alloc: Global, text: &[u8]) -> Result<PolicyFile, MetaFault>
     ensures read { GivesInMemory (λ p. p) result (policy_read text.now) }
     ensures found { IfOk result (λ p. IsPolicyFile p × (text.now ≡ policy_text p)) }
@@ -60,7 +62,7 @@ fn read_policy(alloc: Global, text: &[u8]) -> Result<PolicyFile, MetaFault>
     read_behind_id(alloc, has_options, name, KeyId(id), rest)
 }
 
-// The policy of what the first three lines told, and of those behind them: the options, where they
+// The policy of the values on the first three lines, and of the lines after them: the options, if they
 // have a line, and the wraps.
 fn read_behind_id(
     alloc: Global,
@@ -91,7 +93,7 @@ fn read_behind_id(
     })
 }
 
-// Whether a line of options has its place, which the first line tells by its version.
+// Whether the record has a line of options: the version on the first line decides.
 fn head_value(line: &[u8]) -> Option<bool>
     ensures { result ≡ spec.head_value line.now }
 {
@@ -104,7 +106,7 @@ fn head_value(line: &[u8]) -> Option<bool>
     }
 }
 
-// The options of which a line tells.
+// The options that a line spells.
 #[tactic(auto, unfolding(crate::specs::PolicyLines::options_value))]
 fn options_value(line: &[u8]) -> Option<Options>
     ensures { result ≡ spec.options_value line.now }
@@ -112,7 +114,7 @@ fn options_value(line: &[u8]) -> Option<Options>
     options_of_words(behind(line, b"options ")?)
 }
 
-// The options of which two words tell.
+// The options that two words spell.
 fn options_of_words(text: &[u8]) -> Option<Options>
     ensures { result ≡ spec.options_of_words (words_of text.now) }
 {
@@ -143,7 +145,7 @@ fn read_wraps(alloc: Global, text: &[u8], first_line: u32) -> Result<WrapList, M
     Ok(wraps)
 }
 
-// The list of the wrap of the first line, which has this number, and the text behind the line.
+// The list with the wrap of the first line, which has this number, and the text after the line.
 fn read_first_wrap(alloc: Global, text: &[u8], number: u32) -> Result<(WrapList, &[u8]), MetaFault>
     ensures one { IfOk result (λ x. length x.0 ≡ 1) }
     ensures first { IfOk result (λ x. wraps_from number [] (pieces_of text.now)
@@ -179,7 +181,7 @@ fn add_line(wraps: &mut WrapList, line: &[u8], number: u32) -> Result<(), MetaFa
     }
 }
 
-// The wrap of which a line tells.
+// The wrap that a line spells.
 #[tactic(auto, unfolding(crate::specs::WrapLines::wrap_value))]
 fn read_wrap(line: &[u8]) -> Option<Wrap>
     ensures { result ≡ wrap_value line.now }
@@ -187,7 +189,7 @@ fn read_wrap(line: &[u8]) -> Option<Wrap>
     wrap_of_words(behind(line, b"wrap ")?)
 }
 
-// The wrap of which four words tell.
+// The wrap that four words spell.
 fn wrap_of_words(text: &[u8]) -> Option<Wrap>
     ensures { result ≡ wrap_of_words (words_of text.now) }
 {
@@ -200,7 +202,7 @@ fn wrap_of_words(text: &[u8]) -> Option<Wrap>
     })
 }
 
-// The words of a text, if they are four.
+// The words of a text, if there are four.
 fn four_words(text: &[u8]) -> Option<(&[u8], &[u8], &[u8], &[u8])>
     ensures { MatchOption result (length (words_of text.now) ≢ 4) (λ x.
         words_of text.now ≡ x.0.now ∷ x.1.now ∷ x.2.now ∷ x.3.now ∷ []) }

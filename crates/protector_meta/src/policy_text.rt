@@ -22,8 +22,8 @@ pub(crate) const HEAD: &[u8] = b"fsc-policy 1";
 /// The first line of a record of version 2, which has options.
 pub(crate) const HEAD_WITH_OPTIONS: &[u8] = b"fsc-policy 2";
 
-/// The record of a policy. Its type keeps all that a record asks for, so each policy has one; the
-/// one error is want of memory.
+/// Returns the text of a policy's record. Its type guarantees all that a record needs, so each policy has
+/// one. The only error is out of memory.
 pub fn encode_policy_file(alloc: Global, policy: &PolicyFile) -> Result<Bytes, AllocError>
     ensures text { IfOk result (λ text. text ≡ policy_text policy.now) }
     ensures in_form { OnOk result (IsPolicyFile policy.now) }
@@ -46,7 +46,7 @@ fn version_line(options: &Option<Options>) -> &'static [u8]
     }
 }
 
-// Writes the line of the options, where there are any.
+// Writes the line of the options, if there are any.
 fn push_options(text: &mut Vec<u8>, options: &Option<Options>) -> Result<(), AllocError>
     ensures { OnOk result (text.new.items ≡ text.old.items ++ ended (option_lines options.now)) }
 {

@@ -1,4 +1,4 @@
-//! Protectors: what their records hold. Each field's type keeps what a record can spell.
+//! Protectors, as their records have them: the type of each field admits only what a record can spell.
 
 ghost use Rattle.std.specs.Prelude.{◌≡◌, ◌↔◌, ℕ, List, IfOk, IfErr, IsOk, Ok, Err};
 ghost use Rattle.byte_words.specs.Bytes.{AreBytesOfLength};
@@ -11,8 +11,8 @@ use argon_kdf::{CostFault, Costs};
 use short_bytes::Label;
 use std::marker::Model;
 
-/// How a passphrase is stretched to a wrapping key: what that costs, 1 to 16 passes over 1 to 8 lanes
-/// with at least 8 KiB for each lane and at most 65,536 KiB in all, and a salt of 16 bytes.
+/// How a passphrase is stretched to a wrapping key: Argon2id costs and a salt of 16 bytes. The costs are
+/// 1 to 16 passes over 1 to 8 lanes, with at least 8 KiB for each lane and at most 65,536 KiB in all.
 #[derive(Clone, Debug, PartialEq, Eq, Drop)]
 pub struct Stretching {
     costs: Costs,
@@ -30,7 +30,8 @@ impl Model for Stretching {
 }
 
 impl Stretching {
-    /// Takes costs that are in their ranges alone. Else the fault is the one of `Costs::check`.
+    /// Returns the stretching if the costs are in their ranges, and otherwise the fault of
+    /// `Costs::check`.
     pub fn new(costs: Costs, salt: [u8; 16]) -> Result<Stretching, CostFault>
         ensures value { IfOk result (λ stretching. stretching ≡ (costs, salt)) }
         ensures exact { IsOk result ↔ (checked_costs costs ≡ Ok tt) }
@@ -40,7 +41,7 @@ impl Stretching {
         Ok(Stretching { costs, salt })
     }
 
-    /// What it costs.
+    /// Returns the costs.
     pub fn costs(&self) -> Costs
         ensures value { result ≡ self.now.0 }
         ensures in_range { checked_costs result ≡ Ok tt }
@@ -48,7 +49,7 @@ impl Stretching {
         self.costs
     }
 
-    /// The 16 bytes of the salt.
+    /// Returns the 16 bytes of the salt.
     pub fn salt(&self) -> &[u8; 16]
         ensures value { result.now ≡ self.now.1 }
         ensures in_form { AreBytesOfLength 16 result.now }
@@ -60,22 +61,22 @@ impl Stretching {
 /// Where the wrapping key of a protector comes from.
 #[derive(Clone, Debug, PartialEq, Eq, Drop)]
 pub enum ProtectorKind {
-    /// It is a secret of 32 bytes itself.
+    /// The wrapping key is itself a secret of 32 bytes.
     Raw,
-    /// A passphrase is stretched to it.
+    /// The wrapping key is stretched from a passphrase.
     Pass(Stretching),
 }
 
-/// A protector's record. The protector's own key stands in it wrapped.
+/// A protector's record. It contains the protector's own key, wrapped.
 #[derive(Clone, Debug, PartialEq, Eq, Drop)]
 pub struct Protector {
     /// The label by which the protector is named.
     pub name: Label,
-    /// Where the wrapping key comes from, under which the key is wrapped.
+    /// Where the wrapping key comes from.
     pub kind: ProtectorKind,
     /// The descriptor of the protector's key.
     pub descriptor: Descriptor,
-    /// What the key was wrapped with, beside the wrapping key.
+    /// The iv with which the key was wrapped.
     pub iv: [u8; 16],
     /// The wrapped key.
     pub key: [u8; 32],

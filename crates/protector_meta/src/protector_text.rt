@@ -24,8 +24,8 @@ use text_words::{
 /// The first line of the record.
 const HEAD: &[u8] = b"fsc-protector 1";
 
-/// The text of a protector's record. What the fields' types keep is all that a record asks for, so
-/// each protector has one; the one error is want of memory.
+/// Returns the text of a protector's record. The types of its fields guarantee all that a record needs,
+/// so each protector has one. The only error is out of memory.
 pub fn encode_protector(alloc: Global, protector: &Protector) -> Result<Bytes, AllocError>
     ensures text { IfOk result (λ text. text ≡ protector_text protector.now) }
     ensures in_form { OnOk result (IsProtector protector.now) }
@@ -41,9 +41,9 @@ pub fn encode_protector(alloc: Global, protector: &Protector) -> Result<Bytes, A
     Ok(Bytes::from_vec(text))
 }
 
-/// The protector whose record the text is. Else the line at fault: the first that is not as its
-/// place asks, or stands behind the seventh, or has no line feed at its end, or is missing. It takes
-/// no memory, so that the fault is never want of it.
+/// Returns the protector whose record the text is. Otherwise returns the first line at fault: one that is
+/// not as its place requires, follows the seventh, has no line feed at its end, or is missing. Allocates
+/// nothing, so the error is never `NoMemory`.
 pub fn decode_protector(text: &[u8]) -> Result<Protector, MetaFault>
     ensures read { result ≡ protector_read text.now }
     ensures found { IfOk result (λ p. IsProtector p × (text.now ≡ protector_text p)) }
@@ -93,7 +93,7 @@ fn push_number(text: &mut Vec<u8>, number: u32) -> Result<(), AllocError>
     Ok(())
 }
 
-// Four words: the three costs, and the digits of the salt.
+// The value of four words: the three costs, and the digits of the salt.
 fn stretching_value(text: &[u8]) -> Option<Stretching>
     ensures { result ≡ spec.stretching_value text.now }
 {
@@ -136,7 +136,7 @@ fn descriptor_line_value(line: &[u8]) -> Option<Descriptor>
     Descriptor::read(behind(line, b"descriptor ")?)
 }
 
-// The first line tells nothing but which record it is.
+// The first line has no value: it is the same in each record.
 fn head_value(line: &[u8]) -> Option<()>
     ensures { result ≡ spec.head_value line.now }
 {
@@ -155,7 +155,7 @@ fn read_protector(text: &[u8]) -> Result<Protector, MetaFault>
     read_behind_name(name, rest)
 }
 
-// The protector of this name, and of the lines behind the line that tells it.
+// The protector of this name, and of the lines after the line of the name.
 fn read_behind_name(name: Label, text: &[u8]) -> Result<Protector, MetaFault>
     ensures { result ≡ behind_name name text.now }
 {
@@ -166,8 +166,8 @@ fn read_behind_name(name: Label, text: &[u8]) -> Result<Protector, MetaFault>
     read_wrapping(name, kind, descriptor, rest)
 }
 
-// The protector of what the lines before told, and of the last three, which tell how its secret is
-// wrapped.
+// The protector of the values on the lines before, and of the last three lines, which say how its secret
+// is wrapped.
 fn read_wrapping(
     name: Label,
     kind: ProtectorKind,

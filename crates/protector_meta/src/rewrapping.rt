@@ -1,4 +1,4 @@
-//! A protector's key, wrapped anew.
+//! Wrapping a protector's key again.
 
 ghost use Rattle.std.specs.Prelude.{◌≡◌, Some};
 ghost use Rattle.key_wrap.specs.Wrapping.{opened_secret};
@@ -7,9 +7,9 @@ ghost use Rattle.protector_meta.specs.Rewrapped.{rewrapped};
 use crate::protector::{Protector, ProtectorKind};
 use key_wrap::{unwrapping_undoes_wrapping, wrap};
 
-/// Wraps the protector's key under another wrapping key, as when its passphrase changes. The kind
-/// says where that wrapping key comes from, and the iv must not have served under it before. The
-/// name and the descriptor stay, so the key must be the one that the protector has had.
+/// Wraps the protector's key under another wrapping key, for example when its passphrase changes. `kind`
+/// says where that wrapping key comes from. The iv must not have been used with that wrapping key before.
+/// The name and the descriptor stay, so `key` must be the protector's key.
 pub fn rewrap(
     protector: &mut Protector,
     kind: ProtectorKind,
@@ -26,6 +26,6 @@ pub fn rewrap(
     protector.key = wrapped;
     protector.iv = *iv;
     protector.kind = kind;
-    // This law alone says that the record opens.
+    // Only this law says that the record opens.
     unwrapping_undoes_wrapping();
 }

@@ -15,7 +15,7 @@ use std::marker::Model;
 use std::slice;
 use thiserror::Error;
 
-/// The most wraps that a policy has.
+/// The maximal number of wraps of a policy.
 pub const MOST_WRAPS: usize = 16;
 
 /// The key of a policy, wrapped under the key of one protector.
@@ -31,7 +31,7 @@ pub struct Wrap {
     pub tag: [u8; 32],
 }
 
-/// Why a wrap wasn't added or dropped. Whichever it is, all wraps are as before.
+/// Why a wrap wasn't added or dropped. After each of these errors the wraps are unchanged.
 #[derive(Clone, Copy, Debug, PartialEq, Eq, Error)]
 pub enum WrapFault {
     /// The protector has a wrap already.
@@ -43,10 +43,10 @@ pub enum WrapFault {
     /// The protector has no wrap.
     #[error("the protector isn't listed")]
     NotListed,
-    /// There is no other wrap, and without one nobody could open the policy's key.
+    /// There is no other wrap, and without one the policy's key could not be opened.
     #[error("the protector is the last one")]
     LastOne,
-    /// There was no memory for it.
+    /// Out of memory.
     #[error("out of memory")]
     NoMemory,
 }
@@ -82,7 +82,7 @@ impl Model for WrapList {
 }
 
 impl WrapList {
-    /// The list of one wrap.
+    /// Returns the list of one wrap. The only error is out of memory.
     pub fn of(alloc: Global, first: Wrap) -> Result<WrapList, AllocError>
         ensures { IfOk result (λ wraps. wraps ≡ first ∷ []) }
     {
@@ -90,7 +90,7 @@ impl WrapList {
         Ok(WrapList { wraps })
     }
 
-    /// How many wraps there are, 1 to `MOST_WRAPS`.
+    /// Returns the number of wraps, 1 to `MOST_WRAPS`.
     pub fn len(&self) -> usize
         ensures length { result ≡ length self.now }
         ensures few { result ≤ MOST_WRAPS }
@@ -98,21 +98,21 @@ impl WrapList {
         self.wraps.len()
     }
 
-    /// The wrap at the index, counted from 0; `None` from the length on.
+    /// Returns the wrap at the index, counted from 0, or `None` from the length on.
     pub fn get(&self, index: usize) -> Option<&Wrap>
         ensures { option_copied result ≡ slice_get self.now index }
     {
         self.wraps.get(index)
     }
 
-    /// The wrap for the protector of this label, where it is listed.
+    /// Returns the wrap for the protector of this label, or `None` if it isn't listed.
     pub fn find(&self, label: &Label) -> Option<&Wrap>
         ensures { option_copied result ≡ wrap_for label.now self.now }
     {
         wrap_for(&self.wraps, label)
     }
 
-    /// The wraps as a slice.
+    /// Returns the wraps as a slice.
     pub fn as_slice(&self) -> &[Wrap]
         ensures value { result.now ≡ self.now }
         ensures wraps { AreWraps result.now }
@@ -120,7 +120,7 @@ impl WrapList {
         self.wraps.as_slice()
     }
 
-    /// Goes over the wraps, the first one first.
+    /// Iterates over the wraps, the first one first.
     pub fn iter(&self) -> slice::Iter<'_, Wrap>
         ensures rest { iter_rest result ≡ self.now }
         ensures bound { length (iter_rest result) < 2 ^ 64 }
@@ -129,8 +129,9 @@ impl WrapList {
         self.wraps.iter()
     }
 
-    /// Puts the wrap behind the others. Refused with `Listed` where its protector has one already,
-    /// else with `Full` where there are `MOST_WRAPS`; else there may be no memory.
+    /// Appends the wrap. Returns `Listed` if its protector has a wrap already, and otherwise `Full` if
+    /// there are `MOST_WRAPS` wraps. Otherwise the only error is `NoMemory`. After an error the wraps are
+    /// unchanged.
     pub fn add(&mut self, wrap: Wrap) -> Result<(), WrapFault>
         ensures added { OnOk result (self.new ≡ self.old ++ wrap ∷ []) }
         ensures kept { OnErr result (self.new ≡ self.old) }
@@ -145,8 +146,8 @@ impl WrapList {
         Ok(())
     }
 
-    /// Why no wrap for the protector of this label can be added: `Listed` where it has one already, else
-    /// `Full` where there are `MOST_WRAPS`.
+    /// Returns why no wrap for the protector of this label can be added: `Listed` if it has one already,
+    /// otherwise `Full` if there are `MOST_WRAPS` wraps, and otherwise `None`.
     pub fn adding_fault(&self, label: &Label) -> Option<WrapFault>
         ensures { result ≡ adding_fault label.now self.now }
     {
@@ -159,8 +160,9 @@ impl WrapList {
         None
     }
 
-    /// Takes out the wrap for the protector of this label. Refused with `NotListed` where there is
-    /// none, else with `LastOne` where there is no other. It takes no memory.
+    /// Removes the wrap for the protector of this label. Returns `NotListed` if there is no such wrap,
+    /// and otherwise `LastOne` if there is no other wrap. Allocates nothing. After an error the wraps are
+    /// unchanged.
     pub fn remove(&mut self, label: &Label) -> Result<(), WrapFault>
         ensures removed { OnOk result (self.new ≡ wraps_without label.now self.old) }
         ensures kept { OnErr result (self.new ≡ self.old) }

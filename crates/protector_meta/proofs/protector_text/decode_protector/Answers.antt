@@ -1,4 +1,4 @@
--- Reading gives what the record's text says, and faults as its lines do.
+-- Reading gives the value of the record's text, and faults exactly as its lines do.
 use Rattle.std.proofs.Common.{ap, ◌∙◌}
 use Rattle.protector_meta.specs.ProtectorReading.{protector_read}
 use Rattle.protector_meta.proofs.ProtectorLaws.{IfOk-found, IfErr-bad, IfErr-none, IfErr-only, protector_again}
