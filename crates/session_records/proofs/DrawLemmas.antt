@@ -1,4 +1,4 @@
--- A nonce that is drawn is 16 bytes.
+-- A nonce that is derived has 16 bytes.
 use Rattle.std.proofs.Common.{◌≡◌, ℕ, List, [], length, ap, ◌∙◌}
 use Rattle.std.specs.Prelude.{min}
 use Rattle.std.proofs.lemmas.List.{length-take}

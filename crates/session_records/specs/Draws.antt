@@ -1,4 +1,4 @@
--- Bytes drawn from a seed, for what the commands of a script make.
+-- Bytes derived from a seed, for what the commands of a script make.
 use Rattle.std.specs.Prelude.{◌≡◌, ℕ, ◌+◌, ◌*◌, ◌%◌, ◌^◌, ◌<◌, List, [], ◌∷◌, ◌++◌, take, codes}
 use Rattle.byte_words.specs.Numbers.{little_endian_bytes}
 use Rattle.hmac_kdf.specs.Hkdf.{hkdf_sha512}
@@ -12,8 +12,8 @@ purpose_number NonceOrKey = 0
 purpose_number Iv = 1
 purpose_number Salt = 2
 
--- what names a draw: `fsc draw`, the caller's byte, and 16 times the command's number in its section,
--- plus the purpose's, in 8 bytes, the lowest first
+-- the info of a derivation: `fsc draw`, the caller's byte, and 16 times the command's number in its
+-- section, plus the purpose's, in 8 bytes, the lowest first
 abbrev pub draw_info : ℕ → ℕ → Purpose → List ℕ
 draw_info caller command purpose =
     codes "fsc draw" ++ caller ∷ little_endian_bytes 8 (16 * command + purpose_number purpose)
@@ -22,21 +22,21 @@ draw_info caller command purpose =
 abbrev pub caller_byte : ℕ → ℕ
 caller_byte caller = caller % 256
 
--- 64 bytes of HKDF-SHA512 (RFC 5869) without salt, of which the seed is the key material; a shorter
--- draw is their beginning
+-- 64 bytes of HKDF-SHA512 (RFC 5869) without salt, of which the seed is the key material; fewer derived
+-- bytes are the first of them
 unfoldable pub drawn_bytes : List ℕ → ℕ → ℕ → Purpose → List ℕ
 drawn_bytes seed caller command purpose = hkdf_sha512 [] seed (draw_info caller command purpose) 64
 
--- the nonce that a caller's command of this number draws for what it makes
+-- the nonce that a caller's command of this number derives for what it makes
 unfoldable pub nonce_drawn : List ℕ → ℕ → ℕ → List ℕ
 nonce_drawn seed caller number = take NONCE_BYTES (drawn_bytes seed (caller_byte caller) number NonceOrKey)
 
--- the first so many of the bytes that a caller's command of this number draws
+-- the first `count` of the bytes that a caller's command of this number derives
 unfoldable pub first_drawn : ℕ → List ℕ → ℕ → ℕ → Purpose → List ℕ
 first_drawn count seed caller number purpose =
     take count (drawn_bytes seed (caller_byte caller) number purpose)
 
--- draws with one info have one caller, command and purpose, where commands are below 2^32
+-- derivations with one info have one caller, command and purpose, if the commands are below 2^32
 abbrev pub DrawsAreDistinct : Type 0
 DrawsAreDistinct =
     (caller other_caller command other_command : ℕ) (purpose other_purpose : Purpose)

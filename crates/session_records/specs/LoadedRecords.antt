@@ -14,7 +14,7 @@ use Rattle.session_records.specs.declared.loaded.LoadedPolicy.{LoadedPolicy}
 use Rattle.session_records.specs.declared.loaded.LoadedProtector.{LoadedProtector}
 use Rattle.session_records.specs.Outcomes.{outcome_of_other}
 
--- a policy that a text was read as, where it has this name
+-- a policy that a text was read as, if it has this name
 abbrev pub policy_named : List ℕ → ℕ → Result PolicyFile MetaFault → Result LoadedPolicy Outcome
 policy_named label version (Err fault) = Err BadRecord
 policy_named label version (Ok policy) =

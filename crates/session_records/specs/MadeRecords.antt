@@ -20,7 +20,7 @@ use Rattle.session_records.specs.NewProtectors.{made_protector}
 use Rattle.session_records.specs.Records.{policy_opened, protector_opened}
 use Rattle.session_records.specs.RecordKeys.{key_in_wrap}
 
--- what is said later of a secret that was new once
+-- the secret of a later command that was this new secret once
 abbrev pub secret_again : NewSecret → Secret
 secret_again (new.Raw raw) = old.Raw raw
 secret_again (new.Pass costs passphrase) = old.Pass passphrase
@@ -52,7 +52,7 @@ MadeWrapsOpen =
     (protector key iv policy_key : List ℕ)
     → key_in_wrap (key_id_of policy_key) key (Some (made_wrap protector key iv policy_key)) ≡ Ok policy_key
 
--- the key of a policy that was opened has the identifier that its record tells
+-- the key of a policy that was opened has the identifier in its record
 abbrev pub OpenedPoliciesAreNamed : Type 0
 OpenedPoliciesAreNamed =
     (label protector key : List ℕ) (reply : Reply) (opened : OpenedPolicy)

@@ -9,11 +9,11 @@ use Rattle.protector_meta.specs.declared.policy_file.PolicyFile.{PolicyFile}
 use Rattle.protector_meta.specs.declared.wraps.Wrap.{Wrap}
 use Rattle.script_lang.specs.declared.verb.Options.{Options as SaidOptions}
 
--- what directories get where a record says nothing else: names padded to 32 bytes, contents in blocks
+-- the options of directories for which a record gives none: names padded to 32 bytes, contents in blocks
 abbrev pub usual_options : Options
 usual_options = record { pad = P32; unit = Block }
 
--- the options that are said, and else the usual ones
+-- the options that are given, and otherwise the usual ones
 abbrev pub options_said : Option SaidOptions → Options
 options_said None = usual_options
 options_said (Some said) = record { pad = said.pad; unit = said.unit }

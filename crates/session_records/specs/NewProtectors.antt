@@ -10,7 +10,7 @@ use Rattle.protector_meta.specs.Rewrapped.{rewrapped}
 use Rattle.script_words.specs.declared.secrets.NewSecret.{NewSecret}
 use Rattle.script_words.specs.declared.secrets.NewSecret.TheVariants as secret
 
--- where the wrapping key of a new secret comes from, with this salt for a passphrase
+-- the source of a new secret's wrapping key, with this salt for a passphrase
 abbrev pub new_kind : List ℕ → NewSecret → ProtectorKind
 new_kind salt (secret.Raw raw) = kind.Raw
 new_kind salt (secret.Pass costs passphrase) = kind.Pass (costs, salt)

@@ -11,18 +11,18 @@ use Rattle.reply_text.specs.declared.outcome.Outcome.TheVariants.{NotListed, Lis
 use Rattle.session_records.specs.declared.outcomes.Wanted.{Wanted}
 use Rattle.session_records.specs.declared.outcomes.Wanted.TheVariants as wanted
 
--- where a call is refused: want of memory and another version have outcomes of their own
+-- if a call is refused: out of memory and another version have outcomes of their own
 abbrev pub outcome_of_refusal : Refusal → Outcome
 outcome_of_refusal refusal.NoMemory = NoMemory
 outcome_of_refusal (refusal.Changed version) = Conflict
 outcome_of_refusal other = Refused
 
--- where a call has another reply than the one that is wanted
+-- if a call has another reply than the one expected
 abbrev pub outcome_of_other : Reply → Outcome
 outcome_of_other (reply.Refused refused) = outcome_of_refusal refused
 outcome_of_other other = OddReply
 
--- where this reply is wanted
+-- the outcome of this reply, for the kind of reply that is expected
 abbrev pub outcome_of : Wanted → Reply → Outcome
 outcome_of wanted.Added (reply.Added id) = Done
 outcome_of wanted.Removed (reply.Removed others busy) = Done
@@ -31,7 +31,7 @@ outcome_of wanted.Done reply.Done = Done
 outcome_of wanted.Stored (reply.Stored version) = Done
 outcome_of wanted other = outcome_of_other other
 
--- how a session's work ends where a list of wraps refuses a change
+-- how a session's work ends if a list of wraps refuses a change
 abbrev pub outcome_of_wraps : WrapFault → Outcome
 outcome_of_wraps fault.Listed = Listed
 outcome_of_wraps fault.Full = Full

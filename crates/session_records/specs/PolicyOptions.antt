@@ -1,4 +1,4 @@
--- The options of a policy's record, and what directories get under it.
+-- The options of a policy's record, and those of directories under it.
 use Rattle.std.specs.Prelude.{false, Option, Some, None, Result, Ok, Err}
 use Rattle.policy_ctx.specs.declared.policy.Pad.{Pad}
 use Rattle.policy_ctx.specs.declared.policy.Policy.{Policy as NodePolicy}
@@ -20,22 +20,22 @@ abbrev pub record_options : Option Options → Options
 record_options None = usual_options
 record_options (Some options) = options
 
--- the padding that is said, and else the record's
+-- the padding that is given, and otherwise the record's
 abbrev pub pad_for : Options → Option Settings → Pad
 pad_for options None = options.pad
 pad_for options (Some settings) = settings.pad
 
--- the unit of this choice, and else the record's
+-- this unit, and otherwise the record's
 abbrev pub unit_or : Options → Option DataUnit → DataUnit
 unit_or options None = options.unit
 unit_or options (Some unit) = unit
 
--- the unit that is said, and else the record's
+-- the unit that is given, and otherwise the record's
 abbrev pub unit_for : Options → Option Settings → DataUnit
 unit_for options None = options.unit
 unit_for options (Some settings) = unit_or options settings.unit
 
--- what a directory gets that is encrypted under a policy: each node has keys of its own
+-- the policy of a directory that is encrypted under a record's policy: each node has keys of its own
 abbrev pub node_policy : PolicyFile → Option Settings → NodePolicy
 node_policy policy settings =
     record {

@@ -17,7 +17,7 @@ use Rattle.script_words.specs.declared.secrets.Secret.TheVariants as secret
 use Rattle.reply_text.specs.declared.outcome.Outcome.{Outcome}
 use Rattle.reply_text.specs.declared.outcome.Outcome.TheVariants.{BadRecord, WrongKind, WrongKey, NotListed}
 
--- the wrapping key that a secret gives where the protector's is of that kind: the secret itself, or what the
+-- the wrapping key that a secret gives if the protector is of its kind: the secret itself, or what the
 -- passphrase is stretched to
 abbrev pub wrapping_key : Secret → ProtectorKind → Result (List ℕ) Outcome
 wrapping_key (secret.Raw raw) kind.Raw = Ok raw
@@ -25,12 +25,12 @@ wrapping_key (secret.Pass passphrase) (kind.Pass stretching) =
     Ok (argon2id_tag stretching.0 passphrase stretching.1 [] [])
 wrapping_key other kind = Err WrongKind
 
--- the secret is a passphrase, and the protector's kind one of passphrases: only then is anything stretched
+-- the secret is a passphrase, and the protector's kind one of passphrases: stretching happens only then
 abbrev pub IsStretched : Secret → ProtectorKind → Type 0
 IsStretched (secret.Pass passphrase) (kind.Pass stretching) = ⊤
 IsStretched other kind = ⊥
 
--- a protector's key that a wrapping key opened, where it has the descriptor that the record tells
+-- a protector's key that a wrapping key opened, if it has the descriptor in the record
 abbrev pub protector_key_found : List ℕ → Option (List ℕ) → Result (List ℕ) Outcome
 protector_key_found descriptor None = Err WrongKey
 protector_key_found descriptor (Some key) =
@@ -41,7 +41,7 @@ abbrev pub protector_key : Protector → List ℕ → Result (List ℕ) Outcome
 protector_key protector wrapping =
     protector_key_found protector.descriptor (opened_secret wrapping protector.iv protector.key protector.tag)
 
--- a policy's key that a protector's key opened, where it has the identifier that the record tells
+-- a policy's key that a protector's key opened, if it has the identifier in the record
 abbrev pub policy_key_found : KeyId → Option (List ℕ) → Result (List ℕ) Outcome
 policy_key_found id None = Err WrongKey
 policy_key_found id (Some key) = if same_id (key_id_of key) id then Ok key else Err BadRecord

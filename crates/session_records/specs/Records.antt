@@ -22,7 +22,7 @@ abbrev pub protector_under : LoadedProtector → Result (List ℕ) Outcome → R
 protector_under loaded (Err outcome) = Err outcome
 protector_under loaded (Ok wrapping) = protector_with_key loaded (protector_key loaded.protector wrapping)
 
--- by a secret, where it was loaded
+-- by a secret, if it was loaded
 abbrev pub protector_by : Secret → Result LoadedProtector Outcome → Result OpenedProtector Outcome
 protector_by secret (Err outcome) = Err outcome
 protector_by secret (Ok loaded) = protector_under loaded (wrapping_key secret loaded.protector.kind)
@@ -42,7 +42,7 @@ abbrev pub policy_with_key : LoadedPolicy → Result (List ℕ) Outcome → Resu
 policy_with_key loaded (Err outcome) = Err outcome
 policy_with_key loaded (Ok key) = Ok (record { loaded = loaded; key = key })
 
--- through the protector of this label with this key, where it was loaded
+-- through the protector of this label with this key, if it was loaded
 abbrev pub policy_by : List ℕ → List ℕ → Result LoadedPolicy Outcome → Result OpenedPolicy Outcome
 policy_by protector key (Err outcome) = Err outcome
 policy_by protector key (Ok loaded) = policy_with_key loaded (policy_key loaded.policy protector key)

@@ -1,4 +1,4 @@
-//! What a command draws for the records that it makes: each length and purpose is said once.
+//! The bytes that a command derives for the records that it makes: each length and purpose is given once.
 
 ghost use Rattle.std.specs.Prelude.{◌≡◌, ◌≤◌, length};
 ghost use Rattle.session_records.specs.Draws.{first_drawn};
@@ -42,7 +42,7 @@ pub(crate) fn salt_drawn(seed: &[u8; 32], turn: Turn) -> [u8; 16]
     salt
 }
 
-// Fills `out` with the first of the bytes that the command draws for this purpose.
+// Fills `out` with the first of the bytes that the command derives for this purpose.
 #[tactic(auto, unfolding(crate::specs::Draws::first_drawn))]
 fn fill_drawn(seed: &[u8; 32], turn: Turn, purpose: Purpose, out: &mut [u8])
     requires { length out.old ≤ 64 }

@@ -1,4 +1,4 @@
-//! The records that a command makes with what it draws. The keys that are drawn are overwritten.
+//! The records that a command makes with the bytes that it derives. The derived keys are wiped.
 
 ghost use Rattle.std.specs.Prelude.{◌≡◌, length, Some, Ok, IfOk};
 ghost use Rattle.fsc_keys.specs.Keys.{key_id_of};
@@ -25,8 +25,8 @@ use script_lang::{NewSecret, Options as SaidOptions};
 use short_bytes::Label;
 use std::alloc::{AllocError, Global};
 
-/// The protector of this label whose key, iv and salt are those that are drawn, and which a new secret opens. The
-/// key is overwritten.
+/// Returns the protector of this label that the new secret opens; its key, iv and salt are derived from
+/// the seed. Wipes the derived key. The only error is out of memory.
 pub fn drawn_protector<S: Stretch>(
     alloc: Global,
     stretches: &S,
@@ -50,8 +50,9 @@ pub fn drawn_protector<S: Stretch>(
     protector
 }
 
-/// The opened protector with the same key, wrapped under the wrapping key of a new secret, which opens it; the iv
-/// and the salt are drawn. The wrapping key is overwritten.
+/// Returns the opened protector with the same key, wrapped under the wrapping key of a new secret, which
+/// opens it. The iv and the salt are derived from the seed. Wipes the wrapping key. The only error is out
+/// of memory.
 pub fn protector_rewrapped<S: Stretch>(
     alloc: Global,
     stretches: &S,
@@ -83,8 +84,8 @@ pub fn protector_rewrapped<S: Stretch>(
     Ok(protector)
 }
 
-/// The policy of this label that is made for a protector with this key: its own key and the iv are drawn. The
-/// policy's key is overwritten.
+/// Returns the policy of this label that is made for a protector with this key. The policy's own key and
+/// the iv are derived from the seed. Wipes the policy's key. The only error is out of memory.
 pub fn drawn_policy(
     alloc: Global,
     seed: &[u8; 32],
@@ -125,8 +126,8 @@ fn id_of(policy_key: &[u8; 64]) -> KeyId
     }
 }
 
-/// A policy whose key of 64 bytes this is, with a wrap more, for a further protector with a key of its own; the iv
-/// is drawn.
+/// Returns the policy, whose key is the given one of 64 bytes, with one wrap more: for a further
+/// protector with a key of its own. The iv is derived from the seed. The only error is out of memory.
 pub fn policy_widened(
     seed: &[u8; 32],
     turn: Turn,

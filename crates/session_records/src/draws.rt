@@ -1,4 +1,4 @@
-//! Bytes drawn from a seed: each caller, command and purpose has its own.
+//! Bytes derived from a seed: each caller, command and purpose has its own.
 
 ghost use Rattle.std.specs.Prelude.{◌≡◌, ◌≤◌, length, take};
 ghost use Rattle.session_records.specs.Draws.{DrawsAreDistinct, drawn_bytes, draw_info};
@@ -8,16 +8,16 @@ use crate::turn::Turn;
 use byte_words::wipe;
 use hmac_kdf::hkdf512;
 
-/// What draws are named by, before the caller's byte.
+/// The beginning of each derivation's info, before the caller's byte.
 const DRAW_INFO: [u8; 8] = *b"fsc draw";
 
-/// How many purposes a command's numbers leave room for.
+/// How many purposes the numbering leaves for each command.
 const PURPOSES: u128 = 16;
 
-/// The bytes of a nonce.
+/// The number of bytes of a nonce.
 pub const NONCE_BYTES: usize = 16;
 
-/// What drawn bytes are for.
+/// What derived bytes are for.
 #[derive(Clone, Copy, Debug, PartialEq, Eq)]
 pub enum Purpose {
     /// The nonce or the key of what the command makes.
@@ -28,8 +28,8 @@ pub enum Purpose {
     Salt,
 }
 
-/// Fills `out`, of at most 64 bytes, with the first of the 64 bytes that are drawn from the seed.
-/// Callers count from 0 in their script, commands from 0 in their section.
+/// Fills `out`, of at most 64 bytes, with the first of the 64 bytes that HKDF-SHA512 (RFC 5869) derives
+/// from the seed. Callers count from 0 in their script, commands from 0 in their section.
 #[tactic(auto, unfolding(crate::specs::Draws::drawn_bytes))]
 pub fn draw(seed: &[u8; 32], caller: u8, command: u64, purpose: Purpose, out: &mut [u8])
     requires { length out.old ≤ 64 }
@@ -41,7 +41,7 @@ pub fn draw(seed: &[u8; 32], caller: u8, command: u64, purpose: Purpose, out: &m
     wipe(&mut bytes);
 }
 
-/// The nonce that a caller's command draws for what it makes.
+/// Returns the nonce that a caller's command derives for what it makes.
 #[tactic(auto, unfolding(crate::specs::Draws::nonce_drawn))]
 pub fn nonce_drawn(seed: &[u8; 32], turn: Turn) -> [u8; NONCE_BYTES]
     ensures { result ≡ nonce_drawn seed.now turn.caller turn.number }
@@ -57,19 +57,20 @@ pub fn nonce_drawn(seed: &[u8; 32], turn: Turn) -> [u8; NONCE_BYTES]
     nonce
 }
 
-// The caller's byte in a draw.
+// The caller's byte in a derivation's info.
 pub(crate) fn caller_byte(caller: u32) -> u8
     ensures { result ≡ caller_byte caller }
 {
     (caller % 256) as u8
 }
 
-/// Draws of other callers, commands or purposes have other infos.
+/// Does nothing. Its contract is the law that derivations for other callers, commands or purposes have
+/// other infos, if the commands are below 2^32.
 pub fn distinct_draws()
     ensures { DrawsAreDistinct }
 {}
 
-// The info of a draw: its name, the caller's byte, and the command with the purpose.
+// The info of a derivation: `DRAW_INFO`, the caller's byte, and the command with the purpose.
 fn draw_info(caller: u8, command: u64, purpose: Purpose) -> [u8; 17]
     ensures { result ≡ draw_info caller command purpose }
 {

@@ -1,5 +1,6 @@
-//! The records of protectors and policies as a session has them: what the reply to loading one makes of it and
-//! how it opens, those that a session makes and stores, and the bytes that commands draw from a seed.
+//! The records of protectors and policies as a session has them: what the reply to loading one makes of
+//! it and how it opens, those that a session makes and stores, and the bytes that commands derive from a
+//! seed.
 #![tactic(auto)]
 
 mod drawn;

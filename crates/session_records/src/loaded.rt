@@ -28,8 +28,8 @@ pub struct LoadedProtector {
     pub protector: Protector,
 }
 
-/// The policy of this label, by the reply to loading its record: it ends with `BadRecord` where the record can't
-/// be read or has another name, and with the outcome of the reply where that isn't a record.
+/// Returns the policy of this label, by the reply to loading its record. Ends with `BadRecord` if the
+/// record can't be read or has another name, and with the outcome of the reply if that isn't a record.
 pub fn policy_loaded(alloc: Global, label: &Label, reply: &Reply) -> Result<LoadedPolicy, Stop>
     ensures { Gives result (spec.policy_loaded label.now reply.now) }
 {

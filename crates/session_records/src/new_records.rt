@@ -17,7 +17,7 @@ use script_lang::NewSecret;
 use short_bytes::Label;
 use std::alloc::{AllocError, Global};
 
-// What a new protector is made of, beside its label and its secret: its key, the iv under which the key is
+// The parts of a new protector beside its label and its secret: its key, the iv under which the key is
 // wrapped, and the salt of a passphrase.
 #[derive(Drop)]
 pub(crate) struct ProtectorParts {
@@ -67,7 +67,7 @@ fn wrapped_protector(
 {
     let mut wrapped = [0; 32];
     let tag = wrap(wrapping, iv, key, &mut wrapped);
-    // This law alone says that the record opens.
+    // Only this law says that the record opens.
     unwrapping_undoes_wrapping();
     Protector {
         name: *label,
@@ -79,7 +79,7 @@ fn wrapped_protector(
     }
 }
 
-// Where the wrapping key of a new secret comes from, with this salt for a passphrase.
+// The source of a new secret's wrapping key, with this salt for a passphrase.
 pub(crate) fn new_kind(salt: &[u8; 16], new: &NewSecret) -> ProtectorKind
     ensures { result ≡ spec.new_kind salt.now new.now }
 {
@@ -114,10 +114,11 @@ pub(crate) fn new_wrapping_key<S: Stretch>(
     }
 }
 
-/// Does nothing. Its contract is the law that what a session makes, if a record can spell it, opens again from its text: a
-/// protector with its secret, one that got another secret with that one, and a policy through its protector. So
-/// does a wrap with the key of its protector, and the key of a policy that was opened has the identifier in its
-/// record.
+/// Does nothing. Its contract is the law that the records that a session makes open again from their
+/// text, if a record can spell them.
+/// - A protector opens with its secret, and one that got another secret opens with that one.
+/// - A policy opens through its protector, and a wrap with the key of its protector.
+/// - The key of a policy that was opened has the identifier in its record.
 pub fn made_records_open()
     ensures protectors { MadeProtectorsOpen }
     ensures changed { ChangedProtectorsOpen }

@@ -23,24 +23,25 @@ use script_lang::Secret;
 use short_bytes::Label;
 use std::alloc::{AllocError, Global};
 
-/// A protector whose record was loaded, and its key. Who lets go of it overwrites the key.
+/// A protector whose record was loaded, and its key. The caller wipes the key before dropping it.
 #[derive(Drop)]
 pub struct OpenedProtector {
     pub loaded: LoadedProtector,
     pub key: [u8; 32],
 }
 
-/// A policy whose record was loaded, and its key. Who lets go of it overwrites the key.
+/// A policy whose record was loaded, and its key. The caller wipes the key before dropping it.
 #[derive(Drop)]
 pub struct OpenedPolicy {
     pub loaded: LoadedPolicy,
     pub key: RawKey,
 }
 
-/// The protector of this label opened with a secret, by the reply to loading its record. It ends as
-/// `policy_loaded` does, with `WrongKind` where the protector is of another kind than the secret, with `WrongKey`
-/// where its tag isn't that of the secret, and with `BadRecord` where its key isn't the one that it tells. It takes
-/// memory only to stretch a passphrase.
+/// Returns the protector of this label, opened with a secret, by the reply to loading its record.
+/// Allocates only to stretch a passphrase. Ends as `policy_loaded` does, and otherwise with
+/// - `WrongKind` if the protector is of another kind than the secret,
+/// - `WrongKey` if its tag isn't that of the secret,
+/// - `BadRecord` if its key hasn't the descriptor in the record.
 pub fn protector_opened<S: Stretch>(
     alloc: Global,
     stretches: &S,
@@ -59,7 +60,7 @@ pub fn protector_opened<S: Stretch>(
     }
 }
 
-// A protector opened with a secret. The wrapping key is overwritten.
+// A protector opened with a secret. Wipes the wrapping key.
 fn protector_by<S: Stretch>(
     alloc: Global,
     stretches: &S,
@@ -84,10 +85,12 @@ fn protector_by<S: Stretch>(
     }
 }
 
-/// The policy of this label opened through a protector with this key, by the reply to loading its record. Its
-/// key has 64 bytes, and the identifier that the record tells. It ends as `policy_loaded` does, with `NotListed`
-/// where the policy has no wrap for the protector, with `WrongKey` where the wrap's tag isn't that of the key,
-/// and with `BadRecord` where the policy's key isn't the one that it tells.
+/// Returns the policy of this label, opened through a protector with this key, by the reply to loading
+/// its record. Its key has 64 bytes, and the identifier in the record. Ends as `policy_loaded` does, and
+/// otherwise with
+/// - `NotListed` if the policy has no wrap for the protector,
+/// - `WrongKey` if the wrap's tag isn't that of the key,
+/// - `BadRecord` if the policy's key hasn't the identifier in the record.
 pub fn policy_opened(
     alloc: Global,
     label: &Label,
@@ -108,9 +111,9 @@ pub fn policy_opened(
     }
 }
 
-// The wrapping key that a secret gives, where the protector's is of that kind: the secret itself, or what
-// the passphrase is stretched to. Another kind is told before anything is stretched, and so is never want of
-// memory.
+// The wrapping key that a secret gives if the protector is of its kind: the secret itself, or what the
+// passphrase is stretched to. Another kind is refused before anything is stretched, so it never ends with
+// `NoMemory`.
 fn wrapping_key<S: Stretch>(
     alloc: Global,
     stretches: &S,
@@ -159,8 +162,8 @@ fn stretched<S: Stretch>(
     Ok(key)
 }
 
-// The key of a protector under a wrapping key: `WrongKey` exactly where the tag differs, `BadRecord` where
-// the key isn't the one that the record's descriptor tells.
+// The key of a protector under a wrapping key: `WrongKey` exactly when the tag differs, `BadRecord` if
+// the key hasn't the descriptor in the record.
 fn protector_key(protector: &Protector, wrapping: &[u8; 32]) -> Result<[u8; 32], Outcome>
     ensures { result ≡ keys.protector_key protector.now wrapping.now }
 {

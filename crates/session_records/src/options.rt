@@ -1,4 +1,4 @@
-//! The options of policies' records, and what directories get under them.
+//! The options of policies' records, and those of directories under them.
 
 ghost use Rattle.std.specs.Prelude.{◌≡◌};
 ghost use Rattle.session_records.specs.NewPolicies as new;
@@ -9,7 +9,7 @@ use protector_meta::{Options, PolicyFile};
 use reply_text::Outcome;
 use script_lang::{Options as SaidOptions, Settings};
 
-// What directories get where a record says nothing else.
+// The options of directories for which a record gives none.
 pub(crate) fn usual_options() -> Options
     ensures { result ≡ new.usual_options }
 {
@@ -19,7 +19,7 @@ pub(crate) fn usual_options() -> Options
     }
 }
 
-// The options that are said, and else the usual ones.
+// The options that are given, and otherwise the usual ones.
 pub(crate) fn options_said(options: Option<SaidOptions>) -> Options
     ensures { result ≡ new.options_said options }
 {
@@ -32,7 +32,7 @@ pub(crate) fn options_said(options: Option<SaidOptions>) -> Options
     }
 }
 
-/// A policy of version 1 with the usual options; `Current` where it has options.
+/// Returns a policy of version 1 with the usual options; `Current` if it has options already.
 pub fn with_options(mut policy: PolicyFile) -> Result<PolicyFile, Outcome>
     ensures { result ≡ spec.with_options policy policy.options }
 {
@@ -43,8 +43,8 @@ pub fn with_options(mut policy: PolicyFile) -> Result<PolicyFile, Outcome>
     Ok(policy)
 }
 
-/// What a directory gets that is encrypted under a policy: the padding and unit that are said, and else the
-/// record's. Each node has keys of its own.
+/// Returns the policy of a directory that is encrypted under a record's policy: the padding and unit that
+/// are given, and otherwise the record's. Each node has keys of its own.
 pub fn node_policy(policy: &PolicyFile, settings: Option<Settings>) -> Policy
     ensures { result ≡ spec.node_policy policy.now settings }
 {
@@ -67,7 +67,7 @@ fn record_options(options: Option<Options>) -> Options
     }
 }
 
-// The padding that is said, and else the record's.
+// The padding that is given, and otherwise the record's.
 fn pad_for(options: Options, settings: Option<Settings>) -> Pad
     ensures { result ≡ spec.pad_for options settings }
 {
@@ -77,7 +77,7 @@ fn pad_for(options: Options, settings: Option<Settings>) -> Pad
     }
 }
 
-// The unit that is said, and else the record's.
+// The unit that is given, and otherwise the record's.
 fn unit_for(options: Options, settings: Option<Settings>) -> Unit
     ensures { result ≡ spec.unit_for options settings }
 {

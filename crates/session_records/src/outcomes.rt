@@ -7,7 +7,7 @@ use mount_model::{Refusal, Reply};
 use protector_meta::WrapFault;
 use reply_text::Outcome;
 
-/// Which reply a call is meant to have.
+/// The kind of reply that is expected of a call.
 #[derive(Clone, Copy)]
 pub enum Wanted {
     /// A key was added.
@@ -16,14 +16,14 @@ pub enum Wanted {
     Removed,
     /// The status of a key.
     Status,
-    /// It was done, and there is nothing to tell.
+    /// Success without a result.
     Done,
     /// A record was stored.
     Stored,
 }
 
-/// How a command ends whose last call has this reply: `Done` with the one that is wanted, and else as the reply
-/// tells.
+/// Returns how a command ends whose last call has this reply: `Done` if it is the expected one, and
+/// otherwise the outcome of the reply.
 pub fn outcome_of(wanted: Wanted, reply: &Reply) -> Outcome
     ensures { result ≡ spec.outcome_of wanted reply.now }
 {
@@ -37,7 +37,7 @@ pub fn outcome_of(wanted: Wanted, reply: &Reply) -> Outcome
     }
 }
 
-// How a command ends one of whose calls has another reply than it is meant to have.
+// How a command ends if one of its calls has another reply than the expected one.
 pub(crate) fn outcome_of_other(reply: &Reply) -> Outcome
     ensures { result ≡ spec.outcome_of_other reply.now }
 {
@@ -57,7 +57,7 @@ fn outcome_of_refusal(refusal: Refusal) -> Outcome
     }
 }
 
-// How a command ends where a list of wraps refuses a change.
+// How a command ends if a list of wraps refuses a change.
 pub(crate) fn outcome_of_wraps(fault: WrapFault) -> Outcome
     ensures { result ≡ spec.outcome_of_wraps fault }
 {

@@ -1,14 +1,14 @@
-//! Why a session's work goes no further.
+//! Why a session's work stops.
 
 use reply_text::Outcome;
 use std::alloc::AllocError;
 
-/// Why a command's work goes no further.
+/// Why a command's work stops.
 #[derive(Clone, Copy)]
 pub enum Stop {
-    /// It has ended so, before its last call.
+    /// The command has ended with this outcome, before its last call.
     Ended(Outcome),
-    /// There was no memory.
+    /// Out of memory.
     NoMemory,
 }
 

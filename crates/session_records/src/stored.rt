@@ -14,7 +14,7 @@ use script_lang::Record;
 use short_bytes::Label;
 use std::alloc::{AllocError, Global};
 
-/// The name of a record, under which a mount has it.
+/// Returns the name under which a mount stores the record. The only error is out of memory.
 pub fn record_name(alloc: Global, record: &Record) -> Result<Bytes, AllocError>
     ensures value { IfOk result (λ name. name ≡ records.record_name «record».now) }
     ensures fits { IfOk result (λ name. HasLength name MOST_RECORD_NAME_BYTES) }
@@ -36,7 +36,7 @@ fn named(alloc: Global, kind: &[u8], label: &Label) -> Result<Bytes, AllocError>
     Ok(Bytes::from_vec(name))
 }
 
-/// The text of a policy's record. A call can carry it.
+/// Returns the text of a policy's record. A call can carry it. The only error is out of memory.
 pub fn stored_policy(alloc: Global, policy: &PolicyFile) -> Result<Bytes, AllocError>
     ensures text { IfOk result (λ text. text ≡ policy_text policy.now) }
     ensures few { IfOk result (λ text. length text ≤ MOST_CARRIED_BYTES) }
@@ -45,7 +45,7 @@ pub fn stored_policy(alloc: Global, policy: &PolicyFile) -> Result<Bytes, AllocE
     Ok(text)
 }
 
-/// The text of a protector's record. A call can carry it.
+/// Returns the text of a protector's record. A call can carry it. The only error is out of memory.
 #[tactic(auto, using(crate::proofs::TextLemmas::protector_text_is_short))]
 pub fn stored_protector(alloc: Global, protector: &Protector) -> Result<Bytes, AllocError>
     ensures text { IfOk result (λ text. text ≡ protector_text protector.now) }

@@ -1,7 +1,7 @@
 //! Whose turn it is.
 
-/// Whose command it is: the caller, the user for whom it calls, and the command's number in its section,
-/// from 0.
+/// The source of a command: the caller, the user for whom it calls, and the command's number in its
+/// section, from 0.
 #[derive(Clone, Copy)]
 pub struct Turn {
     pub caller: u32,

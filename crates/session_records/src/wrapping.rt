@@ -23,7 +23,7 @@ pub(crate) fn made_wrap(protector: &Label, key: &[u8; 32], iv: [u8; 16], policy_
 {
     let mut wrapped = [0; 64];
     let tag = wrap(key, &iv, policy_key, &mut wrapped);
-    // This law alone says that the wrap opens.
+    // Only this law says that the wrap opens.
     unwrapping_undoes_wrapping();
     Wrap {
         protector: *protector,
@@ -33,8 +33,8 @@ pub(crate) fn made_wrap(protector: &Label, key: &[u8; 32], iv: [u8; 16], policy_
     }
 }
 
-/// Whether the protector of this label can be given a wrap: `Listed` where it has one already, else `Full`
-/// where there are `MOST_WRAPS`.
+/// Returns whether the protector of this label can be given a wrap: `Listed` if it has one already,
+/// otherwise `Full` if there are `MOST_WRAPS`.
 pub fn room_for(protector: &Label, wraps: &WrapList) -> Result<(), Outcome>
     ensures { result ≡ spec.room_for protector.now wraps.now }
 {
@@ -44,7 +44,7 @@ pub fn room_for(protector: &Label, wraps: &WrapList) -> Result<(), Outcome>
     }
 }
 
-// The policy with this wrap behind its others, where there is room for it.
+// The policy with this wrap after its others, if it can be added.
 pub(crate) fn policy_with(wrap: Wrap, policy: PolicyFile) -> Result<PolicyFile, AllocError>
     requires { adding_fault wrap.protector policy.wraps ≡ None }
     ensures { IfOk result (λ with. with ≡ spec.policy_with wrap policy) }
@@ -56,8 +56,8 @@ pub(crate) fn policy_with(wrap: Wrap, policy: PolicyFile) -> Result<PolicyFile, 
     }
 }
 
-/// A policy that the protector of this label opens no longer: `NotListed` where it has no wrap, `LastOne` where it
-/// has the only one.
+/// Returns the policy without its wrap for the protector of this label: `NotListed` if there is no such
+/// wrap, `LastOne` if it is the only one.
 pub fn policy_without(mut policy: PolicyFile, protector: &Label) -> Result<PolicyFile, Outcome>
     ensures { result ≡ spec.policy_without protector.now policy }
 {
