@@ -1,4 +1,4 @@
--- The count of blocks of a disk that stands for a map of other nodes.
+-- The count of blocks of a disk that agrees with a map of other nodes.
 use Rattle.std.proofs.Common.{◌≡◌, ℕ, List, [], ◌∷◌, map, length, refl, ap, ◌∙◌, ◌+◌, sym}
 use Rattle.std.proofs.lemmas.List.Sums.{sum_by-cons}
 use Rattle.std.specs.List.{sum_by}

@@ -26,7 +26,7 @@ pub total_first : block_total first_disk ≡ 0
 unfolding block_total
 total_first = total_added count_of empty 0 root (get-empty nat_cmp 0) ∙ omega (arith, total_empty count_of)
 
--- a change that keeps the number of blocks of each node
+-- a change that preserves the number of blocks of each node
 pub same_total : (old new : Disk) (k : ℕ) (f : StoredNode → StoredNode) → new ≡ changed old k f → ((v : StoredNode) → count_of (f v) ≡ count_of v) → block_total old ≡ block_total new
 unfolding block_total
 same_total old new k f is same = sym (ap block_total is ∙ total_changed count_of old k f same)
@@ -72,7 +72,7 @@ grown_by_case disk k n None is file = absurd file
 grown_by_case disk k n (Some node) is file =
     omega (arith, total_changed_to count_of disk k (on_body (with_blocks (grown n))) node is, grown_count n node.body file)
 
--- a file that grows has so many blocks more
+-- a file that grows by n blocks adds n to the total
 pub grown_total : (disk : Disk) (k n : ℕ) → IsFileAt disk k → block_total (changed disk k (on_body (with_blocks (grown n)))) ≡ block_total disk + (n - length (file_blocks disk k))
 grown_total disk k n file = grown_by_case disk k n (get disk k) refl file
 
@@ -93,7 +93,7 @@ body_moved name new_name x (Dir entries) found = ap (λ (es : Entries). Dir es) 
 body_moved name new_name x (File blocks size) found = refl
 body_moved name new_name x (Link target) found = refl
 
--- the new entry may be made before the old one goes
+-- the new entry may be made before the old one is removed
 pub moved_either : (disk : Disk) (dir to : ℕ) (name new_name : List ℕ) (x : ℕ) → number_under name (children disk dir) ≡ Some x →
     changed (changed disk to (on_body (with_entries (with_entry new_name x)))) dir (on_body (with_entries (without_entry name)))
     ≡ changed (changed disk dir (on_body (with_entries (without_entry name)))) to (on_body (with_entries (with_entry new_name x)))

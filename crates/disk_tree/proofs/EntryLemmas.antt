@@ -11,7 +11,7 @@ removal_absent test (e ∷ es) absent =
       | false ↦ λ h. ap (λ xs. e ∷ xs) (removal_absent test es h)
     ] absent
 
--- a name that is there is found before what stands behind
+-- a name that is there is found before the later entries
 pub removal_front : {K X : Type 0} (test : K → Bool) (es fs : List (K × X)) (x : X) → lookup test es ≡ Some x → remove_entry test (es ++ fs) ≡ remove_entry test es ++ fs
 removal_front test [] fs x found = absurd (cc)
 removal_front test (e ∷ es) fs x found =

@@ -29,13 +29,13 @@ number_found (e ∷ es) name =
       | false ↦ number_found es name
     ]
 
--- ---- the entry of a name goes
+-- ---- the entry of a name is removed
 
 without_first : List ℕ → Ordered → Ordered
 without_first name [] = []
 without_first name (e ∷ es) = cond (bytes_eq name e.1.0) es (e ∷ without_first name es)
 
--- the oldest entry stands at a place above those before it
+-- the oldest entry is at a place above those before it
 place_above : (low : ℕ) (es : Ordered) (name : List ℕ) (place number : ℕ) → AllByRecursion (λ y. nat_cmp low y ≡ Less) (keys_of es) → oldest es name ≡ Some (place, number) → nat_cmp low place ≡ Less
 place_above low [] name place number all found = absurd (cc)
 place_above low (e ∷ es) name place number all found =
@@ -73,7 +73,7 @@ values_without name (e ∷ es) =
 
 -- ---- by hash
 
--- no name has a hash that none has
+-- if no entry has the hash of a name, no entry has the name
 none_hashed : (es : Ordered) (name : List ℕ) → AllByRecursion (λ y. nat_eq (hash_of name) y ≡ false) (keys_of (by_hash es)) → oldest es name ≡ None
 none_hashed [] name all = refl
 none_hashed (e ∷ es) name all =
@@ -105,7 +105,7 @@ differs name other apart =
 same_hash : (name other : List ℕ) → bytes_eq name other ≡ true → nat_eq (hash_of name) (hash_of other) ≡ true
 same_hash name other same = eq-eqb (hash_of name) (hash_of other) (ap hash_of ((bytes_decides name other).0 same))
 
--- where hashes are apart, the oldest entry of a name is that of its hash
+-- if hashes are distinct, the oldest entry of a name is that of its hash
 oldest_hashed : (es : Ordered) (name : List ℕ) (place number : ℕ) → IsDistinct nat_eq (keys_of (by_hash es)) → oldest es name ≡ Some (place, number) → hashed es (hash_of name) ≡ Some (place, number)
 oldest_hashed [] name place number apart found = absurd (cc)
 oldest_hashed (e ∷ es) name place number apart found =
@@ -123,7 +123,7 @@ oldest_hashed (e ∷ es) name place number apart found =
           ]
     ]
 
--- a hash that none has is no name's
+-- if the hash of a name is not found, no entry has the name
 pub unhashed : (es : Ordered) (name : List ℕ) → hashed es (hash_of name) ≡ None → oldest es name ≡ None
 unhashed [] name none = refl
 unhashed (e ∷ es) name none =
@@ -158,7 +158,7 @@ later_above e es hash place number rising found =
     let lower : e.0 < place = ranked e.0 place Less (sym above) in
     λ same. omega arith
 
--- the place that is told of a hash has an entry
+-- the place that is found for a hash has an entry
 pub hashed_there : (es : Ordered) (hash place number : ℕ) → IsStrictlySortedBy nat_cmp (keys_of es) → hashed es hash ≡ Some (place, number) → (value_at es place ≢ None)
 hashed_there [] hash place number rising found none = absurd (cc)
 hashed_there (e ∷ es) hash place number rising found none =
@@ -172,7 +172,7 @@ hashed_there (e ∷ es) hash place number rising found none =
           (sym (ap (λ b. cond b (Some e.1) (value_at es place)) (untied place e.0 (later_above e es hash place number rising later))) ∙ none)
     ]
 
--- what the entry at that place is called tells whether it is the name's
+-- the name of the entry at that place decides whether it is the entry of the name
 pub oldest_is : (es : Ordered) (name : List ℕ) (place number : ℕ) (entry : List ℕ × ℕ) → IsStrictlySortedBy nat_cmp (keys_of es) → IsDistinct nat_eq (keys_of (by_hash es)) → hashed es (hash_of name) ≡ Some (place, number) → value_at es place ≡ Some entry → oldest es name ≡ cond (bytes_eq name entry.0) (Some (place, number)) None
 oldest_is [] name place number entry rising apart found got = absurd (cc)
 oldest_is (e ∷ es) name place number entry rising apart found got =
@@ -244,7 +244,7 @@ module _ (order now : Ordered) (hash place number : ℕ) (rising : IsStrictlySor
       ap (lookup (nat_eq other)) removed_hashes
       ∙ lookup-remove_entry nat_eq_equiv (nat_eq hash) (λ x y same. nat_eq_equiv.congr hash x y same) other (by_hash order) apart
 
--- ---- an entry is put behind the others
+-- ---- an entry is appended
 
 last_place : (es : Ordered) (place : ℕ) (v : List ℕ × ℕ) → AreBelow place es → insert_entry nat_cmp es place v ≡ es ++ (place, v) ∷ []
 last_place [] place v below = refl
@@ -257,7 +257,7 @@ last_place (e ∷ es) place v below =
 pub inserted_last : (es now : Ordered) (place : ℕ) (v : List ℕ × ℕ) → AreBelow place es → now ≡ insert_entry nat_cmp es place v → now ≡ es ++ (place, v) ∷ []
 inserted_last es now place v below is = is ∙ last_place es place v below
 
--- the place behind the others goes again
+-- the place after the others is removed again
 gone_last : (es : Ordered) (place : ℕ) (v : List ℕ × ℕ) → AreBelow place es → remove_entry (is_at (nat_cmp place)) (es ++ (place, v) ∷ []) ≡ es
 gone_last [] place v below = ap (λ b. cond b [] ((place, v) ∷ [])) (tied place place refl)
 gone_last (e ∷ es) place v below =
@@ -361,7 +361,7 @@ new_IsIndexed order index none nothing =
     subst (λ (i : Index). P order i) (sym nothing) (subst (λ (o : Ordered). P o []) (sym none) empty)
 
 module _ (order now : Ordered) (index after : Index) (next : ℕ) (doubled : Bool) (is : IsIndexed order index next doubled) (rising : IsStrictlySortedBy nat_cmp (keys_of now)) where
-  -- a name that is put twice, or once the names are no longer told apart
+  -- a name that is put twice, or once the index is no longer used
   pub doubled_IsIndexed : (later number : ℕ) (name : List ℕ) → AreBytes name → later ≡ next + 1 → now ≡ order ++ (next, (name, number)) ∷ [] → IsIndexed now after later true
   doubled_IsIndexed later number name bytes more put = record {
     rising = rising;
@@ -384,14 +384,14 @@ module _ (order now : Ordered) (index after : Index) (next : ℕ) (doubled : Boo
         named = λ d other. told other ∙ ap (cond (nat_eq (hash_of name) other) (Some (next, number))) (is.named d other) ∙ sym (put_hashed order now next number name put absent other);
       }
 
-  -- either, as the index tells
+  -- either, depending on the index
   pub put_IsIndexed : (later number : ℕ) (name : List ℕ) (alone : Bool) → AreBytes name → doubled ≡ false → later ≡ next + 1 → now ≡ order ++ (next, (name, number)) ∷ [] → (alone ≡ true → indexed index (hash_of name) ≡ None) →
       ((other : ℕ) → indexed after other ≡ cond (nat_eq (hash_of name) other) (Some (next, number)) (indexed index other)) → IsIndexed now after later (not alone)
   put_IsIndexed later number name true bytes single more put lacks told =
       subst (λ (d : Bool). IsIndexed now after later d) single (named_IsIndexed later number name bytes single (lacks refl) more put told)
   put_IsIndexed later number name false bytes single more put lacks told = doubled_IsIndexed later number name bytes more put
 
-  -- a name that goes
+  -- a name that is removed
   pub dropped_IsIndexed : (name : List ℕ) (place number : ℕ) → oldest order name ≡ Some (place, number) → now ≡ remove_entry (is_at (nat_cmp place)) order →
       ((other : ℕ) → indexed after other ≡ cond (nat_eq (hash_of name) other) None (indexed index other)) → IsIndexed now after next doubled
   dropped_IsIndexed name place number found gone told = record {
@@ -403,7 +403,7 @@ module _ (order now : Ordered) (index after : Index) (next : ℕ) (doubled : Boo
         ∙ sym (removed_hashed order now (hash_of name) place number is.rising (oldest_hashed order name place number (is.apart d) found) gone (is.apart d) other);
   }
 
--- an entry that finds no room in the index goes again
+-- an entry for which the index has no space is removed again
 pub undone_IsIndexed : (order now : Ordered) (index after : Index) (next : ℕ) (doubled : Bool) → IsIndexed order index next doubled → now ≡ order → after ≡ index → IsIndexed now after next doubled
 undone_IsIndexed order now index after next doubled is same kept =
     let P : Ordered → Index → Type 0 = λ o i. IsIndexed o i next doubled in

@@ -1,4 +1,5 @@
--- What a block and a list of blocks end as, where a `&mut` to the bytes of a block is returned.
+-- The value of a block and of a list of blocks after a borrow: a `&mut` to the bytes of a block is
+-- returned.
 use Rattle.std.specs.Prelude.{ℕ, List}
 use Rattle.std.specs.Borrow.{Lends, Fml, MutBor, Array, u8}
 use Rattle.disk_tree.specs.Blocks.{written, with_block}

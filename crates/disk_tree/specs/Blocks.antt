@@ -6,12 +6,12 @@ use Rattle.mount_limits.specs.declared.TheConstants.{BLOCK_SIZE}
 abbrev pub zero_block : List ℕ
 zero_block = replicate BLOCK_SIZE 0
 
--- blocks of zeros at the end, until there are so many; a list that has as many stays
+-- blocks of zeros are added at the end, until there are `count`; a list that has as many stays
 abbrev pub grown : ℕ → List (List ℕ) → List (List ℕ)
 grown count blocks = blocks ++ replicate (count - length blocks) zero_block
 
--- Bytes w are written over the front of a block, as far as both go. A caller that writes through a
--- slice of the block leaves w of the block's length, and then the block is w.
+-- Bytes w are written over the beginning of a block, up to the shorter length. A caller that writes
+-- through a slice of the block leaves w of the block's length, and then the block is w.
 abbrev pub written : List ℕ → List ℕ → List ℕ
 written block w = take (length block) (w ++ drop (length w) block)
 

@@ -1,4 +1,4 @@
--- What a body ends as, where a `&mut` to the bytes of a block is returned.
+-- The value of a body after a borrow: a `&mut` to the bytes of a block is returned.
 use Rattle.std.specs.Prelude.{ℕ, List}
 use Rattle.std.specs.Borrow.{Lends, Fml, MutBor, Array, u8}
 use Rattle.disk_tree.specs.Blocks.{with_block}

@@ -1,4 +1,4 @@
--- What lies on the disk: a finite map from numbers to stored nodes.
+-- The content of the disk: a finite map from numbers to stored nodes.
 use Rattle.std.specs.Prelude.{ℕ, true, List, [], Option, Some, None, length}
 use Rattle.std.specs.List.{sum_by}
 use Rattle.number_map.specs.Numbered.{Numbered, empty, get, insert, entries}
@@ -10,14 +10,14 @@ use Rattle.disk_tree.specs.declared.node.Body.TheVariants.{Dir}
 abbrev pub Disk : Type 0
 Disk = Numbered StoredNode
 
--- the disk at first: node 0 alone, an empty directory without context, which counts as named
+-- the initial disk: node 0 alone, an empty directory without context, which counts as named
 abbrev pub root : StoredNode
 root = record { context = None; named = true; body = Dir [] }
 
 abbrev pub first_disk : Disk
 first_disk = insert empty 0 root
 
--- what holds of the node, or this where there is none
+-- the value for the node, or `none` if there is no node
 abbrev pub of_node : {A : Type 1} → A → (StoredNode → A) → Option StoredNode → A
 of_node none f None = none
 of_node none f (Some node) = f node
@@ -40,7 +40,7 @@ abbrev pub size_in : Option StoredNode → ℕ
 size_in None = 0
 size_in (Some node) = size_of node.body
 
--- the entries of the directory, the blocks of the file, and how many bytes are its own
+-- the entries of the directory, the blocks of the file, and the file's size in bytes
 abbrev pub children : Disk → ℕ → Entries
 children disk number = entries_in (get disk number)
 
@@ -50,6 +50,6 @@ file_blocks disk number = blocks_in (get disk number)
 abbrev pub file_size : Disk → ℕ → ℕ
 file_size disk number = size_in (get disk number)
 
--- the blocks of all files
+-- the number of blocks of all files
 unfoldable pub block_total : Disk → ℕ
 block_total disk = sum_by (λ e. length (blocks_of e.1.body)) (entries disk)

@@ -1,5 +1,5 @@
--- The entries of a directory: pairs of a stored name and a node's number, in the order in which they
--- were made. Of two with one name, the older is found.
+-- The entries of a directory: pairs of a stored name and a node's number, in the order in which they were
+-- made. If two have one name, the older is found.
 use Rattle.std.specs.Prelude.{ℕ, List, ◌++◌, [], ◌∷◌, Option}
 use Rattle.std.specs.Str.{bytes_eq}
 use Rattle.std.specs.List.{AllByRecursion}
@@ -17,10 +17,10 @@ HaveByteNames es = AllByRecursion AreBytes (keys_of es)
 abbrev pub number_under : List ℕ → Entries → Option ℕ
 number_under name = lookup (bytes_eq name)
 
--- a new entry stands last
+-- a new entry is the last
 abbrev pub with_entry : List ℕ → ℕ → Entries → Entries
 with_entry name number es = es ++ (name, number) ∷ []
 
--- the others keep their order
+-- the others stay in order
 abbrev pub without_entry : List ℕ → Entries → Entries
 without_entry name = remove_entry (bytes_eq name)

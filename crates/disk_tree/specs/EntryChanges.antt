@@ -1,4 +1,4 @@
--- What becomes of the disk when an entry comes, goes or moves.
+-- How the disk changes when an entry is added, removed or moved.
 use Rattle.std.specs.Prelude.{ℕ, true, false, List}
 use Rattle.number_map.specs.Numbered.{changed}
 use Rattle.disk_tree.specs.Entries.{with_entry, without_entry}
@@ -10,12 +10,12 @@ abbrev pub entered : Disk → ℕ → List ℕ → ℕ → Disk
 entered disk dir name number =
     changed (changed disk dir (on_body (with_entries (with_entry name number)))) number (named_as true)
 
--- the entry is gone, and its node has no name
+-- the entry is removed, and its node has no name
 abbrev pub dropped : Disk → ℕ → List ℕ → ℕ → Disk
 dropped disk dir name number =
     changed (changed disk dir (on_body (with_entries (without_entry name)))) number (named_as false)
 
--- the entry is gone from the one directory and stands last in the other, or in the same one
+-- the entry is removed from one directory and is the last in the other, or in the same one
 abbrev pub moved : Disk → ℕ → List ℕ → ℕ → List ℕ → ℕ → Disk
 moved disk dir name to new_name number =
     changed (changed disk dir (on_body (with_entries (without_entry name)))) to

@@ -33,8 +33,8 @@ hashed order hash = lookup (nat_eq hash) (by_hash order)
 abbrev pub AreBelow : ℕ → Ordered → Type 0
 AreBelow next order = AllByRecursion (λ place. nat_cmp place next ≡ Less) (keys_of order)
 
--- places rise, and names are bytes; as long as no hash of a name was doubled, the hashes are apart and the
--- index has each
+-- Places rise, and names are bytes. While no two entries have had names of one hash, the hashes are
+-- distinct and the index has each
 pub record IsIndexed (order : Ordered) (index : Index) (next : ℕ) (doubled : Bool) : Type 0 where
   pub rising : IsStrictlySortedBy nat_cmp (keys_of order)
   pub below : AreBelow next order

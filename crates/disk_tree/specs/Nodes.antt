@@ -1,4 +1,4 @@
--- A stored node: its context or none, whether an entry leads to it, and a body.
+-- A stored node: its context or none, whether an entry resolves to it, and a body.
 use Rattle.std.specs.Prelude.{ℕ, Bool, List, [], Some}
 use Rattle.disk_tree.specs.Entries.{Entries}
 use Rattle.disk_tree.specs.declared.node.StoredNode.{StoredNode}
@@ -17,7 +17,7 @@ blocks_of (Dir entries) = []
 blocks_of (File blocks size) = blocks
 blocks_of (Link target) = []
 
--- the bytes of a file; no other body has any
+-- the size of a file in bytes; 0 for other bodies
 abbrev pub size_of : Body → ℕ
 size_of (Dir entries) = 0
 size_of (File blocks size) = size
@@ -33,13 +33,13 @@ IsFile (Dir entries) = ⊥
 IsFile (File blocks size) = Unit {0}
 IsFile (Link target) = ⊥
 
--- a change of a directory's entries leaves every other body
+-- a change of a directory's entries; every other body stays
 abbrev pub with_entries : (Entries → Entries) → Body → Body
 with_entries f (Dir entries) = Dir (f entries)
 with_entries f (File blocks size) = File blocks size
 with_entries f (Link target) = Link target
 
--- a change of a file's blocks leaves every other body
+-- a change of a file's blocks; every other body stays
 abbrev pub with_blocks : (List (List ℕ) → List (List ℕ)) → Body → Body
 with_blocks f (Dir entries) = Dir entries
 with_blocks f (File blocks size) = File (f blocks) size

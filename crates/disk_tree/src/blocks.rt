@@ -13,7 +13,7 @@ pub struct Block {
     bytes: Vec<u8>,
 }
 
-// Written, and not derived, so that a crate that lets one go needn't prove how that is done.
+// Implemented, not derived, so that a crate that drops a block needn't prove how its drop works.
 impl Drop for Block {
     fn drop(self) {
         let Block { bytes: _ } = self;
@@ -41,7 +41,7 @@ impl Block {
         Ok(Block { bytes })
     }
 
-    /// The bytes of the block.
+    /// Returns the bytes of the block.
     pub fn bytes(&self) -> &[u8]
         ensures value { result.now ≡ self.now }
         ensures whole { length result.now ≡ BLOCK_SIZE }
@@ -64,7 +64,7 @@ pub struct BlockList {
     items: Vec<Block>,
 }
 
-// Written, and not derived, so that a crate that lets one go needn't prove how that is done.
+// Implemented, not derived, so that a crate that drops a list needn't prove how its drop works.
 impl Drop for BlockList {
     fn drop(self) {
         let BlockList { items: _ } = self;
@@ -82,7 +82,7 @@ impl Model for BlockList {
 impl BlockList {
     ghost use Rattle.disk_tree.specs.BlockLends.{LendsOne};
 
-    /// No blocks. It takes no memory before the first one.
+    /// Returns an empty list. Allocates nothing before the first block.
     pub fn new(alloc: Global) -> Self
         ensures { result ≡ [] }
     {
@@ -91,21 +91,21 @@ impl BlockList {
         }
     }
 
-    /// How many blocks there are.
+    /// Returns the number of blocks.
     pub fn len(&self) -> usize
         ensures { result ≡ length self.now }
     {
         self.items.len()
     }
 
-    /// The block at the index, counted from 0.
+    /// Returns the block at the index, counted from 0, or `None` from the length on.
     pub fn get(&self, index: usize) -> Option<&Block>
         ensures { option_copied result ≡ slice_get self.now index }
     {
         self.items.get(index)
     }
 
-    /// The bytes of the block at the index.
+    /// Returns the bytes of the block at the index, which must be below the length.
     pub fn bytes(&self, index: usize) -> &[u8]
         requires { index < length self.now }
         ensures value { result.now ≡ block_of self.now index }
@@ -114,8 +114,8 @@ impl BlockList {
         self.items[index].bytes()
     }
 
-    // Adds blocks of zeros at the end until there are `count`. After want of memory all is as before;
-    // where none is added, no memory is taken.
+    // Adds blocks of zeros at the end until there are `count`. After an error the list is unchanged. If
+    // none is added, nothing is allocated.
     pub(crate) fn grow(&mut self, alloc: Global, count: usize) -> Result<(), AllocError>
         ensures grown { OnOk result (self.new ≡ grown count self.old) }
         ensures kept { OnErr result (self.new ≡ self.old) }

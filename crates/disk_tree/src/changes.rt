@@ -19,10 +19,10 @@ use std::alloc::Global;
 impl DiskTree {
     ghost use Rattle.disk_tree.specs.TreeLends.{LendsFileBlock};
 
-    /// Adds a node under a number that has none. A file has no blocks yet.
+    /// Adds a node under a number that has none. A file must have no blocks yet.
     ///
-    /// NoSpace where 65,536 nodes are there; else NoMemory where no memory was found. After a fault the
-    /// tree is as before.
+    /// Returns `NoSpace` exactly if there are 65,536 nodes. Otherwise the only error is `NoMemory`. After
+    /// an error the tree is unchanged.
     pub fn add_node(&mut self, number: u32, node: StoredNode) -> Result<(), DiskFault>
         requires absent { map.get self.old number ≡ None }
         requires no_blocks { blocks_of node.body ≡ [] }
@@ -40,7 +40,7 @@ impl DiskTree {
         }
     }
 
-    /// Removes the node of this number, with its blocks. It takes no memory.
+    /// Removes the node of this number, with its blocks. Allocates nothing.
     pub fn remove_node(&mut self, number: u32)
         ensures { self.new ≡ map.remove self.old number }
     {
@@ -48,17 +48,18 @@ impl DiskTree {
         self.blocks -= gone;
     }
 
-    /// Gives the node this context.
+    /// Sets the context of the node. A number without a node changes nothing.
     pub fn set_context(&mut self, number: u32, context: [u8; 40])
         ensures { self.new ≡ map.changed self.old number (with_context context) }
     {
         edits::set_context(&mut self.nodes, number, context);
     }
 
-    /// Makes an entry, which leads to the node; the node is named from then on.
+    /// Appends an entry that resolves to the node, which is named from then on. `dir` must be a
+    /// directory.
     ///
-    /// NoSpace where the directory has 4,096 entries; else NoMemory where no memory was found. After a
-    /// fault the tree is as before.
+    /// Returns `NoSpace` exactly if the directory has 4,096 entries. Otherwise the only error is
+    /// `NoMemory`. After an error the tree is unchanged.
     pub fn put_entry(
         &mut self,
         alloc: Global,
@@ -78,7 +79,8 @@ impl DiskTree {
         Ok(())
     }
 
-    /// Takes the entry away, and its node's name with it. False where no entry has the name.
+    /// Removes the entry, after which its node is unnamed. Returns false if no entry has the name; the
+    /// tree is then unchanged.
     pub fn drop_entry(&mut self, dir: u32, name: &[u8]) -> bool
         ensures found { IsTrue result ↔ IsSome (number_under name.now (children self.old dir)) }
         ensures gone { IfSome (number_under name.now (children self.old dir)) (λ number.
@@ -94,11 +96,11 @@ impl DiskTree {
         }
     }
 
-    /// Moves the entry to a new name, in the same directory or in another. The new name leads to the
+    /// Moves the entry to a new name, in the same directory or in another. The new name resolves to the
     /// same node, which stays named.
     ///
-    /// NoSpace where `to` is another directory and has 4,096 entries; else NoMemory where no memory was
-    /// found. After a fault the tree is as before.
+    /// Returns `NoSpace` exactly if `to` is another directory and has 4,096 entries. Otherwise the only
+    /// error is `NoMemory`. After an error the tree is unchanged.
     pub fn move_entry(
         &mut self,
         alloc: Global,
@@ -132,11 +134,11 @@ impl DiskTree {
         }
     }
 
-    /// Adds blocks of zeros at the end of the file until it has `blocks`. A file that has as many
-    /// stays as it is, and takes no memory.
+    /// Adds blocks of zeros at the end of the file until it has `blocks`. A file that has as many is
+    /// unchanged, and nothing is allocated for it.
     ///
-    /// NoSpace where more than 16,384 blocks would stand in all; else NoMemory where no memory was
-    /// found. After a fault the tree is as before.
+    /// Returns `NoSpace` exactly if all files would have more than 16,384 blocks. Otherwise the only
+    /// error is `NoMemory`. After an error the tree is unchanged.
     pub fn grow(&mut self, alloc: Global, file: u32, blocks: u32) -> Result<(), DiskFault>
         requires { IsFileAt self.old file }
         ensures grown { OnOk result (self.new
@@ -161,7 +163,8 @@ impl DiskTree {
         }
     }
 
-    /// The 4,096 bytes of the file's block for writing. All else stays.
+    /// Returns the 4,096 bytes of the file's block at the index, counted from 0, for writing. The rest of
+    /// the tree is unchanged.
     pub fn block_mut(&mut self, file: u32, index: u32) -> &mut [u8]
         requires { index < length (file_blocks self.old file) }
         ensures* writes_back { sem 𝓛 (LendsFileBlock self.entry file index result) }
@@ -174,7 +177,7 @@ impl DiskTree {
         }
     }
 
-    /// Says how many bytes are the file's.
+    /// Sets the size of the file in bytes.
     pub fn set_size(&mut self, file: u32, size: u32)
         ensures { self.new ≡ map.changed self.old file (on_body (with_size size)) }
     {
@@ -182,7 +185,7 @@ impl DiskTree {
     }
 }
 
-// How many blocks go with the node.
+// The number of blocks that are removed with the node.
 pub(crate) fn blocks_gone(node: Option<StoredNode>) -> usize
     ensures { result ≡ length (blocks_in node) }
 {

@@ -56,8 +56,8 @@ pub(crate) fn add_entry(
     }
 }
 
-// Makes an entry in the directory; NoSpace where it has as many as it may have. The directory is looked up
-// once for both.
+// Appends an entry to the directory; `NoSpace` if it has `MOST_CHILDREN`. The directory is looked up once
+// for both.
 pub(crate) fn add_within(
     nodes: &mut NumberMap<StoredNode>,
     alloc: Global,
@@ -87,7 +87,7 @@ pub(crate) fn add_within(
     }
 }
 
-// The fault where a node finds no memory: the directory that it was made for may be full as well.
+// The fault if there is no memory for a node: the directory for which it was made may be full as well.
 fn fault_in(nodes: &NumberMap<StoredNode>, dir: u32) -> DiskFault
     ensures full { MOST_CHILDREN ≤ length (children nodes.now dir) → result ≡ DiskFault.NoSpace }
     ensures no_space { result ≡ DiskFault.NoSpace → MOST_CHILDREN ≤ length (children nodes.now dir) }
@@ -98,8 +98,8 @@ fn fault_in(nodes: &NumberMap<StoredNode>, dir: u32) -> DiskFault
     }
 }
 
-// Adds the node, named, and the entry that leads to it, or neither. The node comes first: it is taken
-// away by its number, where an entry's name may stand twice.
+// Adds the node, named, and the entry that resolves to it, or neither. The node comes first, since it can
+// be removed again by its number: an entry's name may be in the directory twice.
 pub(crate) fn add_named(
     nodes: &mut NumberMap<StoredNode>,
     alloc: Global,

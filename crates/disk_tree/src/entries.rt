@@ -9,15 +9,19 @@ use number_map::{RisingMap, Values};
 use std::alloc::{AllocError, Global};
 use std::marker::Model;
 
-/// The entries of a directory, in the order in which they were made. In contracts it is the list of
-/// pairs of a stored name and a node's number.
+/// The entries of a directory, in the order in which they were made. In contracts it is the list of pairs
+/// of a stored name and a node's number.
 ///
-/// Names are found by their hash. A look-up takes a time that doesn't grow with the length; so do a new
-/// entry and a removal, but that a new entry sometimes makes the row or the index grow, which moves all of
-/// it, and that a removal drops the empty slots once they are more than half. Once older entries were
-/// removed, an entry's place is found by halving. The hash has a fixed seed, so a user who picks the names
-/// can make them collide, and then a search goes over those that do. After the first two that have one name,
-/// or one hash of 64 bits, it goes over all, at most the 4,096 entries of a directory.
+/// Names are found by their hash.
+/// - A look-up, a new entry and a removal take a time that doesn't grow with the length, except as
+///   follows.
+/// - A new entry sometimes makes the row or the index grow, which moves all of it.
+/// - A removal drops the empty slots once they are more than half.
+/// - After older entries were removed, an entry's place is found by binary search.
+/// - The hash has a fixed seed. A user who picks the names can make them collide, and then a search
+///   visits those that do.
+/// - Once two entries have had one name, or one hash of 64 bits, each search visits all entries: at most
+///   the 4,096 of a directory.
 pub struct DirEntries {
     order: Order,
     index: HeldIndex,
@@ -28,7 +32,7 @@ pub struct DirEntries {
     doubled: bool,
 }
 
-// Written, and not derived, so that a crate that lets one go needn't prove how that is done.
+// Implemented, not derived, so that a crate that drops entries needn't prove how their drop works.
 impl Drop for DirEntries {
     fn drop(self) {
         let DirEntries {
@@ -53,7 +57,7 @@ impl Model for DirEntries {
 }
 
 impl DirEntries {
-    /// No entries. It takes no memory before the first one.
+    /// Returns an empty list of entries. Allocates nothing before the first entry.
     pub fn new(alloc: Global) -> Self
         ensures { result ≡ [] }
     {
@@ -65,14 +69,14 @@ impl DirEntries {
         }
     }
 
-    /// How many entries there are.
+    /// Returns the number of entries.
     pub fn len(&self) -> usize
         ensures { result ≡ length self.now }
     {
         self.order.len()
     }
 
-    /// The entries, the oldest first.
+    /// Iterates over the entries, the oldest first.
     pub fn iter(&self) -> Values<'_, (Bytes, u32)>
         ensures rest { result ≡ self.now }
     {
@@ -86,7 +90,7 @@ impl DirEntries {
         let _count = self.order.len();
     }
 
-    /// The number under the name; of two entries with one name the older is found.
+    /// Returns the number under the name. If two entries have one name, the older is found.
     pub fn find(&self, name: &[u8]) -> Option<u32>
         ensures { result ≡ number_under name.now self.now }
     {
@@ -97,7 +101,7 @@ impl DirEntries {
         }
     }
 
-    // Puts an entry after the others. Out of memory, all is as before. The index is changed last, and is
+    // Appends an entry. After an error the entries are unchanged. The index is changed last, and is
     // searched once: if it had nothing under the hash, no other entry has the name.
     pub(crate) fn push(&mut self, alloc: Global, name: &[u8], number: u32) -> Result<(), AllocError>
         ensures put { OnOk result (self.new ≡ with_entry name.now number self.old) }
@@ -134,7 +138,7 @@ impl DirEntries {
         }
     }
 
-    // Removes the oldest entry of this name, and returns its number; `None` if there is none.
+    // Removes the oldest entry of this name, and returns its number, or `None` if there is none.
     pub(crate) fn remove(&mut self, name: &[u8]) -> Option<u32>
         ensures number { result ≡ number_under name.now self.old }
         ensures removed { self.new ≡ without_entry name.now self.old }

@@ -11,8 +11,8 @@ use std::alloc::{AllocError, Global};
 use std::collections::HashMap;
 use std::marker::Model;
 
-// The index of the names, which is empty without a box. It lies apart from its directory, since a hash
-// map is larger than all else of a node, and nodes are moved.
+// The index of the names, which is empty without a box. It is stored apart from its directory, since a
+// hash map is larger than the rest of a node, and nodes are moved.
 #[derive(Drop)]
 pub(crate) struct HeldIndex {
     held: Option<Box<Index>>,
@@ -35,8 +35,8 @@ impl HeldIndex {
         HeldIndex { held: None }
     }
 
-    // Puts a place and a number under the hash, in place of what the index had there. Returns whether it had
-    // nothing there. Out of memory, all is as before.
+    // Puts a place and a number under the hash, replacing what the index had there. Returns whether it
+    // had nothing there. After an error the index is unchanged.
     pub(crate) fn add(
         &mut self,
         alloc: Global,
@@ -80,8 +80,8 @@ impl HeldIndex {
     }
 }
 
-// The place and the number of the oldest entry of this name. The index has the place as long as no two names
-// had one hash; whether the entry there has this name, the order says.
+// The place and the number of the oldest entry of this name. The index has the place as long as no two
+// names had one hash. The order decides whether the entry there has this name.
 pub(crate) fn oldest_of(
     order: &Order,
     index: &HeldIndex,

@@ -1,5 +1,4 @@
-//! What lies on the disk of the mount: nodes by number, their entries under stored names, and their
-//! blocks.
+//! The content of the mount's disk: nodes by number, their entries under stored names, and their blocks.
 #![tactic(auto)]
 
 mod blocks;

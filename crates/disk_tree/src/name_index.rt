@@ -52,7 +52,7 @@ pub(crate) fn searched(order: &Order, name: &[u8]) -> Option<(u64, u32)>
     None
 }
 
-// Puts an entry behind the others.
+// Appends an entry.
 pub(crate) fn add_last(
     order: &mut Order,
     place: u64,
@@ -68,7 +68,7 @@ pub(crate) fn add_last(
     Ok(())
 }
 
-// Takes the entry at this place away.
+// Removes the entry at this place.
 pub(crate) fn drop_place(order: &mut Order, place: u64)
     ensures gone { order.new ≡ remove_entry (is_at (nat_cmp place)) order.old }
     ensures rising { IsStrictlySortedBy nat_cmp (keys_of order.new) }
@@ -76,7 +76,7 @@ pub(crate) fn drop_place(order: &mut Order, place: u64)
     order.remove(place);
 }
 
-// Puts a place and a number under the hash, in place of what the index had there. Returns whether it had
+// Puts a place and a number under the hash, replacing what the index had there. Returns whether it had
 // nothing there.
 pub(crate) fn add_hash(index: &mut Index, hash: u64, found: (u64, u32)) -> Result<bool, AllocError>
     ensures lacked { IfOk result (λ alone. alone ≡ true → indexed index.old.entries hash ≡ None) }
@@ -96,7 +96,7 @@ pub(crate) fn drop_hash(index: &mut Index, hash: u64)
     index.remove(&hash);
 }
 
-// The place behind this one. Places are not used again; 2^64 of them outlast every run.
+// The place after this one. Places are not used again; 2^64 of them outlast every run.
 pub(crate) fn next_place(place: u64) -> Option<u64>
     ensures { IfSome result (λ next. next ≡ place + 1) }
 {

@@ -1,4 +1,4 @@
-//! Nodes that come and go with the entry that leads to them.
+//! Nodes that are added and removed with the entry that resolves to them.
 ghost use Rattle.std.specs.Prelude.{◌≡◌, ◌≤◌, ◌⊎◌, [], None, length, IfErr, IfSome, OnOk, OnErr};
 ghost use Rattle.mount_limits.specs.declared.TheConstants.{MOST_CHILDREN};
 ghost use Rattle.number_map.specs.Numbered as map;
@@ -16,11 +16,11 @@ use mount_limits::MOST_NODES;
 use std::alloc::Global;
 
 impl DiskTree {
-    /// Adds a node under a number that has none, and the entry that leads to it; the node is named. A
-    /// file has no blocks yet.
+    /// Adds a node under a number that has none, and the entry that resolves to it; the node is named. A
+    /// file must have no blocks yet. `dir` must be a directory.
     ///
-    /// NoSpace where 65,536 nodes are there, or the directory has 4,096 entries; else NoMemory where no
-    /// memory was found. After a fault the tree is as before.
+    /// Returns `NoSpace` exactly if there are 65,536 nodes or the directory has 4,096 entries. Otherwise
+    /// the only error is `NoMemory`. After an error the tree is unchanged.
     pub fn add_named(
         &mut self,
         alloc: Global,
@@ -46,8 +46,8 @@ impl DiskTree {
         edits::add_named(&mut self.nodes, alloc, dir, name, number, node)
     }
 
-    /// Takes the entry away, and the node that it leads to with its blocks, and tells the node's number;
-    /// `None` where no entry has the name. It takes no memory.
+    /// Removes the entry, and the node to which it resolves with its blocks, and returns the node's
+    /// number. Returns `None` if no entry has the name; the tree is then unchanged. Allocates nothing.
     pub fn drop_named(&mut self, dir: u32, name: &[u8]) -> Option<u32>
         ensures number { result ≡ number_under name.now (children self.old dir) }
         ensures gone { IfSome (number_under name.now (children self.old dir)) (λ number.

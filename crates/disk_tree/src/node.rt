@@ -15,20 +15,20 @@ use std::alloc::{AllocError, Global};
 /// A node of the disk.
 #[derive(Drop)]
 pub struct StoredNode {
-    /// The bytes of its context, where it is under a policy.
+    /// The bytes of its context, if it is under a policy.
     pub context: Option<[u8; 40]>,
-    /// Whether an entry leads to it.
+    /// Whether an entry resolves to it.
     pub named: bool,
-    /// What it holds.
+    /// The content of the node.
     pub body: Body,
 }
 
-/// What a node holds.
+/// The content of a node.
 #[derive(Drop)]
 pub enum Body {
     /// Entries, in the order in which they were made.
     Dir(DirEntries),
-    /// Blocks, and how many bytes are the file's.
+    /// Blocks, and the file's size in bytes.
     File { blocks: BlockList, size: u32 },
     /// The stored target.
     Link(Bytes),
@@ -37,21 +37,21 @@ pub enum Body {
 impl Body {
     ghost use Rattle.disk_tree.specs.BodyLends.{LendsBodyBlock};
 
-    /// Whether the body is a directory's.
+    /// Returns whether the body is a directory's.
     pub fn is_dir(&self) -> bool
         ensures { IsTrue result ↔ IsDir self.now }
     {
         matches!(self, Body::Dir(_))
     }
 
-    /// Whether the body is a file's.
+    /// Returns whether the body is a file's.
     pub fn is_file(&self) -> bool
         ensures { IsTrue result ↔ IsFile self.now }
     {
         matches!(self, Body::File { .. })
     }
 
-    /// How many blocks the body has; a directory and a link have none.
+    /// Returns the number of blocks; 0 for a directory and a link.
     pub fn block_count(&self) -> usize
         ensures { result ≡ length (blocks_of self.now) }
     {
@@ -61,7 +61,7 @@ impl Body {
         }
     }
 
-    /// How many bytes are the file's; a directory and a link have none.
+    /// Returns the file's size in bytes; 0 for a directory and a link.
     pub fn size(&self) -> u32
         ensures { result ≡ size_of self.now }
     {
@@ -71,7 +71,7 @@ impl Body {
         }
     }
 
-    /// How many entries the body has; a file and a link have none.
+    /// Returns the number of entries; 0 for a file and a link.
     pub fn entry_count(&self) -> usize
         ensures { result ≡ length (entries_of self.now) }
     {
@@ -81,7 +81,8 @@ impl Body {
         }
     }
 
-    /// The number under the name, in a directory.
+    /// Returns the number under the name in a directory, or `None` if there is none. Other bodies have no
+    /// names.
     pub fn find(&self, name: &[u8]) -> Option<u32>
         ensures { result ≡ number_under name.now (entries_of self.now) }
     {
@@ -137,7 +138,7 @@ impl Body {
         }
     }
 
-    /// The bytes of a file's block.
+    /// Returns the bytes of a file's block at the index, which must be below the number of blocks.
     pub fn block(&self, index: usize) -> &[u8]
         requires { index < length (blocks_of self.now) }
         ensures value { result.now ≡ block_of (blocks_of self.now) index }

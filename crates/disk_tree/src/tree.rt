@@ -1,4 +1,4 @@
-//! The tree of stored nodes, and what can be asked of it.
+//! The tree of stored nodes, and its queries.
 ghost use Rattle.std.specs.Prelude.{◌≡◌, ◌<◌, ◌↔◌, length, IfOk, IsTrue, option_copied};
 ghost use Rattle.number_map.specs.Numbered as map;
 ghost use Rattle.disk_tree.specs.Blocks.{block_of};
@@ -16,11 +16,11 @@ use std::marker::Model;
 /// The tree of stored nodes. In contracts it is the finite map from numbers to nodes.
 pub struct DiskTree {
     pub(crate) nodes: NumberMap<StoredNode>,
-    // The blocks of all files.
+    // The number of blocks of all files.
     pub(crate) blocks: usize,
 }
 
-// Written, and not derived, so that a crate that lets one go needn't prove how that is done.
+// Implemented, not derived, so that a crate that drops a tree needn't prove how its drop works.
 impl Drop for DiskTree {
     fn drop(self) {
         let DiskTree {
@@ -50,7 +50,8 @@ impl Model for DiskTree {
 }
 
 impl DiskTree {
-    /// Node 0 alone: an empty directory without context, which counts as named.
+    /// Returns the initial tree: node 0 alone, an empty directory without context, which counts as named.
+    /// The only error is out of memory.
     pub fn new(alloc: Global) -> Result<DiskTree, AllocError>
         ensures { IfOk result (λ tree. tree ≡ first_disk) }
     {
@@ -66,35 +67,35 @@ impl DiskTree {
         Ok(DiskTree { nodes, blocks: 0 })
     }
 
-    /// The node of this number.
+    /// Returns the node of this number, or `None` if there is none.
     pub fn node(&self, number: u32) -> Option<&StoredNode>
         ensures { option_copied result ≡ map.get self.now number }
     {
         self.nodes.get(number)
     }
 
-    /// The nodes with their numbers, by rising number.
+    /// Iterates over the nodes with their numbers, by rising number.
     pub fn iter(&self) -> Iter<'_, StoredNode>
         ensures { result ≡ map.entries self.now }
     {
         self.nodes.iter()
     }
 
-    /// How many nodes there are.
+    /// Returns the number of nodes.
     pub fn node_count(&self) -> usize
         ensures { result ≡ map.len self.now }
     {
         self.nodes.len()
     }
 
-    /// How many blocks all files have.
+    /// Returns the number of blocks of all files.
     pub fn block_total(&self) -> usize
         ensures { result ≡ block_total self.now }
     {
         self.blocks
     }
 
-    /// Whether the number is a directory's.
+    /// Returns whether the number is a directory's.
     pub fn is_dir(&self, number: u32) -> bool
         ensures { IsTrue result ↔ IsDirAt self.now number }
     {
@@ -104,7 +105,7 @@ impl DiskTree {
         }
     }
 
-    /// Whether the number is a file's.
+    /// Returns whether the number is a file's.
     pub fn is_file(&self, number: u32) -> bool
         ensures { IsTrue result ↔ IsFileAt self.now number }
     {
@@ -114,7 +115,7 @@ impl DiskTree {
         }
     }
 
-    /// How many entries the directory has.
+    /// Returns the number of entries of the directory.
     pub fn entry_count(&self, dir: u32) -> usize
         ensures { result ≡ length (children self.now dir) }
     {
@@ -124,7 +125,7 @@ impl DiskTree {
         }
     }
 
-    /// How many blocks the file has.
+    /// Returns the number of blocks of the file.
     pub fn block_count(&self, file: u32) -> usize
         ensures { result ≡ length (file_blocks self.now file) }
     {
@@ -134,7 +135,7 @@ impl DiskTree {
         }
     }
 
-    /// How many bytes are the file's; 0 where the number is no file's.
+    /// Returns the file's size in bytes; 0 if the number is not a file's.
     pub fn file_size(&self, file: u32) -> u32
         ensures { result ≡ file_size self.now file }
     {
@@ -144,7 +145,7 @@ impl DiskTree {
         }
     }
 
-    /// The number under the name in the directory.
+    /// Returns the number under the name in the directory.
     pub fn entry(&self, dir: u32, name: &[u8]) -> Option<u32>
         ensures { result ≡ number_under name.now (children self.now dir) }
     {
@@ -154,7 +155,7 @@ impl DiskTree {
         }
     }
 
-    /// The 4,096 bytes of the file's block at the index, counted from 0.
+    /// Returns the 4,096 bytes of the file's block at the index, counted from 0.
     pub fn block(&self, file: u32, index: u32) -> &[u8]
         requires { index < length (file_blocks self.now file) }
         ensures value { result.now ≡ block_of (file_blocks self.now file) index }

@@ -1,4 +1,4 @@
--- The node's body is changed, or stays where no memory was found.
+-- The node's body is changed, or stays if there was no memory.
 use Rattle.std.proofs.Common.{◌≡◌, sym}
 use Rattle.disk_tree.specs.Nodes.{with_entries}
 use Rattle.disk_tree.specs.Entries.{with_entry}

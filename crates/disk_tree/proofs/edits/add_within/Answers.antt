@@ -1,4 +1,4 @@
--- The node's body is changed, or stays where there is no room or no memory.
+-- The node's body is changed, or stays if there is no space or no memory.
 use Rattle.std.proofs.Common.{sym}
 use Rattle.number_map.proofs.NumberedLemmas.{insert_same}
 use Rattle.disk_tree.specs.Nodes.{with_entries}

@@ -1,4 +1,4 @@
--- The node's body is changed; where there is no node, nothing is.
+-- The node's body is changed; if there is no node, the map stays.
 use Rattle.std.proofs.Common.{sym}
 use Rattle.number_map.proofs.NumberedLemmas.{changed_None}
 use Rattle.disk_tree.specs.Entries.{without_entry}

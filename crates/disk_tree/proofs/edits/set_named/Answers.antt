@@ -1,4 +1,4 @@
--- The node that is there is changed; where there is none, nothing is.
+-- The node that is there is changed; if there is none, the map stays.
 use Rattle.std.proofs.Common.{sym}
 use Rattle.number_map.proofs.NumberedLemmas.{changed_Some, changed_None}
 use Rattle.disk_tree.specs.Nodes.{named_as}

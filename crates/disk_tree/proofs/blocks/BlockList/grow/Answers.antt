@@ -1,4 +1,4 @@
--- One block of zeros more, and at the end so many as are wanted.
+-- One block of zeros more, and at the end as many as are required.
 use Rattle.std.proofs.Common.{◌≡◌, ◌+◌, ◌-◌, ◌++◌, [], ◌∷◌, length, replicate, false, sym, ap, ◌∙◌, arith, append_assoc}
 use Rattle.std.proofs.lemmas.List.{replicate_more}
 use Rattle.std.specs.Result.{is_err}

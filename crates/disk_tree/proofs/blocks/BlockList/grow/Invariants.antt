@@ -1,4 +1,4 @@
--- So many blocks of zeros stand behind the blocks that were there.
+-- The blocks of zeros that were added follow the blocks that were there.
 use Rattle.std.proofs.Common.{◌≡◌, ◌-◌, ◌≤◌, ◌++◌, length, replicate}
 use Rattle.disk_tree.specs.Blocks.{zero_block}
 use Rattle.disk_tree.proofs.blocks.BlockList.grow.Given as goal

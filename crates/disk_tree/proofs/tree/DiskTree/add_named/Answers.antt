@@ -1,4 +1,4 @@
--- The node that is added has no blocks, and an entry is none; where nothing is added, all stays.
+-- The node that is added has no blocks, nor has its entry; if no node is added, the tree stays.
 use Rattle.std.proofs.Common.{◌≡◌, sym, ap, ◌∙◌}
 use Rattle.number_map.specs.Numbered.{insert, get}
 use Rattle.disk_tree.specs.DiskTree.{Disk, block_total}

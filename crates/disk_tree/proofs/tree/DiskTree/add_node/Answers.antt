@@ -1,4 +1,4 @@
--- The node that is added has no blocks; where it is not added, all stays.
+-- The node that is added has no blocks; if it is not added, the tree stays.
 use Rattle.std.proofs.Common.{◌≡◌, sym, ap, ◌∙◌}
 use Rattle.number_map.specs.Numbered.{insert, get}
 use Rattle.disk_tree.specs.DiskTree.{block_total}

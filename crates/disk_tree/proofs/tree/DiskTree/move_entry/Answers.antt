@@ -1,4 +1,4 @@
--- The new entry is made before the old one goes, so that a refusal leaves all.
+-- The new entry is made before the old one is removed, so a refusal leaves the tree unchanged.
 use Rattle.std.proofs.Common.{◌≡◌, ℕ, Option, Some, IfSome, sym, ap, subst, ◌∙◌}
 use Rattle.number_map.specs.Numbered.{changed}
 use Rattle.disk_tree.specs.Entries.{number_under, with_entry, without_entry}
