@@ -53,7 +53,7 @@ few_calls (Faulted ∷ calls) each = absurd (All-head GaveSome Faulted calls eac
 module _ {S : Type 0} (came : S → List ReadCall → S → Type 0)
     (by_more : (first second third : S) (calls more : List ReadCall) → came first calls second → came second more third
     → came first (calls ++ more) third) where
-  -- a reading goes on by a call that gave something
+  -- a reading continues with a call that gave some bytes
   pub reads_on : (first second third : S) (limits : InputLimits) (text piece : List ℕ)
       → CameByReading limits (λ calls. came first calls second) text [] → came second (Gave piece ∷ []) third → 0 < length piece
       → length (text ++ piece) ≤ most_read limits → CameByReading limits (λ calls. came first calls third) (text ++ piece) []

@@ -3,7 +3,8 @@ use Rattle.std.proofs.Common.{◌≡◌, ℕ, ◌<◌, ◌≤◌, ◌+◌, ◌-�
 use Rattle.std.proofs.Common.{◌∙◌, arith, take_all, take-append-drop, length-drop, drop_of_length-le}
 use Rattle.std.proofs.lemmas.List.{drop-drop}
 
--- The next items are those given, and none were given to a nonempty piece only at the end. What is left was read as the slice from `at` to the end.
+-- The next items are those given, and none were given to a nonempty piece only at the end. The remaining
+-- ones were read as the slice from `at` to the end.
 pub given : (bytes slice piece : List ℕ) (at most room count : ℕ) → 1 ≤ most → length piece ≡ room
     → slice ≡ bytes
     → count ≡ min (min most room) (length (take (length slice - at) (drop at slice)))

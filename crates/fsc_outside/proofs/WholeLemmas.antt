@@ -1,4 +1,4 @@
--- A sink goes on getting bytes.
+-- A sink gets further bytes.
 use Rattle.std.proofs.Common.{◌≡◌, ℕ, ◌+◌, ◌-◌, List, ◌++◌, length, take, drop, Option, Some, None, ap, ◌∙◌}
 use Rattle.std.proofs.Common.{arith, take_all, length-drop, append_assoc}
 use Rattle.std.specs.Io.KnownBytes.{Appends}

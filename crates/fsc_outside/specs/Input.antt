@@ -11,14 +11,15 @@ use Rattle.fsc_outside.specs.declared.input.InputFault.{InputFault}
 use Rattle.fsc_outside.specs.declared.input.InputFault.TheVariants.{ReadFault, TooLong, NoMemory}
 use Rattle.fsc_outside.specs.WholeTexts.{GaveWhole, ReadWhole}
 
--- a source gave just one byte beyond the limit, and was asked for no more
+-- a source gave exactly one byte beyond the limit, and was asked for no more
 pub record GaveByteMore (limits : InputLimits) (Came : List ReadCall → Type 0) (old new : SourceState)
     (bytes : List ℕ) : Type 0 where
   pub given : Consumes old.left new.left bytes
   pub size : length bytes ≡ most_read limits
   pub calls : CameByReading limits Came bytes []
 
--- a source gave a whole text of no more bytes, and of too many lines; the last call told its end
+-- a source gave a whole text within the limit of bytes, but with too many lines; the last call reported
+-- its end
 pub record GaveLinesMore (limits : InputLimits) (Came : List ReadCall → Type 0) (old new : SourceState)
     (bytes : List ℕ) : Type 0 where
   pub gave : GaveWhole old new bytes
@@ -26,7 +27,7 @@ pub record GaveLinesMore (limits : InputLimits) (Came : List ReadCall → Type 0
   pub lines : limits.lines < line_count bytes
   pub calls : CameByReading limits Came bytes (Gave [] ∷ [])
 
--- what is too long, and how much of it is read
+-- a source gave a text that is too long; how much of it was read
 abbrev pub GaveTooMuch : InputLimits → (List ReadCall → Type 0) → SourceState → SourceState → List ℕ → Type 0
 GaveTooMuch limits Came old new bytes =
     GaveByteMore limits Came old new bytes ⊎ GaveLinesMore limits Came old new bytes
@@ -46,7 +47,7 @@ EndsReading limits Came old new (Err ReadFault) = ReadPart limits Came old new
 EndsReading limits Came old new (Err TooLong) = ReadTooMuch limits Came old new
 EndsReading limits Came old new (Err NoMemory) = ReadInVain limits Came old new
 
--- a text with too many lines is refused, and any other is handed over
+-- a text with too many lines is refused, and any other is returned
 abbrev pub LimitsLines : ℕ → List ℕ → Result (List ℕ) InputFault → Type 0
 LimitsLines most text (Ok same) = (same ≡ text) × (line_count text ≤ most)
 LimitsLines most text (Err TooLong) = most < line_count text

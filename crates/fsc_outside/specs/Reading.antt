@@ -7,12 +7,12 @@ use Rattle.fsc_outside.specs.Reads.ReadCall.{Faulted}
 use Rattle.fsc_outside.specs.States.{SourceState}
 use Rattle.fsc_outside.specs.declared.input.InputLimits.{InputLimits}
 
--- the most bytes that are read, and the most calls that are made for them: one more than the limit
+-- the maximal number of bytes that are read, and of calls that are made for them: one more than the limit
 abbrev pub most_read : InputLimits → ℕ
 most_read limits = limits.bytes + 1
 
--- the source came to be what it is by calls that each gave some of these bytes, and by none but the last behind
--- them; together they are few. Came tells by which calls it came
+-- the source reached its state by calls that each gave some of these bytes, followed by `last`; together
+-- they are at most `most_read`. `Came calls` is the fact that it reached its state by these calls
 pub record CameByReading (limits : InputLimits) (Came : List ReadCall → Type 0)
     (bytes : List ℕ) (last : List ReadCall) : Type 0 where
   pub calls : List ReadCall
@@ -21,7 +21,7 @@ pub record CameByReading (limits : InputLimits) (Came : List ReadCall → Type 0
   pub given : given_by calls ≡ bytes
   pub few : length (calls ++ last) ≤ most_read limits
 
--- these bytes of a text were read, and then a call failed, just one, which was the last
+-- these bytes of a text were read, and then exactly one call failed, which was the last
 pub record ReadPart (limits : InputLimits) (Came : List ReadCall → Type 0) (old new : SourceState)
     : Type 0 where
   pub bytes : List ℕ

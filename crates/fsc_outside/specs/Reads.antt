@@ -1,4 +1,4 @@
--- The calls of a source, one after another, and what they make of it.
+-- The calls of a source, one after another, and how they change it.
 use Rattle.std.specs.Prelude.{ℕ, ◌≡◌, ◌<◌, List, [], ◌∷◌, ◌++◌, length, take, Result, Ok, Err}
 use Rattle.std.specs.Io.KnownBytes.{Consumes}
 use Rattle.fsc_outside.specs.Causes.{one_more}
@@ -20,7 +20,7 @@ given_by [] = []
 given_by (Gave bytes ∷ more) = bytes ++ given_by more
 given_by (Faulted ∷ more) = given_by more
 
--- the count of faults behind calls, from the one before them
+-- the count of faults after calls, from the one before them
 abbrev pub faults_behind : List ReadCall → ℕ → ℕ
 faults_behind [] count = count
 faults_behind (Gave bytes ∷ more) count = faults_behind more count
@@ -31,8 +31,8 @@ abbrev pub GaveSome : ReadCall → Type 0
 GaveSome (Gave bytes) = 0 < length bytes
 GaveSome Faulted = ⊥
 
--- what calls make of a source: the bytes that they gave are gone, where they were told, and each one that
--- failed was counted
+-- how calls change a source: the bytes that they gave are no longer left, if those left are known, and
+-- each call that failed is counted
 pub record AreReads (old : SourceState) (calls : List ReadCall) (new : SourceState) : Type 0 where
   pub bytes : Consumes old.left new.left (given_by calls)
   pub faults : new.faults ≡ faults_behind calls old.faults

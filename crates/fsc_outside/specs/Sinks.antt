@@ -2,8 +2,8 @@
 use Rattle.std.specs.Prelude.{ℕ, ◌-◌, ◌≤◌, ◌<◌, ◌⊎◌, min, List, ◌++◌, length, take, Contains}
 use Rattle.fsc_outside.specs.Causes.{one_more}
 
--- a sink in memory: the bytes got, the most that it holds, the most that a call takes, the numbers of
--- the calls that fail, how many calls were made, and how many failed
+-- a sink in memory: the bytes got, its capacity, the maximal number of bytes that a call takes, the
+-- numbers of the calls that fail, how many calls were made, and how many failed
 pub record Tank : Type 0 where
   pub got : List ℕ
   pub room : ℕ
@@ -12,11 +12,11 @@ pub record Tank : Type 0 where
   pub calls : ℕ
   pub faults : ℕ
 
--- whether a call with so many bytes fails next: it is listed, or there are bytes and the room is full
+-- whether the next call, with `count` bytes, fails: it is listed, or there are bytes and the sink is full
 abbrev pub RefusesNext : Tank → ℕ → Type 0
 RefusesNext tank count = Contains tank.fails tank.calls ⊎ ((0 < count) × (tank.room ≤ length tank.got))
 
--- how many of so many bytes the next call takes
+-- how many of `count` bytes the next call takes
 abbrev pub next_taken : Tank → ℕ → ℕ
 next_taken tank count = min (min tank.piece count) (tank.room - length tank.got)
 

@@ -4,8 +4,8 @@ use Rattle.fsc_outside.specs.Causes.{one_more}
 use Rattle.fsc_outside.specs.Reads.{ReadCall, AreReads}
 use Rattle.fsc_outside.specs.States.{SourceState, source_state}
 
--- a source in memory: the bytes left, the most that a call gives, the numbers of the calls that fail,
--- how many calls were made, and how many failed
+-- a source in memory: the bytes left, the maximal number of bytes that a call gives, the numbers of the
+-- calls that fail, how many calls were made, and how many failed
 pub record Feed : Type 0 where
   pub left : List ℕ
   pub piece : ℕ
@@ -17,7 +17,7 @@ pub record Feed : Type 0 where
 abbrev pub FailsNext : Feed → Type 0
 FailsNext feed = Contains feed.fails feed.calls
 
--- how many bytes the next call gives into a room of that length
+-- how many bytes the next call gives into a buffer of that length
 abbrev pub next_count : Feed → ℕ → ℕ
 next_count feed room = min (min feed.piece room) (length feed.left)
 
@@ -38,7 +38,7 @@ abbrev pub calls_after : List ReadCall → ℕ → ℕ
 calls_after [] count = count
 calls_after (call ∷ more) count = calls_after more (one_more count)
 
--- what calls make of a source in memory: what they make of any source, and each call is counted
+-- how calls change a source in memory: as they change any source, and each call is counted
 pub record AreFeeds (old : Feed) (calls : List ReadCall) (new : Feed) : Type 0 where
   pub reads : AreReads (fed old) calls (fed new)
   pub counted : new.calls ≡ calls_after calls old.calls

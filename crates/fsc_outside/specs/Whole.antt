@@ -10,7 +10,8 @@ pub record GotWhole (old new : SinkState) (text : List ℕ) : Type 0 where
   pub got : Appends old.got new.got text
   pub quiet : new.faults ≡ old.faults
 
--- a sink got so many bytes of the text, short of its end, and failed: so an empty text can't fail
+-- a sink got the first `count` bytes of the text, short of its end, and failed: so an empty text can't
+-- fail
 pub record GotPart (old new : SinkState) (text : List ℕ) : Type 0 where
   pub count : ℕ
   pub short : count < length text

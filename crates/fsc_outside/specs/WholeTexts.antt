@@ -18,7 +18,7 @@ pub record IsWithin (limits : InputLimits) (text : List ℕ) : Type 0 where
   pub bytes : length text ≤ limits.bytes
   pub lines : line_count text ≤ limits.lines
 
--- the text was read whole; the last call told its end
+-- the text was read whole; the last call reported its end
 pub record ReadWhole (limits : InputLimits) (Came : List ReadCall → Type 0) (old new : SourceState)
     (text : List ℕ) : Type 0 where
   pub gave : GaveWhole old new text

@@ -1,15 +1,16 @@
-//! Where callers are met on their way.
+//! Callbacks at the beginning and the end of each command.
 
-/// What is told of each command as it begins and ends, such as to let callers wait for one another.
+/// Callbacks at the beginning and the end of each command, for example to let callers wait for one
+/// another.
 pub trait Gate {
-    /// Command n of the caller begins; it counts from 0 in the caller's section.
+    /// Is called when command `n` of the caller begins; it counts from 0 in the caller's section.
     fn before(&self, caller: u32, n: u64);
 
-    /// Command n of the caller has ended.
+    /// Is called when command `n` of the caller has ended.
     fn after(&self, caller: u32, n: u64);
 }
 
-/// A gate that holds nobody up.
+/// A gate that lets each caller continue at once.
 #[derive(Drop)]
 pub struct OpenGate;
 

@@ -9,11 +9,11 @@ use std::alloc::{AllocError, Global};
 use text_words::line_count;
 use thiserror::Error;
 
-/// The most bytes that are asked for at once.
+/// The maximal number of bytes that one call asks for.
 const MOST_AT_ONCE: usize = 4_096;
 
-/// The most bytes and the most lines that an input may have. A last piece without a line feed counts
-/// as a line.
+/// The maximal numbers of bytes and of lines of an input. A last piece without a line feed counts as a
+/// line.
 #[derive(Clone, Copy)]
 pub struct InputLimits {
     pub bytes: usize,
@@ -29,7 +29,7 @@ pub enum InputFault {
     /// The input has more bytes or lines than the limits allow.
     #[error("input too long")]
     TooLong,
-    /// There was no memory.
+    /// Out of memory.
     #[error("out of memory")]
     NoMemory,
 }
@@ -46,8 +46,10 @@ impl From<AllocError> for InputFault {
 }
 
 /// Reads a source to its end, or to the first byte beyond the limit, so that it makes at most one call
-/// more than the limit has bytes. `ReadFault` comes where a call failed; `TooLong` at the first byte
-/// beyond the limit, or at the end of a text with too many lines; `NoMemory` may come at any piece.
+/// more than the limit has bytes. Returns
+/// - `ReadFault` if a call failed,
+/// - `TooLong` at the first byte beyond the limit, or at the end of a text with too many lines,
+/// - `NoMemory` possibly at any piece.
 pub fn read_all<S: Source>(
     alloc: Global,
     source: &mut S,
@@ -74,7 +76,7 @@ pub fn read_all<S: Source>(
     Err(InputFault::TooLong)
 }
 
-// The text, if it hasn't more lines than so many.
+// The text, or `TooLong` if it has more than `most` lines.
 fn within_lines(text: Vec<u8>, most: usize) -> Result<Bytes, InputFault>
     ensures { LimitsLines most text.items result }
 {

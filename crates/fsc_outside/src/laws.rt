@@ -1,9 +1,9 @@
-//! A law of causes, as a function without work whose contract says it.
+//! A law of causes, as a function that does nothing: its contract is the law.
 ghost use Rattle.std.specs.Prelude.{ℕ, ◌-◌, ◌^◌, ◌≤◌};
 ghost use Rattle.fsc_outside.specs.Causes.{Rose};
 
-/// Only a count that stands at the end of its type rises and is as before: everywhere else a fault
-/// shows in it.
+/// A count that rose and is the same as before is the maximum of its type. Below the maximum, each fault
+/// changes the count.
 pub fn a_count_rises_in_place_only_at_its_end()
     ensures { (count : ℕ) → Rose count count → 2 ^ 64 - 1 ≤ count }
 {}

@@ -1,5 +1,5 @@
-//! Where bytes and seeds come from and where bytes go. Each trait keeps a count of faults, so that
-//! a caller that answers a fault can be asked for its cause. Fakes in memory fail where they are told to.
+//! Sources of bytes and seeds, and sinks of bytes. Each trait has a count of faults, so that a caller
+//! that reports a fault can be checked for its cause. Fakes in memory fail at the calls that are listed.
 #![tactic(auto)]
 
 ghost use Rattle.std.specs.Prelude.{◌↔◌, IsTrue, Contains};
@@ -30,7 +30,7 @@ pub use whole::write_all;
 /// Numbers of calls, counted from 0.
 pub type CallList = Items<u32>;
 
-/// A call outside failed, and nothing came or went.
+/// A call outside failed, and no bytes were transferred.
 #[derive(Debug, Drop, Error)]
 #[error("a call outside failed")]
 pub struct Failed;

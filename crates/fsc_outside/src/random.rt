@@ -7,8 +7,8 @@ use crate::{Failed, SeedSource};
 use std::marker::Model;
 use std::random::RandomSource;
 
-/// A random source, such as the runtime's, as a source of seeds. It tells none before it gives it.
-/// An error of the random source is a fault. In clauses it is a `SeedState`.
+/// A random source, such as the runtime's, as a source of seeds. Its next seed is not known before the
+/// call. An error of the random source is a fault. In clauses it is a `SeedState`.
 #[derive(Drop)]
 pub struct RuntimeSeed<'a, R> {
     random: &'a R,
@@ -26,7 +26,7 @@ impl<'a, R> Model for RuntimeSeed<'a, R> {
 }
 
 impl<'a, R: RandomSource> RuntimeSeed<'a, R> {
-    /// The random source, not asked so far.
+    /// Returns the random source as a source of seeds that was not asked so far.
     pub fn new(random: &'a R) -> Self
         ensures { result ≡ record { next = None; asked = 0; faults = 0 } }
     {

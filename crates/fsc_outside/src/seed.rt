@@ -8,20 +8,20 @@ ghost use Rattle.fsc_outside.specs.States.{SeedState};
 use crate::Failed;
 use std::marker::Model;
 
-/// Where seeds come from. Its meaning is the seed that its next successful call gives, where it
-/// tells it, and how often it was asked and failed.
+/// A source of seeds. In contracts its state is the seed that its next successful call gives, if that is
+/// known, and how often it was asked and failed.
 pub trait SeedSource {
     /// What is known of it now. Its counts never fall.
     ghost state: { Self → SeedState };
 
-    /// Gives a seed. Each call counts as one that asked.
+    /// Returns a seed. Each call counts as asked, and each call that fails as a fault.
     fn seed(&mut self) -> Result<[u8; 32], Failed>
         ensures value { GivesSeed (state self.old).next result }
         ensures asked { (state self.new).asked ≡ one_more (state self.old).asked }
         ensures cause { HasCause (state self.old).faults (state self.new).faults result };
 }
 
-/// A source of one seed, which it gives at each call, or of none. In clauses it is a `SeedState`.
+/// A source that gives the same seed at each call, or fails at each call. In clauses it is a `SeedState`.
 #[derive(Drop)]
 pub struct FixedSeed {
     seed: Option<[u8; 32]>,
@@ -38,7 +38,7 @@ impl Model for FixedSeed {
 }
 
 impl FixedSeed {
-    /// A source that gives this seed at each call.
+    /// Returns a source that gives this seed at each call.
     pub fn new(seed: [u8; 32]) -> FixedSeed
         ensures { result ≡ record { next = Some seed; asked = 0; faults = 0 } }
     {
@@ -49,7 +49,7 @@ impl FixedSeed {
         }
     }
 
-    /// A source that fails at each call.
+    /// Returns a source that fails at each call.
     pub fn failing() -> FixedSeed
         ensures { result ≡ record { next = None; asked = 0; faults = 0 } }
     {

@@ -12,13 +12,14 @@ use crate::{CallList, Failed, is_listed};
 use std::alloc::{AllocError, Global};
 use std::marker::Model;
 
-/// Where bytes go. Its meaning is the bytes that it got, where it tells them, and how often a call
-/// failed.
+/// A sink of bytes. In contracts its state is the bytes that it got, if they are known, and how often a
+/// call failed.
 pub trait Sink {
     /// What is known of it now. Its count never falls.
     ghost state: { Self → SinkState };
 
-    /// Takes bytes from the front of `piece` and tells how many, of a nonempty piece at least one.
+    /// Takes bytes from the beginning of `piece` and returns how many: at least one of a nonempty
+    /// `piece`.
     fn write(&mut self, piece: &[u8]) -> Result<usize, Failed>
         ensures bound { WritesAtMost result piece.now }
         ensures progress { IfOk result (λ count. 0 < length piece.now → 0 < count) }
@@ -26,8 +27,8 @@ pub trait Sink {
         ensures cause { HasCause (state self.old).faults (state self.new).faults result };
 }
 
-/// A sink in memory that takes pieces into a room of a given size, and fails at the calls that it
-/// is told. In clauses it is a `Tank`.
+/// A sink in memory with a given capacity, which fails at the calls that are listed. In clauses it is a
+/// `Tank`.
 #[derive(Drop)]
 pub struct MemSink {
     got: Vec<u8>,
@@ -53,13 +54,14 @@ impl Model for MemSink {
       faults = s.faults;
     } };
 
-    // The room was taken when the sink was made, so that no write needs memory.
+    // The memory was allocated when the sink was made, so no write allocates.
     ghost invariant = { λ s. (1 ≤ s.piece) × (vec_len s.got ≤ s.room) × (s.room ≤ vec_capacity s.got) };
 }
 
 impl MemSink {
-    /// A sink with room for so many bytes that takes at most `piece` of them a call. Calls count
-    /// from 0, and those in `fails` fail. A write of bytes into the full room fails too.
+    /// Returns a sink with a capacity of `room` bytes that takes at most `piece` of them a call. Calls
+    /// count from 0, and those in `fails` fail. A write of bytes into the full sink fails too. The only
+    /// error is out of memory.
     pub fn new(
         alloc: Global,
         room: usize,
@@ -81,7 +83,7 @@ impl MemSink {
         })
     }
 
-    /// The bytes got so far.
+    /// Returns the bytes got so far.
     pub fn got(&self) -> &[u8]
         ensures { result.now ≡ self.now.got }
     {
@@ -118,12 +120,12 @@ impl Sink for MemSink {
     }
 }
 
-/// A sink that takes each piece whole, keeps no byte and never fails.
+/// A sink that takes each piece whole, stores no byte and never fails.
 #[derive(Clone, Copy)]
 pub struct SteadySink;
 
 impl SteadySink {
-    /// The sink.
+    /// Returns the sink.
     pub fn new() -> SteadySink
         ensures { result ≡ record {} }
     {
@@ -145,7 +147,7 @@ impl Sink for SteadySink {
     }
 }
 
-// Whether there are bytes and no room for any.
+// Whether there are bytes and no space for any.
 fn has_no_room(left: usize, piece: &[u8]) -> bool
     ensures { IsTrue result ↔ ((0 < length piece.now) × (left ≡ 0)) }
 {

@@ -14,16 +14,16 @@ ghost use Rattle.fsc_outside.specs.Sources.{fed, steady};
 use crate::{CallList, Failed, is_listed};
 use std::marker::Model;
 
-/// Where bytes come from. Its meaning is the bytes that are left, where it tells them, how often a call
-/// failed, and by which calls it came to what it is.
+/// A source of bytes. In contracts its state is the bytes that are left, if they are known, and how often
+/// a call failed; `came` relates two states by the calls between them.
 pub trait Source {
     /// What is known of it now. Its count never falls.
     ghost state: { Self → SourceState };
 
-    /// The one source has become the other by these calls, one after another.
+    /// These calls, one after another, change the first source to the second.
     ghost came: { Self → List ReadCall → Self → Type 0 };
 
-    /// Puts the next bytes at the front of `piece` and tells how many. None for a nonempty piece
+    /// Writes the next bytes to the beginning of `piece` and returns how many. 0 for a nonempty `piece`
     /// means the end.
     fn read(&mut self, piece: &mut [u8]) -> Result<usize, Failed>
         ensures bound { ReadsAtMost result piece.new }
@@ -31,16 +31,16 @@ pub trait Source {
         ensures cause { HasCause (state self.old).faults (state self.new).faults result }
         ensures came { came self.old (read_call piece.new result ∷ []) self.new };
 
-    /// No call leaves it as it is.
+    /// No call leaves the source unchanged.
     ghost by_none: { (source : Self) → came source [] source };
 
-    /// And calls follow calls.
+    /// Calls can be followed by calls.
     ghost by_more: { (first second third : Self) (calls more : List ReadCall)
         → came first calls second → came second more third → came first (calls ++ more) third };
 }
 
-/// A source in memory that gives pieces, and fails at the calls that it is told.
-/// In clauses it is a `Feed`.
+/// A source in memory that gives pieces, and fails at the calls that are listed. In clauses it is a
+/// `Feed`.
 #[derive(Drop)]
 pub struct MemSource {
     bytes: Vec<u8>,
@@ -69,7 +69,7 @@ impl Model for MemSource {
 }
 
 impl MemSource {
-    /// A source of these bytes that gives at most `piece` of them a call. Calls count from 0, and
+    /// Returns a source of these bytes that gives at most `piece` of them a call. Calls count from 0, and
     /// those in `fails` fail.
     pub fn new(bytes: Vec<u8>, piece: usize, fails: CallList) -> MemSource
         requires { 1 ≤ piece }
@@ -134,7 +134,7 @@ impl Model for SteadySource {
 }
 
 impl SteadySource {
-    /// A source of these bytes.
+    /// Returns a source of these bytes.
     pub fn new(bytes: Vec<u8>) -> SteadySource
         ensures { result ≡ bytes.items }
     {
@@ -164,7 +164,7 @@ impl Source for SteadySource {
     }
 }
 
-// Puts what comes first at the front of `piece`, at most so many bytes, and tells how many.
+// Writes the first of the bytes left to the beginning of `piece`, at most `most`, and returns how many.
 fn give(left: &[u8], most: usize, piece: &mut [u8]) -> usize
     ensures count { result ≡ min (min most (length piece.old)) (length left.now) }
     ensures front { take result piece.new ≡ take result left.now }

@@ -24,7 +24,7 @@ impl<R: Read + Drop> Model for StdSource<R> {
 }
 
 impl<R: Read + Drop> StdSource<R> {
-    /// The reader as a source.
+    /// Returns the reader as a source.
     pub fn over(reader: R) -> Self
         ensures { result ≡ (reader, 0) }
     {
@@ -33,7 +33,7 @@ impl<R: Read + Drop> StdSource<R> {
 }
 
 impl StdSource<Stdin> {
-    /// Standard input.
+    /// Returns standard input as a source.
     pub fn new(rt: &HostRuntime) -> Self
         ensures { result.1 ≡ 0 }
     {
@@ -79,7 +79,7 @@ impl<W: Write + Drop> Model for StdSink<W> {
 }
 
 impl<W: Write + Drop> StdSink<W> {
-    /// The writer as a sink.
+    /// Returns the writer as a sink.
     pub fn over(writer: W) -> Self
         ensures { result ≡ (writer, 0) }
     {
@@ -88,7 +88,7 @@ impl<W: Write + Drop> StdSink<W> {
 }
 
 impl StdSink<Stdout> {
-    /// Standard output.
+    /// Returns standard output as a sink.
     pub fn new(rt: &HostRuntime) -> Self
         ensures { result.1 ≡ 0 }
     {

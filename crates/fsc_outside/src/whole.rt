@@ -4,8 +4,8 @@ ghost use Rattle.fsc_outside.specs.Whole.{EndsWriting};
 
 use crate::{Failed, Sink};
 
-/// Writes the whole text, in as many pieces as the sink takes it in. An empty text makes no call, and the
-/// first failure ends the writing.
+/// Writes the whole text, in as many pieces as the sink takes. An empty text makes no call, and the first
+/// failure ends the writing.
 pub fn write_all<K: Sink>(sink: &mut K, text: &[u8]) -> Result<(), Failed>
     ensures { EndsWriting (K.state sink.old) (K.state sink.new) text.now result }
 {

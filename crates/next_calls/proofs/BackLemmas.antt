@@ -6,14 +6,14 @@ use Rattle.mount_model.specs.declared.reply.Reply.{Reply}
 use Rattle.reply_text.specs.Shown.{PlacedShown, ShownEntry}
 use Rattle.next_calls.specs.NextCalls.{shown_replies}
 
--- the list without some of its last entries, which has so many left or more
+-- the list without some of its last entries, of which `least` or more remain
 pub record IsShrunk (old now : PlacedShown) (least : ℕ) : Type 0 where
   pub gone : PlacedShown
   pub all : old ≡ now ++ gone
   pub room : least ≤ length now
 
--- entries were let go, and the replies of those before them taken, the last one first, as long as more than
--- `kept` are there
+-- entries were dropped, and then the replies of those before them were taken, the last one first, while
+-- more than `kept` were left
 pub record IsTakenBack (old now : PlacedShown) (replies : List Reply) (kept count : ℕ) : Type 0 where
   pub taken : PlacedShown
   pub gone : PlacedShown

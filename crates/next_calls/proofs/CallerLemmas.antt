@@ -1,4 +1,4 @@
--- What a caller stands for goes on by a reply.
+-- How a caller's state changes with a reply.
 use Rattle.std.proofs.Common.{◌≡◌, ℕ, ◌+◌, ◌≤◌, List, [], ◌∷◌, ◌++◌, drop, length, reverse, Some, None, Option, Result, Ok, Err, OnOk, refl, ap, sym, ◌∙◌, subst, append_assoc, append-nil, ⊎_elim}
 use Rattle.std.specs.Prelude.{slice_get}
 use Rattle.std.proofs.lemmas.List.{map-append, reverse-append}
@@ -48,7 +48,7 @@ next_of-on steps rest [] fs so = ap (λ s. next_of s fs) so
 next_of-on (Done value) rest (e ∷ es) fs so = absurd so
 next_of-on (Ask who call next) rest (e ∷ es) fs so = next_of-on (next e.reply) rest es fs so.2
 
--- steps go on by it, whatever is replied
+-- steps continue after it, whatever the reply
 asked_next : {A : Type 0} (steps rest : Steps A) (es : History) (who : ℕ) (call : Call) (reply : Reply) → Reaches steps es rest
     → next_of steps es ≡ Some (who, call) → (last : Steps A) × Reaches steps (es ++ entry who call reply ∷ []) last
 asked_next (Done value) rest es who call reply so is = absurd (cc is)
@@ -211,7 +211,7 @@ awaits_none seed caller section n names replies notes waiting placed s here =
       asks = ap (λ (steps : CommandSteps). next_of steps (entries_of s.made)) done;
     }
 
--- ---- the call that it waited for was replied
+-- ---- the reply to the call that it waited for
 
 pub stands_replied : (seed : List ℕ) (caller : ℕ) (section : Section) (n : ℕ) (names : List (List ℕ)) (replies : List Reply) (notes : List Note)
     (call : Call) (reply : Reply) (place : ℕ) (placed : PlacedCalls) (waiting : Option Call)

@@ -1,4 +1,4 @@
--- The names of the last listing stand in the last entry that tells names.
+-- The names of the last listing are in the last entry whose reply has names.
 use Rattle.std.proofs.Common.{◌≡◌, ℕ, true, false, List, [], ◌∷◌, ◌++◌, Some, None, Option, Result, Ok, Err, OnOk, refl, ap, sym, ◌∙◌}
 use Rattle.std.specs.Prelude.{is_some, unwrap_or}
 use Rattle.mount_model.specs.declared.reply.Reply.{Reply}
@@ -30,21 +30,21 @@ some_told : (names : List (List ℕ)) (told : Option (List (List ℕ))) → is_s
 some_told names None some = absurd (cc some)
 some_told names (Some listed) some = refl
 
--- an entry that tells none leaves them
+-- an entry without names doesn't change them
 pub listing_before : (now before : PlacedShown) (x : ℕ × ShownEntry) → now ≡ before ++ x ∷ [] → is_some (names_told x.1.reply) ≡ false
     → names_in before ≡ names_in now
 listing_before now before x is none =
     sym (ap names_in is ∙ names_in-append before (x ∷ []) ∙ after_told (names_in before) x.1.reply
     ∙ none_told (names_in before) (names_told x.1.reply) none)
 
--- one that tells some tells the last of them
+-- an entry with names has the names of the last listing
 pub listing_is : (now before : PlacedShown) (x : ℕ × ShownEntry) → now ≡ before ++ x ∷ [] → is_some (names_told x.1.reply) ≡ true
     → names_in (x ∷ []) ≡ names_in now
 listing_is now before x is some =
     after_told [] x.1.reply ∙ sym (some_told (names_in before) (names_told x.1.reply) some) ∙ sym (after_told (names_in before) x.1.reply)
     ∙ sym (names_in-append before (x ∷ [])) ∙ sym (ap names_in is)
 
--- so it may be kept alone
+-- so it may be retained alone
 pub alone_is : {E : Type 0} (result : Result Unit E) (old now before after : PlacedShown) (x : ℕ × ShownEntry) → names_in now ≡ names_in old → now ≡ before ++ x ∷ []
     → is_some (names_told x.1.reply) ≡ true → OnOk result (after ≡ x ∷ []) → OnOk result (names_in after ≡ names_in old)
 alone_is (Err error) old now before after x same is some kept = tt

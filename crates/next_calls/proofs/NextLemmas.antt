@@ -27,14 +27,14 @@ behind_kept [] (Asked other) call lost asked = refl
 behind_kept [] Lost call lost asked = refl
 behind_kept (r ∷ rs) further call lost asked = refl
 
--- what was kept stays
+-- a recorded call stays
 further_stays : (port after : ScriptedView) (made : PlacedCalls) → ScriptedCame port made after → port.further ≢ Unasked → after.further ≡ port.further
 further_stays port after [] came asked = ap (λ (p : ScriptedView). p.further) came
 further_stays port after (x ∷ xs) came asked =
     let kept = behind_kept port.replies port.further x.1.call came.0 asked in
     further_stays (after_call port x.1.call came.0) after xs came.2 (λ none. asked (sym kept ∙ none)) ∙ kept
 
--- so a call behind the listed replies is kept, or lost
+-- so a call after the listed replies is recorded, or lost
 is_kept : (call : Call) (lost : Bool) (further : Further) → further ≡ kept_behind Unasked call lost → further ≢ Unasked
 is_kept call true further is none = let wrong = sym is ∙ none in absurd (cc wrong)
 is_kept call false further is none = let wrong = sym is ∙ none in absurd (cc wrong)
@@ -48,7 +48,7 @@ kept_call : (call asked : Call) (lost : Bool) (further : Further) → further �
 kept_call call asked true further is it = let wrong = sym is ∙ it in absurd (cc wrong)
 kept_call call asked false further is it = let same = sym is ∙ it in cc same
 
--- the call that was kept is the one that comes after any entries that had the listed replies
+-- the recorded call is the one that comes after any entries that had the listed replies
 pub further_is_next : {A : Type 0} (steps : Steps A) (value : A) (made : PlacedCalls) (caller left place : ℕ) (replies : List Reply) (after : ScriptedView)
     (call : Call) (told : History) → ScriptedCame (scripted caller left place replies Unasked) made after → Reaches steps (entries_of made) (Done value)
     → after.further ≡ Asked call → replies_of told ≡ replies → next_of steps told ≡ Some (caller, call)
@@ -65,7 +65,7 @@ further_is_next (Ask who it next) value (x ∷ xs) caller left place (r ∷ rs) 
     further_is_next (next t.reply) value xs caller (left - 1) (place + 1) rs after call ts came.2
     (subst (λ (y : Reply). Reaches (next y) (entries_of xs) (Done value)) reply so.2) asked (ap (drop 1) same)
 
--- where nothing was asked behind them, no call comes after such entries
+-- if no call was asked after them, no call comes after such entries
 pub ended_none : {A : Type 0} (steps : Steps A) (value : A) (made : PlacedCalls) (caller left place : ℕ) (replies : List Reply) (after : ScriptedView)
     (told : History) → ScriptedCame (scripted caller left place replies Unasked) made after → Reaches steps (entries_of made) (Done value)
     → after.further ≡ Unasked → replies_of told ≡ replies → next_of steps told ≡ None
@@ -94,7 +94,7 @@ listed_first (x ∷ xs) caller left place (r ∷ rs) after came none =
     let rest = listed_first xs caller (left - 1) (place + 1) rs after came.2 none in
     (rest.0, ap (λ (y : Reply). y ∷ rs) (sym came.1.reply) ∙ ap (λ (l : List Reply). x.1.reply ∷ l) rest.1)
 
--- no other entries than those after which steps have ended had their replies, with any behind them
+-- the entries after which steps have ended are the only ones that had their replies and any after them
 pub ended_alone : {A : Type 0} (steps rest : Steps A) (value : A) (es told : History) (unasked : List Reply) → Reaches steps es (Done value)
     → replies_of told ≡ replies_of es ++ unasked → Reaches steps told rest → (told ≡ es) × (rest ≡ Done value)
 ended_alone steps rest value [] [] unasked so same to = (refl, sym to ∙ so)
@@ -109,7 +109,7 @@ ended_alone (Ask who it next) rest value (e ∷ es) (t ∷ ts) unasked so same t
       behind.1,
     )
 
--- where something was asked behind them, the entries that were made had the listed replies first
+-- if a call was asked after them, the entries that were made had the listed replies first
 pub replies_first : (made : PlacedCalls) (caller left place : ℕ) (replies : List Reply) (after : ScriptedView) (call : Call)
     → ScriptedCame (scripted caller left place replies Unasked) made after → after.further ≡ Asked call
     → (more : List Reply) × (replies_of (entries_of made) ≡ replies ++ more)
@@ -137,7 +137,7 @@ replies_shown : (placed : PlacedCalls) → shown_replies (shown_calls placed) �
 replies_shown [] = refl
 replies_shown (x ∷ xs) = ap (λ (l : List Reply). x.1.reply ∷ l) (replies_shown xs)
 
--- a call was asked behind the listed replies: so they are those of the first entries
+-- a call was asked after the listed replies: so they are those of the first entries
 pub first_replies : (port after : ScriptedView) (caller calls left before_left most : ℕ) (steps : CommandSteps) (replies : List Reply) (outcome : Option Outcome)
     (old new : PlacedShown) (call : Call) → port ≡ scripted caller calls 0 replies Unasked → after.further ≡ Asked call
     → Made (ScriptedCame port) after left before_left most steps outcome old new
@@ -147,7 +147,7 @@ first_replies port after caller calls left before_left most steps replies outcom
     let more = replies_first made.made caller calls 0 replies after call came asked in
     (made.made, made.grown, (more.0, replies_shown made.made ∙ more.1))
 
--- there are so many entries
+-- there are at least `kept + count` entries
 pub has_room : (port after : ScriptedView) (caller calls left before_left most : ℕ) (steps : CommandSteps) (listed : List Reply) (outcome : Option Outcome)
     (old new : PlacedShown) (call : Call) (kept count : ℕ) → port ≡ scripted caller calls 0 (reverse listed) Unasked → after.further ≡ Asked call
     → Made (ScriptedCame port) after left before_left most steps outcome old new → kept ≡ length old → count ≡ length listed → kept + count ≤ length new

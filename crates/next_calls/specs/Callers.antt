@@ -1,4 +1,4 @@
--- A caller of a script whose entries are told one after another, and the steps of its command.
+-- A caller of a script that is given its replies one by one, and the steps of its command.
 use Rattle.std.specs.Prelude.{◌≡◌, ⊤, ℕ, ◌+◌, ◌<◌, length, List, slice_get, Option, Some, None, option_map}
 use Rattle.mount_model.specs.declared.call.Call.{Call}
 use Rattle.mount_model.specs.declared.reply.Reply.{Reply}
@@ -10,9 +10,9 @@ use Rattle.fsc_commands.specs.Steps.Steps.{Done}
 use Rattle.fsc_commands.specs.Commands.{command_steps}
 use Rattle.fsc_commands.specs.CommandSteps.{CommandSteps}
 
--- a caller with its section, the number of the command that is under way, the names that it was last told by
--- the commands before it, what the calls of the command under way were replied so far, the notes of those
--- before it, and the call that it waits for a reply to
+-- A caller with its section and the number of the command that is under way. `names` are those of the
+-- last listing by the commands before it. `replies` are those to the calls of the command under way, so
+-- far. `notes` are those of the commands before it. `waiting` is the call whose reply it waits for
 pub record CallerView : Type 0 where
   pub caller : ℕ
   pub section : Section
@@ -43,7 +43,7 @@ WaitingFits (Some call) = Fits call
 abbrev pub call_of : CallerView → Option (ℕ × Call)
 call_of caller = option_map (λ call. (caller.caller, call)) caller.waiting
 
--- the steps of its command, where there is one
+-- the steps of its command, if there is one
 abbrev pub steps_of : List ℕ → CallerView → Option Command → CommandSteps
 steps_of seed caller None = Done None
 steps_of seed caller (Some command) =
@@ -53,7 +53,7 @@ steps_of seed caller (Some command) =
 abbrev pub steps_under_way : List ℕ → CallerView → CommandSteps
 steps_under_way seed caller = steps_of seed caller (slice_get caller.section.commands caller.next)
 
--- one command less is left
+-- one command fewer is left
 pub record IsNearer (old new : CallerView) : Type 0 where
   pub next : new.next ≡ old.next + 1
   pub below : old.next < length old.section.commands

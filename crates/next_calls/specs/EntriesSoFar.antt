@@ -9,8 +9,8 @@ use Rattle.fsc_session.specs.Meaning.{IsBegunBy}
 use Rattle.next_calls.specs.NextCalls.{replies_of}
 use Rattle.next_calls.specs.Callers.{CallerView, call_of, steps_under_way}
 
--- these entries of the caller are a run of the commands before the one under way, and behind it entries with
--- which its steps begin
+-- these entries of the caller are a run of the commands before the one under way, followed by entries
+-- with which its steps begin
 pub record StandsIn (seed : List ℕ) (caller : CallerView) (placed : PlacedCalls) : Type 0 where
   pub before : PlacedCalls
   pub made : PlacedCalls
@@ -21,8 +21,8 @@ pub record StandsIn (seed : List ℕ) (caller : CallerView) (placed : PlacedCall
   pub begins : Reaches (steps_under_way seed caller) (entries_of made) rest
   pub replies : replies_of (entries_of made) ≡ caller.replies
 
--- these are the entries of the caller so far: a beginning of a run of its section, behind which comes the call
--- that it waits for; and where it waits for none, a whole run, which has its notes
+-- these are the entries of the caller so far: a beginning of a run of its section, after which the next
+-- call is the one that it waits for. If it waits for none, they are a whole run, which has its notes
 pub record Awaits (seed : List ℕ) (caller : CallerView) (placed : PlacedCalls) : Type 0 where
   pub begun : IsBegunBy seed caller.caller (Some caller.section) placed
   pub comes : next_call seed caller.caller caller.section (entries_of placed) ≡ call_of caller
@@ -31,7 +31,7 @@ pub record Awaits (seed : List ℕ) (caller : CallerView) (placed : PlacedCalls)
   pub stands : StandsIn seed caller placed
   pub asks : next_of (steps_under_way seed caller) (entries_of stands.made) ≡ call_of caller
 
--- it waits for a reply, or for none; or it goes on by the command that is under way now
+-- it waits for a reply, or for none; or it continues with the command that is under way now
 abbrev pub GoesOn : Bool → List ℕ → CallerView → PlacedCalls → Type 0
 GoesOn true seed caller placed = Awaits seed caller placed
 GoesOn false seed caller placed = StandsIn seed caller placed

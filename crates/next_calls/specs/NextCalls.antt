@@ -13,21 +13,21 @@ use Rattle.fsc_commands.specs.CommandSteps.{CommandSteps}
 use Rattle.next_calls.specs.declared.next.Next.{Next}
 use Rattle.next_calls.specs.declared.next.Next.TheVariants as next
 
--- what each entry was replied
+-- the reply of each entry
 abbrev pub replies_of : History → List Reply
 replies_of es = map (λ e. e.reply) es
 
--- the same of what is shown of entries
+-- the same of what a log shows of entries
 abbrev pub shown_replies : PlacedShown → List Reply
 shown_replies placed = map (λ x. x.1.reply) placed
 
--- the caller's call; none where the command has ended
+-- the caller's call; none if the command has ended
 abbrev pub call_told : ℕ → Next → Option (ℕ × Call)
 call_told caller (next.Call call) = Some (caller, call)
 call_told caller (next.Ended outcome) = None
 
--- where steps have ended: the entries after which they have, of which the new list has what is shown. These
--- replies are theirs, and behind them any that no call asked for
+-- if steps have ended: the entries after which they have, of which the new list has what a log shows.
+-- These replies are theirs, followed by any for which there was no call
 abbrev pub EndsSo : CommandSteps → List Reply → PlacedShown → PlacedShown → Next → Type 0
 EndsSo steps replies old new (next.Call call) = new ≡ old
 EndsSo steps replies old new (next.Ended outcome) =
@@ -46,7 +46,7 @@ abbrev pub NextFits : Next → Type 0
 NextFits (next.Call call) = Fits call
 NextFits (next.Ended outcome) = ⊤
 
--- the replies that are left of these
+-- the replies that remain in the vector
 abbrev pub replies_left : List Reply → Next → List Reply
 replies_left replies (next.Call call) = replies
 replies_left replies (next.Ended outcome) = []

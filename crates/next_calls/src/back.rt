@@ -1,4 +1,4 @@
-//! Entries that a run left behind others, taken away again, for their replies.
+//! Removing the entries that a run appended, and taking their replies back.
 
 ghost use Rattle.std.specs.Prelude.{◌≡◌, ◌+◌, ◌≤◌, length, take, drop, reverse, IfOk, OnOk};
 ghost use Rattle.next_calls.specs.NextCalls.{shown_replies};
@@ -9,7 +9,7 @@ use mount_model::Reply;
 use reply_text::Shown;
 use std::alloc::{AllocError, Global};
 
-// Takes the entries from the index `kept` on away, and gives the replies of the first `count` of them, the
+// Removes the entries from the index `kept` on, and returns the replies of the first `count` of them, the
 // first one last.
 #[tactic(auto, using(crate::proofs::BackLemmas::shrunk_none, crate::proofs::BackLemmas::shrunk_more, crate::proofs::BackLemmas::taken_none, crate::proofs::BackLemmas::taken_kept, crate::proofs::BackLemmas::taken_replies))]
 pub(crate) fn take_back(
@@ -35,7 +35,7 @@ pub(crate) fn take_back(
     Ok(replies)
 }
 
-// In a function of its own, since one with branches would let go of each variant in each of them.
+// In a function of its own: in a function with branches, each branch would drop each variant.
 fn let_go(_placed: Option<(u64, Entry<Shown, Reply>)>) {}
 
 fn reply_of(entry: Entry<Shown, Reply>) -> Reply

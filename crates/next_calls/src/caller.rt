@@ -1,4 +1,4 @@
-//! A caller of a script whose entries are told one after another.
+//! A caller of a script that is given its replies one by one.
 
 ghost use Rattle.std.specs.Prelude.{◌≡◌, [], ◌∷◌, ◌++◌, Some, IfOk, OnOk, IsFalse, ℕ, option_copied};
 ghost use Rattle.std.specs.Prelude.{slice_get};
@@ -22,16 +22,17 @@ use std::alloc::{AllocError, Global};
 use std::marker::Model;
 use std::mem;
 
-/// A caller of a script that is told reply after reply, with the call that it makes next. In clauses it is a
-/// `CallerView`; `Awaits seed caller placed` says which entries it was told.
+/// A caller of a script that is given its replies one by one, with the call that it makes next. In
+/// clauses it is a `CallerView`; `Awaits seed caller placed` defines which entries it has had so far.
 ///
-/// After want of memory in a call of it, the caller is of no use any more: nothing is said of it.
+/// Once a method has returned an error, the caller can't be used any more: no contract says which entries
+/// it has had.
 #[derive(Drop)]
 pub struct Caller<'a> {
     caller: u32,
     section: &'a Section,
     next: usize,
-    // The last of the entries that told names, if one did, before the command that is under way.
+    // The last of the entries with names, if there is one, before the command that is under way.
     listing: EntryList,
     // Of the command that is under way, the first one last.
     replies: Vec<Reply>,
@@ -55,8 +56,8 @@ impl<'a> Model for Caller<'a> {
 }
 
 impl<'a> Caller<'a> {
-    /// The caller of this number, before its first entry. It stretches passphrases in the way that is handed in,
-    /// where its first calls want them. The one error is want of memory.
+    /// Returns the caller of this number, before its first entry. If its first calls need stretched
+    /// passphrases, `stretches` stretches them. The only error is out of memory.
     pub fn new<S: Stretch>(
         alloc: Global,
         stretches: &S,
@@ -83,7 +84,8 @@ impl<'a> Caller<'a> {
         Ok(caller)
     }
 
-    /// The call that it makes next, which a mount may be asked; none where all its commands have ended.
+    /// Returns the call that it makes next, which a mount may be asked, or `None` if all its commands
+    /// have ended.
     pub fn waiting(&self) -> Option<&Call>
         ensures waiting { option_copied result ≡ self.now.waiting }
         ensures fits { WaitingFits self.now.waiting }
@@ -91,8 +93,8 @@ impl<'a> Caller<'a> {
         self.waiting.as_ref()
     }
 
-    /// The call that it waited for was replied so: the caller goes on to its next one. The one error is want of
-    /// memory.
+    /// Takes the reply to the call that it waits for, and continues to its next call. The only error is
+    /// out of memory.
     pub fn take<S: Stretch>(
         &mut self,
         alloc: Global,
@@ -111,19 +113,19 @@ impl<'a> Caller<'a> {
         self.go_on(alloc, stretches, seed)
     }
 
-    /// Overwrites what no log shows of the call that it waits for, and lets the caller go.
+    /// Wipes what no log shows of the call that it waits for, and drops the caller.
     pub fn forget(self, alloc: Global) {
         leave(alloc, self.waiting);
     }
 
-    /// The caller's number.
+    /// Returns the caller's number.
     pub fn caller(&self) -> u32
         ensures { result ≡ self.now.caller }
     {
         self.caller
     }
 
-    /// The line of its command that is under way; none where all have ended.
+    /// Returns the line of its command that is under way, or `None` if all have ended.
     pub fn line(&self) -> Option<u32>
         ensures { result
             ≡ option_map (λ command. command.line) (slice_get self.now.section.commands self.now.next) }
@@ -132,14 +134,14 @@ impl<'a> Caller<'a> {
         commands.get(self.next).map(|command| command.line)
     }
 
-    /// The notes of its commands that have ended, in order.
+    /// Returns the notes of its commands that have ended, in order.
     pub fn notes(&self) -> &[Note]
         ensures { result.now ≡ self.now.notes }
     {
         self.notes.as_slice()
     }
 
-    // Goes on until it waits for a reply, or no command is left.
+    // Continues until it waits for a reply, or no command is left.
     fn go_on<S: Stretch>(
         &mut self,
         alloc: Global,
@@ -156,8 +158,8 @@ impl<'a> Caller<'a> {
         Ok(())
     }
 
-    // Runs the command that is under way on its replies: true where it waits for a further one, or no command
-    // is left; false where the command has ended, and the next one is under way.
+    // Runs the command that is under way on its replies. Returns true if it waits for a further reply, or
+    // no command is left. Returns false if the command has ended, and the next one is under way.
     fn step<S: Stretch>(
         &mut self,
         alloc: Global,
@@ -206,7 +208,7 @@ impl<'a> Caller<'a> {
     }
 }
 
-// Overwrites what no log shows of a call that was waited for, and lets it go.
+// Wipes what no log shows of a call that was waited for, and drops it.
 fn leave(alloc: Global, waiting: Option<Call>) {
     if let Some(call) = waiting {
         discard(alloc, call);

@@ -1,5 +1,5 @@
-//! What a caller of a script asks for next, after what it was replied so far: each command is run on a port
-//! that answers just that.
+//! What a caller of a script asks for next, after the replies so far: each command is run on a port that
+//! answers exactly with those.
 #![tactic(auto)]
 
 mod back;

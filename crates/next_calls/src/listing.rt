@@ -1,4 +1,4 @@
-//! The names that a caller was last told.
+//! The names of a caller's last listing.
 
 ghost use Rattle.std.specs.Prelude.{◌≡◌, [], ◌∷◌, OnOk, is_some};
 ghost use Rattle.fsc_commands.specs.Steps.{names_in, names_told};
@@ -10,7 +10,7 @@ use reply_text::Shown;
 use std::alloc::{AllocError, Global};
 use std::mem;
 
-// Keeps the last of the entries that told names, if one did, and lets the others go.
+// Retains the last of the entries with names, if there is one, and drops the others.
 pub(crate) fn keep_last_listing(alloc: Global, entries: &mut EntryList) -> Result<(), AllocError>
     ensures { OnOk result (names_in entries.new ≡ names_in entries.old) }
 {
@@ -23,7 +23,7 @@ pub(crate) fn keep_last_listing(alloc: Global, entries: &mut EntryList) -> Resul
     Ok(())
 }
 
-// Keeps this entry alone.
+// Replaces all entries by this one.
 fn keep_alone(
     alloc: Global,
     entries: &mut EntryList,
@@ -37,14 +37,14 @@ fn keep_alone(
     Ok(())
 }
 
-// Whether a reply tells names.
+// Whether a reply has names.
 fn tells_names(reply: &Reply) -> bool
     ensures { result ≡ is_some (names_told reply.now) }
 {
     matches!(reply, Reply::Names { .. })
 }
 
-// In functions of their own, since one with branches would let go of each variant in each of them.
+// In functions of their own: in a function with branches, each branch would drop each variant.
 fn let_go(_placed: (u64, Entry<Shown, Reply>)) {}
 
 fn let_all_go(_entries: EntryList) {}

@@ -17,18 +17,20 @@ use scripted_port::{Further, ScriptedPort};
 use std::alloc::{AllocError, Global};
 use std::mem;
 
-/// What a command does after the replies to its calls: it makes a call, or it has ended, with an outcome where
-/// it is a session's work.
+/// What a command does after the replies to its calls: it makes a call, or it has ended, with an outcome
+/// if it is a session's work.
 #[derive(Drop)]
 pub enum Next {
     Call(Call),
     Ended(Option<Outcome>),
 }
 
-/// What the command does after these replies, of which the last one in the vector comes first. Where it makes
-/// a call, the entries and the replies are as before. Where it has ended, what is shown of its calls stands
-/// behind the other entries, the replies are among them, and the vector is empty. The one error is want of
-/// memory; then nothing is said of either.
+/// Returns what the command does after these replies, of which the last one in the vector comes first.
+/// - If it makes a call, the entries and the replies are unchanged.
+/// - If it has ended, what a log shows of its calls is appended to the entries. The replies are among
+///   them, and the vector is empty.
+///
+/// The only error is out of memory; after it no contract describes the entries or the replies.
 pub fn next_call<S: Stretch>(
     alloc: Global,
     stretches: &S,
@@ -58,8 +60,8 @@ pub fn next_call<S: Stretch>(
     }
 }
 
-// The call comes next: the entries from the index `kept` on are taken away again, and the replies of the
-// first `count` of them are those that were listed.
+// Returns the call as the next one. Removes the entries from the index `kept` on again, and puts back the
+// replies of the first `count` of them, which are those that were listed.
 fn call_behind(
     alloc: Global,
     call: Call,
@@ -86,8 +88,8 @@ fn call_behind(
     }
 }
 
-// Overwrites what no log shows of a call, and lets it go: in a function of its own, since one with branches would let
-// go of each variant in each of them.
+// Wipes what no log shows of a call, and drops it. In a function of its own: in a function with branches,
+// each branch would drop each variant.
 pub(crate) fn discard(alloc: Global, call: Call) {
     let mut call = call;
     wipe_call(alloc, &mut call);

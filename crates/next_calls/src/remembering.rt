@@ -1,4 +1,4 @@
-//! A way to stretch passphrases that remembers the last tags.
+//! A way to stretch passphrases that caches the last tags.
 
 ghost use Rattle.std.specs.Prelude.{◌≡◌, [], length, IsTrue, IsFalse};
 ghost use Rattle.argon_kdf.specs.Argon2id.{argon2id_tag};
@@ -20,9 +20,9 @@ struct Stretched {
     ghost sized: { length tag.items ≡ 32 },
 }
 
-/// A way to stretch passphrases that keeps the last two tags which it made, with what they were made of. A
-/// password and a salt of which one is kept is not stretched again. Two are enough for a command that is run
-/// again and again, since none opens more than two protectors.
+/// A way to stretch passphrases that caches the last two tags that it made, with their inputs. Inputs
+/// whose tag is cached are not stretched again. Two are enough for a command that is run again and again,
+/// since none opens more than two protectors.
 #[derive(Drop)]
 pub struct Remembering<'a, S: Stretch> {
     way: &'a S,
@@ -37,7 +37,7 @@ impl<'a, S: Stretch> Model for Remembering<'a, S> {
 }
 
 impl<'a, S: Stretch> Remembering<'a, S> {
-    /// It remembers none yet, and stretches in this way.
+    /// Returns a cache without tags, which stretches in this way.
     pub fn new(way: &'a S) -> Remembering<'a, S>
         ensures { result ≡ way.now }
     {
@@ -48,13 +48,13 @@ impl<'a, S: Stretch> Remembering<'a, S> {
         }
     }
 
-    /// Overwrites what is kept, and lets it go.
+    /// Wipes the cached passwords and tags, and drops them.
     pub fn forget(self) {
         replace_kept(&self.last, None);
         replace_kept(&self.before, None);
     }
 
-    // Keeps a tag in place of the one before the last, where there is memory for what it was made of.
+    // Caches a tag in place of the one before the last, if there is memory for its inputs.
     fn keep(&self, alloc: Global, costs: &Costs, password: &[u8], salt: &[u8], tag: &[u8; 32])
         requires { tag.now ≡ argon2id_tag costs.now password.now salt.now [] [] }
     {
@@ -89,7 +89,7 @@ impl<'a, S: Stretch> Stretch for Remembering<'a, S> {
     }
 }
 
-// Writes the tag that is kept, if one is, where it is that of this password and salt at these costs.
+// Writes the cached tag and returns true, if one is cached for this password and salt at these costs.
 fn recalls(
     kept: &RefCell<Option<Stretched>>,
     costs: &Costs,
@@ -118,7 +118,8 @@ fn recalls(
     false
 }
 
-// What is kept of a stretch. Where there is no memory for it all, what was copied by then is overwritten.
+// The cache's entry for a stretch. If there is no memory for all of it, the tag is wiped if it was copied
+// by then.
 fn stretched_of(
     alloc: Global,
     costs: &Costs,
@@ -144,7 +145,7 @@ fn stretched_of(
     }
 }
 
-// Keeps this, and overwrites what was kept before.
+// Stores this, and wipes what was stored before.
 fn replace_kept(kept: &RefCell<Option<Stretched>>, next: Option<Stretched>) {
     match kept.try_replace(next) {
         Ok(former) => overwrite(former),
@@ -152,7 +153,7 @@ fn replace_kept(kept: &RefCell<Option<Stretched>>, next: Option<Stretched>) {
     }
 }
 
-// Writes zeros over the password and its tag.
+// Wipes the password and its tag.
 fn overwrite(stretched: Option<Stretched>) {
     if let Some(
         Stretched {

@@ -2,7 +2,7 @@ use Rattle.std.proofs.Common.{◌≡◌, length}
 use Rattle.fsc_commands.specs.Steps.{names_in}
 use Rattle.next_calls.proofs.listing.keep_last_listing.Given as goal
 
--- those let go told none
+-- the entries that were dropped had no names
 abbrev pub invariant-told : goal.invariant-told
 invariant-told l = names_in l.entries ≡ names_in l.fn.entries
 
