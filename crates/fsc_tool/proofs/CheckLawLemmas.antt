@@ -1,4 +1,4 @@
--- What a run printed is never refused behind its script.
+-- The log that a run printed is never refused after its script.
 use Rattle.std.proofs.Common.{◌≡◌, ℕ, inl, inr, List, Result, Ok, Err, refl, sym, ap, ◌∙◌, subst}
 use Rattle.script_lang.specs.declared.commands.Section.{Section}
 use Rattle.log_check.specs.Verdicts.{IsRefusedAt}

@@ -1,4 +1,4 @@
--- What the meaning of a status says of a run that checks a log, where the source tells its bytes.
+-- What the meaning of a status implies for a run that checks a log, if the source's bytes are known.
 use Rattle.std.proofs.Common.{◌≡◌, ◌⊎◌, ℕ, ◌+◌, ◌<◌, ◌≤◌, Bool, true, false, inl, inr, List, length, Option, Some, Ok, Err, refl, sym, ap, ◌∙◌, arith, subst}
 use Rattle.std.specs.Prelude.{count_by, if◌then◌else◌}
 use Rattle.std.specs.Io.KnownBytes.{Consumes}
@@ -56,7 +56,7 @@ not_both part within long = elim long [
 ]
 
 module _ (strict : Bool) (seed : List ℕ) (Came : List ReadCall → Type 0) (a b : Outside) where
-  -- an input that was read whole is the one that was told
+  -- an input that was read whole is the known one
   same : (input bytes : List ℕ) → Told a b input → ReadWhole certificate_limits Came a.source b.source bytes → bytes ≡ input
   same input bytes told read = gave_told a.source b.source input bytes told.left read.gave
 
@@ -82,7 +82,7 @@ module _ (strict : Bool) (seed : List ℕ) (Came : List ReadCall → Type 0) (a 
   long_ends (Refused place) h input told long = absurd (not_short input h.input told h.read h.is_so.within long)
   long_ends (BadLine line) h input told long = absurd (not_short input h.input told h.read h.is_so.within long)
 
-  -- how a told input is read
+  -- how a known input is read
   read_so : (input bytes : List ℕ) → Told a b input → ReadWhole certificate_limits Came a.source b.source bytes
       → certificate_read bytes ≡ certificate_read input
   read_so input bytes told read = ap certificate_read (same input bytes told read)

@@ -30,7 +30,7 @@ or_false : (a b : Bool) → (a || b) ≡ false → (a ≡ false) × (b ≡ false
 or_false true b h = absurd (cc h)
 or_false false b h = (refl, h)
 
--- where what is shown tells no want of memory, none was
+-- if no shown entry is out of memory, no call was
 pub never_wants : (history : History) → list_any (λ (e : ShownEntry). is_want_of_memory e.reply) (shown_history history) ≡ false
     → All (λ (e : MountEntry). e.reply ≢ Refused refusal.NoMemory) history
 never_wants [] h = All-nil (λ (e : MountEntry). e.reply ≢ Refused refusal.NoMemory)
@@ -39,7 +39,7 @@ never_wants (e ∷ es) h =
     All-cons (λ (e : MountEntry). e.reply ≢ Refused refusal.NoMemory) e es
     (λ is. let both = sym parts.0 ∙ ap is_want_of_memory is in cc both) (never_wants es parts.1)
 
--- whether a call wanted memory is nothing of places
+-- whether a call was out of memory doesn't depend on places
 pub unplaced_want : (told : PlacedShown)
     → list_any (λ (e : ShownEntry). is_want_of_memory e.reply) (entries_of told)
     ≡ list_any (λ (x : ℕ × ShownEntry). is_want_of_memory x.1.reply) told
@@ -56,7 +56,7 @@ counts_shown p history = counts_from 0 history
     counts_from n [] = refl
     counts_from n (e ∷ es) = counts_from (n + (if p e.reply then 1 else 0)) es
 
--- what is shown of a history has its summary
+-- the shown entries of a history have its summary
 summary_shown : (history : History) (log : List ℕ) → summary_text (shown_history history) log ≡ summary_text history log
 unfolding summary_text
 summary_shown history log =
@@ -66,7 +66,7 @@ summary_shown history log =
     ∙ ap (λ (n : ℕ). count_line (codes "entries") (length history) ++ (count_line (codes "refused") (count_by (λ (e : MountEntry). is_refusal e.reply) history)
     ++ (count_line (codes "busy") n ++ (codes "sha256 " ++ (encode_lower (sha256 log) ++ codes "\n"))))) (counts_shown is_busy_removal history)
 
--- the summary of what a run of the generated script told
+-- the summary of the entries of a run of the generated script
 pub summary_is : (lawful : History → Type 0) (number : ℕ) (script : List Section) (seed : List ℕ) (told : PlacedShown) (notes : List Note) (text : List ℕ)
     → script ≡ generated_script number → seed ≡ zero_seed → TellsRun (IsSerialRun lawful) seed script told notes
     → list_any (λ (x : ℕ × ShownEntry). is_want_of_memory x.1.reply) told ≡ false

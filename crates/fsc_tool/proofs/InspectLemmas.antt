@@ -1,4 +1,4 @@
--- What the meaning of a status says of a run that lists an image, where the source tells its bytes.
+-- What the meaning of a status implies for a run that lists an image, if the source's bytes are known.
 use Rattle.std.proofs.Common.{◌≡◌, ℕ, ◌+◌, ◌<◌, ◌≤◌, Bool, true, false, inl, inr, List, length, Option, Some, Ok, Err, refl, sym, ap, ◌∙◌, arith, subst}
 use Rattle.std.specs.Prelude.{count_by, if◌then◌else◌}
 use Rattle.std.specs.Io.KnownBytes.{Consumes}
@@ -38,7 +38,7 @@ use Rattle.fsc_tool.proofs.TopLemmas.{gave_told, told_part}
 is_read : (image : Image) (input : List ℕ) → IsImage image → input ≡ image_text image → image_read input ≡ Ok image
 is_read image input right written = (images_are_texts input image).1 (right, written)
 
--- a told input was read whole
+-- a known input was read whole
 same_read : (old new : SourceState) (input bytes : List ℕ) → old.left ≡ Some input → GaveWhole old new bytes → image_read bytes ≡ image_read input
 same_read old new input bytes told gave = ap image_read (gave_told old new input bytes told gave)
 

@@ -1,4 +1,4 @@
--- The text of a run on two mounts, from what is shown of both histories.
+-- The text of a run on two mounts, from the shown entries of both histories.
 use Rattle.std.proofs.Common.{◌≡◌, ℕ, ◌+◌, Bool, true, false, cond, List, [], ◌∷◌, ◌++◌, codes, refl, ap, ap₂, sym, ◌∙◌, filter}
 use Rattle.std.specs.Prelude.{◌==◌, unwrap_or}
 use Rattle.call_history.specs.Entries.{by, numbered}
@@ -43,7 +43,7 @@ notes_alike seed k (section ∷ more) xs ys same =
 
 -- ---- the text
 
--- where this was told, the text is right
+-- for such entries and notes, the text is right
 pub linked_is : (lawful_0 lawful_1 : History → Type 0) (seed : List ℕ) (script : List Section) (even odd : PlacedShown) (notes : List Note) (text : List ℕ)
     → TellsLinkedRun lawful_0 lawful_1 seed script even odd notes → text ≡ linked_text (entries_of even) (entries_of odd) notes
     → IsLinkedLog lawful_0 lawful_1 seed script text

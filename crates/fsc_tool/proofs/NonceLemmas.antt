@@ -56,7 +56,7 @@ use Rattle.fsc_tool.specs.DumpLaws.{RunsCarryNonces}
 abbrev Carries : MountEntry → Type 0
 Carries e = CarriesNonce e.call.op
 
--- so of each call that the steps may ask for, whatever is replied
+-- so of each call that the steps may ask for, whatever the replies
 abbrev AskNonces : {A : Type 0} → Steps A → Type 0
 AskNonces (Done value) = ⊤
 AskNonces (Ask who call next) = CarriesNonce call.op × ((reply : Reply) → AskNonces (next reply))

@@ -1,4 +1,4 @@
--- Where a line parts a text, from its first line on.
+-- Where the separating line is in a text, from its first line on.
 use Rattle.std.proofs.Common.{◌≡◌, ℕ, ◌+◌, ◌-◌, ◌≤◌, ◌==◌, Bool, true, false, List, [], ◌∷◌, ◌++◌, length, take, drop, Option, None, Some, refl, sym, ap, ap₂, ◌∙◌, arith, length-append}
 use Rattle.std.specs.Option.{option_map}
 use Rattle.std.specs.Prelude.{if◌then◌else◌}
@@ -10,7 +10,7 @@ use Rattle.std.proofs.lemmas.List.Splits.{length-slice_split}
 use Rattle.text_words.specs.Lines.{is_line_feed, pieces_of}
 use Rattle.fsc_tool.specs.Parted.{bytes_before, parted, parted_at, parting}
 
--- a text has a piece at least
+-- a text has one piece or more
 some_piece : (text : List ℕ) → pieces_of text ≡ [] → ⊥
 some_piece text none = let long = length-slice_split is_line_feed text in let is = ap length none in omega (arith, long, is)
 
@@ -38,7 +38,7 @@ pub parts_nothing : (last : List ℕ) → bytes_before (last ∷ []) ≡ None
 unfolding bytes_before
 parts_nothing last = refl
 
--- ---- a text whose lines before the rest don't part it
+-- ---- a text without a separating line before the rest
 
 abbrev IsSo : List ℕ → List ℕ → Type 0
 IsSo text rest = bytes_before (pieces_of text) ≡ option_map (λ bytes. length text - length rest + bytes) (bytes_before (pieces_of rest))

@@ -1,4 +1,4 @@
--- A log behind the line that parts it from its script: where the script ends.
+-- A log after the line that separates it from its script: where the script ends.
 use Rattle.std.proofs.Common.{◌≡◌, ℕ, ◌+◌, ◌==◌, Bool, true, false, inl, inr, List, [], ◌∷◌, ◌++◌, length, take, drop, Option, None, Some, Result, Ok, Err, refl, sym, ap, ap₂, ◌∙◌, arith, subst, append-nil, append_assoc, length-append}
 use Rattle.std.specs.Prelude.{⊤, count_by, if◌then◌else◌}
 use Rattle.std.specs.List.{All}
@@ -19,7 +19,7 @@ use Rattle.script_lang.proofs.ReadingLemmas.{statements_in-line}
 use Rattle.fsc_tool.specs.Parted.{bytes_before, certificate_read, certificate_text, parted, parted_at, parting, script_part, unless_bad, with_log}
 use Rattle.fsc_tool.proofs.PartLemmas.{parts_behind, parts_here}
 
--- ---- each line of a script says something
+-- ---- each line of a script is a statement
 
 unfoldable AreSaid : List (Option Statement) → Type 0
 AreSaid [] = ⊤
@@ -58,7 +58,7 @@ script_said input script is = at (first_misplaced_line [] (statements_of input))
     at None none = placed_said [] (statements_of input) none
     at (Some line) some = let no : answer (Some line) ≡ Ok script = sym (ap answer some) ∙ is in absurd (cc no)
 
--- ---- and the line that parts says nothing
+-- ---- and the separating line is none
 
 parting_says_nothing : statement_of parting ≡ None
 parting_says_nothing = refl
@@ -86,7 +86,7 @@ nothing_unended [] plain said = refl
 nothing_unended (b ∷ line) plain said =
     absurd (subst AreSaid (ap statements_in (slice_split_none is_line_feed (b ∷ line) plain) ∙ unended b line) said)
 
--- ---- so the script ends where the log's line stands
+-- ---- so the script ends where the log's line begins
 
 module _ (log : List ℕ) where
   abbrev behind : List ℕ

@@ -1,4 +1,4 @@
--- What the meaning of a status says of it, where the source tells its bytes.
+-- What the meaning of a status implies for it, if the source's bytes are known.
 use Rattle.std.proofs.Common.{◌≡◌, ℕ, ◌<◌, ◌≤◌, ◌^◌, inl, inr, List, ◌++◌, length, Option, Some, None, Err, refl, sym, ap, ap₂, ◌∙◌, arith, subst, append-nil, length-append}
 use Rattle.std.proofs.lemmas.List.{length-map}
 use Rattle.std.specs.Io.KnownBytes.{Consumes, IsAtEnd}
@@ -42,7 +42,7 @@ pub told_part : (new : Option (List ℕ)) (input bytes : List ℕ) → Consumes 
 told_part None input bytes given = absurd given
 told_part (Some rest) input bytes given = omega (arith, ap length given, length-append bytes rest)
 
--- a source that gave all that was left gave what it told
+-- a source that gave everything it had left gave its known bytes
 pub gave_told : (old new : SourceState) (input bytes : List ℕ) → old.left ≡ Some input → GaveWhole old new bytes → bytes ≡ input
 gave_told old new input bytes told gave =
     told_whole new.left input bytes (subst (λ (left : Option (List ℕ)). Consumes left new.left bytes) told gave.given) gave.ended
@@ -95,7 +95,7 @@ module _ (IsRight : List ℕ → List Section → List ℕ → Type 0) (Came : L
     | inr taken ↦ own_seed seeding a.seeds b.seeds taken.0 own said taken.1
   ]
 
-  -- ---- a source that tells its bytes
+  -- ---- a source with known bytes
 
   long_ends : (status : Status) → Ends IsText Came seeding a b status → (input : List ℕ) → Told a b input → IsLong input → IsOrNoMemory TooLong status
   long_ends TooLong h input told long = inl refl
@@ -203,7 +203,7 @@ module _ (IsRight : List ℕ → List Section → List ℕ → Type 0) (Came : L
       ended SeedFault h = absurd h
       ended TooLong h = absurd h
 
--- a run that told these entries and notes
+-- a run with these entries and notes
 pub run_ends : (IsRun : List ℕ → List Section → History → Type 0) (Came : List ReadCall → Type 0) (seeding : Seeding) (a b : Outside)
     (script : List Section) (seed : List ℕ) (told : PlacedShown) (notes : List Note) (status : Status)
     → IsPrepared Came seeding a.source b.source a.seeds b.seeds script seed → TellsRun IsRun seed script told notes

@@ -1,4 +1,4 @@
--- How a run ends that reads a script and a log in one input: what it read, or met of the source.
+-- How a run ends that reads a script and a log in one input: what it read, or how the source failed it.
 use Rattle.std.specs.Prelude.{◌≡◌, ◌⊎◌, ◌+◌, ℕ, List, Ok, Err}
 use Rattle.fsc_outside.specs.declared.input.InputLimits.{InputLimits}
 use Rattle.fsc_outside.specs.Input.{GaveByteMore}
@@ -11,11 +11,11 @@ use Rattle.fsc_tool.specs.Limits.{input_limits, IsLong}
 use Rattle.fsc_tool.specs.Outside.{Outside}
 use Rattle.fsc_tool.specs.Parted.{certificate_read, script_part}
 
--- so many bytes; no text of so many has more lines than these
+-- that many bytes; no text of that length has more lines than these
 abbrev pub certificate_limits : InputLimits
 certificate_limits = record { bytes = MOST_CERTIFICATE_BYTES; lines = MOST_CERTIFICATE_BYTES + 1 }
 
--- an input has a script within its limits and a log, of which this is said
+-- an input has a script within its limits and a log, for which `IsSo` holds
 pub record IsChecked (IsSo : List Section → List ℕ → Type 0) (input : List ℕ) : Type 0 where
   pub within : IsWithin input_limits (script_part input)
   pub script : List Section
@@ -23,12 +23,12 @@ pub record IsChecked (IsSo : List Section → List ℕ → Type 0) (input : List
   pub parts : certificate_read input ≡ Ok (script, log)
   pub is_so : IsSo script log
 
--- a line of an input is at fault, whose script's part is within its limits
+-- a line of an input is at fault, and the script's part is within its limits
 pub record IsAtFault (line : ℕ) (input : List ℕ) : Type 0 where
   pub within : IsWithin input_limits (script_part input)
   pub bad : certificate_read input ≡ Err line
 
--- the source gave an input of which this is said
+-- the source gave an input for which `IsSo` holds
 pub record EndsRead (IsSo : List ℕ → Type 0) (Came : List ReadCall → Type 0) (a b : Outside) : Type 0 where
   pub input : List ℕ
   pub read : ReadWhole certificate_limits Came a.source b.source input

@@ -1,4 +1,4 @@
--- What the program prints checks: laws of a log behind its script, as `check` reads them.
+-- What the program prints checks: laws of a log after its script, as `check` reads them.
 use Rattle.std.specs.Prelude.{◌≡◌, ℕ, Bool, List, Ok}
 use Rattle.mount_model.specs.Lawful.{IsLawful, KeysAgree}
 use Rattle.script_lang.specs.declared.commands.Section.{Section}
@@ -14,7 +14,7 @@ use Rattle.fsc_tool.specs.Parted.{certificate_read, certificate_text}
 use Rattle.fsc_tool.specs.Replay.{IsOrNoMemory}
 use Rattle.script_runs.specs.Runs.{IsLawfulRun}
 
--- a text that is a script, the line that parts, and any text behind it are read as that script and that text
+-- a text that is a script, the separating line, and any text after it are read as that script and that text
 abbrev pub LogsArePartedFromScripts : Type 0
 LogsArePartedFromScripts =
     (input log : List ℕ) (script : List Section) → parsed_script input ≡ Ok script
@@ -27,14 +27,14 @@ pub record IsPrinted (input seed log : List ℕ) : Type 0 where
   pub printed : IsLogOfRun (IsLawfulRun IsLawful) seed script log
   pub agree : KeysAgree printed.history
 
--- such a log behind its script is refused at no place, and strictly where nothing in the run was out of memory
+-- such a log after its script is never refused; nor is it strictly, if nothing in the run was out of memory
 abbrev pub PrintedLogsAreNotRefused : Type 0
 PrintedLogsAreNotRefused =
     (strict : Bool) (input seed log : List ℕ) (place : ℕ) (run : IsPrinted input seed log)
     → HasMemory strict run.printed.history → ¬ SaysOfInput strict seed (certificate_text input log) (Refused place)
 
--- and where the script is within its limits, nothing is said of the whole input but that the log is certified, or that
--- there was no memory
+-- and if the script is within its limits, the status of the whole input is that the log is certified, or
+-- that there was no memory
 abbrev pub PrintedLogsAreCertified : Type 0
 PrintedLogsAreCertified =
     (strict : Bool) (input seed log : List ℕ) (status : Status) (run : IsPrinted input seed log)

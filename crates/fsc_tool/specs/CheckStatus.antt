@@ -1,4 +1,4 @@
--- What the status of a run that checks a log says of its input, and of the log.
+-- What the status of a run that checks a log means for its input, and for the log.
 use Rattle.std.specs.Prelude.{◌≡◌, ◌⊎◌, ⊤, ℕ, Bool, List}
 use Rattle.script_lang.specs.declared.commands.Section.{Section}
 use Rattle.log_check.specs.Verdicts.{IsCertified, IsRefusedAt}
@@ -8,8 +8,8 @@ use Rattle.fsc_tool.specs.Limits.{IsLong}
 use Rattle.fsc_tool.specs.Parted.{script_part}
 use Rattle.fsc_tool.specs.CertificateEnds.{IsChecked, IsAtFault}
 
--- what the status says of an input that was read whole; where it is strict, over histories in which nothing is out of
--- memory
+-- what the status means for an input that was read whole; if `strict`, over histories in which nothing is
+-- out of memory
 abbrev pub SaysOfInput : Bool → List ℕ → List ℕ → Status → Type 0
 SaysOfInput strict seed input Done = IsChecked (IsCertified strict seed) input
 SaysOfInput strict seed input (Refused place) = IsChecked (λ script log. IsRefusedAt strict seed script log place) input
@@ -18,7 +18,7 @@ SaysOfInput strict seed input TooLong = IsLong (script_part input)
 SaysOfInput strict seed input NoMemory = ⊤
 SaysOfInput strict seed input other = ⊥
 
--- what the status says of a log, whose script was read
+-- what the status means for a log with a script that was read
 abbrev pub SaysOfLog : Bool → List ℕ → List Section → List ℕ → Status → Type 0
 SaysOfLog strict seed script log Done = IsCertified strict seed script log
 SaysOfLog strict seed script log (Refused place) = IsRefusedAt strict seed script log place

@@ -28,14 +28,15 @@ EndsChecking strict seed Came a b TooLong = EndsCertificateTooLong Came a b
 EndsChecking strict seed Came a b NoMemory = EndsCertificateNoMemory Came a b
 EndsChecking strict seed Came a b other = ⊥
 
--- a run that checks a log of a run with the seed, strictly or not, where Came says by which calls of the source it became what it is
+-- a run that checks a log against runs with the seed, strictly or not; `Came` holds of the source's calls
+-- in between
 pub record IsChecking (strict : Bool) (seed : List ℕ) (Came : List ReadCall → Type 0) (a b : Outside)
     (status : Status) : Type 0 where
   -- what the status means, with its cause and what was read
   pub ends : EndsChecking strict seed Came a b status
-  -- nothing is written, and no seed asked for
+  -- nothing is written, and no seed is asked for
   pub silent : EndsEarly a b
-  -- what a source that tells its bytes makes of the other statuses
+  -- the other statuses, for a source with known bytes
   pub too_long : (input : List ℕ) → Told a b input
       → (MOST_CERTIFICATE_BYTES < length input) ⊎ IsLong (script_part input) → IsOrNoMemory TooLong status
   pub bad_line : (input : List ℕ) (line : ℕ) → Told a b input → length input ≤ MOST_CERTIFICATE_BYTES

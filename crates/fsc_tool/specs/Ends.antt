@@ -1,5 +1,5 @@
--- What a run did from what it met outside to what it leaves, by the status that it ends with. IsText says which
--- text it writes where it is done, and Came by which calls of the source.
+-- What a run did between its first and its last state outside, by the status that it ends with. `IsText`
+-- holds of the text that it writes if it is done, `Came` of the source's calls in between.
 use Rattle.std.specs.Prelude.{◌≡◌, ◌⊎◌, ℕ, List, Ok}
 use Rattle.script_lang.specs.declared.commands.Section.{Section}
 use Rattle.script_lang.specs.Script.{parsed_script}
@@ -20,7 +20,7 @@ use Rattle.fsc_tool.specs.ReadEnds.{EndsReadFault, EndsTooLong, EndsBadLine, Rea
 abbrev pub IsScript : List ℕ → Type 0
 IsScript text = (script : List Section) × (parsed_script text ≡ Ok script)
 
--- the words give no seed, the source gave a script, and the seed source failed; nothing was written
+-- the arguments give no seed, the source gave a script, and the seed source failed; nothing was written
 pub record EndsSeedFault (Came : List ReadCall → Type 0) (seeding : Seeding) (a b : Outside) : Type 0 where
   pub asked : seeding ≡ Asked
   pub input : List ℕ

@@ -1,7 +1,7 @@
--- What the words of the command line ask for. `replay` or `replay --serial`, alone or with `--seed HEX64`
--- behind; `gen NUMBER` or `gen NUMBER --summary`, where the number is a decimal numeral below 2^32;
--- `dump --seed HEX64`; `inspect`, alone or with `raw:HEX` behind;
--- `check --seed HEX64` or `check --strict --seed HEX64`; `replay-linked --seed HEX64` or `replay-linked --serial --seed HEX64`.
+-- What the arguments of the command line ask for: `replay` or `replay --serial`, alone or followed by
+-- `--seed HEX64`; `gen NUMBER` or `gen NUMBER --summary`, if the number is a decimal numeral below 2^32;
+-- `dump --seed HEX64`; `inspect`, alone or followed by `raw:HEX`; `check --seed HEX64` or
+-- `check --strict --seed HEX64`; `replay-linked --seed HEX64` or `replay-linked --serial --seed HEX64`.
 use Rattle.std.specs.Prelude.{ℕ, List, [], ◌∷◌, ◌^◌, codes, Option, Some, None, if◌then◌else◌}
 use Rattle.std.specs.Option.{option_map, option_and_then}
 use Rattle.std.specs.Str.{bytes_eq}
@@ -15,19 +15,19 @@ use Rattle.fsc_tool.specs.declared.form.ToolForm.TheVariants.{Replay, Generate, 
 use Rattle.fsc_tool.specs.declared.form.ToolForm.TheVariants.{Check, CheckStrictly, ReplayLinked}
 use Rattle.fsc_tool.specs.ReplayForms.{seed_given, replay_of, linked_of}
 
--- behind `gen` and the number
+-- after `gen` and the number
 abbrev pub generated_behind : List (List ℕ) → ℕ → Option ToolForm
 generated_behind [] number = Some (Generate number)
 generated_behind (word ∷ []) number =
     if bytes_eq word (codes "--summary") then Some (Summarise number) else None
 generated_behind _ number = None
 
--- behind `gen`
+-- after `gen`
 abbrev pub generated_of : List (List ℕ) → Option ToolForm
 generated_of [] = None
 generated_of (number ∷ words) = option_and_then (generated_behind words) (number_below (2 ^ 32) number)
 
--- behind `inspect`: no word, or `raw:` and a raw key of 32 to 64 bytes in digits of either case
+-- after `inspect`: no argument, or `raw:` and a raw key of 32 to 64 bytes in digits of either case
 abbrev pub inspected_with : Option KeyRef → Option ToolForm
 inspected_with (Some (Raw raw)) = Some (Inspect (Some raw))
 inspected_with other = None
@@ -37,14 +37,14 @@ inspected_of [] = Some (Inspect None)
 inspected_of (word ∷ []) = inspected_with (key_ref_of word)
 inspected_of _ = None
 
--- behind `check`
+-- after `check`
 abbrev pub checked_of : List (List ℕ) → Option ToolForm
 checked_of [] = None
 checked_of (word ∷ words) =
     if bytes_eq word (codes "--strict") then option_map CheckStrictly (seed_given words)
     else option_map Check (seed_given (word ∷ words))
 
--- what the words ask for, where they are a form
+-- what the arguments ask for, if they are a form
 abbrev pub form_of : List (List ℕ) → Option ToolForm
 form_of [] = None
 form_of (verb ∷ words) =

@@ -22,7 +22,8 @@ use Rattle.fsc_tool.specs.Summary.{summary_text}
 unfoldable pub zero_seed : List ℕ
 zero_seed = replicate 32 0
 
--- the summary of a history that is a run of the script with this seed: that of its log, with the notes behind
+-- the summary of a history that is a run of the script with this seed: that of its log, followed by the
+-- notes
 abbrev pub run_summary : List ℕ → List Section → History → List ℕ
 run_summary seed script history =
     summary_text history (log_text history ++ notes_text (notes_of seed script history))
@@ -35,9 +36,9 @@ generated_history number = serial_history zero_seed (generated_script number)
 abbrev pub IsOfMounts : (History → Type 0) → Type 0
 IsOfMounts lawful = (history : History) → lawful history → IsLawful history
 
--- the text is the summary of a run in rotation of the generated script in which no call wanted memory; of a mount
--- it is that of the script's own history, a function of the number, if no two different raw keys that this history
--- adds share an identifier
+-- the text is the summary of a run in rotation of the generated script in which no call was out of memory;
+-- for a mount it is that of the script's own history, a function of the number, if no two different raw
+-- keys that this history adds share an identifier
 pub record SummaryOfRun (lawful : History → Type 0) (number : ℕ) (text : List ℕ) : Type 0 where
   pub history : History
   pub run : IsSerialRun lawful zero_seed (generated_script number) history

@@ -1,4 +1,4 @@
--- How a run ends that reads an image: what it lists of it, or met of the source.
+-- How a run ends that reads an image: what it lists of it, or how the source failed it.
 use Rattle.std.specs.Prelude.{◌≡◌, ◌+◌, ℕ, List, Option}
 use Rattle.fsc_outside.specs.declared.input.InputLimits.{InputLimits}
 use Rattle.fsc_outside.specs.Input.{GaveByteMore}
@@ -13,12 +13,12 @@ use Rattle.tree_listing.specs.Listing.{IsListing}
 use Rattle.fsc_tool.specs.ReadEnds.{EndsEarly, ReadSome}
 use Rattle.fsc_tool.specs.Outside.{Outside}
 
--- so many bytes; no text of so many has more lines than these
+-- that many bytes; no text of that length has more lines than these
 abbrev pub image_limits : InputLimits
 image_limits = record { bytes = MOST_IMAGE_BYTES; lines = MOST_IMAGE_BYTES + 1 }
 
--- the source gave the text of an image within the limit, by the calls by which it came, and the text is the
--- listing of this image with the raw key, or with none
+-- the source gave the text of an image within the limit, by calls of which `Came` holds, and the text is
+-- the listing of this image with the raw key, or with none
 pub record HasListing (raw : Option (List ℕ)) (Came : List ReadCall → Type 0) (source source' : SourceState)
     (text : List ℕ) : Type 0 where
   pub input : List ℕ

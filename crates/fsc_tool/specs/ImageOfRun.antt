@@ -18,14 +18,15 @@ use Rattle.script_runs.specs.Runs.{IsRunBefore, IsSerialRun, TellsRun}
 abbrev pub image_after : History → List ℕ
 image_after history = image_text (mount_image (mount_after history))
 
--- what was told of a run in rotation on a mount of its own, and the state in which it left that mount
+-- the entries and notes of a run in rotation on a mount of its own, and the state in which it left that
+-- mount
 abbrev pub RanOnMount : List ℕ → List Section → PlacedShown → List Note → MountState → Type 0
 RanOnMount seed script placed notes state =
     TellsRun (IsRunBefore (λ history.
     StandsAfter history state) (IsSerialRun IsLawful)) seed script placed notes
 
--- the history is a run of the script in rotation in which no call wanted memory, and the text is the image of the
--- mount that it leaves
+-- the history is a run of the script in rotation in which no call was out of memory, and the text is the
+-- image of the mount that it leaves
 pub record IsImageAfter (seed : List ℕ) (script : List Section) (history : History) (text : List ℕ)
     : Type 0 where
   pub run : IsSerialRun IsLawful seed script history

@@ -17,7 +17,7 @@ use Rattle.fsc_tool.specs.Outside.{Outside}
 use Rattle.fsc_tool.specs.Replay.{IsOrNoMemory, Told}
 use Rattle.fsc_tool.specs.ImageEnds.{image_limits, HasListing, EndsImageTooLong, EndsImageNoMemory}
 
--- zeros in the place of the raw key, where there is one
+-- zeros in place of the raw key, if there is one
 abbrev pub wiped_key : Option (List ℕ) → Option (List ℕ)
 wiped_key raw = option_map (λ key. replicate (length key) 0) raw
 
@@ -31,8 +31,7 @@ EndsInspection raw Came a b TooLong = EndsImageTooLong Came a b
 EndsInspection raw Came a b NoMemory = EndsImageNoMemory Came a b
 EndsInspection raw Came a b other = ⊥
 
--- a run that lists an image with the raw key, or with none, where Came says by which calls of the source it became
--- what it is
+-- a run that lists an image with the raw key, or with none; `Came` holds of the source's calls in between
 pub record IsInspection (raw : Option (List ℕ)) (Came : List ReadCall → Type 0) (a b : Outside)
     (status : Status)
     : Type 0 where
@@ -40,7 +39,7 @@ pub record IsInspection (raw : Option (List ℕ)) (Came : List ReadCall → Type
   pub ends : EndsInspection raw Came a b status
   -- no seed is asked for
   pub unasked : b.seeds ≡ a.seeds
-  -- what a source that tells its bytes makes of the other statuses
+  -- the other statuses, for a source with known bytes
   pub too_long : (input : List ℕ) → Told a b input → MOST_IMAGE_BYTES < length input
       → IsOrNoMemory TooLong status
   pub bad_line : (input : List ℕ) (line : ℕ) → Told a b input → length input ≤ MOST_IMAGE_BYTES

@@ -8,16 +8,16 @@ use Rattle.linked_turns.specs.LinkedRuns.{HaveLinkedCalls, IsLinkedRun}
 use Rattle.linked_turns.specs.LinkedSerial.{linked_calls, linked_histories}
 use Rattle.linked_turns.specs.LinkedText.{both_logs}
 
--- the text of a script, where each call is answered by the mounts that the calls before it leave: a function of
--- script and seed alone
+-- the text of a script's run in which each call is answered by the mounts as the calls before it leave
+-- them: a function of script and seed alone
 abbrev pub serial_logs : List ℕ → List Section → List ℕ
 serial_logs seed script =
     both_logs (linked_histories seed script).even (linked_histories seed script).odd
     (notes_of seed script (linked_calls seed script))
 
--- the text is that of two histories that are a run of the script with the seed in which the callers took turns,
--- and of the notes of that run; where the one-thread mount could answer so and no call wanted memory, it is a
--- function of script and seed
+-- the text is that of two histories that are a run of the script with the seed in which the callers took
+-- turns, and of the notes of that run; it is a function of script and seed if the one-thread mount could
+-- answer so and no call was out of memory
 pub record IsLinkedLog (lawful_0 lawful_1 : History → Type 0) (seed : List ℕ) (script : List Section)
     (text : List ℕ) : Type 0 where
   pub even : History
@@ -27,8 +27,8 @@ pub record IsLinkedLog (lawful_0 lawful_1 : History → Type 0) (seed : List ℕ
   pub fixed : IsLegal even → IsLegal odd → NeverWantsMemory even → NeverWantsMemory odd
       → text ≡ serial_logs seed script
 
--- the text is that of two histories that have the calls of callers of the script with the seed, who don't wait for
--- one another, and of the notes of those calls
+-- the text is that of two histories with the calls of the script's callers, with the seed, that don't wait
+-- for one another, and of the notes of those calls
 pub record IsLinkedLogOfThreads (lawful_0 lawful_1 : History → Type 0) (seed : List ℕ)
     (script : List Section) (text : List ℕ) : Type 0 where
   pub told : PlacedCalls

@@ -7,8 +7,8 @@ use Rattle.reply_text.specs.Notes.{notes_text}
 use Rattle.reply_text.specs.Ranges.{EntryIsInRange}
 use Rattle.fsc_session.specs.ScriptRun.{notes_of}
 
--- the text is the log of one history, which is a run of the script with the seed, has fewer entries than there are
--- places, and holds values of the program alone, and behind it the notes of that run
+-- the text is the log of one history, followed by the notes of that run; the history is a run of the script
+-- with the seed, has fewer entries than there are places, and holds values of the program alone
 pub record IsLogOfRun (IsRun : List ℕ → List Section → History → Type 0)
     (seed : List ℕ) (script : List Section) (text : List ℕ) : Type 0 where
   pub history : History

@@ -1,5 +1,5 @@
--- How a run ends by what the source gave, where nothing is written; and what was read where there is no
--- memory. Came says by which calls of the source.
+-- How a run ends by what the source gave, if nothing is written, and what was read if there is no memory.
+-- `Came` holds of the source's calls in between.
 use Rattle.std.specs.Prelude.{◌≡◌, ◌⊎◌, ℕ, List, Result, Err}
 use Rattle.fsc_outside.specs.declared.input.InputLimits.{InputLimits}
 use Rattle.fsc_outside.specs.Input.{ReadTooMuch}
@@ -13,7 +13,7 @@ pub record EndsEarly (a b : Outside) : Type 0 where
   pub unwritten : b.sink ≡ a.sink
   pub unasked : b.seeds ≡ a.seeds
 
--- a call of the source failed, which was the last
+-- a call of the source failed, and it was the last
 pub record EndsReadFault (limits : InputLimits) (Came : List ReadCall → Type 0) (a b : Outside) : Type 0 where
   pub early : EndsEarly a b
   pub part : ReadPart limits Came a.source b.source
@@ -23,7 +23,7 @@ pub record EndsTooLong (limits : InputLimits) (Came : List ReadCall → Type 0) 
   pub early : EndsEarly a b
   pub much : ReadTooMuch limits Came a.source b.source
 
--- the line is the one at fault where the input is read so
+-- the line is the one at fault if the input is read by `read_as`
 pub record EndsBadLine {A : Type 0} (limits : InputLimits) (read_as : List ℕ → Result A ℕ)
     (Came : List ReadCall → Type 0) (line : ℕ) (a b : Outside) : Type 0 where
   pub early : EndsEarly a b

@@ -1,4 +1,4 @@
--- The theorem of a replay: what holds of it, from what it met outside to what it leaves.
+-- The theorem of a replay: what holds of it, from its first state outside to its last.
 use Rattle.std.specs.Prelude.{◌≡◌, ◌⊎◌, ℕ, List, Some, Err}
 use Rattle.script_lang.specs.declared.commands.Section.{Section}
 use Rattle.script_lang.specs.Script.{parsed_script}
@@ -14,12 +14,12 @@ use Rattle.fsc_tool.specs.Outside.{Outside}
 use Rattle.fsc_tool.specs.TextOfRun.{HasText}
 use Rattle.fsc_tool.specs.Ends.{Ends, IsScript}
 
--- the source told this input beforehand, and no read failed
+-- the source's bytes are known to be this input, and no read failed
 pub record Told (a b : Outside) (input : List ℕ) : Type 0 where
   pub left : a.source.left ≡ Some input
   pub read : ¬ Rose a.source.faults b.source.faults
 
--- a told input within the limits that is a script, and no fault at all
+-- a known input within the limits that is a script, and no fault at all
 pub record IsReplayable (a b : Outside) (input : List ℕ) : Type 0 where
   pub told : Told a b input
   pub within : IsWithin input_limits input
@@ -27,19 +27,19 @@ pub record IsReplayable (a b : Outside) (input : List ℕ) : Type 0 where
   pub written : ¬ Rose a.sink.faults b.sink.faults
   pub seeded : ¬ Rose a.seeds.faults b.seeds.faults
 
--- this status, or else want of memory
+-- this status, or no memory
 abbrev pub IsOrNoMemory : Status → Status → Type 0
 IsOrNoMemory wanted status = (status ≡ wanted) ⊎ (status ≡ NoMemory)
 
--- a replay whose seed comes so, where IsText says which text is one of a run of a script with a seed, and Came by
--- which calls of the source it became what it is
+-- a replay with a seed from `seeding`; `IsText` holds of a text of a run of a script with a seed, `Came` of
+-- the source's calls in between
 pub record IsReplay (IsText : List ℕ → List Section → List ℕ → Type 0) (Came : List ReadCall → Type 0)
     (seeding : Seeding) (a b : Outside) (status : Status) : Type 0 where
   -- what the status means, with its cause and what was read; the text is one of such a run
   pub ends : Ends (HasText IsText Came seeding a b) Came seeding a b status
-  -- the seed source isn't asked where the words give a seed
+  -- the seed source isn't asked if the arguments give a seed
   pub own_seed : (seed : List ℕ) → seeding ≡ Given seed → b.seeds ≡ a.seeds
-  -- what a source that tells its bytes makes of the other statuses
+  -- the other statuses, for a source with known bytes
   pub too_long : (input : List ℕ) → Told a b input → IsLong input → IsOrNoMemory TooLong status
   pub bad_line : (input : List ℕ) (line : ℕ) → Told a b input → IsWithin input_limits input
       → parsed_script input ≡ Err line → IsOrNoMemory (BadLine line) status

@@ -1,4 +1,4 @@
--- The words behind `replay` and `replay-linked`, and the seed that words give.
+-- The arguments after `replay` and `replay-linked`, and the seed that arguments give.
 use Rattle.std.specs.Prelude.{ℕ, List, [], ◌∷◌, codes, Option, Some, None, if◌then◌else◌}
 use Rattle.std.specs.Option.{option_map}
 use Rattle.std.specs.Str.{bytes_eq}
@@ -16,7 +16,7 @@ seed_given (name ∷ digits ∷ []) =
     if bytes_eq name (codes "--seed") then hex_bytes_of_length 32 digits else None
 seed_given _ = None
 
--- where the seed comes from: no word, or a given one
+-- where the seed comes from: no argument, or a given one
 abbrev pub seeding_of : List (List ℕ) → Option Seeding
 seeding_of [] = Some Asked
 seeding_of words = option_map Given (seed_given words)
@@ -25,7 +25,7 @@ abbrev pub replayed : Way → Option Seeding → Option ToolForm
 replayed way None = None
 replayed way (Some seeding) = Some (Replay way seeding)
 
--- behind `replay`
+-- after `replay`
 abbrev pub replay_of : List (List ℕ) → Option ToolForm
 replay_of [] = replayed InThreads (Some Asked)
 replay_of (word ∷ words) =
@@ -36,7 +36,7 @@ abbrev pub replayed_linked : Way → Option (List ℕ) → Option ToolForm
 replayed_linked way None = None
 replayed_linked way (Some seed) = Some (ReplayLinked way seed)
 
--- behind `replay-linked`
+-- after `replay-linked`
 abbrev pub linked_of : List (List ℕ) → Option ToolForm
 linked_of [] = None
 linked_of (word ∷ words) =

@@ -6,7 +6,7 @@ use Rattle.fsc_outside.specs.declared.Failed.{Failed}
 use Rattle.fsc_tool.specs.declared.form.Seeding.{Seeding}
 use Rattle.fsc_tool.specs.declared.form.Seeding.TheVariants.{Given, Asked}
 
--- the seed source was asked just once and gave this seed: the one that it told, where it told one
+-- the seed source was asked just once and gave this seed: its next one, if that is known
 pub record GaveSeed (old new : SeedState) (seed : List ℕ) : Type 0 where
   pub told : IfSome old.next (λ next. seed ≡ next)
   pub asked : new.asked ≡ one_more old.asked
@@ -17,7 +17,7 @@ pub record FailedSeed (old new : SeedState) : Type 0 where
   pub asked : new.asked ≡ one_more old.asked
   pub cause : Rose old.faults new.faults
 
--- the words' own seed, for which the seed source isn't asked, or else one that it gave
+-- the arguments' own seed, for which the seed source isn't asked, or else one that it gave
 abbrev pub ComesFrom : Seeding → SeedState → SeedState → List ℕ → Type 0
 ComesFrom (Given own) old new seed = (seed ≡ own) × (new ≡ old)
 ComesFrom Asked old new seed = GaveSeed old new seed
@@ -27,12 +27,12 @@ pub record IsSeedOf (seeding : Seeding) (old new : SeedState) (seed : List ℕ) 
   pub given : ComesFrom seeding old new seed
   pub size : length seed ≡ 32
 
--- what taking the seed answers: a failure comes where the seed source is asked alone
+-- what taking the seed returns: a failure only if the seed source is asked
 abbrev pub TakesSeed : Seeding → SeedState → SeedState → Result (List ℕ) Failed → Type 0
 TakesSeed seeding old new (Ok seed) = IsSeedOf seeding old new seed
 TakesSeed seeding old new (Err _) = (seeding ≡ Asked) × FailedSeed old new
 
--- the words' own seed with zeros in its place
+-- the arguments' own seed with zeros in its place
 abbrev pub wiped_seeding : Seeding → Seeding
 wiped_seeding (Given own) = Given (replicate 32 0)
 wiped_seeding Asked = Asked

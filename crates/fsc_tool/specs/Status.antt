@@ -5,7 +5,7 @@ use Rattle.fsc_tool.specs.declared.status.Status.{Status}
 use Rattle.fsc_tool.specs.declared.status.Status.TheVariants.{Done, Usage, BadLine, ReadFault}
 use Rattle.fsc_tool.specs.declared.status.Status.TheVariants.{WriteFault, SeedFault, TooLong, NoMemory, Refused}
 
--- the number that the program ends with
+-- the exit status of the program
 abbrev pub status_number : Status → ℕ
 status_number Done = 0
 status_number (Refused place) = 1

@@ -1,5 +1,5 @@
 -- The summary of a run, in four lines: how many entries its history has, how many of their replies are
--- refusals, how many tell of a removed key that is still in use, and the SHA-256 of its log.
+-- refusals, how many report a removed key that is still in use, and the SHA-256 of its log.
 use Rattle.std.specs.Prelude.{ℕ, Bool, true, false, List, ◌++◌, length, count_by, codes}
 use Rattle.hex.specs.Hex.{encode_lower}
 use Rattle.sha2.specs.Sha256.{sha256}
@@ -13,7 +13,7 @@ unfoldable pub is_refusal : Reply → Bool
 is_refusal (Refused reason) = true
 is_refusal other = false
 
--- a removal that tells that the key is still in use
+-- a removal that reports that the key is still in use
 unfoldable pub is_busy_removal : Reply → Bool
 is_busy_removal (Removed others busy) = busy
 is_busy_removal other = false
@@ -22,7 +22,7 @@ is_busy_removal other = false
 abbrev pub count_line : List ℕ → ℕ → List ℕ
 count_line word count = word ++ (codes " " ++ (decimal_of count ++ codes "\n"))
 
--- the summary of a history with this log, whether it has the calls or what a log shows of them
+-- the summary of a history with this log, whether its entries have the calls or what a log has of them
 unfoldable pub summary_text : {C : Type 0} → History C Reply → List ℕ → List ℕ
 summary_text history log =
     count_line (codes "entries") (length history)

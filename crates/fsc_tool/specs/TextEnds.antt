@@ -1,4 +1,4 @@
--- How a run ends that writes a text, by what the sink got of it. IsText says which text it is.
+-- How a run ends that writes a text, by what the sink got of it. `IsText` holds of that text.
 use Rattle.std.specs.Prelude.{◌≡◌, ℕ, List}
 use Rattle.fsc_outside.specs.States.{SinkState}
 use Rattle.fsc_outside.specs.Whole.{GotWhole, GotPart}

@@ -1,4 +1,4 @@
--- The theorem of the tool: what holds of a run in any form of the words.
+-- The theorem of the tool: what holds of a run for any arguments.
 use Rattle.std.specs.Prelude.{◌≡◌, ◌↔◌, ℕ, true, false, List, [], Option, Some, None}
 use Rattle.mount_model.specs.History.{History}
 use Rattle.fsc_outside.specs.Reads.{ReadCall}
@@ -20,8 +20,8 @@ use Rattle.fsc_tool.specs.Outside.{Outside}
 use Rattle.fsc_tool.specs.Replay.{IsReplay}
 use Rattle.script_runs.specs.Runs.{IsLawfulRun, IsSerialRun}
 
--- a run in this form: an equation a form. Without one nothing is called. `lawful` is what the machine of mount 0
--- could answer, `other` that of mount 1. Came tells by which calls the source became what it is
+-- a run in this form: an equation a form. Without one nothing is called. `lawful` holds of the histories
+-- that mount 0 allows, `other` of those that mount 1 allows, `Came` of the source's calls in between
 abbrev pub IsRunIn : (History → Type 0) → (History → Type 0) → (List ReadCall → Type 0) → Option ToolForm
     → Outside → Outside → Status → Type 0
 IsRunIn lawful other Came None a b status = (status ≡ Usage) × (b ≡ a) × Came []
@@ -42,13 +42,13 @@ IsRunIn lawful other Came (Some (ReplayLinked InTurn seed)) a b status =
 IsRunIn lawful other Came (Some (ReplayLinked InThreads seed)) a b status =
     IsReplay (IsLinkedLogOfThreads lawful other) Came (Given seed) a b status
 
--- a run in the form that the words are; Usage comes exactly where they are none
+-- a run in the form of the arguments; the status is `Usage` exactly when they are none
 pub record IsToolRun (lawful other : History → Type 0) (Came : List ReadCall → Type 0)
     (words : List (List ℕ)) (a b : Outside) (status : Status) : Type 0 where
   pub run : IsRunIn lawful other Came (form_of words) a b status
   pub usage : (status ≡ Usage) ↔ (form_of words ≡ None)
 
--- the same of a tool that starts no thread
+-- the same for a tool that starts no thread
 pub record IsSerialToolRun (lawful other : History → Type 0) (Came : List ReadCall → Type 0)
     (words : List (List ℕ)) (a b : Outside) (status : Status) : Type 0 where
   pub run : IsRunIn lawful other Came (without_threads (form_of words)) a b status

@@ -1,4 +1,4 @@
--- How a run ends whose calls were made: by what becomes of its log.
+-- How a run ends after its calls: by what becomes of its log.
 use Rattle.std.specs.Prelude.{◌≡◌, ℕ, List}
 use Rattle.fsc_outside.specs.States.{SinkState}
 use Rattle.fsc_outside.specs.Whole.{GotWhole, GotPart}

@@ -26,8 +26,8 @@ use script_lang::{Script, read_script, wipe_script};
 use std::alloc::{AllocError, Global};
 use text_words::line_count;
 
-// Checks the log that the source gives behind its script, as one of a run with this seed, which is overwritten. How a
-// refused log differs from a run is told besides.
+// Checks the log after the script in the source's input, against runs with this seed, and wipes the seed.
+// If the log is refused, stores in `difference` how it differs from a run.
 pub(crate) fn run_checking<S: Source>(
     alloc: Global,
     strict: bool,
@@ -46,7 +46,8 @@ pub(crate) fn run_checking<S: Source>(
     status
 }
 
-// The same. In a frame of its own, so that what it leaves lies below the frame that overwrites it.
+// The same without the final wiping. Its frame is its own, so that what it leaves on the stack is below the
+// frame that wipes it.
 #[inline(never)]
 fn check_source<S: Source>(
     alloc: Global,
@@ -68,7 +69,7 @@ fn check_source<S: Source>(
     status
 }
 
-// What is said of an input that was read. Its script is overwritten then.
+// Returns the status for an input that was read. Wipes its script.
 fn check_input(
     alloc: Global,
     strict: bool,
@@ -101,7 +102,8 @@ fn check_input(
     status
 }
 
-// What is said of a log of the script, and how one that is refused differs from a run.
+// Returns the status for a log of the script. If the log is refused, stores in `difference` how it differs
+// from a run.
 fn check_text(
     alloc: Global,
     strict: bool,
@@ -123,7 +125,7 @@ fn check_text(
     }
 }
 
-// The verdict on a log of the script, whose calls a mount of its own answers.
+// Returns the verdict on a log of the script, with a mount of its own that answers the calls.
 fn verdict(
     alloc: Global,
     strict: bool,

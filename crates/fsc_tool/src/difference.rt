@@ -11,19 +11,20 @@ use script_lang::Script;
 use std::alloc::{AllocError, Global};
 use text_words::next_line;
 
-/// What a refused log and a run have at the place where they part, each a line without its line feed; none where
-/// nothing comes there any more.
+/// What a refused log and a run have at the place where they begin to differ. Each is a line without its
+/// line feed, or `None` if nothing follows there.
 #[derive(Drop)]
 pub struct Difference {
     pub in_log: Option<Bytes>,
     pub in_run: Option<Bytes>,
-    /// The line of the script whose command makes the call of the run's line.
+    /// The line of the script with the command that makes the call of the run's line.
     pub command: Option<u32>,
-    /// Whether the log's entries are over there: it has the number of all lines of calls as its place.
+    /// Whether the log's entries end there: the place is the number of all its lines of calls.
     pub is_last: bool,
 }
 
-// How the log differs from a run of the script behind so many lines; none where there is no memory to find it.
+// Returns how the log differs from a run of the script after the first `place` lines. Returns `None` if no
+// run has that many lines of the log, or there is no memory to find the difference.
 pub(crate) fn difference_at(
     alloc: Global,
     seed: &[u8; 32],
@@ -65,7 +66,7 @@ fn difference_of(
     })
 }
 
-// What stands behind so many lines.
+// Returns the text after its first `count` lines.
 fn behind_lines(text: &[u8], count: u64) -> &[u8] {
     let mut rest = text;
     for _ in 0..count {
@@ -74,7 +75,8 @@ fn behind_lines(text: &[u8], count: u64) -> &[u8] {
     rest
 }
 
-// The first line; none of no text. What no line feed ends is none of a run.
+// Returns the first line without its line feed, or `None` if the text is empty. A last piece without a line
+// feed is returned too, but no run has one.
 fn first_line(text: &[u8]) -> Option<&[u8]> {
     if text.is_empty() {
         return None;
@@ -82,7 +84,7 @@ fn first_line(text: &[u8]) -> Option<&[u8]> {
     Some(next_line(text).bytes)
 }
 
-// The first lines of two texts that differ.
+// Returns the first lines at which the two texts differ.
 fn first_apart<'t>(log: &'t [u8], run: &'t [u8]) -> (Option<&'t [u8]>, Option<&'t [u8]>) {
     let mut log = log;
     let mut run = run;

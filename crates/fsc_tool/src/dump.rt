@@ -25,8 +25,8 @@ use script_runs::{Told, rotate};
 use std::alloc::{AllocError, Global};
 use tree_image::write_image;
 
-// A replay in rotation of the script that the source gives, with this seed, on a mount of its own: the image of
-// the mount that it leaves goes into the sink. The seed is overwritten.
+// Replays in rotation, with this seed and on a mount of its own, the script that the source gives. Writes
+// the image of the mount at the run's end into the sink, and wipes the seed.
 pub(crate) fn run_dumping<S: Source, K: Sink, E: SeedSource, G: Gate>(
     alloc: Global,
     seed: &mut [u8; 32],
@@ -59,7 +59,8 @@ pub(crate) fn run_dumping<S: Source, K: Sink, E: SeedSource, G: Gate>(
     }
 }
 
-// A run of the script in rotation on an empty mount, with the mount as it leaves it.
+// Runs the script in rotation on an empty mount. Returns the run's entries and notes, and the mount as the
+// run leaves it.
 fn run_on_mount<G: Gate>(
     alloc: Global,
     script: &Script,
@@ -73,7 +74,7 @@ fn run_on_mount<G: Gate>(
     rotate(alloc, script, seed, gate, &PlainStretch, mount)
 }
 
-// The image of the mount that a run left, which is let go once its image is made.
+// Returns the image of the mount that a run left. Drops the mount once its image is made.
 fn image_of(alloc: Global, told: Told, mount: Mount) -> Result<Bytes, AllocError>
     ensures { IfOk result (λ text. (seed : List ℕ) (script : List Section)
         → RanOnMount seed script told.entries.items told.notes.items mount.state
@@ -82,8 +83,8 @@ fn image_of(alloc: Global, told: Told, mount: Mount) -> Result<Bytes, AllocError
     image_left(alloc, &told, &mount)
 }
 
-// The same of a mount that stays. A run in which a call wanted memory has no image: what it would show
-// depends on where memory was wanting.
+// The same for a borrowed mount. Fails if a call of the run was out of memory, since the image would depend
+// on which call that was.
 fn image_left(alloc: Global, told: &Told, mount: &Mount) -> Result<Bytes, AllocError>
     ensures { IfOk result (λ text. (seed : List ℕ) (script : List Section)
         → RanOnMount seed script told.now.entries.items told.now.notes.items mount.now.state

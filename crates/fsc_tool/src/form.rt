@@ -1,4 +1,4 @@
-//! The words of the command line.
+//! The arguments of the command line.
 
 ghost use Rattle.std.specs.Prelude.{◌≡◌, ◌∷◌, [], map, string_bytes};
 ghost use Rattle.fsc_tool.specs.ReplayForms as spec;
@@ -25,38 +25,38 @@ pub(crate) enum Way {
     InThreads,
 }
 
-/// Where a run's seed comes from. No copy of it is made but by a move.
+/// Where a run's seed comes from. Neither `Clone` nor `Copy`: a value is only moved.
 #[derive(Drop)]
 pub(crate) enum Seeding {
-    /// The words give it: `--seed HEX64`.
+    /// The arguments give it: `--seed HEX64`.
     Given([u8; 32]),
-    /// No word does. The seed source gives it.
+    /// No argument gives it; the seed source does.
     Asked,
 }
 
-/// What the words ask for.
+/// What the arguments ask for.
 #[derive(Drop)]
 pub(crate) enum ToolForm {
     /// To replay the script that the source gives.
     Replay { way: Way, seeding: Seeding },
     /// To write the script that the number gives.
     Generate(u32),
-    /// To write the summary of a run of it.
+    /// To write the summary of a run of that script.
     Summarise(u32),
     /// To write the image of the mount that a run of the source's script with this seed leaves.
     Dump([u8; 32]),
     /// To list the image that the source gives, with this raw key or without one.
     Inspect(Option<RawKey>),
-    /// To check the log that the source gives behind its script, as one of a run with this seed.
+    /// To check the log after the script in the source's input, against runs with this seed.
     Check([u8; 32]),
-    /// The same, as one of a run in which nothing was out of memory.
+    /// The same, against runs in which nothing was out of memory.
     CheckStrictly([u8; 32]),
     /// To replay the script that the source gives on two mounts, with this seed.
     ReplayLinked { way: Way, seed: [u8; 32] },
 }
 
-// Writes what the words ask for into the caller's room; none where they are no form. Whatever else it moves a seed
-// through lies in frames below the caller's, which are overwritten behind it.
+// Stores in `form` what the arguments ask for, or `None` if they are no form. Other copies of a seed that
+// this makes are in frames below the caller's, which are wiped afterwards.
 pub(crate) fn read_form(words: &[String], form: &mut Option<ToolForm>)
     ensures { form.new ≡ form_of (map string_bytes words.now) }
 {
@@ -71,7 +71,7 @@ fn read_form_unscrubbed(words: &[String], form: &mut Option<ToolForm>)
     *form = form_of(words);
 }
 
-// What the words ask for; none where they are no form.
+// Returns what the arguments ask for, or `None` if they are no form.
 fn form_of(words: &[String]) -> Option<ToolForm>
     ensures { result ≡ form_of (map string_bytes words.now) }
 {
@@ -79,7 +79,7 @@ fn form_of(words: &[String]) -> Option<ToolForm>
     form_behind(verb.as_str(), words)
 }
 
-// The form that the words behind the verb make.
+// Returns the form of the verb and the arguments after it.
 fn form_behind(verb: &str, words: &[String]) -> Option<ToolForm>
     ensures { result ≡ form_of (verb.now ∷ map string_bytes words.now) }
 {
@@ -94,7 +94,7 @@ fn form_behind(verb: &str, words: &[String]) -> Option<ToolForm>
     }
 }
 
-// Overwrites the words, of which one may be a seed, and takes them away. It takes no memory.
+// Wipes and removes the arguments, since one of them may be a seed. Allocates nothing.
 pub(crate) fn wipe_words(alloc: Global, words: &mut Vec<String>)
     ensures { words.new.items ≡ [] }
 {
@@ -104,7 +104,7 @@ pub(crate) fn wipe_words(alloc: Global, words: &mut Vec<String>)
     }
 }
 
-// Leaves no form of one in which callers run in threads, whose seed is overwritten.
+// Replaces a form whose callers run in threads by `None`, and wipes its seed.
 pub(crate) fn leave_threads(form: &mut Option<ToolForm>)
     ensures { form.new ≡ without_threads form.old }
 {
@@ -131,7 +131,7 @@ pub(crate) fn leave_threads(form: &mut Option<ToolForm>)
     }
 }
 
-// The form that the words behind `replay` make.
+// Returns the form of the arguments after `replay`.
 fn read_replay(words: &[String]) -> Option<ToolForm>
     ensures { result ≡ replay_of (map string_bytes words.now) }
 {
@@ -151,7 +151,7 @@ fn replayed(way: Way, seeding: Option<Seeding>) -> Option<ToolForm>
     Some(ToolForm::Replay { way, seeding })
 }
 
-// Where the words behind those of the run say that the seed comes from.
+// Returns where the seed comes from, by the arguments after those of the run.
 fn read_seeding(words: &[String]) -> Option<Seeding>
     ensures { result ≡ seeding_of (map string_bytes words.now) }
 {
@@ -161,7 +161,7 @@ fn read_seeding(words: &[String]) -> Option<Seeding>
     read_given_seed(words).map(Seeding::Given)
 }
 
-// The seed that the words give, in 64 digits.
+// Returns the seed that the arguments give in 64 hexadecimal digits.
 fn read_given_seed(words: &[String]) -> Option<[u8; 32]>
     ensures { result ≡ seed_given (map string_bytes words.now) }
 {
@@ -174,7 +174,7 @@ fn read_given_seed(words: &[String]) -> Option<[u8; 32]>
     hex_bytes(words[1].as_bytes())
 }
 
-// The form that the words behind `replay-linked` make.
+// Returns the form of the arguments after `replay-linked`.
 fn read_linked(words: &[String]) -> Option<ToolForm>
     ensures { result ≡ linked_of (map string_bytes words.now) }
 {
@@ -194,7 +194,7 @@ fn replayed_linked(way: Way, seed: Option<[u8; 32]>) -> Option<ToolForm>
     Some(ToolForm::ReplayLinked { way, seed })
 }
 
-// The form that the words behind `check` make.
+// Returns the form of the arguments after `check`.
 fn read_checked(words: &[String]) -> Option<ToolForm>
     ensures { result ≡ checked_of (map string_bytes words.now) }
 {
@@ -207,7 +207,7 @@ fn read_checked(words: &[String]) -> Option<ToolForm>
     read_given_seed(words).map(ToolForm::Check)
 }
 
-// The form that the words behind `gen` make.
+// Returns the form of the arguments after `gen`.
 fn read_generated(words: &[String]) -> Option<ToolForm>
     ensures { result ≡ generated_of (map string_bytes words.now) }
 {
@@ -220,7 +220,7 @@ fn read_generated(words: &[String]) -> Option<ToolForm>
     }
 }
 
-// The form that the words behind the number make.
+// Returns the form of the arguments after the number.
 fn read_behind_number(words: &[String], number: u32) -> Option<ToolForm>
     ensures { result ≡ generated_behind (map string_bytes words.now) number }
 {
@@ -236,7 +236,7 @@ fn read_behind_number(words: &[String], number: u32) -> Option<ToolForm>
     Some(ToolForm::Summarise(number))
 }
 
-// The form that the words behind `inspect` make.
+// Returns the form of the arguments after `inspect`.
 fn read_inspected(words: &[String]) -> Option<ToolForm>
     ensures { result ≡ inspected_of (map string_bytes words.now) }
 {

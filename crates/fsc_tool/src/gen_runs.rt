@@ -25,7 +25,7 @@ use reply_text::{Note, Shown};
 use script_runs::{Told, history_of, run_in_rotation};
 use std::alloc::{AllocError, Global};
 
-// Writes the script that the number gives into the sink, once it stands whole, and tells how the run ends.
+// Writes the number's script into the sink, once the whole script is made. Returns how the run ends.
 pub(crate) fn run_generating<K: Sink>(alloc: Global, number: u32, sink: &mut K) -> Status
     ensures { EndsUnread (IsScriptText number) (K.state sink.old) (K.state sink.new) result }
 {
@@ -35,7 +35,7 @@ pub(crate) fn run_generating<K: Sink>(alloc: Global, number: u32, sink: &mut K) 
     }
 }
 
-// The same of the summary of a run of it.
+// The same for the summary of a run of that script.
 pub(crate) fn run_summarising<K: Sink, G: Gate, M: MountMachine>(
     alloc: Global,
     number: u32,
@@ -52,8 +52,8 @@ pub(crate) fn run_summarising<K: Sink, G: Gate, M: MountMachine>(
     }
 }
 
-// The summary of a run of the generated script in rotation. A run in which a call wanted memory has none:
-// what it would tell depends on where memory was wanting.
+// Returns the summary of a run of the generated script in rotation. Fails if a call of the run was out of
+// memory, since the summary would depend on which call that was.
 fn summary_of<G: Gate, M: MountMachine>(
     alloc: Global,
     number: u32,
@@ -69,7 +69,7 @@ fn summary_of<G: Gate, M: MountMachine>(
     Ok(text)
 }
 
-// The summary of what the callers of a run were told, in which no call wanted memory.
+// Returns the summary of a run with these entries and notes. Fails if a call of the run was out of memory.
 fn summary_of_told(alloc: Global, told: Told) -> Result<Bytes, AllocError>
     ensures no_want { OnOk result (list_any (λ placed. is_want_of_memory placed.1.reply) told.entries.items
         ≡ false) }
@@ -83,7 +83,7 @@ fn summary_of_told(alloc: Global, told: Told) -> Result<Bytes, AllocError>
     summary_of_history(alloc, history.as_slice(), told.notes.as_slice())
 }
 
-// The same of a history and its notes.
+// The same for a history and its notes.
 fn summary_of_history(
     alloc: Global,
     history: &[Entry<Shown, Reply>],
@@ -96,7 +96,7 @@ fn summary_of_history(
     summary_text(alloc, history, log.as_slice())
 }
 
-// The seed of such a run.
+// The seed of a run that is summarised: 32 zeros.
 fn zero_seed() -> [u8; 32]
     ensures { result ≡ zero_seed }
 {

@@ -21,8 +21,8 @@ use item_list::Bytes;
 use std::alloc::{AllocError, Global};
 use tree_listing::list_image;
 
-// Lists the image that the source gives with the raw key, or without one, and writes the listing into the sink, once
-// it stands whole. The key is overwritten where it stands at every end, and so is what the listing left on the stack.
+// Lists the image that the source gives, with the raw key or without one. Writes the listing into the sink
+// once it is complete. Wipes the key at every end, and what the listing left on the stack.
 pub(crate) fn run_inspecting<S: Source, K: Sink>(
     alloc: Global,
     raw: &mut Option<RawKey>,
@@ -44,8 +44,8 @@ pub(crate) fn run_inspecting<S: Source, K: Sink>(
     }
 }
 
-// The listing of the image that the source gives, or else the status with which the run ends. In a frame of its own,
-// so that what it leaves lies below the frame that overwrites it.
+// Returns the listing of the image that the source gives, or the status with which the run ends. Its frame
+// is its own, so that what it leaves on the stack is below the frame that wipes it.
 #[inline(never)]
 fn listing<S: Source>(alloc: Global, raw: &Option<RawKey>, source: &mut S) -> Result<Bytes, Status>
     ensures listed { IfOk result (HasListing raw.now (λ calls. S.came source.old calls source.new)
@@ -68,7 +68,7 @@ fn listing<S: Source>(alloc: Global, raw: &Option<RawKey>, source: &mut S) -> Re
     }
 }
 
-// The listing of an image with a raw key, of which the copy is overwritten then, or without one.
+// Returns the listing of an image, with a raw key or without one. Wipes its copy of the key afterwards.
 fn list_with(alloc: Global, image: &Image<'_>, raw: &Option<RawKey>) -> Result<Bytes, AllocError>
     ensures { IfOk result (IsListing image.now raw.now) }
 {
@@ -81,7 +81,7 @@ fn list_with(alloc: Global, image: &Image<'_>, raw: &Option<RawKey>) -> Result<B
     listed
 }
 
-// Overwrites the raw key, if there is one.
+// Wipes the raw key, if there is one.
 fn wipe_key(raw: &mut Option<RawKey>)
     ensures { raw.new ≡ wiped_key raw.old }
 {
@@ -90,7 +90,7 @@ fn wipe_key(raw: &mut Option<RawKey>)
     }
 }
 
-// How a run ends whose input isn't an image.
+// Returns the status of a run whose input could not be read as an image.
 fn image_status(fault: ImageFault) -> Status
     ensures { result ≡ image_status fault }
 {

@@ -7,7 +7,7 @@ ghost use Rattle.fsc_tool.specs.DumpLaws.{DumpsAreListed, DumpsAreListedWhole, R
 use fsc_outside::Source;
 use listing_laws::{mount_images_are_images, mount_images_are_short, mounts_are_told};
 
-/// What stands behind a script and the line `---` is read as the log of that script.
+/// The text after a script and a line `---` is read as the log of that script.
 pub fn logs_are_parted_from_scripts()
     ensures { LogsArePartedFromScripts }
 {}
@@ -18,20 +18,21 @@ pub fn printed_logs_are_not_refused()
     ensures { PrintedLogsAreNotRefused }
 {}
 
-/// What is said of the whole input that is such a log behind its script is that it is certified, or that there was no
-/// memory, where the script is within its limits.
+/// For such a log after its script, the status of the whole input is `Done` or `NoMemory`, if the script is
+/// within its limits.
 pub fn printed_logs_are_certified()
     ensures { PrintedLogsAreCertified }
 {}
 
-/// Each call of a run of a script that brings a nonce brings 16 bytes.
+/// Each nonce that a call of a script's run passes has 16 bytes.
 pub fn runs_carry_nonces()
     ensures { RunsCarryNonces }
 {}
 
-/// What is listed of a dump's text, with a raw key or without one, is what the mount that the script's history leaves
-/// shows to whoever has that key, or none; from a source that tells its bytes it is listed whole, unless the sink
-/// fails or there is no memory.
+/// The listing of a dump's text is what the mount, as the script's history leaves it, shows to a user with
+/// the given raw key or with none. If the source's bytes are known, the whole listing is written, unless
+/// the sink fails or there is no memory. Both hold if no two different raw keys of the script's history
+/// share an identifier, and the listing's raw key shares one with no other of them.
 pub fn dumps_are_listed<S: Source>()
     ensures listing { DumpsAreListed S.came }
     ensures whole { DumpsAreListedWhole S.came }

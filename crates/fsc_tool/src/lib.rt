@@ -1,4 +1,4 @@
-//! The tool: words, a source, a sink, a seed source and two mounts in; a status and a log out.
+//! The tool: arguments, a source, a sink, a seed source and two mounts in; a status and a text out.
 #![tactic(auto)]
 
 mod checking;

@@ -3,24 +3,24 @@
 use fsc_outside::InputLimits;
 use image_lines::MOST_IMAGE_BYTES;
 
-/// The most bytes that an input may have.
+/// The maximum number of bytes of an input.
 pub const MOST_INPUT_BYTES: usize = 1_048_576;
 
-/// The most lines that an input may have. A last piece without a line feed counts as one.
+/// The maximum number of lines of an input. A last piece without a line feed counts as one.
 pub const MOST_INPUT_LINES: usize = 20_000;
 
-/// The most bytes that a script may have with a log behind it. Some scripts have longer logs.
+/// The maximum number of bytes of a script with a log after it. Some scripts have longer logs.
 pub const MOST_CERTIFICATE_BYTES: usize = 67_108_864;
 
 pub(crate) const CERTIFICATE_LIMITS: InputLimits = InputLimits {
     bytes: MOST_CERTIFICATE_BYTES,
-    // No text of so many bytes has more.
+    // No text of that many bytes has more lines.
     lines: MOST_CERTIFICATE_BYTES + 1,
 };
 
 pub(crate) const IMAGE_LIMITS: InputLimits = InputLimits {
     bytes: MOST_IMAGE_BYTES,
-    // No text of so many bytes has more.
+    // No text of that many bytes has more lines.
     lines: MOST_IMAGE_BYTES + 1,
 };
 

@@ -22,8 +22,8 @@ use linked_turns::{LinkedTold, Mounts, linked_log, run_linked_in_rotation};
 use mount_shared::MountMachine;
 use std::alloc::Global;
 
-// A replay in rotation of the script that the source gives, with this seed, on two mounts: both logs and the notes go
-// into the sink. The seed is overwritten.
+// Replays in rotation, with this seed and on two mounts, the script that the source gives. Writes both logs
+// and the notes into the sink, and wipes the seed.
 pub(crate) fn run_linked<
     S: Source,
     K: Sink,
@@ -63,8 +63,8 @@ pub(crate) fn run_linked<
     finish_linked(alloc, told, &mut streams.sink)
 }
 
-// Writes both logs and the notes of a run on two mounts into the sink, once they stand whole, and tells how the run
-// ends.
+// Writes both logs and the notes of a run on two mounts into the sink, once they are complete. Returns how
+// the run ends.
 pub(crate) fn finish_linked<K: Sink>(alloc: Global, told: LinkedTold, sink: &mut K) -> Status
     ensures { EndsLog (linked_text (entries_of told.even.items) (entries_of told.odd.items) told.notes.items)
         (K.state sink.old) (K.state sink.new) result }

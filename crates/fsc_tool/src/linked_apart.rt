@@ -22,8 +22,8 @@ use std::alloc::Global;
 use std::sync::Wait;
 use std::thread::Threads;
 
-// A replay of the script that the source gives, with this seed, on two mounts, each caller in a thread of its own: both
-// logs and the notes go into the sink. The seed is overwritten.
+// Replays, with this seed and on two mounts, the script that the source gives, each caller in a thread of
+// its own. Writes both logs and the notes into the sink, and wipes the seed.
 pub(crate) fn run_linked_apart<
     R: Threads + Wait + Sync,
     S: Source,

@@ -8,7 +8,7 @@ use mount_model::{Call, Reply};
 use mount_shared::Mount;
 use turn_lock::Machine;
 
-// A mount that nobody else calls.
+// A mount without other callers.
 #[derive(Drop)]
 pub(crate) struct OneMount {
     pub(crate) mount: Mount,

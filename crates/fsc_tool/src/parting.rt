@@ -6,10 +6,11 @@ ghost use Rattle.fsc_tool.specs.Parted.{parted};
 
 use text_words::next_line;
 
-// The line that parts them.
+// The line that separates them.
 const PARTING: &[u8] = b"---";
 
-// What stands before the first line that parts, and what behind it; none where there is no such line.
+// Returns what is before the first separating line and what is after it, or `None` if there is no such
+// line.
 pub(crate) fn parted(input: &[u8]) -> Option<(&[u8], &[u8])>
     ensures { option_map (λ parts. (parts.0.now, parts.1.now)) result ≡ parted input.now }
 {

@@ -1,5 +1,5 @@
-//! What comes before a run's calls and after them: a script with a seed from the bytes that come in, and
-//! the log that goes out. What a run as a whole means stands in `specs/Replay.antt`.
+//! What precedes and follows a run's calls: a script with a seed from the input's bytes, and the log as
+//! output. `specs/Replay.antt` defines what a run as a whole means.
 
 ghost use Rattle.std.specs.Prelude.{◌≡◌, ◌++◌, [], replicate, IfOk, IfErr};
 ghost use Rattle.call_history.specs.Placed.{entries_of};
@@ -39,7 +39,7 @@ pub(crate) struct Prepared {
 }
 
 impl Prepared {
-    // Overwrites the secrets of the script, which is empty then, and the seed.
+    // Wipes the secrets of the script, which is empty afterwards, and the seed.
     pub(crate) fn wipe(&mut self, alloc: Global)
         ensures script { self.new.script ≡ [] }
         ensures seed { self.new.seed ≡ replicate 32 0 }
@@ -49,10 +49,10 @@ impl Prepared {
     }
 }
 
-// The script that the source gives and the seed of the run, or else the status with which it ends before its
-// first call. The bytes that came in are overwritten once they are read, and at every end so are the seed of the
-// words and what the reading left on the stack. What is prepared lies in a box, so that no move leaves another
-// seed.
+// Returns the script that the source gives and the seed of the run, or the status with which the run ends
+// before its first call. Wipes the input's bytes once they are read. Wipes at every end the arguments' seed
+// and what the reading left on the stack. The result is in a box, so that no move leaves another copy of
+// the seed.
 pub(crate) fn prepare<S: Source, E: SeedSource>(
     alloc: Global,
     seeding: &mut Seeding,
@@ -75,8 +75,8 @@ pub(crate) fn prepare<S: Source, E: SeedSource>(
     prepared
 }
 
-// The same, in a frame of its own, so that what it leaves, a copy of the words' seed too, lies below the frame that
-// overwrites it.
+// The same without the final wiping. Its frame is its own, so that what it leaves on the stack, such as a
+// copy of the arguments' seed, is below the frame that wipes it.
 #[inline(never)]
 fn prepare_unscrubbed<S: Source, E: SeedSource>(
     alloc: Global,
@@ -114,8 +114,8 @@ fn prepare_unscrubbed<S: Source, E: SeedSource>(
     Ok(run)
 }
 
-// A run of the script, with zeros in the place of its seed. The one error is want of memory, behind which the
-// script is overwritten.
+// Returns a run of the script, with zeros as its seed. The only error is `NoMemory`; the script is wiped
+// then.
 fn unseeded(alloc: Global, script: Script) -> Result<Box<Prepared>, Status>
     ensures script { IfOk result (λ run. run.value.script ≡ script) }
     ensures error { IfErr result (λ status. status ≡ NoMemory) }
@@ -130,13 +130,13 @@ fn unseeded(alloc: Global, script: Script) -> Result<Box<Prepared>, Status>
     }
 }
 
-// Overwrites the bytes that came in, in which the script's secrets stand as digits.
+// Wipes the input's bytes, which contain the script's secrets as digits.
 pub(crate) fn wipe_input(input: Bytes) {
     let mut text = input.into_vec();
     wipe(text.as_mut_slice());
 }
 
-// How a run ends whose input isn't read.
+// Returns the status of a run whose input could not be read.
 pub(crate) fn input_status(fault: InputFault) -> Status
     ensures { result ≡ input_status fault }
 {
@@ -147,7 +147,7 @@ pub(crate) fn input_status(fault: InputFault) -> Status
     }
 }
 
-// How a run ends whose input isn't a script.
+// Returns the status of a run whose input could not be read as a script.
 pub(crate) fn script_status(fault: ScriptFault) -> Status
     ensures { result ≡ script_status fault }
 {
@@ -157,7 +157,7 @@ pub(crate) fn script_status(fault: ScriptFault) -> Status
     }
 }
 
-// Writes the log of a run into the sink, once it stands whole, and tells how the run ends.
+// Writes the log of a run into the sink, once it is complete. Returns how the run ends.
 pub(crate) fn finish<K: Sink>(alloc: Global, told: Told, sink: &mut K) -> Status
     ensures { EndsLog (shown_log (entries_of told.entries.items) ++ notes_text told.notes.items)
         (K.state sink.old) (K.state sink.new) result }
@@ -169,7 +169,7 @@ pub(crate) fn finish<K: Sink>(alloc: Global, told: Told, sink: &mut K) -> Status
     write_text(log, sink)
 }
 
-// The log of the entries, whose places are their numbers, and behind it the notes.
+// Returns the log of the entries, whose places are their numbers, followed by the notes.
 fn log_of(alloc: Global, told: Told) -> Result<Bytes, AllocError>
     ensures { IfOk result (λ log.
         log ≡ shown_log (entries_of told.entries.items) ++ notes_text told.notes.items) }
@@ -178,7 +178,7 @@ fn log_of(alloc: Global, told: Told) -> Result<Bytes, AllocError>
     whole_log(alloc, history.as_slice(), told.notes.as_slice())
 }
 
-// The log of a history, and behind it the notes.
+// Returns the log of a history, followed by the notes.
 pub(crate) fn whole_log(
     alloc: Global,
     history: &[Entry<Shown, Reply>],

@@ -7,7 +7,7 @@ use crate::form::Seeding;
 use byte_words::wipe;
 use fsc_outside::{Failed, SeedSource};
 
-// The seed of a run. The seed source is asked once, and only where the words give no seed.
+// Returns the seed of a run. Asks the seed source once, and only if the arguments give no seed.
 pub(crate) fn take_seed<E: SeedSource>(seeding: &Seeding, seeds: &mut E) -> Result<[u8; 32], Failed>
     ensures { TakesSeed seeding.now (E.state seeds.old) (E.state seeds.new) result }
 {
@@ -21,7 +21,7 @@ pub(crate) fn take_seed<E: SeedSource>(seeding: &Seeding, seeds: &mut E) -> Resu
     }
 }
 
-// Overwrites the seed that the words give, if they do.
+// Wipes the seed that the arguments gave, if any.
 pub(crate) fn wipe_seeding(seeding: &mut Seeding)
     ensures { seeding.new ≡ wiped_seeding seeding.old }
 {

@@ -8,29 +8,30 @@ use std::fmt;
 /// How a run ended.
 #[derive(Clone, Copy, Debug, PartialEq, Eq)]
 pub enum Status {
-    /// What was asked for is written, or the log that was checked is one.
+    /// What was asked for is written, or the log that was checked is certified.
     Done,
-    /// The log that was checked can be one up to this place, and no further.
+    /// The log that was checked can be one of a run up to this place, and no further.
     Refused { place: u64 },
-    /// The words aren't a form of the command line.
+    /// The arguments are no form of the command line.
     Usage,
-    /// The line, counted from 1, is the first outside the grammar, or of an image the one at fault.
+    /// This line, counted from 1, is the first outside the grammar, or the line of an image that is at
+    /// fault.
     BadLine { line: u32 },
     /// The input failed.
     ReadFault,
-    /// The output failed, after a beginning of what was to be written.
+    /// The output failed, after a beginning of the text.
     WriteFault,
     /// The seed source failed. Nothing is written.
     SeedFault,
-    /// The input has more than 1,048,576 bytes or 20,000 lines; an image more than 268,435,456 bytes; a script
-    /// with a log behind it more than 67,108,864.
+    /// The script has more than 1,048,576 bytes or 20,000 lines, the image has more than 268,435,456 bytes,
+    /// or a script with a log after it has more than 67,108,864 bytes.
     TooLong,
     /// There was no memory.
     NoMemory,
 }
 
 impl Status {
-    /// The number that the program ends with.
+    /// Returns the exit status of the program.
     pub fn number(self) -> u8
         ensures { result ≡ status_number self }
     {

@@ -8,6 +8,7 @@ pub struct Streams<S, K, E> {
     pub source: S,
     pub sink: K,
     pub seeds: E,
-    /// None before a run. `check` puts here how a refused log differs from a run, where there is memory for it.
+    /// `None` before a run. `check` stores here how a refused log differs from a run, if there is memory
+    /// for it.
     pub difference: Option<Difference>,
 }

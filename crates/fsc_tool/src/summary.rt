@@ -13,7 +13,7 @@ use sha2::{Digest, Sha256};
 use std::alloc::{AllocError, Global};
 use text_words::{push_decimal, push_lower_hex};
 
-// The summary of a history whose log this is.
+// Returns the summary of a history with this log.
 #[tactic(auto, unfolding(crate::specs::Summary::summary_text))]
 pub(crate) fn summary_text(
     alloc: Global,
@@ -32,7 +32,7 @@ pub(crate) fn summary_text(
     Ok(Bytes::from_vec(text))
 }
 
-// Puts a line with a count behind the text.
+// Appends a line with a count to the text.
 fn put_count(text: &mut Vec<u8>, word: &[u8], count: usize) -> Result<(), AllocError>
     ensures { OnOk result (text.new.items ≡ text.old.items ++ spec.count_line word.now count) }
 {
@@ -43,7 +43,7 @@ fn put_count(text: &mut Vec<u8>, word: &[u8], count: usize) -> Result<(), AllocE
     Ok(())
 }
 
-// How many calls were refused.
+// Returns how many calls were refused.
 fn refused(history: &[Entry<Shown, Reply>]) -> usize
     ensures { result ≡ count_by (λ e. spec.is_refusal e.reply) history.now }
 {
@@ -53,7 +53,7 @@ fn refused(history: &[Entry<Shown, Reply>]) -> usize
         .count()
 }
 
-// How many removals found a key in use.
+// Returns how many removals found a key in use.
 fn busy(history: &[Entry<Shown, Reply>]) -> usize
     ensures { result ≡ count_by (λ e. spec.is_busy_removal e.reply) history.now }
 {
@@ -80,7 +80,7 @@ fn is_busy_removal(reply: &Reply) -> bool
     }
 }
 
-// Whether a call found no memory.
+// Returns whether a call was out of memory.
 pub(crate) fn wants_memory(entries: &[(u64, Entry<Shown, Reply>)]) -> bool
     ensures { result ≡ list_any (λ placed. is_want_of_memory placed.1.reply) entries.now }
 {

@@ -1,4 +1,4 @@
-//! The tool's calls: one that starts threads, and one that waits for nobody.
+//! The tool's calls: one that starts threads, and one that waits for no other thread.
 
 ghost use Rattle.std.specs.Prelude.{◌≡◌, ◌≢◌, List, [], Some, map, string_bytes};
 ghost use Rattle.std.specs.Option.{option_map_or};
@@ -30,27 +30,29 @@ use std::alloc::Global;
 use std::sync::Wait;
 use std::thread::Threads;
 
-/// Does what the words ask for, which are those of the command line without the program's own name, and are
-/// Usage unless they are a form (`form_of`):
-/// - `replay` and `replay --serial`, alone or with `--seed HEX64` behind: replays the script that the source
-///   gives on mount 0, which no call was made on, and writes its log into the sink. With `--serial` the
-///   callers take turns; else each runs in a thread of its own, and waits for its turn on the mount at each
-///   call.
-/// - `gen NUMBER`: writes the script that the number gives; with `--summary` behind, the summary of a replay of
+/// Runs the command given by `words`, the arguments without the program's name. Returns `Usage` if they are
+/// no form (`form_of`). The forms:
+/// - `replay` and `replay --serial`, alone or followed by `--seed HEX64`: replays on mount 0 the script
+///   that the source gives, and writes its log into the sink. No call was made on mount 0 before. With
+///   `--serial` the callers take turns; otherwise each runs in a thread of its own, and waits for its turn
+///   on the mount at each call.
+/// - `gen NUMBER`: writes the number's script. Followed by `--summary`: writes the summary of a replay of
 ///   it in turns on mount 0, with a seed of zeros. Neither asks the source.
-/// - `dump --seed HEX64`: runs the script in turns, and writes the image of what then lies on the disk.
-/// - `inspect`, alone or with `raw:HEX` behind: reads an image, and writes its listing.
-/// - `check --seed HEX64`: reads a script, a line `---` and a log, and writes nothing; `check --strict --seed HEX64`
-///   takes no log of a run in which something was out of memory.
-/// - `replay-linked --seed HEX64` and `replay-linked --serial --seed HEX64`: runs the script on two mounts, its
-///   callers as those of a replay, and writes both logs. No call was made on mount 1 either.
+/// - `dump --seed HEX64`: runs the script in turns, and writes the image of the disk afterwards.
+/// - `inspect`, alone or followed by `raw:HEX`: reads an image, and writes its listing.
+/// - `check --seed HEX64`: reads a script, a line `---` and a log, and writes nothing.
+///   `check --strict --seed HEX64` accepts no log of a run in which something was out of memory.
+/// - `replay-linked --seed HEX64` and `replay-linked --serial --seed HEX64`: runs the script on two mounts,
+///   with callers as in a replay, and writes both logs. No call was made on mount 1 before either.
 ///
-/// `dump` and `check` make their calls on a mount of their own, and no form but the replays and
-/// `gen NUMBER --summary` uses mount 0, and none but `replay-linked` mount 1. Each command of a run that writes its
-/// log, its summary or its image runs between the gate's two calls. Nothing is written before all callers have
-/// ended and the whole text stands. The seed source is asked once, by a replay alone, for a script in the grammar
-/// where the words give no seed. Words that are a form are overwritten and taken away once they are read, since one
-/// of them may be a seed or a key.
+/// `dump` and `check` make their calls on a mount of their own. Only the replays and `gen NUMBER --summary`
+/// use mount 0, and only `replay-linked` uses mount 1. Each command of a run that writes its log, its
+/// summary or its image runs between the gate's two calls. Nothing is written before all callers have ended
+/// and the whole text is complete.
+///
+/// The seed source is asked once, only by a replay of a script in the grammar whose arguments give no seed.
+/// Arguments that are a form are wiped and removed once they are read, since one of them may be a seed or a
+/// key.
 pub fn tool<
     R: Threads + Wait + Sync,
     S: Source,
@@ -101,15 +103,18 @@ pub fn tool<
     }
 }
 
-/// Does what the words ask for, as `tool` does, on one thread. The words are those of the command line without
-/// the program's own name, and are Usage unless they are a form (`form_of`) that starts no thread: `replay
-/// --serial`, alone or with `--seed HEX64` behind, whose callers take turns; `gen NUMBER` and `gen NUMBER
-/// --summary`; `dump --seed HEX64`; `inspect`, alone or with `raw:HEX` behind; `check --seed HEX64` and
-/// `check --strict --seed HEX64`; `replay-linked --serial --seed HEX64`.
+/// Runs the command given by `words`, as `tool` does, on one thread. `words` are the arguments without the
+/// program's name. Returns `Usage` unless they are a form (`form_of`) that starts no thread:
+/// - `replay --serial`, alone or followed by `--seed HEX64`, whose callers take turns
+/// - `gen NUMBER` and `gen NUMBER --summary`
+/// - `dump --seed HEX64`
+/// - `inspect`, alone or followed by `raw:HEX`
+/// - `check --seed HEX64` and `check --strict --seed HEX64`
+/// - `replay-linked --serial --seed HEX64`
 ///
-/// `dump` and `check` make their calls on a mount of their own. Nothing is written before the whole text
-/// stands. The seed source is asked once, by a replay alone, for a script in the grammar where the words give
-/// no seed. The words stay as they are.
+/// `dump` and `check` make their calls on a mount of their own. Nothing is written before the whole text is
+/// complete. The seed source is asked once, only by a replay of a script in the grammar whose arguments
+/// give no seed. The arguments stay as they are.
 pub fn tool_serial<S: Source, K: Sink, E: SeedSource, M: MountMachine, N: MountMachine>(
     alloc: Global,
     words: &Vec<String>,
@@ -134,7 +139,7 @@ pub fn tool_serial<S: Source, K: Sink, E: SeedSource, M: MountMachine, N: MountM
     }
 }
 
-// Does what a form asks for that starts no thread.
+// Runs a form that starts no thread.
 fn run_in_turns<S: Source, K: Sink, E: SeedSource, G: Gate, M: MountMachine, N: MountMachine>(
     alloc: Global,
     form: &mut ToolForm,
@@ -186,7 +191,7 @@ fn run_in_turns<S: Source, K: Sink, E: SeedSource, G: Gate, M: MountMachine, N: 
     }
 }
 
-// A replay whose callers take turns.
+// Replays a script whose callers take turns.
 fn replay_in_rotation<S: Source, K: Sink, E: SeedSource, G: Gate, M: MountMachine>(
     alloc: Global,
     seeding: &mut Seeding,
@@ -216,7 +221,7 @@ fn replay_in_rotation<S: Source, K: Sink, E: SeedSource, G: Gate, M: MountMachin
     finish(alloc, told, &mut streams.sink)
 }
 
-// A replay whose callers run in threads.
+// Replays a script whose callers run in threads.
 fn replay_in_threads<
     R: Threads + Wait + Sync,
     S: Source,

@@ -6,7 +6,7 @@ use crate::status::Status;
 use fsc_outside::{Sink, write_all};
 use item_list::Bytes;
 
-// Writes a text into the sink, and tells how the run ends.
+// Writes a text into the sink. Returns how the run ends.
 pub(crate) fn write_text<K: Sink>(text: Bytes, sink: &mut K) -> Status
     ensures { EndsLog text (K.state sink.old) (K.state sink.new) result }
 {
