@@ -17,7 +17,7 @@ use Rattle.argon_kdf.proofs.Recursion.{joined_same, new_first_same, new_joined_s
 use Rattle.argon_kdf.proofs.SegmentLemmas.{side_of, begin_made}
 use Rattle.argon_kdf.proofs.Standing.{put_lane, put_column, latest_made, latest_old, latest_same}
 
--- two tables that a lane's segment of a slice cannot tell apart
+-- two tables with equal blocks wherever a lane's segment of a slice may read
 pub record Agree (x : Shape) (s i : ℕ) (b c : Table) : Type 0 where
   pub own : (w z : ℕ) → b w i z ≡ c w i z
   pub outside : (w l z : ℕ) → IsOutside x s z → b w l z ≡ c w l z

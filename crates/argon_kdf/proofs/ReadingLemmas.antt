@@ -1,4 +1,4 @@
--- What a segment in the making reads is there: in the first pass it stands before the segment's next block.
+-- What a segment in the making reads is there: in the first pass it is before the segment's next block.
 use Rattle.std.proofs.Common.{◌≡◌, ℕ, ◌+◌, ◌*◌, ◌/◌, ◌%◌, ◌^◌, ◌<◌, ◌≤◌, ◌≢◌, List, length, inl, inr, refl, sym}
 use Rattle.std.proofs.Common.{ap, ◌∙◌, arith}
 use Rattle.std.proofs.lemmas.Bool.{cases_eq}
@@ -34,7 +34,7 @@ other_there x m seg at z some within readable inside before other =
     omega (arith, before first, within.index, next_row at.slice x.width) in
     omega (arith, div_below z x.width (at.slice + 1) some low))
 
--- ---- the first pass reads what stands before
+-- ---- the first pass reads what is before
 
 pub before_low : (x : Shape) (at : Place) (column : ℕ) → 2 ≤ column_of x at → column ≡ column_before x at
     → column < column_of x at

@@ -17,7 +17,7 @@ use Rattle.argon_kdf.proofs.Standing.{put_column, latest_made, latest_old}
 use Rattle.argon_kdf.proofs.Steps.{with_places_next, with_lanes_next, with_slices_next, with_passes_next}
 use Rattle.argon_kdf.proofs.Steps.{with_places_none, with_lanes_none, with_slices_none}
 
--- the block of a pass, a lane and a column is made where the filling has come to a place
+-- the block of a pass, a lane and a column is made when the filling has come to a place
 abbrev pub IsMade : Shape → Place → ℕ → ℕ → ℕ → Type 0
 IsMade x at w l z = (w < at.pass) ⊎ ((w ≡ at.pass) × (z < columns_made x at l))
 
@@ -145,7 +145,7 @@ passes_keep x h0 at n (suc more) later =
 
 -- ---- a place of the finished table
 
--- where the next block is made, all is made that was, and the block itself
+-- once the next block is made, so are all that were made before, and the block itself
 made_on : (x : Shape) (w s i k p l z : ℕ) → IsMade x (place w s i k) p l z
     → IsMade x (place w s i (k + 1)) p l z
 made_on x w s i k p l z (inl earlier) = inl earlier

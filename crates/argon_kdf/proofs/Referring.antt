@@ -1,5 +1,5 @@
--- Where the references go: in the first pass to made blocks alone, and never into another lane's segment
--- of the same slice.
+-- Where the references go: in the first pass only to made blocks, and never into another lane's segment of
+-- the same slice.
 use Rattle.std.proofs.Common.{◌≡◌, ℕ, ◌+◌, ◌-◌, ◌*◌, ◌/◌, ◌%◌, ◌^◌, ◌<◌, ◌≤◌, ◌≢◌, ◌⊎◌, inl, inr, refl, ap}
 use Rattle.std.proofs.Common.{◌∙◌, arith}
 use Rattle.std.proofs.Math.Nat.{mul-le-mul_left, mod-eq_of_lt, add-mul-mod_self_right}

@@ -89,7 +89,7 @@ apart_of g s k z other = elim (cases_eq (z / g) s) [
       sym (div-add-mod' z g) ∙ ap (λ (n : ℕ). n * g + z % g) here ∙ ap (λ (n : ℕ). s * g + n) index))
 ]
 
--- a segment with a block written, over another or behind the others
+-- a segment with a block written, over another or after the others
 pub record Written (old new : List (List ℕ)) (k : ℕ) (block : List ℕ) : Type 0 where
   pub here : slice_index_or new k zero_block ≡ block
   pub others : (n : ℕ) → n ≢ k → slice_index_or new n zero_block ≡ slice_index_or old n zero_block

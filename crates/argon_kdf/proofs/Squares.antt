@@ -43,7 +43,7 @@ puts_all (v ∷ vs) block at k fits =
 
 -- ---- transposed blocks
 
--- where word n of the transposed block stands in the block
+-- where word n of the transposed block is in the block
 abbrev pub turned : ℕ → ℕ
 turned n = 16 * (n % 16 / 2) + (2 * (n / 16) + n % 2)
 

@@ -1,4 +1,4 @@
--- How the memory stands for the table from one place to the next.
+-- How the memory represents the table from one place to the next.
 use Rattle.std.proofs.Common.{◌≡◌, ℕ, ◌+◌, ◌-◌, ◌*◌, ◌<◌, ◌≤◌, ◌≢◌, List, [], length, slice_index_or}
 use Rattle.std.proofs.Common.{slice_set, inl, inr, refl, sym, ap, ◌∙◌, arith, length-set, get_or-set_same}
 use Rattle.std.proofs.Common.{get_or-set_other}
@@ -215,7 +215,7 @@ Stands_pass x memory b w st = record {
       (record { shows = st.shows })).shows;
 }
 
--- memory full of zeros stands for the empty table
+-- memory full of zeros represents the empty table
 pub Shows_start : (x : Shape) (now : ℕ → ℕ → List ℕ)
     → ((l z : ℕ) → l < x.lanes → z < columns x → now l z ≡ zero_block)
     → Shows x now empty_table (place 0 0 0 0)

@@ -1,4 +1,4 @@
--- Memory that is overwritten element by element.
+-- Memory that is wiped element by element.
 use Rattle.std.proofs.Common.{◌≡◌, ℕ, zero, suc, ◌+◌, ◌<◌, List, [], ◌∷◌, ◌++◌, length, take, drop, map}
 use Rattle.std.proofs.Common.{slice_index_or, slice_set, refl, ap, ◌∙◌, arith}
 

@@ -9,8 +9,7 @@ use Rattle.argon_kdf.specs.LongDigest.{long_digest}
 use Rattle.argon_kdf.specs.Shapes.{Shape, columns, shape_of_costs}
 use Rattle.argon_kdf.specs.Filling.{with_passes}
 
--- what H_0 is the digest of: lanes, length of the tag, memory, passes, version, type, and the texts
--- (step 1)
+-- the input of H_0: lanes, length of the tag, memory, passes, version, type, and the texts (step 1)
 abbrev pub first_input : Costs → List ℕ → List ℕ → List ℕ → List ℕ → List ℕ
 first_input costs password salt secret extra =
     little_endian_bytes 4 costs.lanes ++ little_endian_bytes 4 32

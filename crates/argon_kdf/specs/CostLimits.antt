@@ -6,8 +6,8 @@ use Rattle.argon_kdf.specs.declared.costs.Costs.{Costs}
 use Rattle.argon_kdf.specs.declared.costs.CostFault.{CostFault}
 use Rattle.argon_kdf.specs.declared.costs.CostFault.TheVariants.{Passes, Lanes, Kib}
 
--- 1 to 16 passes, then 1 to 8 lanes, then 8 KiB a lane to 65,536 KiB: the first that is not so is the
--- fault
+-- 1 to 16 passes, then 1 to 8 lanes, then 8 KiB a lane to 65,536 KiB: the fault is the first that is out of
+-- its range
 abbrev pub checked_costs : Costs → Result (Unit {0}) CostFault
 checked_costs costs =
     if is_in_range 1 MOST_PASSES costs.passes then

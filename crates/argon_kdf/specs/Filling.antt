@@ -13,7 +13,7 @@ unfoldable pub first_block : List ℕ → ℕ → ℕ → List ℕ
 first_block h0 lane column =
     block_of (long_digest 1024 ((h0 ++ little_endian_bytes 4 column) ++ little_endian_bytes 4 lane))
 
--- G of the block before a place and the block that it refers to, among the blocks `now` as they stand
+-- G of the block before a place and the block that it refers to, among the current blocks `now`
 unfoldable pub joined_block : Shape → Place → (ℕ → ℕ → List ℕ) → List ℕ
 joined_block x at now =
     let previous = now at.lane (column_before x at) in
@@ -22,7 +22,7 @@ joined_block x at now =
     joined previous (now lane (reference_column x at lane (word % 2 ^ 32)))
 
 -- the block of a place: in the first pass a first block, or G's; in a later one G's, xored with the block
--- that stands there (steps 5 and 6)
+-- that is there (steps 5 and 6)
 unfoldable pub new_block : Shape → List ℕ → Place → (ℕ → ℕ → List ℕ) → List ℕ
 new_block x h0 at now =
     if at.pass == 0 then

@@ -14,7 +14,7 @@ unfoldable pub first_halves : ℕ → List ℕ → ℕ → List ℕ
 first_halves len message zero = []
 first_halves len message (suc n) = first_halves len message n ++ take 32 (chained_digest len message n)
 
--- H' of `len` bytes: a digest where that is long enough, else r halves and a last digest
+-- H' of `len` bytes: one digest if `len` is at most 64, else r halves and a last digest
 unfoldable pub long_digest : ℕ → List ℕ → List ℕ
 long_digest len message =
     let r = (len + 31) / 32 - 2 in

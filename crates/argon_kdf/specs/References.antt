@@ -1,4 +1,4 @@
--- Which block is taken in beside the one before (RFC 9106, 3.4).
+-- Which block a new block refers to, besides the one before it (RFC 9106, 3.4).
 use Rattle.std.specs.Prelude.{ℕ, ◌+◌, ◌-◌, ◌*◌, ◌/◌, ◌%◌, ◌^◌, ◌==◌, nat_lt, List}
 use Rattle.std.specs.Prelude.{[], ◌∷◌, ◌++◌, slice_index, replicate, if◌then◌else◌}
 use Rattle.argon_kdf.specs.declared.layout.Place.{Place}
@@ -14,7 +14,7 @@ address_input x at counter =
 unfoldable pub address_block : Shape → Place → ℕ → List ℕ
 address_block x at counter = joined zero_block (joined zero_block (address_input x at counter))
 
--- J_2 and J_1 as one word: of an address block in the first half of the first pass, elsewhere of the
+-- J_2 and J_1 as one word: from an address block in the first half of the first pass, otherwise from the
 -- block before (3.4.1.3)
 unfoldable pub reference_word : Shape → Place → List ℕ → ℕ
 reference_word x at previous =
@@ -28,13 +28,13 @@ unfoldable pub reference_lane : Shape → Place → ℕ → ℕ
 reference_lane x at j2 =
     if at.pass == 0 then if at.slice == 0 then at.lane else j2 % x.lanes else j2 % x.lanes
 
--- how many blocks of a lane stand in finished segments of the last three slices or, in the first pass,
--- of the slices so far
+-- how many blocks of a lane are in finished segments of the last three slices or, in the first pass, of the
+-- slices so far
 unfoldable pub finished : Shape → Place → ℕ
 finished x at = if at.pass == 0 then at.slice * x.width else columns x - x.width
 
 -- how many blocks there are to choose from in a lane: in the place's own lane those of its segment too,
--- but for the block before; at the start of a segment one less of the others (3.4.2)
+-- except the block before; at the start of a segment one less of the others (3.4.2)
 unfoldable pub choices : Shape → Place → ℕ → ℕ
 choices x at lane =
     if lane == at.lane then finished x at + at.index - 1

@@ -1,4 +1,4 @@
--- How memory and a segment in the making stand for a table. These words describe the code and not the
+-- How memory and a segment in the making represent a table. These definitions describe the code and not the
 -- standard.
 use Rattle.std.specs.Prelude.{◌≡◌, ◌≢◌, ℕ, ◌<◌, ◌⊎◌, List, [], length, All, vec_capacity}
 use Rattle.std.specs.declared.vec.Vec.{Vec}
@@ -9,13 +9,13 @@ use Rattle.argon_kdf.specs.Slices.{HasSlice}
 use Rattle.argon_kdf.specs.SeenBlocks.{IsOutside, seen_block}
 use Rattle.argon_kdf.specs.Tables.{Table, latest}
 
--- room for a slice: a vector for each lane that has no block yet and holds as many as a segment
+-- capacity for a slice: for each lane a vector that has no block yet and holds as many as a segment
 pub record IsRoom (x : Shape) (segments : List (Vec (List ℕ) Global)) : Type 0 where
   pub lanes : length segments ≡ x.lanes
   pub empty : All (λ v. v.items ≡ []) segments
   pub room : All (λ v. vec_capacity v ≡ x.width) segments
 
--- what the segment of a place may read is there: each other slice and all that the segment had, but in the
+-- what the segment of a place may read is there: each other slice and all that the segment had, or in the
 -- first pass only the slices before and the blocks made so far
 pub record IsReadable (x : Shape) (memory : List (List (List (List ℕ)))) (segment : List (List ℕ))
     (at : Place) : Type 0 where

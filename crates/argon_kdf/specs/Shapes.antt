@@ -4,7 +4,7 @@ use Rattle.argon_kdf.specs.declared.costs.Costs.{Costs}
 use Rattle.argon_kdf.specs.declared.layout.Layout.{Layout}
 use Rattle.argon_kdf.specs.declared.layout.Place.{Place}
 
--- how often the memory is gone through, in how many lanes, and how many columns a segment has
+-- the number of passes over the memory, of lanes, and of columns of a segment
 pub record Shape : Type 0 where
   pub passes : ℕ
   pub lanes : ℕ
@@ -23,7 +23,7 @@ abbrev pub shape_of_costs : Costs → Shape
 shape_of_costs costs =
     record { passes = costs.passes; lanes = costs.lanes; width = costs.kib / (4 * costs.lanes) }
 
--- what a layout of the program is
+-- the shape of a layout of the program
 abbrev pub shape : Layout → Shape
 shape layout = record { passes = layout.passes; lanes = layout.lanes; width = layout.width }
 
@@ -35,7 +35,7 @@ place pass slice lane index = record { pass = pass; slice = slice; lane = lane; 
 abbrev pub column_of : Shape → Place → ℕ
 column_of x at = at.slice * x.width + at.index
 
--- the column before it; before the first column stands the last
+-- the column before it; before the first column comes the last
 abbrev pub column_before : Shape → Place → ℕ
 column_before x at = if column_of x at == 0 then columns x - 1 else column_of x at - 1
 

@@ -1,4 +1,4 @@
--- Memory that has a vector for each segment, slice by slice and in a slice lane by lane. These words
+-- Memory that has a vector for each segment, slice by slice and in a slice lane by lane. These definitions
 -- describe the code and not the standard.
 use Rattle.std.specs.Prelude.{◌≡◌, ◌≢◌, ℕ, ◌<◌, List, [], length, map, replicate, slice_index_or}
 use Rattle.std.specs.declared.vec.Vec.{Vec}
@@ -41,7 +41,7 @@ pub record HasSlices (x : Shape) (many : ℕ) (memory : List (List (List (List �
 abbrev pub IsWhole : Shape → List (List (List (List ℕ))) → Type 0
 IsWhole x memory = HasSlices x 4 memory
 
--- it has, but for the one that is taken out
+-- it has, except the one that is taken out
 pub record IsWholeBut (x : Shape) (slice : ℕ) (memory : List (List (List (List ℕ)))) : Type 0 where
   pub count : length memory ≡ 4
   pub slices : (n : ℕ) → n < 4 → n ≢ slice → IsSlice x (slice_index_or memory n [])

@@ -30,8 +30,9 @@ pub(crate) fn xor_into(block: &mut Block, other: &Block)
     }
 }
 
-// The product is added to each of the two by taking its complement away. Doubled as a number, LLVM
-// doubles a factor first, and multiplies 33 bits by 32: a whole call then takes an eighth more time.
+// Adds the product to each of the two by subtracting its complement. If the product were doubled as a
+// number, LLVM would double a factor first, and multiply 33 bits by 32: a whole call would take an eighth
+// more time.
 #[inline(always)]
 fn multiply_add(a: u64, b: u64) -> u64
     ensures { result ≡ product_sum a b }
@@ -213,8 +214,8 @@ fn permute_columns(block: &mut Block)
     }
 }
 
-// G: writes the block that two blocks make. It stays out of line, so that its loops are compiled by
-// themselves, whoever calls.
+// G: writes the block that `x` and `y` make. It stays out of line, so that its loops are compiled on their
+// own, whatever the caller.
 #[inline(never)]
 pub(crate) fn join(block: &mut Block, x: &Block, y: &Block)
     ensures { block.new ≡ joined x.now y.now }

@@ -7,7 +7,7 @@ ghost use Rattle.argon_kdf.specs.Blocks.{block_of};
 use crate::block::{BLOCK_WORDS, Block, ZERO_BLOCK};
 use byte_words::{read_word, write_words};
 
-// The block of these bytes, each word with the low byte first.
+// Returns the block of these bytes. Each word is little-endian.
 pub(crate) fn from_bytes(bytes: &[u8; 1024]) -> Block
     ensures { result ≡ block_of bytes.now }
 {
@@ -18,7 +18,7 @@ pub(crate) fn from_bytes(bytes: &[u8; 1024]) -> Block
     block
 }
 
-// The bytes of a block.
+// Returns the bytes of a block.
 pub(crate) fn to_bytes(block: &Block) -> [u8; 1024]
     ensures { result ≡ bytes_of_words block.now }
 {

@@ -19,8 +19,8 @@ use std::thread::Threads;
 /// Writes the tag that [`argon2id`] writes, with the segments of each slice made at the same time, in at
 /// most one thread a lane.
 ///
-/// All memory, `kib` KiB in a vector for each segment, is taken first: the one error is want of memory, and
-/// then the tag is as it was.
+/// The blocks' memory, at most `kib` KiB with a vector for each segment, is allocated first. The only error
+/// is out of memory; the tag is unchanged then.
 pub fn argon2id_lanes<R: Threads + Sync>(
     threads: &R,
     alloc: Global,

@@ -5,14 +5,14 @@ ghost use Rattle.std.specs.Prelude.{◌≡◌};
 use crate::limits::{LEAST_KIB_A_LANE, MOST_KIB, MOST_LANES, MOST_PASSES};
 use thiserror::Error;
 
-/// How often Argon2id goes through its memory, how much that is, and in how many lanes.
+/// The costs of Argon2id: how often it goes through its memory, how much that is, and in how many lanes.
 #[derive(Clone, Copy, Debug, PartialEq, Eq)]
 pub struct Costs {
-    /// 1 to 16 (`MOST_PASSES`).
+    /// The number of passes, 1 to 16 (`MOST_PASSES`).
     pub passes: u32,
-    /// KiB of memory, 8 for each lane at least (`LEAST_KIB_A_LANE`), and at most 65,536 (`MOST_KIB`).
+    /// KiB of memory, from 8 for each lane (`LEAST_KIB_A_LANE`) to 65,536 (`MOST_KIB`).
     pub kib: u32,
-    /// 1 to 8 (`MOST_LANES`).
+    /// The number of lanes, 1 to 8 (`MOST_LANES`).
     pub lanes: u32,
 }
 
@@ -30,8 +30,8 @@ pub enum CostFault {
 impl Costs {
     ghost use Rattle.argon_kdf.specs.CostLimits.{checked_costs};
 
-    /// Whether each cost is in its range. The fault is of the passes, else of the lanes, else of the
-    /// memory.
+    /// Returns an error unless each cost is in its range. The fault is that of the passes, else of the
+    /// lanes, else of the memory.
     pub fn check(&self) -> Result<(), CostFault>
         ensures { result ≡ checked_costs self.now }
     {

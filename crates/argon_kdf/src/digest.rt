@@ -50,7 +50,7 @@ fn finish(hasher: Blake2b) -> [u8; 64]
     digest
 }
 
-// H_0, of all that goes in.
+// Returns H_0, the digest of all inputs.
 pub(crate) fn first_digest(costs: &Costs, texts: Texts) -> [u8; 64]
     requires password { length texts.password.now ≤ MOST_TEXT_BYTES }
     requires salt { length texts.salt.now ≤ MOST_TEXT_BYTES }
@@ -106,7 +106,7 @@ fn write_last(bytes: &mut [u8; 1024], value: &[u8; 64])
     bytes[960..].copy_from_slice(value);
 }
 
-// H' of 1,024 bytes, from the first digest of its chain.
+// Returns H' of 1,024 bytes, from the first digest of its chain.
 fn stretched(mut value: [u8; 64]) -> [u8; 1024]
     ensures { (message : List ℕ) → value ≡ chained_digest 1024 message 0 → result ≡ long_digest 1024 message }
 {
@@ -119,7 +119,7 @@ fn stretched(mut value: [u8; 64]) -> [u8; 1024]
     bytes
 }
 
-// One of the first two blocks of a lane.
+// Returns one of the first two blocks of a lane.
 pub(crate) fn first_block(h0: &[u8; 64], lane: usize, column: usize) -> Block
     requires lane { lane < MOST_LANES }
     requires column { column < 2 }
@@ -128,7 +128,7 @@ pub(crate) fn first_block(h0: &[u8; 64], lane: usize, column: usize) -> Block
     from_bytes(&stretched(first_value(h0, lane as u32, column as u32)))
 }
 
-// The tag of the last column, whose lanes are xored.
+// Writes the tag of the last column, from the xor of its lanes.
 pub(crate) fn write_tag(sum: &Block, tag: &mut [u8; 32])
     ensures { tag.new ≡ long_digest 32 (bytes_of_words sum.now) }
 {

@@ -143,7 +143,7 @@ pub(crate) fn fill(layout: Layout, h0: &[u8; 64], memory: &mut [Block])
     }
 }
 
-// The last column, its lanes xored.
+// Returns the xor of the lanes of the last column.
 pub(crate) fn last_column(layout: Layout, memory: &[Block]) -> Block
     requires { length memory.now ≡ block_count (shape layout) }
     ensures { (table : Table) → Stands (shape layout) memory.now table (place layout.passes 0 0 0)

@@ -48,7 +48,7 @@ fn write_new(
     }
 }
 
-// Makes the segment of a slice and a lane, in room for it.
+// Makes the segment of a slice and a lane, in a vector with capacity for it.
 fn grow_segment(
     layout: Layout,
     h0: &[u8; 64],
@@ -84,7 +84,7 @@ fn grow_segment(
     }
 }
 
-// The segments of a slice.
+// Makes the segments of a slice.
 fn grow_segments<R: Threads + Sync>(
     threads: &R,
     layout: Layout,
@@ -114,7 +114,7 @@ fn grow_segments<R: Threads + Sync>(
     );
 }
 
-// The slice after those that memory has, in room for it.
+// Makes the slice after those in `memory`, in vectors with capacity for it, and returns it.
 fn grow_slice<R: Threads + Sync>(
     threads: &R,
     layout: Layout,
@@ -137,8 +137,8 @@ fn grow_slice<R: Threads + Sync>(
     segments
 }
 
-// Makes every block of the first pass, in room for all slices. No memory is taken but a list of the slices,
-// before the first block.
+// Makes every block of the first pass, in vectors with capacity for all slices. Allocates only a list of
+// the slices, before the first block.
 pub(crate) fn first_pass<R: Threads + Sync>(
     threads: &R,
     alloc: Global,

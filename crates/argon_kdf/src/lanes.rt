@@ -19,7 +19,7 @@ use std::alloc::Global;
 use std::thread::Threads;
 use std::{mem, thread};
 
-// A segment in its vector.
+// Makes a segment in its vector.
 fn make_in(
     layout: Layout,
     memory: &[Segments],
@@ -43,7 +43,7 @@ fn make_in(
     make_segment(layout, memory, segment, pass, slice, lane);
 }
 
-// The segments of a slice that is taken out of memory.
+// Makes the segments of a slice that is taken out of memory.
 fn make_segments<R: Threads + Sync>(
     threads: &R,
     layout: Layout,
@@ -117,7 +117,7 @@ fn fill_pass<R: Threads + Sync>(
     }
 }
 
-// Makes every block of the passes after the first. No memory is taken.
+// Makes every block of the passes after the first. Allocates nothing.
 pub(crate) fn later_passes<R: Threads + Sync>(
     threads: &R,
     alloc: Global,

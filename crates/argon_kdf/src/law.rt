@@ -7,9 +7,9 @@ ghost use Rattle.argon_kdf.specs.References.{reference_column, reference_lane};
 ghost use Rattle.argon_kdf.specs.Tables.{columns_made, latest};
 ghost use Rattle.argon_kdf.specs.Filling.{new_block, with_passes};
 
-/// The finished table meets the standard's recursion over itself: each block is the one that is made of
-/// the latest blocks of that very table. In the first pass a reference goes to a block that is made, and
-/// never does one go into another lane's segment of the same slice, so that lanes may be filled at once.
+/// The finished table meets the standard's recursion over itself: each block is the one that is made of the
+/// latest blocks of that very table. In the first pass a reference goes to a block that is already made. No
+/// reference goes into another lane's segment of the same slice, so lanes may be filled at the same time.
 pub fn table_meets_the_recursion()
     ensures recursion { (x : Shape) (h0 : List ℕ) (at : Place) → 2 ≤ x.width → at.pass < x.passes
         → IsWithin x at

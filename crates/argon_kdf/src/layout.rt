@@ -1,4 +1,4 @@
-//! Where the blocks stand: lanes one after the other in one buffer, each of four segments.
+//! Where the blocks are: lanes one after the other in one buffer, each of four segments.
 
 ghost use Rattle.std.specs.Prelude.{◌≡◌, ◌+◌, ◌*◌, ◌<◌, ◌≤◌, Ok};
 ghost use Rattle.argon_kdf.specs.CostLimits.{checked_costs};
@@ -6,7 +6,7 @@ ghost use Rattle.argon_kdf.specs.declared.limits.TheConstants.{MOST_KIB, MOST_LA
 
 use crate::Costs;
 
-// How often the memory is gone through, in how many lanes, and how many columns a segment has.
+// The number of passes over the memory, of lanes, and of columns of a segment.
 #[derive(Clone, Copy)]
 pub(crate) struct Layout {
     pub passes: usize,
@@ -34,7 +34,7 @@ impl Layout {
     ghost use Rattle.argon_kdf.specs.Shapes.{block_count, column_before, column_of};
     ghost use Rattle.argon_kdf.specs.Shapes.{columns, shape, shape_of_costs};
 
-    // As many blocks as the costs allow.
+    // Returns the layout with as many blocks as the costs allow.
     pub(crate) fn new(costs: &Costs) -> Layout
         requires { checked_costs costs.now ≡ Ok tt }
         ensures { shape result ≡ shape_of_costs costs.now }
@@ -46,21 +46,21 @@ impl Layout {
         }
     }
 
-    // How many columns a lane has.
+    // Returns the number of columns of a lane.
     pub(crate) fn columns(self) -> usize
         ensures { result ≡ columns (shape self) }
     {
         4 * self.width
     }
 
-    // How many blocks there are.
+    // Returns the number of blocks.
     pub(crate) fn block_count(self) -> usize
         ensures { result ≡ block_count (shape self) }
     {
         self.lanes * self.columns()
     }
 
-    // Where the buffer has the block of a lane and a column.
+    // Returns the index in the buffer of the block of a lane and a column.
     pub(crate) fn offset(self, lane: usize, column: usize) -> usize
         requires lane { lane < self.lanes }
         requires column { column < columns (shape self) }
@@ -70,7 +70,7 @@ impl Layout {
         lane * self.columns() + column
     }
 
-    // The column of a place.
+    // Returns the column of a place.
     pub(crate) fn column_of(self, at: Place) -> usize
         requires slice { at.slice < 4 }
         requires index { at.index < self.width }
@@ -80,7 +80,7 @@ impl Layout {
         at.slice * self.width + at.index
     }
 
-    // The column before that of a place. Before the first column stands the last.
+    // Returns the column before that of a place. Before the first column comes the last.
     pub(crate) fn column_before(self, at: Place) -> usize
         requires slice { at.slice < 4 }
         requires index { at.index < self.width }

@@ -41,7 +41,7 @@ mod stretch;
 mod texts;
 mod wiping;
 
-// Memory full of zeros.
+// Returns memory of `count` blocks of zeros.
 fn zero_blocks(alloc: Global, count: usize) -> Result<Vec<Block>, AllocError>
     requires { count ≤ MOST_KIB }
     ensures whole { IfOk result (λ memory. length memory.items ≡ count) }
@@ -52,9 +52,10 @@ fn zero_blocks(alloc: Global, count: usize) -> Result<Vec<Block>, AllocError>
     Ok(memory)
 }
 
-/// Writes the tag of 32 bytes that Argon2id makes of a password, a salt, a secret and further bytes.
+/// Writes the 32-byte tag that Argon2id makes of a password, a salt, a secret and further bytes.
 ///
-/// All memory, `kib` KiB, is taken first: the one error is want of it, and then the tag is as it was.
+/// All memory, at most `kib` KiB, is allocated first. The only error is out of memory; the tag is unchanged
+/// then.
 pub fn argon2id(
     alloc: Global,
     costs: &Costs,

@@ -1,4 +1,4 @@
-//! Which block is taken in beside the one before (RFC 9106, 3.4).
+//! Which block a new block refers to, besides the one before it (RFC 9106, 3.4).
 
 ghost use Rattle.std.specs.Prelude.{◌≡◌, ◌+◌, ◌-◌, ◌*◌, ◌/◌, ◌%◌, ◌^◌, ◌<◌, ◌≤◌};
 ghost use Rattle.argon_kdf.specs.Shapes.{column_of, columns, shape};
@@ -36,7 +36,8 @@ fn write_addresses(addresses: &mut Block, layout: Layout, at: Place, counter: us
     join(addresses, &ZERO_BLOCK, &inner);
 }
 
-// Keeps the address block that a place needs: each serves 128 places of a segment.
+// Writes the address block that a place needs, unless it is that of the place before. Each serves 128
+// places of a segment.
 pub(crate) fn refresh(addresses: &mut Block, layout: Layout, at: Place)
     ensures { at.pass ≡ 0 → at.slice < 2
         → (0 < at.index → addresses.old ≡ address_block (shape layout) at ((at.index - 1) / 128 + 1))
@@ -47,7 +48,7 @@ pub(crate) fn refresh(addresses: &mut Block, layout: Layout, at: Place)
     }
 }
 
-// J_2 and J_1 of a place, as one word.
+// Returns J_2 and J_1 of a place as one word, J_2 in the high half.
 #[tactic(auto, unfolding(crate::specs::References::reference_word))]
 pub(crate) fn reference_word(addresses: &Block, at: Place, previous: &Block) -> u64
     ensures { (layout : Layout) → (at.pass ≡ 0 → at.slice < 2
@@ -61,7 +62,7 @@ pub(crate) fn reference_word(addresses: &Block, at: Place, previous: &Block) -> 
     }
 }
 
-// The lane that is referred to.
+// Returns the lane that is referred to.
 #[tactic(auto, unfolding(crate::specs::References::reference_lane))]
 pub(crate) fn reference_lane(layout: Layout, at: Place, j2: u64) -> usize
     requires { at.lane < layout.lanes }
@@ -133,7 +134,7 @@ fn oldest(layout: Layout, at: Place) -> usize
     }
 }
 
-// The column that is referred to, in a lane that `reference_lane` gave.
+// Returns the column that is referred to, in a lane that `reference_lane` returned.
 #[tactic(auto, unfolding(crate::specs::References::reference_column))]
 pub(crate) fn reference_column(layout: Layout, at: Place, lane: usize, j1: u64) -> usize
     requires slice { at.slice < 4 }

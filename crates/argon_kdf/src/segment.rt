@@ -17,7 +17,7 @@ use crate::layout::{Layout, Place};
 use crate::reference::{reference_column, reference_lane, reference_word};
 use crate::slices::{Segments, block_at};
 
-// The block of a lane and a column as the segment of a place sees it.
+// Returns the block of a lane and a column as the segment of a place sees it.
 #[tactic(auto, unfolding(crate::specs::SeenBlocks::seen_block))]
 fn seen<'a>(
     layout: Layout,

@@ -20,7 +20,7 @@ pub(crate) const SLICES: usize = 4;
 // The segments of a slice, one for each lane.
 pub(crate) type Segments = Vec<Vec<Block>>;
 
-// Room for the segments of a slice.
+// Reserves capacity for the segments of a slice.
 fn reserved_segments(alloc: Global, layout: Layout) -> Result<Segments, AllocError>
     ensures lanes { IfOk result (λ segments. length segments.items ≡ layout.lanes) }
     ensures empty { IfOk result (λ segments. All (λ v. v.items ≡ []) segments.items) }
@@ -33,7 +33,7 @@ fn reserved_segments(alloc: Global, layout: Layout) -> Result<Segments, AllocErr
     Ok(segments)
 }
 
-// Room for all slices.
+// Reserves capacity for all slices.
 pub(crate) fn reserved_slices(alloc: Global, layout: Layout) -> Result<Vec<Segments>, AllocError>
     ensures count { IfOk result (λ rooms. length rooms.items ≡ 4) }
     ensures rooms { IfOk result (λ rooms. All (λ s. IsRoom (shape layout) s.items) rooms.items) }
@@ -45,7 +45,7 @@ pub(crate) fn reserved_slices(alloc: Global, layout: Layout) -> Result<Vec<Segme
     Ok(rooms)
 }
 
-// The block of a lane and a column.
+// Returns the block of a lane and a column.
 pub(crate) fn block_at(layout: Layout, memory: &[Segments], lane: usize, column: usize) -> &Block
     requires lane { lane < layout.lanes }
     requires column { column < columns (shape layout) }
@@ -55,7 +55,7 @@ pub(crate) fn block_at(layout: Layout, memory: &[Segments], lane: usize, column:
     &memory[column / layout.width][lane][column % layout.width]
 }
 
-// The last column, its lanes xored.
+// Returns the xor of the lanes of the last column.
 pub(crate) fn last_column(layout: Layout, memory: &[Segments]) -> Block
     requires { IsWhole (shape layout) (slices_of memory.now) }
     ensures { (table : Table)

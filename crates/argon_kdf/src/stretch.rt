@@ -1,4 +1,4 @@
-//! Stretching as a value that a caller is given: on one thread, or by lanes at the same time.
+//! Ways to stretch a password, as values: on one thread, or by lanes at the same time.
 
 ghost use Rattle.std.specs.Prelude.{◌≡◌, ◌≤◌, [], length, OnOk, OnErr, Ok};
 ghost use Rattle.argon_kdf.specs.CostLimits.{checked_costs};
@@ -9,16 +9,16 @@ use crate::{Costs, Texts, argon2id, argon2id_lanes};
 use std::alloc::{AllocError, Global};
 use std::thread::Threads;
 
-/// A way to stretch a password, with the threads that it takes, if it takes any.
+/// A way to stretch a password, with the threads that it uses, if any.
 pub trait Stretch {
     // Whether it may be called.
     ghost ready: { Self → Type 0 };
 
-    /// Writes the tag of 32 bytes that Argon2id makes of a password and a salt (RFC 9106, section 3.2),
-    /// with no secret and no further bytes.
+    /// Writes the 32-byte tag that Argon2id makes of a password and a salt (RFC 9106, section 3.2), with no
+    /// secret and no further bytes.
     ///
-    /// The salt has 8 to 1,024 bytes, the password at most 1,024. The one error is want of memory, and then the
-    /// tag is as it was.
+    /// The salt has 8 to 1,024 bytes, the password at most 1,024. The only error is out of memory; the tag
+    /// is unchanged then.
     fn stretch(
         &self,
         alloc: Global,

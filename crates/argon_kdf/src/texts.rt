@@ -4,7 +4,7 @@ ghost use Rattle.std.specs.Prelude.{◌≡◌, []};
 
 /// The texts that a tag is made of (RFC 9106, section 3.1): a password, a salt, a secret and further bytes.
 ///
-/// A tag is made of them where the salt has 8 to 1,024 bytes and the other texts at most 1,024.
+/// A tag needs a salt of 8 to 1,024 bytes, and other texts of at most 1,024 bytes each.
 #[derive(Clone, Copy)]
 pub struct Texts<'a> {
     pub password: &'a [u8],
@@ -14,7 +14,7 @@ pub struct Texts<'a> {
 }
 
 impl<'a> Texts<'a> {
-    /// A password and a salt, with no secret and no further bytes.
+    /// Returns a password and a salt, with no secret and no further bytes.
     pub fn unkeyed(password: &'a [u8], salt: &'a [u8]) -> Texts<'a>
         ensures password { result.password.now ≡ password.now }
         ensures salt { result.salt.now ≡ salt.now }

@@ -17,7 +17,7 @@ use Rattle.argon_kdf.proofs.SliceLemmas.{appended_here, appended_other, block_in
 use Rattle.argon_kdf.proofs.SliceLemmas.{read_past, slice_from, slice_outside}
 use Rattle.argon_kdf.proofs.first_pass.grow_slice.Goals as goal
 
--- memory with the new segments behind
+-- memory followed by the new segments
 grown : (x : Shape) (h0 : List ℕ) (m : List (List (List (List ℕ)))) (new : List (Vec (List ℕ) Global)) (b : Table)
     (s : ℕ) → 2 ≤ x.width → s < 4 → HasSlices x s m → length new ≡ x.lanes
     → ((l : ℕ) (d : Vec (List ℕ) Global) (k : ℕ) → l < x.lanes → k < x.width → Begun x m [] b (place 0 s l 0)
