@@ -1,4 +1,4 @@
--- What is known of a script that some text spells.
+-- Facts of a script that some text spells.
 use Rattle.std.proofs.Common.{◌≤◌, ◌+◌, ℕ, List, [], ◌∷◌, length}
 use Rattle.std.specs.Prelude.{All}
 use Rattle.std.proofs.lemmas.List.Elements.{All-nil, All-cons}

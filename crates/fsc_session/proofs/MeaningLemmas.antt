@@ -34,7 +34,7 @@ entry_same e f es fs who call reply rest =
     ∙ ap (λ (r : Reply). record { who = f.who; call = f.call; reply = r } ∷ es) reply
     ∙ ap (λ (l : History). f ∷ l) rest
 
--- steps that were replied the same made the same calls
+-- steps with the same replies made the same calls
 same_entries : {A : Type 0} (steps rest last : Steps A) (es fs : History) → Reaches steps es rest → Reaches steps fs last
     → replies es ≡ replies fs → es ≡ fs
 same_entries steps rest last [] [] so to same = refl
@@ -83,7 +83,7 @@ same_history (e ∷ g) (f ∷ h) who same =
     (cases_eq e.who c) in
     ap (λ (x : MountEntry). x ∷ g) first ∙ ap (λ (l : History). f ∷ l) (same_history g h (ap (drop 1) who) behind)
 
--- ---- what is told
+-- ---- values of lines
 
 told_callers : (g h : History) → map told g ≡ map told h → callers g ≡ callers h
 told_callers [] [] same = refl

@@ -18,7 +18,7 @@ notes_by-alike seed k (section ∷ more) xs ys same =
     (notes_by-alike seed (k + 1) more xs ys (λ i below. let next : k + suc i ≡ k + 1 + i = omega arith in
     subst (λ (w : ℕ). by w xs ≡ by w ys) next (same (suc i) (omega (arith, below)))))
 
--- the notes of some callers, and behind them those of the others
+-- the notes of some callers, and after them those of the others
 pub notes_by-append : (seed : List ℕ) (k : ℕ) (first others : List Section) (xs : PlacedCalls)
     → notes_by seed k (first ++ others) xs ≡ notes_by seed k first xs ++ notes_by seed (k + length first) others xs
 notes_by-append seed k [] others xs = let none : k ≡ k + 0 = omega arith in ap (λ (w : ℕ). notes_by seed w others xs) none

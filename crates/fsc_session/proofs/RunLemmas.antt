@@ -53,7 +53,7 @@ run_goes_on seed caller section n command placed made notes outcome so here more
     (subst (λ (told : List (List ℕ)). Reaches (section_steps seed caller section) (entries_of placed ++ entries_of made) (steps_from seed caller uid (n + 1) told after (drop (n + 1) section.commands)))
     (sym (names_in-append placed made)) whole)
 
--- the command that stands at a number below the last
+-- the command at a number below the last
 pub there : (read commands : List Command) (n : ℕ) (command : Command) → read ≡ commands → n ≤ length commands → n ≢ length read
     → command ≡ get_or read n command → slice_get commands n ≡ Some command
 there read commands n command same within differ is =
@@ -131,7 +131,7 @@ so_far_goes_on came by_more first second third left between before_left seed mor
       counted = omega (arith, counted, counted', sum);
     }
 
--- where a command is left, a step makes it
+-- if a command is left, a step makes it
 pub next_after : (seed : List ℕ) (more : Bool) (old new : RunnerView) (made : PlacedCalls) → StepMakes seed more old new made
     → old.next < length old.section.commands → new.next ≡ old.next + 1
 next_after seed true old new made so below = so.2

@@ -1,4 +1,5 @@
--- A lawful run without want of memory is the one-thread mount's, where the raw keys agree that are added there.
+-- A lawful run that is never out of memory is the one-thread mount's, if the raw keys agree that are
+-- added there.
 use Rattle.std.proofs.Common.{◌≡◌, ◌≢◌, ℕ, Bool, true, false, cond, List, [], ◌∷◌, ◌++◌, append_assoc, ⊎_elim, refl, ap, sym, ◌∙◌, subst}
 use Rattle.std.specs.Prelude.{Contains}
 use Rattle.std.proofs.lemmas.List.Elements.{All-head, All-tail}
@@ -56,7 +57,7 @@ cond_none : (b : Bool) → cond b no_keys no_keys ≡ no_keys
 cond_none true = refl
 cond_none false = refl
 
--- whether a key is added is told by the claims
+-- the claims determine whether a key is added
 same_added : (m : PlainMount) (who uid : ℕ) (o : Op) (reply : Reply) → TellsBy m.claims uid o reply → reply ≢ Refused NoMemory
     → added_by o reply ≡ added_by o (answer_to m who uid o).reply
 same_added m who uid (op.AddKey raw) reply tells given =

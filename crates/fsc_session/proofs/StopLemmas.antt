@@ -1,4 +1,4 @@
--- A runner that found no memory: its calls are a beginning of its next command's, and of its section's.
+-- A runner that was out of memory: its calls are a beginning of its next command's, and of its section's.
 use Rattle.std.proofs.Common.{◌≡◌, ℕ, ◌+◌, List, [], ◌∷◌, ◌++◌, drop, Some, None, refl, ap, sym, ◌∙◌, subst, append-nil}
 use Rattle.std.specs.Prelude.{slice_get, Option}
 use Rattle.call_history.specs.Placed.{entries_of}
@@ -20,7 +20,7 @@ use Rattle.fsc_session.specs.Session.{steps_from, section_steps, noted}
 use Rattle.fsc_session.specs.Stopping.{steps_of, next_steps}
 use Rattle.fsc_session.proofs.RunLemmas.{drop-at}
 
--- a beginning of the command that stands there is one of the runner's next
+-- a beginning of the command at that number is one of the runner's next
 pub next_begun : {P : Type 0} {came : PlacedCalls → P → Type 0} {port : P} {most : ℕ} (seed : List ℕ) (command : Command)
     (caller : ℕ) (section : Section) (n : ℕ) (entries : PlacedShown) (notes : List Note) → slice_get section.commands n ≡ Some command
     → Begun came port most (command_steps seed caller section.uid n (names_in entries) command.verb)

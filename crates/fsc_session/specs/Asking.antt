@@ -1,4 +1,4 @@
--- What a section may ask for.
+-- The commands that a section may have.
 use Rattle.std.specs.Prelude.{All}
 use Rattle.script_lang.specs.declared.commands.Section.{Section}
 use Rattle.script_lang.specs.Asked.{IsAskable}

@@ -1,5 +1,5 @@
--- What a log means: whoever has the script and the seed of a run can say from its log alone what each caller
--- asked and was replied.
+-- The meaning of a log: its reader, with the script and the seed of a run, can say from the log alone
+-- what each caller called and which reply it got.
 use Rattle.std.specs.Prelude.{◌≡◌, ◌<◌, ◌^◌, ℕ, List, [], ◌++◌, length, map, All, slice_get, Option, Some, None}
 use Rattle.call_history.specs.Placed.{entries_of}
 use Rattle.mount_model.specs.Port.{PlacedCalls}
@@ -14,8 +14,8 @@ use Rattle.fsc_commands.specs.Steps.{Steps, Reaches}
 use Rattle.fsc_session.specs.Session.{section_steps}
 use Rattle.fsc_session.specs.ScriptRun.{IsRunOf, notes_of}
 
--- the entries are a beginning of a run of the section that stands at the caller's number; a number without one
--- has none
+-- the entries are a beginning of a run of the section at the caller's number; a number without one has
+-- none
 abbrev pub IsBegunBy : List ℕ → ℕ → Option Section → PlacedCalls → Type 0
 IsBegunBy seed caller None placed = placed ≡ []
 IsBegunBy seed caller (Some section) placed =
@@ -26,13 +26,13 @@ abbrev pub Follows : List ℕ → List Section → History → Type 0
 Follows seed script history =
     (caller : ℕ) → IsBegunBy seed caller (slice_get script caller) (entries_by caller history)
 
--- a history that follows a script is determined by what its entries tell
+-- a history that follows a script is determined by the values that its lines contain
 abbrev pub WhatIsToldDeterminesTheHistory : Type 0
 WhatIsToldDeterminesTheHistory =
     (seed : List ℕ) (script : List Section) (g h : History) → Follows seed script g → Follows seed script h
     → map told g ≡ map told h → g ≡ h
 
--- the log of a run with its notes behind it
+-- the log of a run with its notes after it
 abbrev pub whole_log : List ℕ → List Section → History → List ℕ
 whole_log seed script history = log_text history ++ notes_text (notes_of seed script history)
 

@@ -1,4 +1,4 @@
--- Which run the calls are by which a port became what it is.
+-- Which run a port's calls are.
 use Rattle.std.specs.Prelude.{◌≡◌, ℕ, ◌+◌, List, length}
 use Rattle.mount_model.specs.Port.{PlacedCalls}
 use Rattle.script_lang.specs.declared.commands.Section.{Section}
@@ -7,7 +7,7 @@ use Rattle.reply_text.specs.declared.notes.Note.{Note}
 use Rattle.fsc_session.specs.Session.{IsRunOfSection, noted, notes_of_section}
 use Rattle.fsc_session.specs.Runners.{RunnerView, HasRun}
 
--- the port came by calls that are a run of the commands before the runner's next
+-- the port is as after calls that are a run of the commands before the runner's next
 pub record RanSoFar {P : Type 0} (came : PlacedCalls → P → Type 0) (port : P) (left before_left : ℕ)
     (seed : List ℕ) (runner : RunnerView) : Type 0 where
   pub placed : PlacedCalls
@@ -15,8 +15,8 @@ pub record RanSoFar {P : Type 0} (came : PlacedCalls → P → Type 0) (port : P
   pub has_run : HasRun seed runner placed
   pub counted : left + length placed ≡ before_left
 
--- the port came by calls that are a run of the caller's section; these entries are what is shown of them, and
--- these notes are that run's
+-- the port is as after calls that are a run of the caller's section; the entries are what is shown of
+-- them, and the notes are that run's
 pub record SectionRan {P : Type 0} (came : PlacedCalls → P → Type 0) (port : P) (left before_left : ℕ)
     (seed : List ℕ) (caller : ℕ) (section : Section) (entries : PlacedShown) (notes : List Note)
     : Type 0 where

@@ -1,4 +1,4 @@
--- Whose call comes when: the callers of a script take turns, command by command.
+-- The order of calls in rotation: the callers of a script take turns, command by command.
 use Rattle.std.specs.Prelude.{ℕ, zero, suc, ◌+◌, max, List, [], ◌∷◌, ◌++◌, length, map, slice_get, Option, Some, None}
 use Rattle.std.specs.List.{fold}
 use Rattle.script_lang.specs.declared.commands.Section.{Section}
@@ -7,7 +7,7 @@ use Rattle.fsc_commands.specs.Steps.{Steps, and_then}
 use Rattle.fsc_commands.specs.Steps.Steps.{Done}
 use Rattle.fsc_commands.specs.Commands.{command_steps}
 
--- a caller between two of its commands: its section, and the names that it was last told
+-- a caller between two of its commands: its section, and the names of its last listing
 pub record Waiting : Type 0 where
   pub section : Section
   pub names : List (List ℕ)
@@ -19,7 +19,7 @@ waiting section names = record { section = section; names = names }
 abbrev pub fresh : Section → Waiting
 fresh section = waiting section []
 
--- the steps of this command, then what comes after it; where there is no command, that at once
+-- the steps of this command, then `next`; if there is no command, `next` at once
 abbrev pub turn_of : List ℕ → ℕ → ℕ → Waiting → Option Command → (Waiting → Steps (List Waiting))
     → Steps (List Waiting)
 turn_of seed n caller state None next = next state
@@ -31,15 +31,15 @@ turn_of seed n caller state (Some command) next =
 abbrev pub turn_steps : List ℕ → ℕ → ℕ → Waiting → (Waiting → Steps (List Waiting)) → Steps (List Waiting)
 turn_steps seed n caller state next = turn_of seed n caller state (slice_get state.section.commands n) next
 
--- the commands n of those callers whose turn has not come, of which the first has the number k; then what
--- comes after the round
+-- the commands n of the callers that have not had their turn, of which the first has the number k; then
+-- what comes after the round
 abbrev pub round_steps : List ℕ → ℕ → ℕ → List Waiting → List Waiting → (List Waiting → Steps (List Waiting))
     → Steps (List Waiting)
 round_steps seed n k after [] next = next after
 round_steps seed n k after (state ∷ more) next =
     turn_steps seed n k state (λ come. round_steps seed n (k + 1) (after ++ come ∷ []) more next)
 
--- so many rounds, of which the first is round n
+-- that many rounds, of which the first is round n
 abbrev pub rounds_steps : List ℕ → ℕ → ℕ → List Waiting → Steps (List Waiting)
 rounds_steps seed zero n states = Done states
 rounds_steps seed (suc count) n states = round_steps seed n 0 [] states (rounds_steps seed count (n + 1))

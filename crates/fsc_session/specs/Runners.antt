@@ -1,4 +1,4 @@
--- What a runner is between two commands.
+-- The state of a runner between two commands.
 use Rattle.std.specs.Prelude.{◌≡◌, ℕ, Bool, false, List, length, Option, Some, None, nat_lt, if◌then◌else◌}
 use Rattle.mount_model.specs.Port.{PlacedCalls}
 use Rattle.script_lang.specs.declared.commands.Section.{Section}
@@ -9,7 +9,7 @@ use Rattle.fsc_session.specs.Session.{IsRunSoFar}
 use Rattle.fsc_session.specs.Rotation.{Waiting, waiting}
 
 -- a caller with its section, the number of its next command, what is shown of its calls so far with the
--- replies, and its notes; it is spent once a step found no memory
+-- replies, and its notes; it is spent once a step was out of memory
 pub record RunnerView : Type 0 where
   pub caller : ℕ
   pub section : Section
@@ -38,8 +38,8 @@ spent_if spent runner = record runner { spent = spent }
 abbrev pub next_command : RunnerView → Option ℕ
 next_command runner = if nat_lt runner.next (length runner.section.commands) then Some runner.next else None
 
--- these calls are a run of the commands before its next, with this seed; it has what is shown of them, and
--- that run's notes
+-- these calls are a run of the commands before its next, with this seed; it has what is shown of them,
+-- and that run's notes
 pub record HasRun (seed : List ℕ) (runner : RunnerView) (placed : PlacedCalls) : Type 0 where
   pub shown : runner.entries ≡ shown_calls placed
   pub run : IsRunSoFar seed runner.caller runner.section runner.next placed runner.notes

@@ -1,4 +1,4 @@
--- What a command makes of a runner and of its port.
+-- The effect of a command on a runner and its port.
 use Rattle.std.specs.Prelude.{◌≡◌, ℕ, ◌+◌, ◌≤◌, Bool, true, false, List, [], ◌++◌, length, slice_get, Option}
 use Rattle.std.specs.Prelude.{Some, None}
 use Rattle.call_history.specs.Placed.{entries_of}
@@ -13,7 +13,7 @@ use Rattle.fsc_commands.specs.Commands.{command_steps}
 use Rattle.fsc_session.specs.Session.{noted}
 use Rattle.fsc_session.specs.Runners.{RunnerView, HasRun}
 
--- the steps of a runner's command made these calls, and its note, if it has one, was put behind the others
+-- the steps of a runner's command made these calls, and its note, if it has one, was appended
 abbrev pub CommandMakes : List ℕ → Command → RunnerView → RunnerView → PlacedCalls → Type 0
 CommandMakes seed command old new made =
     (outcome : Option Outcome)
@@ -29,7 +29,7 @@ StepMakes seed true old new made =
     (command : Command) × (slice_get old.section.commands old.next ≡ Some command) × (new.next ≡ old.next + 1)
     × CommandMakes seed command old new made
 
--- what a step of a runner makes of it and of its port
+-- the effect of a step on a runner and its port
 pub record Stepped {P : Type 0} (came : PlacedCalls → P → Type 0) (port : P) (left before_left : ℕ)
     (seed : List ℕ) (more : Bool) (old new : RunnerView) : Type 0 where
   pub made : PlacedCalls

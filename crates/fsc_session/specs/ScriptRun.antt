@@ -7,7 +7,7 @@ use Rattle.script_lang.specs.declared.commands.Section.{Section}
 use Rattle.reply_text.specs.declared.notes.Note.{Note}
 use Rattle.fsc_session.specs.Session.{IsRunOfSection, notes_of_section}
 
--- the entries are a run of the section that stands at the caller's number; a number without one has none
+-- the entries are a run of the section at the caller's number; a number without one has none
 abbrev pub IsRunOfCaller : List ℕ → ℕ → Option Section → PlacedCalls → Type 0
 IsRunOfCaller seed caller None placed = placed ≡ []
 IsRunOfCaller seed caller (Some section) placed = IsRunOfSection seed caller section placed
@@ -17,8 +17,8 @@ abbrev pub IsRunOf : List ℕ → List Section → History → Type 0
 IsRunOf seed script history =
     (caller : ℕ) → IsRunOfCaller seed caller (slice_get script caller) (entries_by caller history)
 
--- the notes of runs of these sections among the entries of all callers, caller after caller, where the
--- first of them has the number k
+-- the notes of runs of these sections among the entries of all callers, caller after caller; the first of
+-- them has the number k
 abbrev pub notes_by : List ℕ → ℕ → List Section → PlacedCalls → List Note
 notes_by seed k [] placed = []
 notes_by seed k (section ∷ more) placed =

@@ -1,4 +1,4 @@
--- The history that a script makes in rotation, where there is memory for every call.
+-- The history that a script makes in rotation, if there is memory for every call.
 use Rattle.std.specs.Prelude.{ℕ, List, [], ◌∷◌}
 use Rattle.call_history.specs.Entries.{entry}
 use Rattle.mount_model.specs.PlainMount.{PlainMount, empty_mount}

@@ -1,4 +1,4 @@
--- What a caller's section asks of the mount, command after command.
+-- The calls of a caller's section, command after command.
 use Rattle.std.specs.Prelude.{◌≡◌, ℕ, ◌+◌, List, [], ◌∷◌, ◌++◌, drop, Option, Some, None, unwrap_or}
 use Rattle.call_history.specs.Placed.{entries_of}
 use Rattle.mount_model.specs.declared.call.Call.{Call}
@@ -17,8 +17,8 @@ abbrev pub noted : ℕ → Command → Option Outcome → List Note
 noted caller command None = []
 noted caller command (Some outcome) = record { caller = caller; line = command.line; outcome = outcome } ∷ []
 
--- the steps of commands, of which the first has this number, for a caller that was last told these names and
--- has these notes; they end with all notes
+-- the steps of commands, of which the first has this number, for a caller whose last listing has these
+-- names and that has these notes; they end with all notes
 abbrev pub steps_from : List ℕ → ℕ → ℕ → ℕ → List (List ℕ) → List Note → List Command → Steps (List Note)
 steps_from seed caller uid number names notes [] = Done notes
 steps_from seed caller uid number names notes (command ∷ more) =

@@ -1,4 +1,4 @@
--- What a caller made that found no memory in the middle of a command.
+-- The calls of a caller that was out of memory in the middle of a command.
 use Rattle.std.specs.Prelude.{◌≡◌, ℕ, ◌≤◌, List, ◌++◌, length, slice_get, Option, Some, None}
 use Rattle.call_history.specs.Placed.{entries_of}
 use Rattle.mount_model.specs.Port.{PlacedCalls}
@@ -12,7 +12,7 @@ use Rattle.fsc_commands.specs.CommandSteps.{CommandSteps}
 use Rattle.fsc_session.specs.Meaning.{IsBegunBy}
 use Rattle.fsc_session.specs.Runners.{RunnerView, HasRun}
 
--- the steps of a runner's command, where there is one
+-- the steps of a runner's command, if there is one
 abbrev pub steps_of : List ℕ → RunnerView → Option Command → CommandSteps
 steps_of seed runner None = Done None
 steps_of seed runner (Some command) =
@@ -22,8 +22,9 @@ steps_of seed runner (Some command) =
 abbrev pub next_steps : List ℕ → RunnerView → CommandSteps
 next_steps seed runner = steps_of seed runner (slice_get runner.section.commands runner.next)
 
--- the port came by what a runner of the caller's section has told, a run of the commands before its next, and
--- behind it by calls with which the steps of that command begin: a beginning of a run of the section
+-- the port is as after the calls of a runner of the caller's section, a run of the commands before its
+-- next, and then calls with which that command's steps begin. All of them are a beginning of a run of the
+-- section
 pub record SectionBegun {P : Type 0} (came : PlacedCalls → P → Type 0) (port : P)
     (seed : List ℕ) (caller : ℕ) (section : Section) : Type 0 where
   pub runner : RunnerView

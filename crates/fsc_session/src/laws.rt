@@ -1,4 +1,4 @@
-//! Laws of runs, each a function without work whose contract is the law.
+//! Laws of runs: each is an empty function whose contract is the law.
 
 ghost use Rattle.std.specs.Prelude.{◌≡◌, ◌↔◌, ℕ, List};
 ghost use Rattle.call_history.specs.Placed.{entries_of};
@@ -13,15 +13,15 @@ ghost use Rattle.fsc_session.specs.Meaning.{LogsHaveOneMeaning, WhatIsToldDeterm
 ghost use Rattle.fsc_session.specs.Rotation.{Waiting, rotation_steps};
 ghost use Rattle.fsc_session.specs.Serial.{serial_history};
 
-/// Entries are a run of a section exactly where each makes the call that comes next after those before
-/// it, and none comes after all of them.
+/// Entries are a run of a section exactly when each makes the call that comes next after those before it,
+/// and none comes after all of them.
 pub fn runs_are_next_calls()
     ensures { (seed : List ℕ) (caller : ℕ) (section : Section) (placed : PlacedCalls)
         → IsRunOfSection seed caller section placed
         ↔ AreNextCalls (section_steps seed caller section) (entries_of placed) }
 {}
 
-/// A legal history in rotation in which no call wants memory is a function of script and seed.
+/// A legal history in rotation in which no call is out of memory is a function of script and seed.
 pub fn answers_determine_the_run()
     ensures { (seed : List ℕ) (script : List Section) (history : History) (after : List Waiting)
         → Reaches (rotation_steps seed script) history (Done after) → IsLegal history
@@ -29,7 +29,7 @@ pub fn answers_determine_the_run()
         → history ≡ serial_history seed script }
 {}
 
-/// So is a lawful one, where no two different raw keys that this function's calls add share an identifier.
+/// So is a lawful one, if no two different raw keys that this function's calls add share an identifier.
 pub fn lawful_runs_are_one()
     ensures { (seed : List ℕ) (script : List Section) (history : History) (after : List Waiting)
         → Reaches (rotation_steps seed script) history (Done after) → IsLawful history
@@ -37,7 +37,8 @@ pub fn lawful_runs_are_one()
         → history ≡ serial_history seed script }
 {}
 
-/// What entries tell, with script and seed, determines the history: the calls with all that no line shows.
+/// The values that the lines of entries contain determine the history, given script and seed: the calls
+/// with all that no line shows.
 pub fn what_is_told_determines_the_history()
     ensures { WhatIsToldDeterminesTheHistory }
 {}

@@ -1,5 +1,5 @@
-//! What the callers of a script ask of a mount, command after command, and runners, which make a caller's
-//! calls on any port.
+//! The calls of a script's callers, command after command, and runners, which make a caller's calls on
+//! any port.
 #![tactic(auto)]
 
 mod laws;
@@ -17,5 +17,5 @@ pub use runner::{Ran, Runner, note};
 pub use session::run_caller;
 pub use stack::scrub_stack;
 
-/// How session commands ended, in order.
+/// The notes of session commands, in order.
 pub type NoteList = Items<Note>;

@@ -19,16 +19,16 @@ use script_lang::{Command, Section};
 use std::alloc::{AllocError, Global};
 use std::marker::Model;
 
-/// What a caller's section made: what a log shows of its calls, with the replies, and how its session
-/// commands ended.
+/// The result of a caller's section: what a log shows of its calls, with the replies, and the notes of
+/// its session commands.
 #[derive(Drop)]
 pub struct Ran {
     pub entries: EntryList,
     pub notes: NoteList,
 }
 
-/// A caller between two commands of its section, with what a log shows of its calls so far, and the replies.
-/// In clauses it is a `RunnerView`.
+/// A caller between two commands of its section, with what a log shows of its calls so far, and the
+/// replies. In clauses it is a `RunnerView`.
 #[derive(Drop)]
 pub struct Runner<'a> {
     caller: u32,
@@ -36,7 +36,8 @@ pub struct Runner<'a> {
     next: usize,
     entries: EntryList,
     notes: NoteList,
-    // A step found no memory. What it left is no state between two commands, so no other step may follow.
+    // True once a step is out of memory. It leaves no state between two commands, so no other step may
+    // follow.
     spent: bool,
 }
 
@@ -53,7 +54,7 @@ impl<'a> Model for Runner<'a> {
 }
 
 impl<'a> Runner<'a> {
-    /// The caller of this number, before its first command. It takes no memory.
+    /// Returns the caller of this number, before its first command. It takes no memory.
     pub fn new(alloc: Global, caller: u32, section: &'a Section) -> Runner<'a>
         ensures { result ≡ runner_view caller section.now 0 [] [] }
     {
@@ -67,11 +68,11 @@ impl<'a> Runner<'a> {
         }
     }
 
-    /// Runs the next command on the caller's port, which makes at most four calls, and stretches its
-    /// passphrases in the way that is handed in; false where none is left. The one error is want of memory:
-    /// the calls made by then are those with which the command's steps begin, and the runner is spent, of the
-    /// same caller and section. A step of a spent runner answers that error, and makes no call. Behind each
-    /// command `scrub_stack` overwrites what it left on the stack.
+    /// Runs the next command on the caller's port, with `stretches` for its passphrases, in at most four
+    /// calls. Returns false if no command is left. The one error is out of memory. Then the calls made
+    /// are those with which the command's steps begin, and the runner is spent, with the same caller and
+    /// section. A step of a spent runner returns that error, and makes no call. After each command
+    /// `scrub_stack` wipes what it left on the stack.
     pub fn step<P: MountPort, S: Stretch>(
         &mut self,
         alloc: Global,
@@ -107,11 +108,12 @@ impl<'a> Runner<'a> {
             number: self.next,
         };
         let command = &commands[self.next];
-        // Until the command has ended and its note stands.
+        // The runner is spent until the command has ended and its note is stored.
         self.spent = true;
         let verb = &command.verb;
         let ran = run_command(alloc, port, stretches, seed, turn, verb, &mut self.entries);
-        // Also a command that names no key draws nonces from the seed, and keys of the nodes on its path.
+        // Even a command that names no key derives nonces from the seed, and keys of the nodes on its
+        // path.
         scrub_stack();
         let outcome = ran?;
         note(&mut self.notes, self.caller, command, outcome)?;
@@ -120,14 +122,14 @@ impl<'a> Runner<'a> {
         Ok(true)
     }
 
-    /// The caller's number.
+    /// Returns the caller's number.
     pub fn caller(&self) -> u32
         ensures { result ≡ self.now.caller }
     {
         self.caller
     }
 
-    /// The number of the command that the next step runs; none where none is left.
+    /// Returns the number of the command that the next step runs; `None` if none is left.
     pub fn next_command(&self) -> Option<usize>
         ensures { result ≡ next_command self.now }
     {
@@ -138,7 +140,7 @@ impl<'a> Runner<'a> {
         }
     }
 
-    /// What is shown of its calls, with the replies, and the notes.
+    /// Returns what a log shows of its calls, with the replies, and the notes.
     pub fn ran(self) -> Ran
         ensures entries { result.entries ≡ self.entry.entries }
         ensures notes { result.notes ≡ self.entry.notes }
@@ -150,8 +152,8 @@ impl<'a> Runner<'a> {
     }
 }
 
-/// Puts the note of a command behind the others, if it has one. The one error is want of memory: then the notes
-/// are as before.
+/// Appends the note of a command, if it has one. The one error is out of memory: then the notes are as
+/// before.
 pub fn note(
     notes: &mut NoteList,
     caller: u32,

@@ -14,11 +14,12 @@ use mount_model::MountPort;
 use script_lang::Section;
 use std::alloc::{AllocError, Global};
 
-/// Runs the section's commands one after another on the caller's port, and stretches their passphrases in
-/// the way that is handed in. The gate is called before each, and behind each that was run: after want of
-/// memory in a command it is not. The port has four calls left for each command. In the end `scrub_stack`
-/// overwrites what they left on the stack. The one error is want of memory: then the calls are those of the
-/// commands that were run, and behind them those with which the next command's steps begin.
+/// Runs the section's commands one after another on the caller's port, with `stretches` for their
+/// passphrases. The port must have four calls left for each command. The gate is called before each
+/// command, and after each that was run: not after a command that was out of memory. After the last
+/// command `scrub_stack` wipes what they left on the stack. The one error is out of memory. Then the
+/// calls are those of the commands that were run, and after them those with which the next command's
+/// steps begin.
 pub fn run_caller<P: MountPort, G: Gate, S: Stretch>(
     alloc: Global,
     port: &mut P,
