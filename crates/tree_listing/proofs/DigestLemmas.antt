@@ -17,7 +17,7 @@ pub contents_are : (seal : Option Seal) (size : ℕ) (blocks : List (List ℕ)) 
 unfolding read_contents
 contents_are seal size blocks = refl
 
--- a file has more bytes than are in front of each of its blocks
+-- a file has more bytes than are before each of its blocks
 pub begins_within : (size j : ℕ) → j < div_ceil size 4096 → 4096 * j < size
 begins_within size j lt =
     let bounds = div_ceil_times size 4096 (omega arith) in
@@ -65,7 +65,7 @@ first_is blocks j block more cut = elim (cases_lt j (length blocks)) [
       absurd (cc)
 ]
 
--- where block j is one, some are left
+-- if block j is one, some are left
 pub some_left : (blocks : List (List ℕ)) (j : ℕ) → j < length blocks → drop j blocks ≡ [] → ⊥
 some_left blocks j lt none =
     let long = length-drop j blocks in

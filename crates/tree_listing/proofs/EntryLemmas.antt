@@ -8,7 +8,7 @@ use Rattle.image_lines.specs.Nodes.{IsRestOf}
 use Rattle.image_lines.specs.Told.{entries_at, blocks_at}
 use Rattle.image_lines.proofs.RoundLemmas.{dropped, shorter}
 
--- behind the end of a text there is nothing
+-- after the end of a text there is nothing
 entries_behind : (ended : Bool) (rest : List ℕ) → (ended ≡ false → rest ≡ []) → entries_at (if ended then pieces_of rest else []) ≡ entries_at (pieces_of rest)
 unfolding entries_at entry_told
 entries_behind true rest none = refl

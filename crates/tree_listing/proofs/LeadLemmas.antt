@@ -1,4 +1,4 @@
--- Where the entries of an image lead: to each child one, and to nodes that are there.
+-- The children of the entries of an image: each has one entry, and is a node of the image.
 use Rattle.std.proofs.Common.{◌≡◌, ◌≢◌, ℕ, ◌<◌, ◌==◌, List, [], ◌∷◌, ◌++◌, length, map, get_or, nat_eq, Option, Some, None, refl, sym, ap, ◌∙◌, subst, arith, inl, inr, zero, suc}
 use Rattle.std.specs.Prelude.{Contains, slice_get}
 use Rattle.std.specs.List.{IsDistinct}
@@ -39,7 +39,7 @@ placed_from image p h =
     let own = in_from_map (λ (x : List ℕ × ℕ). let q : PlacedEntry = (from.0, x) in q) p (entries_of from.0.body) from.2 in
     subst (λ (q : PlacedEntry). In q.0 image × In q.1 (entries_of q.0.body)) own.2 (from.1, own.1)
 
--- the entry that leads to the child of an entry is that entry
+-- the entry of the child of an entry is that entry
 pub entry_to_own : (image : Image) → HasGoodChildren image → (dir : ImageNode) (e : List ℕ × ℕ) → In dir image → In e (entries_of dir.body) → entry_to image e.1 ≡ Some (dir, e)
 entry_to_own image good dir e h there =
     find_own child_of (placed_entries image) (dir, e) (subst (IsDistinct nat_eq) (sym (children_are image)) good.once) (placed_is_in image dir e h there)
@@ -77,7 +77,7 @@ reached_there image is (IsReached.step n placed leads up) =
     let from = entry_to_from image n placed leads in
     subst (λ k. In k (numbers_of image)) from.2 (child_there image is.children placed.0 placed.1 from.0 from.1).1
 
--- ---- numbers tell nodes apart
+-- ---- numbers distinguish nodes
 
 pub number_at : (image : Image) (i : ℕ) (a : ImageNode) → slice_get image i ≡ Some a → (i < length (numbers_of image)) × (get_or (numbers_of image) i 0 ≡ a.number)
 number_at [] i a is = absurd (cc is)

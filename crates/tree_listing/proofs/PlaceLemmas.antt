@@ -1,4 +1,4 @@
--- What stands in front of a node's kind on its line.
+-- The text before a node's kind on its line.
 use Rattle.std.proofs.Common.{◌≡◌, ℕ, ◌<◌, ◌≤◌, arith, true, List, ◌∷◌, ◌++◌, length, Option, Some, None, sym, ap, ◌∙◌, subst, append_assoc}
 use Rattle.std.specs.Prelude.{Contains, is_some, nat_le}
 use Rattle.std.specs.Option.{option_map}
@@ -33,7 +33,7 @@ long_name (stored.Dir entries) e is there =
 long_name (stored.File blocks size) e is there = absurd there
 long_name (stored.Link target) e is there = absurd there
 
--- the directory of an entry that leads to a node is there
+-- the directory of an entry with the child n is there
 pub dir_there : (image : Image) (n parent at : ℕ) (led : IsLedBy image n parent at) → Contains image led.placed.0
 dir_there image n parent at led = contains_from_in image led.placed.0 (entry_to_from image n led.placed led.leads).0
 
@@ -47,7 +47,7 @@ name_long image is n parent at led context name child own told some =
     let same : led.placed.1 ≡ (name, child) = same_Some led.placed.1 (name, child) (sym led.line ∙ sym told) in
     subst (λ (e : List ℕ × ℕ). 16 ≤ length e.0) same long
 
--- the place of a node to which an entry leads
+-- the place of a node that has an entry
 pub place_is : (image : Image) (raw : Option (List ℕ)) (n parent at : ℕ) (led : IsLedBy image n parent at) (context : Option (List ℕ)) (name : List ℕ) (child : ℕ)
     → context ≡ led.placed.0.context → (let e : List ℕ × ℕ = (name, child) in Some e ≡ entry_at (image_text image) at)
     → place_text (option_map (place_seen raw) (entry_to image n)) ≡ decimal_of parent ++ 32 ∷ word_seen (sight_of raw context) parent name
@@ -59,7 +59,7 @@ place_is image raw n parent at led context name child own told =
 pub pieces_joined : (old number parent word : List ℕ) → ((old ++ number) ++ 32 ∷ parent) ++ 32 ∷ word ≡ old ++ (number ++ 32 ∷ (parent ++ 32 ∷ word))
 pieces_joined old number parent word = simp append_assoc
 
--- behind the end of a text there is no entry
+-- after the end of a text there is no entry
 pub past_end : (text : List ℕ) (at : ℕ) → length text < at → (let none : Option (List ℕ × ℕ) = None in none ≡ entry_at text at)
 unfolding entry_told
 past_end text at past = ap (λ (l : List ℕ). entry_told (before_first is_line_feed l)) (sym (drop_all at text (omega arith)))

@@ -31,7 +31,7 @@ use Rattle.text_words.specs.Lines.{is_line_feed}
 use Rattle.std.specs.List.{before_first}
 use Rattle.tree_listing.proofs.LeadLemmas.{entry_to_from, entry_to_own, reached_there, number_at, same_index, same_node}
 
--- ---- who is among numbers
+-- ---- members of a list of numbers
 
 or_no : (b : Bool) → (b || false) ≡ b
 or_no true = refl
@@ -111,7 +111,7 @@ count_all count = let e = sum_by-replicate one count Nowhere in omega (arith, e)
 
 -- ---- at the end
 
--- where all that were found are followed, all that are reached were found
+-- if all that were found are followed, all that are reached were found
 pub all_found : (image : Image) (order : List ℕ) → is_among order 0 ≡ true → AreFollowed image order (length order) → {n : ℕ} → IsReached image n → is_among order n ≡ true
 all_found image order root followed IsReached.root = root
 all_found image order root followed (IsReached.step n placed leads up) =
@@ -147,7 +147,7 @@ followed_more image before after more next grown lt followed own k below dir the
 pub none_followed : (image : Image) (order : List ℕ) → AreFollowed image order 0
 none_followed image order k lt = absurd (omega (arith, lt))
 
--- an entry's line leads to the entry's child
+-- an entry's line is the way to the entry's child
 pub led_by : (image : Image) → HasGoodChildren image → (n : ℕ) (passed more entries : Entries) (e : List ℕ × ℕ) (rest : List ℕ) → HasEntries image n entries
     → passed ++ e ∷ more ≡ entries → IsRestOf (image_text image) rest → entry_told (before_first is_line_feed rest) ≡ Some e
     → IsLedBy image e.1 n (length (image_text image) - length rest)
@@ -175,7 +175,7 @@ node_of_index [] i n lt is = absurd (omega arith)
 node_of_index (node ∷ image) zero n lt is = (node, refl, is)
 node_of_index (node ∷ image) (suc i) n lt is = node_of_index image i n (omega arith) is
 
--- where the way to a node isn't none, it was found
+-- if there is a way to a node, it was found
 pub was_found : (image : Image) (order : List ℕ) (ways : List Way) (index child : ℕ) (way : Way) → AreWays image (is_among order) ways → IsIndexOf (numbers_of image) child (Some index)
     → way ≡ get_or ways index way → (way ≡ Nowhere → ⊥) → is_among order child ≡ true
 was_found image order ways index child way are is read some =

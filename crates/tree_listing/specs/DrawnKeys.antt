@@ -1,4 +1,4 @@
--- What the bytes of a context tell, and the keys that are drawn for a node from a raw key.
+-- The values in the bytes of a context, and the keys that are derived for a node from a raw key.
 use Rattle.std.specs.Prelude.{ℕ, ◌*◌, ◌^◌, List, drop, slice_index, if◌then◌else◌}
 use Rattle.std.specs.Option.{unwrap_or}
 use Rattle.policy_ctx.specs.declared.TheConstants.{POLICY_LEN}
@@ -13,7 +13,7 @@ use Rattle.fsc_keys.specs.declared.file_keys.KeyKind.TheVariants.{Contents, Name
 use Rattle.name_crypt.specs.StoredName.{plain_name}
 use Rattle.data_crypt.specs.Blocks.{Seal}
 
--- the nonce, behind the policy
+-- the nonce, after the policy
 abbrev pub nonce_in : List ℕ → List ℕ
 nonce_in context = drop POLICY_LEN context
 
@@ -26,7 +26,8 @@ abbrev pub key_in : List ℕ → List ℕ → KeyKind → FileKey
 key_in raw context kind =
     if is_by_mode_in context then mode_key_of raw kind else file_key_of raw kind (nonce_in context)
 
--- where node n counts its units from: under flag 8 the upper half of an index is the node's number
+-- the number from which node n counts its units: under flag 8 the upper half of an index is the node's
+-- number
 abbrev pub start_in : ℕ → List ℕ → ℕ
 start_in n context = if is_by_mode_in context then n * 2 ^ 32 else 0
 
@@ -39,7 +40,7 @@ seal_in raw context n =
       unit = unit_in context;
     }
 
--- what a name of the directory n, or the target of the link n, is deciphered to; empty where it is nothing
+-- the decrypted name of the directory n, or the decrypted target of the link n; empty if it is none
 abbrev pub name_under : List ℕ → List ℕ → ℕ → List ℕ → List ℕ
 name_under raw context n stored =
     plain_name (key_bytes (key_in raw context Names)) (start_in n context) stored

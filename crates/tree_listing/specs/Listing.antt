@@ -1,4 +1,4 @@
--- The listing of an image, for somebody who has a raw key, or none.
+-- The listing of an image, for a reader with a raw key, or without one.
 use Rattle.std.specs.Prelude.{◌≡◌, ◌↔◌, ℕ, Bool, IsTrue, List, length, map, filter, Option}
 use Rattle.std.specs.Option.{option_map}
 use Rattle.disk_tree.specs.declared.node.Body.{Body}
@@ -8,7 +8,7 @@ use Rattle.tree_listing.specs.Sights.{sight_of, word_seen, digest_seen}
 use Rattle.tree_listing.specs.ListingText.{ListedBody, Dir, File, Link, ListedNode, listing_text}
 use Rattle.tree_listing.specs.PlacedEntries.{PlacedEntry, entry_to, IsReached}
 
--- the parent's number, and the name as who sees the parent reads it
+-- the parent's number, and the name as the reader sees it in the parent
 abbrev pub place_seen : Option (List ℕ) → PlacedEntry → ℕ × List ℕ
 place_seen raw placed =
     (placed.0.number, word_seen (sight_of raw placed.0.context) placed.0.number placed.1.0)

@@ -1,4 +1,4 @@
--- Where the entries of an image lead, and what they reach from the root.
+-- The children of the entries of an image, and the nodes that entries reach from the root.
 use Rattle.std.specs.Prelude.{◌≡◌, ◌==◌, ℕ, List, map, Option, Some}
 use Rattle.std.specs.List.{find, flat_map}
 use Rattle.disk_tree.specs.Nodes.{entries_of}
@@ -14,7 +14,7 @@ placed_in dir = map (λ e. (dir, e)) (entries_of dir.body)
 abbrev pub placed_entries : Image → List PlacedEntry
 placed_entries image = flat_map placed_in image
 
--- the entry that leads to node n: in an image there is at most one
+-- the entry whose child is node n: in an image there is at most one
 abbrev pub entry_to : Image → ℕ → Option PlacedEntry
 entry_to image n = find (λ placed. placed.1.1 == n) (placed_entries image)
 

@@ -1,4 +1,4 @@
--- What somebody sees of a node of an image who has a raw key, or none.
+-- What a reader with a raw key, or without one, sees of a node of an image.
 use Rattle.std.specs.Prelude.{ℕ, List, [], ◌∷◌, Option, None, Some, if◌then◌else◌}
 use Rattle.sha2.specs.Sha256.{sha256}
 use Rattle.policy_ctx.specs.Context.{id_in}
@@ -9,8 +9,10 @@ use Rattle.data_crypt.specs.Blocks.{read_contents}
 use Rattle.script_words.specs.Word.{word_text}
 use Rattle.tree_listing.specs.DrawnKeys.{seal_in, name_under}
 
--- how a node is seen: as it is stored, where it is under no policy; not at all, where the key of its policy
--- isn't there; else by keys drawn from the raw key, by the bytes of the node's context
+-- how a node is seen:
+-- - as it is stored, if it is under no policy;
+-- - not at all, if the reader doesn't have the key of its policy;
+-- - else by keys derived from the raw key, by the bytes of the node's context
 pub data Sight : Type 0 where
   Plain : Sight
   Locked : Sight
@@ -25,7 +27,7 @@ abbrev pub sight_of : Option (List ℕ) → Option (List ℕ) → Sight
 sight_of raw None = Plain
 sight_of raw (Some context) = sight_under raw context
 
--- the word of what a stored name is deciphered to, and where that is nothing its no-key text
+-- the word of the decrypted stored name, or its no-key text if that name is empty
 abbrev pub word_or_text : List ℕ → List ℕ → List ℕ
 word_or_text stored [] = nokey_text_of stored
 word_or_text stored (b ∷ bs) = word_text (b ∷ bs)
@@ -36,7 +38,7 @@ word_seen Plain n stored = word_text stored
 word_seen Locked n stored = nokey_text_of stored
 word_seen (Under raw context) n stored = word_or_text stored (name_under raw context n stored)
 
--- the SHA-256 of the contents of the file n, where they are seen
+-- the SHA-256 of the contents of the file n, if they can be read
 abbrev pub digest_seen : Sight → ℕ → List (List ℕ) → ℕ → Option (List ℕ)
 digest_seen Plain n blocks size = Some (sha256 (read_contents None size blocks))
 digest_seen Locked n blocks size = None

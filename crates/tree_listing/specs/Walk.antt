@@ -18,11 +18,11 @@ pub record IsWalk (image : Image) (walk : Walk) : Type 0 where
   pub reached : All (IsReached image) walk.order.items
   pub counted : length walk.order.items + count_by is_nowhere walk.ways.items ≡ length image
 
--- one walk goes on where the other is: its nodes are found, in this order, and maybe more
+-- one walk continues the other: it has found the other's nodes, in this order, and maybe more
 abbrev pub GoesOn : Walk → Walk → Type 0
 GoesOn before after = (more : List ℕ) × (after.order.items ≡ before.order.items ++ more)
 
--- where the entries of a directory lead is found
+-- the children of a directory's entries are found
 abbrev pub AreFound : List ℕ → Entries → Type 0
 AreFound order entries = All (λ e. is_among order e.1 ≡ true) entries
 
@@ -33,11 +33,11 @@ pub record HasEntries (image : Image) (n : ℕ) (entries : Entries) : Type 0 whe
   pub number : dir.number ≡ n
   pub own : entries_of dir.body ≡ entries
 
--- where the entries of the node of this number lead is found
+-- the children of the entries of the node of this number are found
 abbrev pub IsFollowed : Image → List ℕ → ℕ → Type 0
 IsFollowed image order n = (dir : ImageNode) → Contains image dir → dir.number ≡ n
     → AreFound order (entries_of dir.body)
 
--- the first nodes that were found are followed: where their entries lead is found too
+-- the first nodes that were found are followed: the children of their entries are found too
 abbrev pub AreFollowed : Image → List ℕ → ℕ → Type 0
 AreFollowed image order count = (k : ℕ) → k < count → IsFollowed image order (slice_index order k)

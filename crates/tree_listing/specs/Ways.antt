@@ -1,5 +1,4 @@
--- The ways by which nodes are found from the root, and where in the text the entries that lead to them
--- stand.
+-- The ways by which nodes are found from the root, and the places of their entries in the text.
 use Rattle.std.specs.Prelude.{◌≡◌, ◌↔◌, ℕ, Bool, true, false, IsTrue, List, length, drop}
 use Rattle.std.specs.Prelude.{slice_get, slice_index_or, Option, Some, None}
 use Rattle.std.specs.List.{before_first}
@@ -15,14 +14,14 @@ use Rattle.tree_listing.specs.PlacedEntries.{IsReached, PlacedEntry, entry_to}
 abbrev pub entry_at : List ℕ → ℕ → Option (List ℕ × ℕ)
 entry_at text at = entry_told (before_first is_line_feed (drop at text))
 
--- the entry that leads to node n is in the directory of this number, and its line begins at this index
+-- the entry whose child is node n is in the directory of this number, and its line begins at this index
 pub record IsLedBy (image : Image) (n parent at : ℕ) : Type 0 where
   pub placed : PlacedEntry
   pub leads : entry_to image n ≡ Some placed
   pub has : placed.0.number ≡ parent
   pub line : entry_at (image_text image) at ≡ Some placed.1
 
--- the way by which node n was found, where it is one of those that were found
+-- the way by which node n was found, if it is one of those that were found
 abbrev pub IsWayTo : Image → Bool → ℕ → Way → Type 0
 IsWayTo image found n Nowhere = found ≡ false
 IsWayTo image found n AtRoot = (found ≡ true) × (entry_to image n ≡ None)
@@ -33,7 +32,7 @@ is_nowhere Nowhere = true
 is_nowhere AtRoot = false
 is_nowhere (By parent at) = false
 
--- a way for each node, where a test tells which were found
+-- a way for each node; the test is true of the nodes that were found
 pub record AreWays (image : Image) (found : ℕ → Bool) (ways : List Way) : Type 0 where
   pub long : length ways ≡ length image
   pub each : (i : ℕ) (node : ImageNode) → slice_get image i ≡ Some node

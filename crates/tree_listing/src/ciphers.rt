@@ -1,4 +1,4 @@
-//! What names and contents are deciphered with. Keys and round keys are overwritten behind their use.
+//! The ciphers by which names and contents are decrypted. Keys and round keys are wiped after their use.
 
 ghost use Rattle.std.specs.Prelude.{◌≡◌, ◌↔◌, [], true, Some, IsErr, IfOk, is_some};
 ghost use Rattle.fsc_keys.specs.declared.file_keys.KeyKind.TheVariants.{Contents, Names};
@@ -13,8 +13,8 @@ use name_crypt::{Aes256, NameCipher, NotPlain, Plain, StoredName};
 use policy_ctx::CONTEXT_LEN;
 use xts_mode::XtsKey;
 
-// The name of a stored one in the directory of this number and context, or the target of the link. There is
-// none where the first byte is deciphered to NUL.
+// Returns the name of a stored one in the directory of this number and context, or the target of the
+// link. It is an error exactly if the first byte is decrypted to NUL.
 pub(crate) fn decipher(
     reader: &Reader<'_>,
     context: &[u8; CONTEXT_LEN],
@@ -37,7 +37,7 @@ pub(crate) fn decipher(
     name
 }
 
-// Makes the round keys of a names key in their room.
+// Makes the round keys of a names key in place.
 fn set_names_key(cipher: &mut Aes256, key: &FileKey)
     requires { key_kind key.now ≡ Names }
     ensures { cipher.new ≡ key_bytes key.now }
@@ -48,7 +48,7 @@ fn set_names_key(cipher: &mut Aes256, key: &FileKey)
     }
 }
 
-// Makes the round keys of the file of this number and context in their room.
+// Makes the round keys of the file of this number and context in place.
 pub(crate) fn fill(
     cipher: &mut Option<FileCipher>,
     reader: &Reader<'_>,
@@ -79,7 +79,7 @@ fn set_cipher(
     cipher.unit = unit_in(context);
 }
 
-// Makes the round keys of a contents key in their room.
+// Makes the round keys of a contents key in place.
 fn set_contents_key(cipher: &mut XtsKey, key: &FileKey)
     requires { key_kind key.now ≡ Contents }
     ensures { cipher.new ≡ key_bytes key.now }

@@ -19,8 +19,8 @@ use policy_ctx::CONTEXT_LEN;
 use sha2::{Digest, Sha256};
 use text_words::next_line;
 
-// The SHA-256 of the contents of a file of this number, size and context, where they are seen. The lines of
-// its blocks stand first in `lines`.
+// Returns the SHA-256 of the contents of a file of this number, size and context, if they can be read.
+// The first of the `lines` are those of its blocks.
 pub(crate) fn digest_shown(
     reader: &Option<Reader<'_>>,
     number: u32,
@@ -48,7 +48,7 @@ pub(crate) fn digest_shown(
     }
 }
 
-// The SHA-256 of the contents of so many bytes whose blocks stand on the first lines.
+// Returns the SHA-256 of the contents of `size` bytes whose blocks are on the first lines.
 fn digest_of(cipher: &Option<FileCipher>, size: u32, lines: &[u8]) -> [u8; 32]
     requires blocks { length (blocks_at (pieces_of lines.now)) ≡ blocks_for size }
     requires small { size ≤ MOST_FILE_BYTES }

@@ -10,16 +10,16 @@ ghost use Rattle.image_lines.specs.Told.{entries_at};
 use image_lines::{EntryLine, read_entry_line};
 use text_words::next_line;
 
-/// The entry of which the first line of a text tells.
+/// The entry on the first line of a text.
 #[derive(Clone, Copy)]
 pub(crate) struct FirstEntry<'a> {
-    /// What the line tells.
+    /// The entry of the line.
     pub entry: EntryLine,
-    /// What stands behind the line.
+    /// The text after the line.
     pub rest: &'a [u8],
 }
 
-// The entry of the first line, where that is an entry's.
+// Returns the entry of the first line, if that is an entry's.
 pub(crate) fn first_entry(lines: &[u8]) -> Option<FirstEntry<'_>>
     ensures entries { MatchOption result (entries_at (pieces_of lines.now) ≡ [])
         (λ first. entries_at (pieces_of lines.now)
@@ -40,7 +40,7 @@ pub(crate) fn first_entry(lines: &[u8]) -> Option<FirstEntry<'_>>
     }
 }
 
-// How many entry lines stand first.
+// Returns how many entry lines come first.
 pub(crate) fn entry_count(lines: &[u8]) -> usize
     ensures { result ≡ length (entries_at (pieces_of lines.now)) }
 {

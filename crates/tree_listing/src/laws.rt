@@ -1,4 +1,4 @@
-//! A law of listings. The function does nothing: its contract is the law.
+//! A law of listings: an empty function whose contract is the law.
 
 ghost use Rattle.tree_listing.specs.Listing.{ListingsAreOne};
 

@@ -1,4 +1,4 @@
-//! The listing of an image: what it shows of a tree to who has a raw key, and to who has none.
+//! The listing of an image: what it shows of a tree to a reader with a raw key, and to one without a key.
 #![tactic(auto)]
 
 mod ciphers;

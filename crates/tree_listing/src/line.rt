@@ -59,7 +59,7 @@ fn push_place(
         ++ (decimal_of number
         ++ 32 ∷ place_text (option_map (place_seen reader.now) (entry_to image.now number)))) }
 {
-    // That it is an image.
+    // The clause `image` of `text` holds: the nodes are an image.
     let _text = image.text();
     push_decimal(text, u64::from(number))?;
     match way {
@@ -86,7 +86,7 @@ fn push_place(
 fn context_of(image: &Image<'_>, number: u32) -> Option<[u8; CONTEXT_LEN]>
     ensures { (node : ImageNode) → Contains image.now node → node.number ≡ number → result ≡ node.context }
 {
-    // That it is an image.
+    // The clause `image` of `text` holds: the nodes are an image.
     let _text = image.text();
     match image.index_of(number) {
         Some(index) => image.node(index).line.context,
@@ -105,7 +105,7 @@ fn entry_at(image: &Image<'_>, at: u32) -> Option<EntryLine>
     }
 }
 
-// Writes a space, what a node is, and what is told of its body.
+// Writes a space, the kind of a node, and the values of its body.
 fn push_body(
     alloc: Global,
     text: &mut Vec<u8>,
@@ -149,7 +149,7 @@ fn push_body(
     }
 }
 
-// Writes the digits of a digest, or what stands where there is none.
+// Writes the digits of a digest, or `-` if there is none.
 fn push_digest(text: &mut Vec<u8>, digest: &Option<[u8; 32]>) -> Result<(), AllocError>
     ensures { OnOk result (text.new.items ≡ text.old.items ++ digest_text digest.now) }
 {

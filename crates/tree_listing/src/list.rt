@@ -14,8 +14,8 @@ use image_lines::Image;
 use item_list::Bytes;
 use std::alloc::{AllocError, Global};
 
-/// Lists an image, with a raw key or without one: a line for each node that entries reach from the root, in
-/// order of number. AllocError where there is no memory for it.
+/// Lists an image, with a raw key or without one: a line for each node that entries reach from the root,
+/// in order of number. Returns `AllocError` if it is out of memory.
 pub fn list_image(
     alloc: Global,
     image: &Image<'_>,
@@ -32,7 +32,7 @@ pub fn list_image(
     Ok(Bytes::from_vec(text))
 }
 
-// Writes the line of the node at this index, where it was found.
+// Writes the line of the node at this index, if it was found.
 fn push_found(
     alloc: Global,
     text: &mut Vec<u8>,
@@ -46,7 +46,7 @@ fn push_found(
     ensures { OnOk result
         (WritesAt image.now (listed reader.now image.now) index way text.old.items text.new.items) }
 {
-    // That it is an image.
+    // The clause `image` of `text` holds: the nodes are an image.
     let _text = image.text();
     if let Way::Nowhere = way {
         return Ok(());
@@ -54,7 +54,7 @@ fn push_found(
     push_line(alloc, text, image, reader, &image.node(index), way)
 }
 
-// Who has this key, where there is one.
+// Returns the reader with this key, if there is one.
 fn reader_of(key: Option<&PreparedKey>) -> Option<Reader<'_>>
     ensures { result ≡ option_map (λ key. key.now) key.entry }
 {

@@ -1,4 +1,4 @@
-//! Who an image is listed for, and what the bytes of a context tell.
+//! The reader that an image is listed for, and the values in the bytes of a context.
 
 ghost use Rattle.std.specs.Prelude.{◌≡◌, ◌^◌, ◌%◌};
 ghost use Rattle.byte_words.specs.Bytes.{AreBytes};
@@ -12,7 +12,7 @@ use fsc_keys::{FileKey, KeyId, PreparedKey};
 use policy_ctx::{CONTEXT_LEN, POLICY_LEN, Unit, id_in, is_by_mode};
 use std::marker::Model;
 
-/// Who has a raw key. Its identifier is drawn once.
+/// A reader with a raw key. The key's identifier is derived once.
 #[derive(Drop)]
 pub(crate) struct Reader<'k> {
     key: &'k PreparedKey,
@@ -31,7 +31,7 @@ impl<'k> Model for Reader<'k> {
 }
 
 impl<'k> Reader<'k> {
-    // Who has this key.
+    // Returns the reader with this key.
     pub(crate) fn new(key: &'k PreparedKey) -> Reader<'k>
         ensures { result ≡ key.now }
     {
@@ -39,7 +39,7 @@ impl<'k> Reader<'k> {
         Reader { key, id }
     }
 
-    // Whether the policy of a node of this context is that of the key.
+    // Returns whether the policy of a node of this context is that of the key.
     pub(crate) fn opens(&self, context: &[u8; CONTEXT_LEN]) -> bool
         ensures { result ≡ same_id (key_id_of self.now) (id_in context.now) }
     {
@@ -75,7 +75,7 @@ pub(crate) fn unit_in(context: &[u8; CONTEXT_LEN]) -> Unit
     Unit::of_log2(u32::from(context[4])).unwrap_or(Unit::Block)
 }
 
-// Where a node of this number and context counts its units from.
+// Returns the number from which a node of this number and context counts its units.
 pub(crate) fn start_in(number: u32, context: &[u8; CONTEXT_LEN]) -> u64
     ensures value { result ≡ spec.start_in number context.now }
     ensures apart { result % 2 ^ 32 ≡ 0 }

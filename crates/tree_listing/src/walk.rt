@@ -1,4 +1,4 @@
-//! Which nodes entries reach from the root, and by which entry each.
+//! The nodes that entries reach from the root, and the entry by which each is reached.
 
 ghost use Rattle.std.specs.Prelude.{◌≡◌, ◌<◌, [], ◌∷◌, true, IfOk, OnOk};
 ghost use Rattle.text_words.specs.Lines.{pieces_of};
@@ -30,11 +30,11 @@ pub(crate) struct Walk {
     pub order: Vec<u32>,
 }
 
-// The ways to all nodes that are reached. Each is followed in its turn, and nothing recurs.
+// Returns the ways to all nodes that are reached. Each is followed in its turn, without recursion.
 pub(crate) fn ways_to_reached(alloc: Global, image: &Image<'_>) -> Result<Vec<Way>, AllocError>
     ensures { IfOk result (λ ways. AreWaysToReached image.now ways.items) }
 {
-    // That it is an image.
+    // The clause `image` of `text` holds: the nodes are an image.
     let _text = image.text();
     let mut walk = begin(alloc, image)?;
     let mut next = 0;
@@ -52,7 +52,7 @@ fn begin(alloc: Global, image: &Image<'_>) -> Result<Walk, AllocError>
     ensures walk { IfOk result (IsWalk image.now) }
     ensures root { IfOk result (λ walk. walk.order.items ≡ 0 ∷ []) }
 {
-    // That it is an image.
+    // The clause `image` of `text` holds: the nodes are an image.
     let _text = image.text();
     let count = image.node_count();
     let mut ways = vec![in alloc; Way::Nowhere; count]?;
@@ -62,7 +62,7 @@ fn begin(alloc: Global, image: &Image<'_>) -> Result<Walk, AllocError>
     Ok(Walk { ways, order })
 }
 
-// Finds where the entries of a node that was found lead.
+// Finds the children of the entries of a node that was found.
 fn follow(image: &Image<'_>, walk: &mut Walk, number: u32) -> Result<(), AllocError>
     requires walk { IsWalk image.now walk.old }
     requires found { is_among walk.old.order.items number ≡ true }
@@ -70,7 +70,7 @@ fn follow(image: &Image<'_>, walk: &mut Walk, number: u32) -> Result<(), AllocEr
     ensures goes_on { OnOk result (GoesOn walk.old walk.new) }
     ensures followed { OnOk result (IsFollowed image.now walk.new.order.items number) }
 {
-    // That it is an image.
+    // The clause `image` of `text` holds: the nodes are an image.
     let _text = image.text();
     let Some(index) = image.index_of(number) else {
         unreachable!();
@@ -82,7 +82,7 @@ fn follow(image: &Image<'_>, walk: &mut Walk, number: u32) -> Result<(), AllocEr
     }
 }
 
-// Finds where the entries of a directory lead, whose lines stand first in `lines`.
+// Finds the children of a directory's entries, whose lines are the first of `lines`.
 fn follow_entries(
     image: &Image<'_>,
     walk: &mut Walk,
@@ -107,7 +107,7 @@ fn follow_entries(
     Ok(())
 }
 
-// Finds the node to which an entry leads, by the directory's number and the index of the entry's line.
+// Finds the child of an entry, by the directory's number and the index of the entry's line.
 fn lead_to(
     image: &Image<'_>,
     walk: &mut Walk,
@@ -122,7 +122,7 @@ fn lead_to(
     ensures goes_on { OnOk result (GoesOn walk.old walk.new) }
     ensures found { OnOk result (is_among walk.new.order.items child ≡ true) }
 {
-    // That it is an image.
+    // The clause `image` of `text` holds: the nodes are an image.
     let _text = image.text();
     let Some(index) = image.index_of(child) else {
         unreachable!();

@@ -1,4 +1,4 @@
-//! Names and targets, as who lists an image sees them.
+//! Names and targets, as the reader of a listing sees them.
 
 ghost use Rattle.std.specs.Prelude.{◌≡◌, ◌≤◌, ◌++◌, ◌∷◌, ◌-◌, true, length, is_some, OnOk};
 ghost use Rattle.name_crypt.specs.declared.limits.TheConstants.{LEAST_STORED_BYTES};
@@ -14,8 +14,8 @@ use policy_ctx::CONTEXT_LEN;
 use script_words::push_word;
 use std::alloc::{AllocError, Global};
 
-// Writes a space, and the word by which a stored name in the directory of this number and context is shown,
-// or the stored target of the link.
+// Writes a space, and the word by which a stored name in the directory of this number and context is
+// shown, or the stored target of the link.
 pub(crate) fn push_shown(
     alloc: Global,
     text: &mut Vec<u8>,
@@ -44,7 +44,7 @@ pub(crate) fn push_shown(
     }
 }
 
-// Writes a space and the deciphered name, or where there is none the no-key text.
+// Writes a space and the decrypted name, or if there is none the no-key text.
 fn push_opened(
     alloc: Global,
     text: &mut Vec<u8>,

@@ -2,7 +2,7 @@ use Rattle.std.proofs.Common.{drop, ◌∙◌, arith}
 use Rattle.std.proofs.lemmas.List.{take_all, length-drop}
 use Rattle.tree_listing.proofs.reader.nonce_in.Goals as goal
 
--- what stands behind the policy is the nonce whole
+-- all bytes after the policy are the nonce
 pub returns : goal.returns
 returns c =
     let long = length-drop 24 c.args.context.now in
