@@ -1,4 +1,4 @@
--- Keys and pins as they are cached, when one comes or goes.
+-- Keys and pins as they are cached, when one is added or removed.
 use Rattle.std.proofs.Common.{◌≡◌, ℕ, suc, ◌+◌, ◌-◌, Bool, true, false, cond, eqb, List, [], ◌∷◌, filter, length, Option, Some, None, is_some, is_none, unwrap_or, Result, Ok, Err, is_err, OnOk, OnErr, sym, refl, ap, ◌∙◌, subst, ⊎_elim, arith}
 use Rattle.std.specs.Option.{option_map}
 use Rattle.std.specs.Ordering.{nat_cmp, eq_by_cmp}
@@ -38,7 +38,7 @@ key_written m n node key updates = shown-inserted nat_cmp_total (λ (key : KeyBo
 pub key_gone : (m n : BTreeMap ℕ KeyBox) (node : ℕ) → ((q : ℕ) → tree.get nat_cmp n q ≡ cond (eq_by_cmp nat_cmp node q) None (tree.get nat_cmp m q)) → keys_of n.entries ≡ map.remove (keys_of m.entries) node
 key_gone m n node updates = shown-removed nat_cmp_total (λ (key : KeyBox). key.value) nat_cmp-IsAntisymmetric m n node updates
 
--- a key that was handed in and is taken back
+-- a key that was passed and is removed again
 pub taken_back : (keys : KeyMap) (node : ℕ) (key : Option NodeKey) → map.get keys node ≡ None → map.remove (given keys node key) node ≡ keys
 taken_back keys node key absent = same_map nat_cmp_total nat_cmp-IsAntisymmetric _ _ (λ q. get-remove nat_cmp_total (given keys node key) node q ∙ ⊎_elim
     (λ here. cond-true (eq_by_cmp nat_cmp q node) None _ here ∙ sym (ap (map.get keys) (tied nat_cmp-IsAntisymmetric q node here) ∙ absent))
@@ -50,7 +50,7 @@ taken_back keys node key absent = same_map nat_cmp_total nat_cmp-IsAntisymmetric
     others (Some k) q apart = ap (λ o. map.get (cond (is_none o) (map.insert keys node k) keys) q) absent
         ∙ (get-insert nat_cmp_total keys node k q ∙ cond-false (eq_by_cmp nat_cmp q node) (Some k) (map.get keys q) apart)
 
--- a node with a key keeps it, and one without takes the key that is handed in
+-- a node with a key retains it, and one without takes the key that is passed
 pub given_cached : (keys : KeyMap) (node : ℕ) (key : Option NodeKey) → is_some (map.get keys node) ≡ true → given keys node key ≡ keys
 given_cached keys node None there = refl
 given_cached keys node (Some k) there = at (map.get keys node) there
@@ -103,9 +103,9 @@ module _ (m : BTreeMap ℕ ℕ) (node : ℕ) where
       (cases_Bool (eqb (unwrap_or (tree.get nat_cmp m node) 0 - 1) 0))
       ∙ ap (λ c. with_pins (pins_in m.entries) node (c - 1)) pins_seen
 
--- ---- what a closure keeps
+-- ---- what a closure retains
 
--- a closure that keeps what passes a test as it is, and stays as it was, leaves a filter
+-- a closure that retains what passes a test as it is, and does not change, leaves a filter
 pub kept_by : {F K X : Type 0} (T : F → K → X → Bool → X → F → Type 0) (p : K × X → Bool) (f : F) → ((k : K) (v : X) (b : Bool) (w : X) (f' : F) → T f k v b w f' → (b ≡ p (k, v)) × (b ≡ true → w ≡ v) × (f' ≡ f))
     → (es kept : List (K × X)) → RetainsPairs T f es kept → kept ≡ filter p es
 kept_by T p f fact [] kept run = run
@@ -118,7 +118,7 @@ kept_by {K = K} {X = X} T p f fact (e ∷ es) kept (b, w, f', rest, call, later,
     at true w same = ap (λ v. (e.0, v) ∷ rest) (same refl)
     at false w same = refl
 
--- what is left where the closure tests the numbers of nodes alone
+-- what is left if the closure tests the numbers of nodes alone
 pub left_by_node : (m n : BTreeMap ℕ KeyBox) (t : ℕ → Bool) → n.entries ≡ filter (λ e. t e.0) m.entries → keys_of n.entries ≡ map.retain_keys (keys_of m.entries) t
 left_by_node m n t is = same_map nat_cmp_total nat_cmp-IsAntisymmetric _ _ (λ q.
     get-shown nat_cmp_total (λ (key : KeyBox). key.value) n.entries q
@@ -132,7 +132,7 @@ left_by_node m n t is = same_map nat_cmp_total nat_cmp-IsAntisymmetric _ _ (λ q
     moved true o = refl
     moved false o = refl
 
--- what is left where it tests the keys too
+-- what is left if it tests the keys too
 neither : {X : Type 0} (b : Bool) (x : Option X) → cond b x x ≡ x
 neither true x = refl
 neither false x = refl

@@ -1,4 +1,4 @@
--- A node that stands among the pins has some, and a pin that is taken away again leaves no trace.
+-- A node with an entry among the pins has at least one, and a pin that is removed again leaves no trace.
 use Rattle.std.proofs.Common.{◌≡◌, ℕ, ◌+◌, ◌<◌, false, true, eqb, List, [], Option, Some, None, unwrap_or, refl, sym, ap, ◌∙◌, subst, ⊎_elim, arith}
 use Rattle.std.specs.Ordering.{nat_cmp, eq_by_cmp}
 use Rattle.std.specs.Cmp.{nat_cmp_total}
@@ -43,7 +43,7 @@ module _ (pins : PinMap) (node : ℕ) where
           positive : (x : ℕ) → eqb x 0 ≡ false → 0 < x
           positive x more = omega (arith, λ (none : x ≡ 0). true≢false (sym (eq-eqb x 0 none) ∙ more))
 
-  -- a pin that is taken away again
+  -- a pin that is removed again
   pub pins_back : HasPins pins → with_pins (with_pins pins node (pins_at pins node + 1)) node (pins_at pins node) ≡ pins
   pins_back some =
       ap (λ p. with_pins p node (pins_at pins node)) (cond-false (eqb (pins_at pins node + 1) 0) (map.remove pins node) (map.insert pins node (pins_at pins node + 1)) one)

@@ -194,7 +194,7 @@ module _ (cache : Cache) (n : ℕ) where
         ∙ ap (λ o. unwrap_or o 0) (get-insert nat_cmp_total cache.pins n count n ∙ cond-true (eq_by_cmp nat_cmp n n) (Some count) _ (itself n))
   ]
 
-  -- keep
+  -- the call `keep`
   pub users_kept : (key : NodeKey) (q : KeyId) → is_unpinned cache n ≡ false → users_of (record cache { keys = map.insert cache.keys n key }) q + one_for (id_at cache n) q ≡ users_of cache q + one_for (Some key.id) q
   users_kept key q pinned =
       let new : Cache = record cache { keys = map.insert cache.keys n key } in
@@ -301,7 +301,7 @@ module _ (cache : Cache) where
       let one : one_for (user_at cache n) key.id ≡ 1 = (λ i. one_for (cond (pinned i) None (option_map (λ (k : NodeKey). k.id) (there i))) key.id) ∙ ap (λ b. cond b 1 0) (same_id-refl key.id) in
       omega arith
 
-  -- and where there is a user, there is such a node
+  -- and if there is a user, there is such a node
   pub some_user : (id : KeyId) → 0 < users_of cache id → (n : ℕ) × ((is_unpinned cache n ≡ false) × ((key : NodeKey) × ((key_at cache n ≡ Some key) × (key.id ≡ id))))
   some_user id some =
       let one = some_entry (map.retain_keys cache.keys (counts_for cache id)) some in
@@ -330,11 +330,11 @@ first_counted users keys pins empty no_keys no_pins whole q =
     ap (lookup (eq_by_cmp id_cmp q)) empty
     ∙ sym (ap counted ((λ i. users_of (record { keys = keys_of (no_keys i); pins = pins_in (no_pins i) }) q) ∙ users_none q))
 
--- counts that are told of alike
+-- counts of equal numbers
 pub counted_alike : (users : Users) (f g : KeyId → ℕ) → AreCounted users f → ((q : KeyId) → g q ≡ f q) → AreCounted users g
 counted_alike users f g kept same whole q = kept whole q ∙ ap counted (sym (same q))
 
--- no user comes to a node with pins where no key does
+-- a node with pins becomes no user if no key is cached
 pub none_comes : (cache : Cache) (n : ℕ) (key : Option NodeKey) → is_unpinned cache n ≡ false → (is_some (key_at cache n) || is_none key) ≡ true → is_none (coming cache n key) ≡ true
 none_comes cache n key pinned no_key = at (is_unpinned cache n) pinned (key_at cache n) key no_key
   where
@@ -345,7 +345,7 @@ none_comes cache n key pinned no_key = at (is_unpinned cache n) pinned (key_at c
     at false free None None no_key = refl
     at false free None (Some k) bad = absurd (true≢false (sym bad))
 
--- a node counts for its key's identifier where it has pins
+-- a node counts for its key's identifier if it has pins
 pub user_pinned : (cache : Cache) (n : ℕ) → is_unpinned cache n ≡ false → user_at cache n ≡ id_at cache n
 user_pinned cache n pinned = ap (λ b. cond b None (id_at cache n)) pinned
 

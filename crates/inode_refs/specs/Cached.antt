@@ -17,11 +17,11 @@ pub record Cache : Type 0 where
 abbrev pub no_cache : Cache
 no_cache = record { keys = map.empty; pins = map.empty }
 
--- the key of the node with its identifier, where one is cached
+-- the key of the node with its identifier, if one is cached
 abbrev pub key_at : Cache → ℕ → Option NodeKey
 key_at cache node = map.get cache.keys node
 
--- how often the node is pinned; nothing stands for none
+-- how often the node is pinned; 0 if it has no entry
 abbrev pub pins_at : PinMap → ℕ → ℕ
 pins_at pins node = unwrap_or (map.get pins node) 0
 
@@ -32,7 +32,7 @@ pins_of cache node = pins_at cache.pins node
 abbrev pub with_pins : PinMap → ℕ → ℕ → PinMap
 with_pins pins node count = if count == 0 then map.remove pins node else map.insert pins node count
 
--- the keys once this one was handed in with a pin: a key that is cached stays
+-- the keys after this one was passed with a pin: a key that is cached remains
 abbrev pub given : KeyMap → ℕ → Option NodeKey → KeyMap
 given keys node None = keys
 given keys node (Some key) = if is_none (map.get keys node) then map.insert keys node key else keys

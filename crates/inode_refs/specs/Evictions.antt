@@ -1,4 +1,5 @@
--- Which nodes have no pins, what is left when keys go from them, and how many nodes with pins have a key.
+-- The nodes without pins, the keys that are left after an eviction, and how many nodes with pins have a
+-- key.
 use Rattle.std.specs.Prelude.{ℕ, Bool, false, not, ◌&&◌, ◌==◌}
 use Rattle.std.specs.Option.{option_map_or}
 use Rattle.std.specs.FinMap as map
@@ -10,19 +11,19 @@ use Rattle.inode_refs.specs.Cached.{KeyMap, Cache, key_at, pins_of}
 abbrev pub is_unpinned : Cache → ℕ → Bool
 is_unpinned cache node = pins_of cache node == 0
 
--- whether the node's key was drawn from the master key
+-- whether the node's key was derived from the master key
 abbrev pub has_id : Cache → KeyId → ℕ → Bool
 has_id cache id node = option_map_or (λ key. same_id key.id id) (key_at cache node) false
 
--- the keys that are left when those drawn from the master key go from the nodes without pins, and
--- when all keys go from them
+-- the keys that are left after those derived from the master key are removed from the nodes without pins,
+-- and after all keys are removed from them
 abbrev pub evicted : Cache → KeyId → KeyMap
 evicted cache id = map.retain_keys cache.keys (λ node. not (is_unpinned cache node && has_id cache id node))
 
 abbrev pub all_evicted : Cache → KeyMap
 all_evicted cache = map.retain_keys cache.keys (λ node. not (is_unpinned cache node))
 
--- how many nodes with pins have a key that was drawn from the master key
+-- how many nodes with pins have a key that was derived from the master key
 abbrev pub users_of : Cache → KeyId → ℕ
 users_of cache id =
     map.len (map.retain_keys cache.keys (λ node. not (is_unpinned cache node) && has_id cache id node))

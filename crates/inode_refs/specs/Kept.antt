@@ -1,4 +1,4 @@
--- How keys are cached; words of private functions.
+-- How keys are cached; definitions for private functions.
 use Rattle.std.specs.Prelude.{◌≡◌, ℕ, Bool, List, Option, IfSome, not, ◌&&◌, ◌==◌}
 use Rattle.std.specs.Ordering.{nat_cmp}
 use Rattle.std.specs.Global.{Global}
@@ -28,6 +28,6 @@ keys_of entries = shown nat_cmp (λ key. key.value) entries
 abbrev pub pins_in : List (ℕ × ℕ) → PinMap
 pins_in entries = shown nat_cmp (λ count. count) entries
 
--- whether an entry is a node with pins, and its key was drawn from the master key
+-- whether an entry is a node with pins, and its key was derived from the master key
 abbrev pub is_user : PinMap → KeyId → ℕ × KeyBox → Bool
 is_user pins id entry = not (pins_at pins entry.0 == 0) && same_id entry.1.value.id id

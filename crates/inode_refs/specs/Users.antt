@@ -10,25 +10,25 @@ use Rattle.inode_refs.specs.declared.users.Users.{Users}
 use Rattle.inode_refs.specs.Cached.{Cache, PinMap}
 use Rattle.inode_refs.specs.Evictions.{users_of}
 
--- one for the identifier, where there is one
+-- one for the identifier, if there is one
 abbrev pub one_for : Option KeyId → KeyId → ℕ
 one_for None q = 0
 one_for (Some id) q = if same_id id q then 1 else 0
 
--- there is the count of each identifier, where users are counted
+-- there is the count of each identifier, if users are counted
 abbrev pub AreCounted : Users → (KeyId → ℕ) → Type 0
 AreCounted users f = users.is_whole ≡ true → (id : KeyId) → get id_cmp users.counts id ≡ counted (f id)
 
--- a node that stands among the pins has some
+-- a node with an entry among the pins has at least one
 abbrev pub HasPins : PinMap → Type 0
 HasPins pins = (node count : ℕ) → map.get pins node ≡ Some count → 0 < count
 
--- what is kept beside the cache's keys and pins
+-- what is stored beside the cache's keys and pins
 pub record IsKept (users : Users) (cache : Cache) : Type 0 where
   pub counted : AreCounted users (users_of cache)
   pub some : HasPins cache.pins
 
--- whatever was counted is counted still: with one user more, with one less, and with one of another
+-- what was counted is still counted: with one user more, with one less, and with one of another
 -- identifier
 abbrev pub IsAsBefore : Users → Users → Type 0
 IsAsBefore old new = (f : KeyId → ℕ) → AreCounted old f → AreCounted new f
@@ -46,7 +46,7 @@ HasOther old new older newer =
     (f g : KeyId → ℕ) → AreCounted old f
     → ((q : KeyId) → g q + one_for (Some older) q ≡ f q + one_for (Some newer) q) → AreCounted new g
 
--- the identifier has users, where they are counted
+-- the identifier has users, if they are counted
 abbrev pub IsCountedFor : Users → Option KeyId → Type 0
 IsCountedFor users None = Unit
 IsCountedFor users (Some id) = users.is_whole ≡ true → 0 < unwrap_or (get id_cmp users.counts id) 0

@@ -1,5 +1,5 @@
--- That what is seen of the cache and of a cached key is all that there is of keys: a part that lay beside
--- what is named here would be one of which these don't hold.
+-- The visible parts of the cache and of a cached key are all that there is of keys. With any other part
+-- the definitions here would not hold.
 use Rattle.std.specs.Prelude.{◌≡◌}
 use Rattle.inode_refs.specs.Kept.{IsCipherIn}
 use Rattle.inode_refs.specs.declared.cache.InodeCache.TheInside as cache

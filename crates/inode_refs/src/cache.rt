@@ -20,20 +20,20 @@ use std::alloc::{AllocError, Global};
 use std::collections::BTreeMap;
 use std::marker::Model;
 
-/// What is cached of nodes, seen as the finite maps of their keys and of their pins. A key that goes is
-/// overwritten first.
+/// The cache of nodes, seen as the finite maps of their keys and of their pins. A key that is removed is
+/// wiped first.
 ///
-/// A node is found, and a master key's users are told, in a time that grows with the logarithm of how many
-/// there are. An eviction goes over all nodes with a key, and so does `users_of` once there was no memory
-/// for its counts.
+/// A node is found, and a master key's users are counted, in a time that grows with the logarithm of
+/// their number. An eviction goes over all nodes with a key, and so does `users_of` once its counts were
+/// out of memory.
 pub struct InodeCache {
     keys: Keys,
     pins: BTreeMap<u32, u32>,
-    // How many nodes with pins have a key of each master key.
+    // The number of nodes with pins that have a key, by master key.
     users: Users,
 }
 
-// Written, and not derived, so that a crate that lets one go needn't prove how that is done.
+// Written, not derived, so that a crate that drops a cache needn't prove how that is done.
 impl Drop for InodeCache {
     fn drop(self) {
         let InodeCache {
@@ -68,7 +68,7 @@ impl Model for InodeCache {
 }
 
 impl InodeCache {
-    /// Nothing cached. It takes no memory before the first pin or key.
+    /// Returns an empty cache. It takes no memory before the first pin or key.
     pub fn new(alloc: Global) -> InodeCache
         ensures { result ≡ no_cache }
     {
@@ -79,14 +79,14 @@ impl InodeCache {
         }
     }
 
-    /// How often the node is pinned.
+    /// Returns how often the node is pinned.
     pub fn pins(&self, node: u32) -> u32
         ensures { result ≡ pins_of self.now node }
     {
         counts::count_of(&self.pins, &node)
     }
 
-    /// The key of the node, where one is cached.
+    /// Returns the key of the node, if one is cached.
     pub fn key_of(&self, node: u32) -> Option<&FileKey>
         ensures { option_copied result ≡ option_map (λ key. key.key) (key_at self.now node) }
     {
@@ -96,8 +96,8 @@ impl InodeCache {
         }
     }
 
-    /// The cipher of the node's names, where a names key is cached: its round keys are made once, when
-    /// the key comes.
+    /// Returns the cipher of the node's names, if a names key is cached. Its round keys are made once,
+    /// when the key is cached.
     pub fn cipher_of(&self, node: u32) -> Option<&Aes256>
         ensures value { option_copied result ≡ names_key_at self.now node }
         ensures ranged { IfSome result (λ cipher. AreBytes cipher.now) }
@@ -108,7 +108,7 @@ impl InodeCache {
         }
     }
 
-    /// How many nodes with pins have a key that was drawn from this master key.
+    /// Returns how many nodes with pins have a key that was derived from this master key.
     pub fn users_of(&self, id: &KeyId) -> usize
         ensures { result ≡ users_of self.now id.now }
     {
@@ -129,7 +129,7 @@ impl InodeCache {
     }
 
     /// Caches the key of the node, in the place of the one before. Only a node without a key takes
-    /// memory; where there is none, all is as before, and the key is overwritten.
+    /// memory. If it is out of memory, all is as before, and the key is wiped.
     pub fn keep(
         &mut self,
         alloc: Global,
@@ -149,7 +149,7 @@ impl InodeCache {
         self.keep_counted(alloc, node, key)
     }
 
-    // The same where the node has pins.
+    // The same if the node has pins.
     fn keep_counted(&mut self, alloc: Global, node: u32, mut key: NodeKey) -> Result<(), AllocError>
         requires { is_unpinned self.old node ≡ false }
         ensures kept { OnOk result (self.new ≡ record self.old { keys = map.insert self.old.keys node key }) }
@@ -172,7 +172,7 @@ impl InodeCache {
         Ok(())
     }
 
-    /// Overwrites the key of the node and lets it go. It takes no memory.
+    /// Wipes the key of the node and removes it. It takes no memory.
     pub fn drop_key(&mut self, node: u32)
         ensures { self.new ≡ record self.old { keys = map.remove self.old.keys node } }
     {
@@ -181,9 +181,9 @@ impl InodeCache {
         forget(&mut self.keys, node);
     }
 
-    /// Pins the node once more, and caches the key that is handed in where it has none. With the pin taken
-    /// away again the pins are as before. Where there is no memory all is as before. A key that isn't cached
-    /// is overwritten. A node with pins takes no memory where no key comes to it.
+    /// Pins the node once more, and caches `key` if the node has none. With the pin removed again the
+    /// pins are as before. If it is out of memory, all is as before. A key that isn't cached is wiped. It
+    /// takes no memory if the node has pins, and has a key or gets none.
     pub fn pin(
         &mut self,
         alloc: Global,
@@ -212,7 +212,7 @@ impl InodeCache {
         Ok(())
     }
 
-    /// Takes one pin of the node away. Its key stays. It takes no memory.
+    /// Removes one pin of the node. Its key remains cached. It takes no memory.
     pub fn unpin(&mut self, node: u32)
         requires { 0 < pins_of self.old node }
         ensures { self.new
@@ -223,8 +223,8 @@ impl InodeCache {
         counts::one_less(&mut self.pins, &node);
     }
 
-    /// Overwrites and lets go the keys that were drawn from this master key, on the nodes without pins.
-    /// It takes no memory.
+    /// Wipes and removes the keys that were derived from this master key, on the nodes without pins. It
+    /// takes no memory.
     pub fn evict_unpinned(&mut self, id: &KeyId)
         ensures { self.new ≡ record self.old { keys = evicted self.old id.now } }
     {
@@ -233,7 +233,7 @@ impl InodeCache {
             .retain(|node, kept| is_pinned(pins, *node) || stays_for(kept, id));
     }
 
-    /// Overwrites and lets go all keys on the nodes without pins. It takes no memory.
+    /// Wipes and removes all keys on the nodes without pins. It takes no memory.
     pub fn evict_all_unpinned(&mut self)
         ensures { self.new ≡ record self.old { keys = all_evicted self.old } }
     {

@@ -12,7 +12,7 @@ use byte_words::slice_is_bytes;
 use fsc_keys::{FileKey, KeyId};
 use std::marker::Model;
 
-/// A node's key, with its round keys where it is one of names. In contracts it is the key.
+/// A node's key, with its round keys if it is one of names. In contracts it is the key.
 #[derive(Drop)]
 pub(crate) struct CachedKey {
     key: NodeKey,
@@ -32,7 +32,7 @@ impl Model for CachedKey {
 }
 
 impl CachedKey {
-    // Makes the round keys where the key is one of names.
+    // Makes the round keys if the key is one of names.
     pub(crate) fn of(key: NodeKey) -> CachedKey
         ensures { result ≡ key }
     {
@@ -40,7 +40,7 @@ impl CachedKey {
         CachedKey { key, cipher }
     }
 
-    // The identifier of the master key that the key was drawn from.
+    // The identifier of the master key that the key was derived from.
     pub(crate) fn id(&self) -> KeyId
         ensures { result ≡ self.now.id }
     {
@@ -64,7 +64,7 @@ impl CachedKey {
         }
     }
 
-    // Overwrites the key and its round keys, where they stand: they are then those of zeros.
+    // Wipes the key and its round keys in place: they are then those of zeros.
     pub(crate) fn wipe(&mut self)
         ensures { self.new ≡ record self.old { key = zeros_for self.old.key } }
     {

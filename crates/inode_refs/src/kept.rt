@@ -1,4 +1,4 @@
-//! Keys in boxes and pins, as they are kept.
+//! Keys in boxes and pins, as they are stored.
 
 ghost use Rattle.std.specs.Prelude.{◌≡◌, ◌+◌, ◌<◌, ◌^◌, ◌||◌, ◌==◌, not, true, false, length, filter};
 ghost use Rattle.std.specs.Prelude.{is_some, is_none, option_map, IsTrue, IsSome, IsOk, OnOk, OnErr};
@@ -28,7 +28,7 @@ pub(crate) fn is_pinned(pins: &BTreeMap<u32, u32>, node: u32) -> bool
     counts::count_of(pins, &node) != 0
 }
 
-// How many nodes with pins have a key that was drawn from this master key.
+// The number of nodes with pins that have a key derived from this master key.
 pub(crate) fn users_in(keys: &Keys, pins: &BTreeMap<u32, u32>, id: &KeyId) -> usize
     ensures counted { result ≡ length (filter (is_user (pins_in pins.now.entries) id.now) keys.now.entries) }
     ensures ordered { tree.IsOrdered nat_cmp keys.now }
@@ -38,7 +38,7 @@ pub(crate) fn users_in(keys: &Keys, pins: &BTreeMap<u32, u32>, id: &KeyId) -> us
         .count()
 }
 
-// Whether the key was drawn from another master key. One that wasn't is overwritten.
+// Returns whether the key was derived from another master key. One that wasn't is wiped.
 pub(crate) fn stays_for(kept: &mut Box<CachedKey>, id: &KeyId) -> bool
     ensures stays { result ≡ not (same_id kept.old.value.id id.now) }
     ensures same { IsTrue result → kept.new ≡ kept.old }
@@ -50,7 +50,7 @@ pub(crate) fn stays_for(kept: &mut Box<CachedKey>, id: &KeyId) -> bool
     false
 }
 
-// Overwrites the key, which doesn't stay.
+// Wipes the key, and returns that it is to be removed.
 pub(crate) fn goes(kept: &mut Box<CachedKey>) -> bool
     ensures { result ≡ false }
 {
@@ -58,7 +58,7 @@ pub(crate) fn goes(kept: &mut Box<CachedKey>) -> bool
     false
 }
 
-// Overwrites the key of the node, and lets it go.
+// Wipes the key of the node, and removes it.
 pub(crate) fn forget(keys: &mut Keys, node: u32)
     ensures { keys_of keys.new.entries ≡ map.remove (keys_of keys.old.entries) node }
 {
@@ -68,7 +68,7 @@ pub(crate) fn forget(keys: &mut Keys, node: u32)
     }
 }
 
-// Overwrites a key that isn't cached, where it stands.
+// Wipes in place a key that isn't cached.
 pub(crate) fn discard(key: &mut Option<NodeKey>)
     ensures { key.new ≡ option_map (λ (kept : NodeKey). record kept { key = zeros_for kept.key }) key.old }
 {
@@ -110,7 +110,7 @@ pub(crate) fn keep_in(
     }
 }
 
-// Caches the key that is handed in where the node has none.
+// Caches `key` if the node has none.
 pub(crate) fn give_in(
     keys: &mut Keys,
     alloc: Global,
@@ -131,8 +131,8 @@ pub(crate) fn give_in(
     }
 }
 
-// Pins the node once more, and caches the key that is handed in where it has none. It takes no memory
-// where the node has pins and no key comes to it.
+// Pins the node once more, and caches `key` if the node has none. It takes no memory if the node has pins
+// and no key is cached.
 pub(crate) fn pin_in(
     keys: &mut Keys,
     pins: &mut BTreeMap<u32, u32>,

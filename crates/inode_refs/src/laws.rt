@@ -1,4 +1,4 @@
-//! What the cache is made of. None of these functions does anything: its contract is the law.
+//! Laws of the parts of a cache: each is an empty function whose contract is the law.
 
 ghost use Rattle.inode_refs.specs.Whole.{CachesAreTheirParts, CachedKeysAreTheirKeys};
 

@@ -1,4 +1,4 @@
-//! What is cached of nodes: file keys, and how often each node is pinned by an open handle.
+//! The cache of nodes: file keys, and how often each node is pinned by an open handle.
 #![tactic(auto)]
 
 mod cache;

@@ -1,4 +1,4 @@
-//! For which identifier a node counts as a user, before and after its pins change.
+//! The identifier for which a node counts as a user, before and after its pins change.
 
 ghost use Rattle.std.specs.Prelude.{◌≡◌};
 ghost use Rattle.inode_refs.specs.KeyUsers.{user_at, coming, leaving};
@@ -18,7 +18,8 @@ impl InodeCache {
         self.id_at(node)
     }
 
-    // The identifier for which the node counts from its next pin on, with the key that comes with that.
+    // The identifier for which the node counts from its next pin on, with the key that is cached by that
+    // pin.
     pub(crate) fn coming(&self, node: u32, key: &Option<NodeKey>) -> Option<KeyId>
         ensures { result ≡ coming self.now node key.now }
     {
@@ -32,7 +33,7 @@ impl InodeCache {
         }
     }
 
-    // The identifier for which the node counts no longer once a pin goes.
+    // The identifier for which the node counts no longer once a pin is removed.
     pub(crate) fn leaving(&self, node: u32) -> Option<KeyId>
         ensures { result ≡ leaving self.now node }
     {

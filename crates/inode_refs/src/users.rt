@@ -1,4 +1,4 @@
-//! How many nodes with pins have a key, by the identifiers of the keys.
+//! The number of nodes with pins that have a key, by the identifiers of the keys.
 
 ghost use Rattle.std.specs.Prelude.{◌≡◌, ℕ, true, Some, is_none, IfSome, IsOk, OnOk, OnErr};
 ghost use Rattle.std.specs.BTreeMap as tree;
@@ -15,13 +15,13 @@ use std::collections::BTreeMap;
 #[derive(Drop)]
 pub(crate) struct Users {
     pub(crate) counts: BTreeMap<KeyId, u32>,
-    // Whether each user is counted. It stays so but where a key of another identifier took the place of a
+    // Whether each user is counted. It becomes false only if a key of another identifier replaced a
     // pinned node's key, and there was no memory for its count.
     pub(crate) is_whole: bool,
 }
 
 impl Users {
-    // No users. It takes no memory before the first one.
+    // Returns no users. It takes no memory before the first one.
     pub(crate) fn new(alloc: Global) -> Users
         ensures counts { tree.IsEmpty result.counts }
         ensures whole { result.is_whole ≡ true }
@@ -32,8 +32,8 @@ impl Users {
         }
     }
 
-    // Counts one user more for the identifier, where there is one. Only an identifier without users takes
-    // memory; where there is none, all is as before.
+    // Counts one user more for the identifier, if there is one. Only an identifier without users takes
+    // memory; if there is no memory, all is as before.
     pub(crate) fn more(&mut self, id: Option<KeyId>) -> Result<(), AllocError>
         ensures more { OnOk result (HasOneMore self.old self.new id) }
         ensures kept { OnErr result (IsAsBefore self.old self.new) }
@@ -45,14 +45,14 @@ impl Users {
         if !self.is_whole {
             return Ok(());
         }
-        // So that each count fits 32 bits; so many nodes aren't met in practice.
+        // So that each count fits 32 bits; there are never that many nodes in practice.
         if counts::count_of(&self.counts, &id) == u32::MAX {
             return Err(AllocError);
         }
         counts::one_more(&mut self.counts, id)
     }
 
-    // Counts one user less for the identifier, where there is one. It takes no memory.
+    // Counts one user less for the identifier, if there is one. It takes no memory.
     pub(crate) fn less(&mut self, id: Option<KeyId>)
         requires { IsCountedFor self.old id }
         ensures { HasOneLess self.old self.new id }
@@ -64,8 +64,8 @@ impl Users {
         }
     }
 
-    // Counts a user of the older identifier for the newer one. Where there is no memory for that, users
-    // are counted no longer.
+    // Counts a user of the older identifier for the newer one. If it is out of memory, users are no
+    // longer counted.
     pub(crate) fn exchange(&mut self, older: KeyId, newer: KeyId)
         requires { IsCountedFor self.old (Some older) }
         ensures { HasOther self.old self.new older newer }
@@ -81,7 +81,7 @@ impl Users {
         self.is_whole = false;
     }
 
-    // How many users the identifier has, where users are counted.
+    // Returns how many users the identifier has, if users are counted.
     pub(crate) fn count(&self, id: &KeyId) -> Option<u32>
         ensures { (f : KeyId → ℕ) → AreCounted self.now f → IfSome result (λ count. count ≡ f id.now) }
     {

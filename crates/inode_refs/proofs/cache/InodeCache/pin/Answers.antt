@@ -11,7 +11,7 @@ use Rattle.inode_refs.proofs.UserLemmas.{users_pinned, counted_for, counted_alik
 use Rattle.inode_refs.proofs.PinLemmas.{HasPins-with_pins, pins_back}
 use Rattle.inode_refs.proofs.cache.InodeCache.pin.Goals as goal
 
--- the users once the node is pinned, with the one who comes
+-- the users once the node is pinned, with the new one
 more : (seen now : Cache) → seen ≡ now → (node : ℕ) (key : Option NodeKey) (user : Option KeyId) → user ≡ coming now node key → (q : KeyId)
     → users_of (record { keys = given seen.keys node key; pins = with_pins seen.pins node (pins_of seen node + 1) }) q ≡ users_of seen q + one_for user q
 more seen now same node key user is q =

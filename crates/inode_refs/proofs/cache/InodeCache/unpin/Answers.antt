@@ -11,7 +11,7 @@ use Rattle.inode_refs.proofs.UserLemmas.{users_unpinned, counted_for}
 use Rattle.inode_refs.proofs.PinLemmas.{HasPins-with_pins}
 use Rattle.inode_refs.proofs.cache.InodeCache.unpin.Goals as goal
 
--- the users that are left, for a user who leaves
+-- the users that are left, once one is removed
 less : (seen now : Cache) → seen ≡ now → (node : ℕ) → 0 < pins_of now node → (user : Option KeyId) → user ≡ leaving now node → (q : KeyId)
     → users_of (record seen { pins = with_pins seen.pins node (pins_of seen node - 1) }) q + one_for user q ≡ users_of seen q
 less seen now same node some user is q =
