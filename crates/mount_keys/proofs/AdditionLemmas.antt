@@ -1,4 +1,4 @@
--- A state in which a key was claimed stands for the mount in which it was.
+-- A state in which a key was claimed represents the mount in which it was.
 use Rattle.std.proofs.Common.{◌≡◌, ℕ, ◌≤◌, Bool, true, false, cond, not, ◌&&◌, nat_le, List, [], length}
 use Rattle.std.proofs.Common.{Option, Some, None, is_some, inl, inr, refl, sym, ap, subst, ◌∙◌}
 use Rattle.std.specs.Option.{unwrap_or}
@@ -88,7 +88,7 @@ added_present disk before after live uid key raw is claimed =
 
 -- ---- no refusal
 
--- a claim that is held, or that the user has room for
+-- a claim that is held, or that is within the user's quota
 within_quota : (held : Bool) (n : ℕ) → ((held ≡ false) × (MOST_CLAIMS ≤ n) → ⊥)
     → (not held && nat_le MOST_CLAIMS n) ≡ false
 within_quota true n room = refl
@@ -103,7 +103,7 @@ last_answer false over x y z fits room = absurd (true≢false (sym fits))
 last_answer true true x y z fits room = absurd (true≢false room)
 last_answer true false x y z fits room = refl
 
--- ---- the key of a mode that stands was added
+-- ---- the key of a cached mode was added
 
 module _ (s : MountState) (m : PlainMount) (st : StandsFor s m) (used : AreUsed s.modes) where
   -- some node's policy names it

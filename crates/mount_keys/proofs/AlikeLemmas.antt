@@ -1,4 +1,4 @@
--- Where a raw key is added that agrees with what was added before, what was stored stays the stored form.
+-- If a raw key is added that agrees with what was added before, what was stored is still the stored form.
 use Rattle.std.proofs.Common.{◌≡◌, ℕ, true, cond, List, [], length, Option, Some, None, option_map, is_some}
 use Rattle.std.proofs.Common.{inl, inr, refl, sym, ap, subst, ◌∙◌}
 use Rattle.std.specs.Option.{unwrap_or}
@@ -82,7 +82,7 @@ module _ (raws : Raws) (raw : List ℕ) (agrees : AgreesWith raws raw) where
   same_raw q (Some old) is there named =
       ap (λ r. Some r) (sym (agrees old (ap (raw_in raws) (sym named) ∙ is)))
 
-  -- what was added stays under its identifier
+  -- what was added remains under its identifier
   pub kept_raw : (q : KeyId) → is_some (raw_in raws q) ≡ true → raw_in (with_raw raws (key_id_of raw) raw) q
       ≡ raw_in raws q
   kept_raw q there =

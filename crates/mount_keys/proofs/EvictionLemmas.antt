@@ -1,4 +1,4 @@
--- What an eviction leaves of the cached keys, and that what must be forgotten stays so.
+-- What an eviction leaves of the cached keys, and that what must be dropped is not cached again.
 use Rattle.std.proofs.Common.{◌≡◌, ℕ, ◌≤◌, Bool, true, false, cond, not, ◌&&◌, ◌||◌, nat_lt, Option, Some}
 use Rattle.std.proofs.Common.{None, is_some, Result, Ok, Err, OnOk, OnErr, inl, inr, refl, sym, ap, subst}
 use Rattle.std.proofs.Common.{◌∙◌, arith}
@@ -93,7 +93,7 @@ module _ (disk : Disk) (claims : ClaimSet) (cache : Cache) (modes : Modes) (live
     pins = record { pinned = λ n. ap (λ p. pins_at p n) pins ∙ rule.pins.pinned n; few = rule.pins.few };
   }
 
-  -- all keys went from the nodes without handles
+  -- all keys were removed from the nodes without handles
   pub all_evicted_rule : (left : Cache) → left ≡ record cache { keys = all_evicted cache }
       → Forgets disk claims left modes live
   all_evicted_rule left is = subst (λ (c : Cache). Forgets disk claims c modes live) (sym is)
@@ -114,7 +114,7 @@ module _ (disk : Disk) (claims : ClaimSet) (cache : Cache) (modes : Modes) (live
         | inr held ↦ or_right (is_present claims k.id || same_id id k.id) (has_handle live n) held
       ]))
 
-  -- claims on this key alone went
+  -- claims on this key alone were removed
   module _ (id : KeyId) (after : ClaimSet) (others : (q : KeyId) → same_id id q ≡ false → is_present after q
       ≡ is_present claims q) where
     other_forgotten : (n : ℕ) (k : NodeKey) → key_at cache n ≡ Some k → same_id id k.id ≡ false
@@ -132,7 +132,7 @@ module _ (disk : Disk) (claims : ClaimSet) (cache : Cache) (modes : Modes) (live
           | inr apart ↦ other_forgotten n k there apart
         ])
 
-    -- a key that is left without a handle is drawn from another one
+    -- a key that is left without a handle is derived from another one
     evicted_other : (n : ℕ) (k : NodeKey) → map.get (evicted cache id) n ≡ Some k → has_handle live n ≡ false
         → same_id id k.id ≡ false
     evicted_other n k there free =
@@ -143,7 +143,7 @@ module _ (disk : Disk) (claims : ClaimSet) (cache : Cache) (modes : Modes) (live
         same_id-symm id k.id ∙ (sym (ap (λ o. option_map_or (λ key. same_id key.id id) o false) was.1)
         ∙ other)
 
-    -- and its keys went from the nodes without handles
+    -- and its keys were removed from the nodes without handles
     pub evicted_rule : (left : Cache) → left ≡ record cache { keys = evicted cache id }
         → Forgets disk after left modes live
     evicted_rule left is = subst (λ (c : Cache). Forgets disk after c modes live) (sym is)
@@ -213,7 +213,7 @@ module _ (disk : Disk) (claims : ClaimSet) (names : NameList) (live : HandleList
         (context_on_disk (get disk pair.0.dir)) keyed,
   ))
 
-  -- so it is where claims on one key alone went, and some are left
+  -- so it is if claims on one key alone were removed, and some are left
   pub left_names : (id : KeyId) (after : ClaimSet)
       → ((q : KeyId) → same_id id q ≡ false → is_present after q ≡ is_present claims q)
       → is_present after id ≡ true → NamesForget disk after names live

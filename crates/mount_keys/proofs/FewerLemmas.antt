@@ -1,4 +1,4 @@
--- With fewer claims, secrets and cached keys a state stands for the mount with these claims.
+-- With fewer claims, secrets and cached keys a state represents the mount with these claims.
 use Rattle.std.proofs.Common.{◌≡◌, ℕ, Bool, true, false, cond, not, ◌&&◌, List, [], Contains, Some, None, is_some, refl, sym, ap, subst}
 use Rattle.std.proofs.Common.{◌∙◌}
 use Rattle.std.specs.FinMap as map
@@ -59,7 +59,7 @@ fewer_stand old new m claims st same well are secrets cached names = record {
   records = same.meta ∙ st.records;
 }
 
--- ---- a claim, or all on a key, went
+-- ---- a claim, or all on a key, were removed
 
 kept_was : (cache : Cache) (claims : ClaimSet) (id : KeyId) (n : ℕ) (k : NodeKey)
     → map.get (keys_kept cache claims id) n ≡ Some k → key_at cache n ≡ Some k
@@ -105,7 +105,7 @@ cleared_stand old new m id st same lost =
     (λ n k there. evicted_was old.inodes id n k (sym (ap (λ (x : KeyMap). map.get x n) lost.cached) ∙ there))
     (no_names_more old.names new.names lost.names)
 
--- a key without a claim has none to lose, and nothing that goes with it
+-- a key without a claim has none to lose, and nothing that is removed with it
 pub loses_none : (s : MountState) (uid : ℕ) (id : KeyId) → HoldsClaimedSecrets s.ring
     → is_present s.ring.claims id ≡ false → LosesClaim s s uid id
 loses_none s uid id exact absent = record {

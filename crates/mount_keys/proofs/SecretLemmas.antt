@@ -1,4 +1,4 @@
--- Secrets go with the claims on their keys.
+-- Secrets are removed with the claims on their keys.
 use Rattle.std.proofs.Common.{◌≡◌, ℕ, Bool, true, false, cond, List, Option, Some, None, is_some, inl, inr}
 use Rattle.std.proofs.Common.{refl, sym, ap, ◌∙◌}
 use Rattle.std.specs.FinMap as map
@@ -41,7 +41,7 @@ pub removed_none : (secrets : SecretMap) (id : KeyId) → map.get (map.remove se
 removed_none secrets id = get-remove id_cmp_total secrets id id
     ∙ cond-true (eq_by_cmp id_cmp id id) None (map.get secrets id) (sym (id_ties id id) ∙ same_id-refl id)
 
--- where it had none all secrets stay
+-- if it had none all secrets remain
 pub removed_absent : (secrets : SecretMap) (id : KeyId) → is_some (map.get secrets id) ≡ false
     → map.remove secrets id ≡ secrets
 removed_absent secrets id absent = same_map id_cmp_total id_cmp-IsAntisymmetric _ _ (λ q.

@@ -1,4 +1,4 @@
--- What a removal tells by the state is what the mount answers that the state stands for.
+-- The reply to a removal by the state is the answer of the mount that the state represents.
 use Rattle.std.proofs.Common.{◌≡◌, ℕ, Bool, true, false, cond, not, ◌&&◌, ◌==◌, refl, sym, ap, ◌∙◌}
 use Rattle.std.proofs.lemmas.Bool.{true≢false}
 use Rattle.policy_ctx.specs.declared.policy.KeyId.{KeyId}
@@ -23,7 +23,7 @@ use Rattle.mount_keys.specs.Told.{removal_by, clearing_by, told_of_removal, told
 
 -- ---- a removal that is made
 
--- by whether a claim stands on the key, whether a handle needs it, and whether the claim is the user's
+-- by whether there is a claim on the key, whether a handle needs it, and whether the claim is the user's
 abbrev chosen : Reply → Bool → Bool → Bool → Reply
 chosen made present busy held =
     cond (not present && not busy) (Refused NoKey) (cond (present && not held) (Refused NoKey) made)
@@ -49,7 +49,7 @@ module _ (claims : ClaimSet) (busy : Bool) (uid : ℕ) (id : KeyId) where
       (is_present claims id) busy (has_claim claims id uid)
       (is_present-held claims id uid held) held)
 
-  -- nobody has one, and a handle needs the key
+  -- no user has one, and a handle needs the key
   pub busy_told : is_present claims id ≡ false → busy ≡ true → Removed false busy
       ≡ removal_by claims busy uid id
   busy_told absent needed =

@@ -1,4 +1,4 @@
--- What the calls on keys change of a state, and what stays.
+-- What the calls on keys change of a state, and what they don't.
 use Rattle.std.specs.Prelude.{◌≡◌, ℕ, List, [], ◌∷◌, not, ◌&&◌, if◌then◌else◌}
 use Rattle.std.specs.FinMap as map
 use Rattle.policy_ctx.specs.declared.policy.KeyId.{KeyId}
@@ -12,7 +12,7 @@ use Rattle.dentry_cache.specs.Names.{NameList, with_pairs}
 use Rattle.mount_state.specs.SameBut.{SameBut, Ring, CachedKeys, CachedNames}
 use Rattle.mount_state.specs.declared.state.MountState.{MountState}
 
--- ---- what stays
+-- ---- what does not change
 
 -- nothing differs but claims with their secrets
 abbrev pub SameButRing : MountState → MountState → Type 0
@@ -22,24 +22,25 @@ SameButRing old new = SameBut (Ring ∷ []) old new
 abbrev pub SameButKeyed : MountState → MountState → Type 0
 SameButKeyed old new = SameBut (Ring ∷ CachedKeys ∷ CachedNames ∷ []) old new
 
--- ---- what comes and goes
+-- ---- what is added and removed
 
 -- the user has a claim on the key of these bytes, which are its secret
 pub record GainsClaim (old new : MountState) (uid : ℕ) (raw : List ℕ) : Type 0 where
   pub claims : new.ring.claims ≡ with_claim old.ring.claims (key_id_of raw) uid
   pub secrets : new.ring.secrets ≡ map.insert old.ring.secrets (key_id_of raw) raw
 
--- the cached keys once these claims are left: where none is on the key, those drawn from it go from the
--- nodes without pins
+-- the cached keys once these claims are left: if none is on the key, those derived from it are removed
+-- from the nodes without pins
 abbrev pub keys_kept : Cache → ClaimSet → KeyId → KeyMap
 keys_kept cache claims id = if is_present claims id then cache.keys else evicted cache id
 
--- the cached names once the claims before are those after: with the last one on the key all names go
+-- the cached names after the claims change: with the last claim on the key all names are dropped
 abbrev pub names_kept : NameList → ClaimSet → ClaimSet → KeyId → NameList
 names_kept names before after id =
     if is_present before id && not (is_present after id) then with_pairs names [] else names
 
--- the user has no claim on the key, and with the last one went what was drawn from it, and all cached names
+-- the user has no claim on the key; with the last claim what was derived from it is removed, and all
+-- cached names
 pub record LosesClaim (old new : MountState) (uid : ℕ) (id : KeyId) : Type 0 where
   pub claims : new.ring.claims ≡ without_claim old.ring.claims id uid
   pub secrets : new.ring.secrets ≡ secrets_left old.ring.secrets new.ring.claims id

@@ -1,4 +1,4 @@
--- What the calls on keys tell, by the claims, the disk and the handles of the state alone.
+-- The replies of the calls on keys, by the claims, the disk and the handles of the state alone.
 use Rattle.std.specs.Prelude.{ℕ}
 use Rattle.policy_ctx.specs.declared.policy.KeyId.{KeyId}
 use Rattle.mount_model.specs.declared.reply.Reply.{Reply}

@@ -21,12 +21,12 @@ use mount_model::{Bytes, Refusal, Reply};
 use mount_state::MountState;
 use std::alloc::Global;
 
-/// The user claims the key of these bytes, and is told its identifier. The key is present from then on,
-/// whatever it was before, and all that is cached stays.
+/// Claims the key of these bytes for the user, and returns its identifier. The key is present from then
+/// on, whatever it was before, and all that is cached remains.
 ///
-/// Inval for fewer than `LEAST_RAW_KEY_BYTES` or more than `MOST_RAW_KEY_BYTES`, then Quota where the claim
-/// would be a new one and the user has `MOST_CLAIMS`. After a refusal the state is as before. The copy
-/// that the call makes of the bytes is overwritten; the caller's own stays.
+/// Refused with Inval for fewer than `LEAST_RAW_KEY_BYTES` or more than `MOST_RAW_KEY_BYTES`. Then
+/// refused with Quota if the claim would be a new one and the user has `MOST_CLAIMS`. After a refusal the
+/// state is as before. The copy that the call makes of the bytes is wiped; the caller's own is not.
 pub fn add_key(alloc: Global, state: &mut MountState, uid: u32, raw: &Bytes) -> Reply
     ensures refused { IfSome (add_fault state.old.ring.claims uid raw.now)
         (λ refusal. result ≡ Reply.Refused refusal) }
@@ -50,7 +50,7 @@ pub fn add_key(alloc: Global, state: &mut MountState, uid: u32, raw: &Bytes) -> 
     key.wipe();
     match added {
         Ok(id) => {
-            // Each mode key has users, so a mode key of this identifier was drawn from this raw key.
+            // Each mode key has users, so a mode key of this identifier was derived from this raw key.
             let _used = state.modes.users_of(&id);
             Reply::Added(id)
         }

@@ -1,4 +1,4 @@
-//! Letting go of what is kept for speed alone.
+//! Dropping all that is cached.
 
 ghost use Rattle.std.specs.Prelude.{◌≡◌, []};
 ghost use Rattle.dentry_cache.specs.Names.{with_pairs};
@@ -12,7 +12,7 @@ ghost use Rattle.mount_state.specs.StandsFor.{StandsFor};
 use mount_model::Reply;
 use mount_state::MountState;
 
-/// Overwrites and drops the cached keys of all nodes without a handle, and no others, and forgets all cached
+/// Wipes and drops the cached keys of all nodes without a handle, and no others, and drops all cached
 /// names. It takes no memory, and is never refused.
 pub fn drop_caches(state: &mut MountState) -> Reply
     ensures told { result ≡ Reply.Done }

@@ -1,4 +1,4 @@
-//! User 0 takes every claim on a key away.
+//! User 0 removes every claim on a key.
 
 ghost use Rattle.std.specs.Prelude.{◌≡◌, true, false};
 ghost use Rattle.mount_model.specs.PlainMount.{PlainMount};
@@ -14,11 +14,11 @@ ghost use Rattle.mount_state.specs.StandsFor.{StandsFor};
 use mount_model::{KeyId, Refusal, Reply};
 use mount_state::MountState;
 
-/// Takes every user's claim on the key away, with its secret and each cached key that was drawn from it
-/// and that no handle needs; all of these are overwritten. All cached names go.
+/// Removes every user's claim on the key, with its secret and each cached key that was derived from it
+/// and that no handle needs; all of these are wiped. All cached names are dropped.
 ///
-/// Access for any user but 0, then NoKey where the key is absent. Told is whether a handle still needs the
-/// key. Where none does, nothing of it is held. It takes no memory.
+/// Refused with Access for any user but 0, then with NoKey if the key is absent. Returns whether a handle
+/// still needs the key. If none does, no part of the key is held. It takes no memory.
 pub fn remove_key_all(state: &mut MountState, uid: u32, id: &KeyId) -> Reply
     ensures told { result ≡ told_of_clearing state.old uid id.now }
     ensures kept { is_refused result ≡ true → IsSame state.old state.new }
@@ -43,7 +43,7 @@ pub fn remove_key_all(state: &mut MountState, uid: u32, id: &KeyId) -> Reply
     }
 }
 
-// Takes every claim on the key away.
+// Removes every claim on the key.
 fn take_all_claims(state: &mut MountState, id: &KeyId)
     ensures taken { LosesAllClaims state.old state.new id.now }
     ensures same { SameButKeyed state.old state.new }

@@ -1,5 +1,5 @@
-//! The calls on the keys of a mount: add one, give up a claim, take every claim away, tell a key's status,
-//! drop what is cached. Each answers what the one-thread mount does that the state stands for.
+//! The calls on the keys of a mount: add one, remove a claim, remove every claim, return a key's status,
+//! drop what is cached. Each replies as the one-thread mount that the state represents.
 #![tactic(auto)]
 
 mod additions;

@@ -1,4 +1,4 @@
-//! A user gives up a claim.
+//! A user removes a claim.
 
 ghost use Rattle.std.specs.Prelude.{◌≡◌, true, false};
 ghost use Rattle.user_claims.specs.Claims.{has_claim};
@@ -16,12 +16,13 @@ ghost use Rattle.mount_state.specs.StandsFor.{StandsFor};
 use mount_model::{KeyId, Refusal, Reply};
 use mount_state::MountState;
 
-/// The user gives up the claim on the key. With the last claim the secret is overwritten and dropped, and
-/// so is each cached key that was drawn from it and that no handle needs; and all cached names go.
+/// Removes the user's claim on the key. With the last claim the secret is wiped and dropped, and so is
+/// each cached key that was derived from it and that no handle needs. Then all cached names are dropped
+/// too. If no user has a claim and a handle still needs the key, nothing changes.
 ///
-/// NoKey where some user has a claim on the key and this one hasn't, and where the key is absent. Told is
-/// whether another claim is left, and where none is, whether a handle still needs the key. Where neither
-/// is told, nothing of the key is held. It takes no memory.
+/// Refused with NoKey if the key is absent, or some user has a claim on it and this one hasn't. Returns
+/// whether another claim is left and, if none is, whether a handle still needs the key. If neither, no
+/// part of the key is held. It takes no memory.
 pub fn remove_key(state: &mut MountState, uid: u32, id: &KeyId) -> Reply
     ensures told { result ≡ told_of_removal state.old uid id.now }
     ensures kept { is_refused result ≡ true → IsSame state.old state.new }
@@ -49,7 +50,7 @@ pub fn remove_key(state: &mut MountState, uid: u32, id: &KeyId) -> Reply
     Reply::Refused(Refusal::NoKey)
 }
 
-// Takes the user's claim away, and tells whether another one on the key is left.
+// Removes the user's claim, and returns whether another one on the key is left.
 fn take_claim(state: &mut MountState, uid: u32, id: &KeyId) -> bool
     requires { has_claim state.old.ring.claims id.now uid ≡ true }
     ensures left { result ≡ is_present state.new.ring.claims id.now }

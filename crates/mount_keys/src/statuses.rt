@@ -1,4 +1,4 @@
-//! What is told of a key.
+//! The status of a key.
 
 ghost use Rattle.std.specs.Prelude.{◌≡◌, ℕ, Bool};
 ghost use Rattle.mount_model.specs.declared.reply.KeyState.TheVariants.{Absent};
@@ -12,8 +12,8 @@ ghost use Rattle.mount_state.specs.StandsFor.{StandsFor};
 use mount_model::{KeyId, Reply};
 use mount_state::MountState;
 
-/// Tells the state of the key, whether the user has a claim on it, and how many users have one. Where it
-/// tells Absent, nothing of the key is held. It takes no memory, and is never refused.
+/// Returns the state of the key, whether the user has a claim on it, and how many users have one. If the
+/// state is Absent, no part of the key is held. It takes no memory, and is never refused.
 pub fn key_status(state: &MountState, uid: u32, id: &KeyId) -> Reply
     ensures told { result ≡ told_of_status state.now uid id.now }
     ensures gone { (by_self : Bool) (users : ℕ) → result ≡ Reply.Status Absent by_self users

@@ -62,7 +62,7 @@ returns-then-has-clause-stands c = λ m st.
     (lost_stand c.args.state.now c.take_claim-others.new.state m c.args.uid c.args.id.now st
     c.take_claim-others.ensures.same c.take_claim-others.ensures.taken)
 
--- ---- nobody had one, and a handle needs the key
+-- ---- no user had one, and a handle needs the key
 
 absent : (c : goal.Then-count_of_id-eq0) → is_present c.args.state.now.ring.claims c.args.id.now ≡ false
 absent c =
