@@ -23,8 +23,7 @@ abbrev pub next_steps : List ℕ → RunnerView → CommandSteps
 next_steps seed runner = steps_of seed runner (slice_get runner.section.commands runner.next)
 
 -- the port is as after the calls of a runner of the caller's section, a run of the commands before its
--- next, and then calls that begin the steps of that command. All of them are a beginning of a run of the
--- section
+-- next, then calls that begin that command's steps. All of them are a beginning of a run of the section
 pub record SectionBegun {P : Type 0} (came : PlacedCalls → P → Type 0) (port : P)
     (seed : List ℕ) (caller : ℕ) (section : Section) : Type 0 where
   pub runner : RunnerView

@@ -1,4 +1,4 @@
--- What calls on two mounts make of a caller's ports to them.
+-- The calls that a caller's calls on two mounts make on its ports to them.
 use Rattle.std.specs.Prelude.{◌≡◌, ⊤, ℕ, List, [], ◌∷◌, ◌++◌}
 use Rattle.mount_model.specs.declared.call.Call.{Call}
 use Rattle.mount_model.specs.declared.call.Op.TheVariants.{MetaLoad}
@@ -14,7 +14,7 @@ use Rattle.mount_links.specs.LinkSteps.{asked_of, IsStepOf}
 abbrev pub load_call : List ℕ → Call → Call
 load_call label call = record { uid = call.uid; op = MetaLoad (record_name (Protector label)) }
 
--- this became of the caller's call
+-- this is the step of the caller's call
 abbrev pub IsStep : LinkStep → ℕ × MountEntry → Type 0
 IsStep step x = IsStepOf (asked_of x.1.call.op) x.1.reply step
 
@@ -24,7 +24,7 @@ AreSteps [] [] = ⊤
 AreSteps (step ∷ steps) (x ∷ xs) = IsStep step x × AreSteps steps xs
 AreSteps steps xs = ⊥
 
--- the ports to both mounts, how many calls are left, and what became of the calls so far
+-- the ports to both mounts, how many calls are left, and the steps of the calls so far
 pub record LinkView (P Q : Type 0) : Type 0 where
   pub own : P
   pub far : Q
@@ -34,7 +34,7 @@ pub record LinkView (P Q : Type 0) : Type 0 where
 abbrev pub link_view : {P Q : Type 0} → P → Q → ℕ → List LinkStep → LinkView P Q
 link_view own far left steps = record { own = own; far = far; left = left; steps = steps }
 
--- the ports came by what became of one call
+-- the ports are as after the step of one call
 pub record CameByOne {P Q : Type 0} (own_came : PlacedCalls → P → Type 0)
     (far_came : PlacedCalls → Q → Type 0) (step : LinkStep) (x : ℕ × MountEntry) (own : P) (far : Q)
     : Type 0 where
@@ -42,8 +42,8 @@ pub record CameByOne {P Q : Type 0} (own_came : PlacedCalls → P → Type 0)
   pub on_own : own_came (own_part load_call step x) own
   pub on_far : far_came (far_part step x) far
 
--- the one has become the other by the caller's calls: each has its step, and the two ports came by what these
--- tell of the calls
+-- these calls turn the first port into the second: each has its step, and the two ports are as after the
+-- calls that these steps make
 pub record LinkCame {P Q : Type 0} (own_came : P → PlacedCalls → P → Type 0)
     (far_came : Q → PlacedCalls → Q → Type 0)
     (old : LinkView P Q) (calls : PlacedCalls) (new : LinkView P Q) : Type 0 where

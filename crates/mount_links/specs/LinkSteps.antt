@@ -1,4 +1,5 @@
--- What a call asks for of the record of a protector, which may be a link, and what may become of it.
+-- What a call asks for of the record of a protector, which may be a link, and the steps that are possible
+-- for it.
 use Rattle.std.specs.Prelude.{◌≡◌, ℕ, Bool, true, false, Option, Some, List}
 use Rattle.std.specs.Str.{bytes_eq}
 use Rattle.mount_model.specs.declared.call.Op.{Op}
@@ -31,20 +32,22 @@ asked_of (MetaLoad name) = load_asked (record_of name)
 asked_of (MetaStore name expected bytes) = store_asked (record_of name)
 asked_of other = Other
 
--- the reply tells the link to the protector of this label, and no byte else
+-- the reply is exactly the link to the protector of this label, and no byte else
 abbrev pub is_link : List ℕ → Reply → Bool
 is_link label (Held version bytes) = bytes_eq bytes (link_text label)
 is_link label other = false
 
--- what may become of loading a protector's record, which was answered so: where the own mount's record is a
+-- the possible steps of loading a protector's record with this reply: if the own mount's record is a
 -- link, it is loaded on the far mount, once; whatever is there is the answer
 abbrev pub IsLoaded : List ℕ → Reply → LinkStep → Type 0
 IsLoaded label reply Alone = is_link label reply ≡ false
 IsLoaded label reply (Followed named first there) = (named ≡ label) × (is_link label first ≡ true)
 IsLoaded label reply other = ⊥
 
--- of storing one: it is looked at first on the own mount. Where it is a link there, the far mount stores;
--- where there was no memory to look, that is the answer; else the own mount stores
+-- the possible steps of storing one, which is first loaded on the own mount:
+-- - if it is a link there, the far mount stores;
+-- - if the load was out of memory, that is the answer;
+-- - else the own mount stores
 abbrev pub IsStored : List ℕ → Reply → LinkStep → Type 0
 IsStored label reply Alone = ⊥
 IsStored label reply (Followed named first there) = (named ≡ label) × (is_link label first ≡ true)
@@ -52,7 +55,7 @@ IsStored label reply (Looked named place first) =
     (named ≡ label) × (is_link label first ≡ false) × (is_want_of_memory first ≡ false)
 IsStored label reply (NotMade named) = (named ≡ label) × (reply ≡ Refused NoMemory)
 
--- what may become of a call that asks for this; every other one goes to the own mount as it is
+-- the possible steps of a call that asks for this; every other call is made on the own mount as it is
 abbrev pub IsStepOf : Asked → Reply → LinkStep → Type 0
 IsStepOf (Load label) reply step = IsLoaded label reply step
 IsStepOf (Store label) reply step = IsStored label reply step

@@ -1,4 +1,4 @@
--- Which step the replies say: what became of a caller's call is told by what was asked and what was replied.
+-- The step that the replies determine: a caller's call and its replies determine its step.
 use Rattle.std.specs.Prelude.{◌≡◌, ◌⊎◌, ℕ, List, [], ◌∷◌, if◌then◌else◌}
 use Rattle.mount_model.specs.declared.reply.Reply.{Reply}
 use Rattle.mount_model.specs.History.{MountEntry, is_want_of_memory}
@@ -11,8 +11,8 @@ use Rattle.mount_links.specs.Linked.{own_part, far_part}
 use Rattle.mount_links.specs.LinkSteps.{asked_of, is_link}
 use Rattle.mount_links.specs.LinkCalls.{load_call, IsStep}
 
--- what becomes of a call that asks for this, where the first call on the own mount has this place and this
--- reply, and the one on the far mount, where there is one, that place
+-- the step of a call that asks for this, by the place and the reply of the first call on the own mount,
+-- and the place of the one on the far mount, if there is one
 abbrev pub step_said : Asked → ℕ → Reply → ℕ → LinkStep
 step_said (Load label) place first there = if is_link label first then Followed label first there else Alone
 step_said (Store label) place first there =
@@ -21,7 +21,7 @@ step_said (Store label) place first there =
     else Looked label place first
 step_said Other place first there = Alone
 
--- the step is the one that the replies say, and a call on the far mount is the caller's own
+-- the step is the one that the replies determine, and a call on the far mount is the caller's own
 pub record IsSaid (step : LinkStep) (x : ℕ × MountEntry) : Type 0 where
   pub first : ℕ × MountEntry
   pub others : PlacedCalls

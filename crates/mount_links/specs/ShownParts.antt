@@ -11,12 +11,12 @@ use Rattle.mount_links.specs.declared.step.LinkStep.{LinkStep}
 use Rattle.mount_links.specs.Linked.{own_parts, far_parts}
 use Rattle.mount_links.specs.LinkCalls.{load_call}
 
--- what a log shows of the loading of a protector's record, for the user of what it shows of a call
+-- the shown form of the loading of a protector's record, for the user of the shown form of a call
 abbrev pub load_shown : List ℕ → Shown → Shown
 load_shown label shown =
     record { uid = shown.uid; words = call_text (MetaLoad (record_name (Protector label))) }
 
--- what is shown of the calls on both mounts is told by what is shown of the caller's calls, and their steps
+-- the shown form of the calls on both mounts follows from that of the caller's calls, and their steps
 pub record ShowsBoth (steps : List LinkStep) (calls : PlacedCalls) : Type 0 where
   pub on_own : own_parts load_shown steps (shown_calls calls) ≡ shown_calls (own_parts load_call steps calls)
   pub on_far : far_parts steps (shown_calls calls) ≡ shown_calls (far_parts steps calls)

@@ -1,4 +1,4 @@
-//! Which calls may be about a link, and which replies tell one.
+//! The calls that may concern a link, and the replies that contain one.
 
 ghost use Rattle.std.specs.Prelude.{◌≡◌, List, Some, ℕ};
 ghost use Rattle.mount_model.specs.History as history;
@@ -12,8 +12,8 @@ use mount_model::{Op, Refusal, Reply};
 use script_words::{Record, read_record};
 use short_bytes::Label;
 
-/// What a call asks for: that the record of the protector with this label is loaded or stored, or something
-/// else.
+/// The operation of a call, as far as links go: loading or storing the record of the protector with this
+/// label, or another one.
 #[derive(Drop)]
 pub enum Asked {
     Load(Label),
@@ -21,7 +21,7 @@ pub enum Asked {
     Other,
 }
 
-// What the call asks for.
+// Returns what the call asks for.
 pub(crate) fn asked_of(op: &Op) -> Asked
     ensures value { result ≡ spec.asked_of op.now }
     ensures load { (label : List ℕ) → result ≡ Load label
@@ -40,7 +40,7 @@ pub(crate) fn asked_of(op: &Op) -> Asked
     }
 }
 
-// What is asked for where this record is loaded.
+// What a load of this record asks for.
 fn load_asked(record: &Record) -> Asked
     ensures { result ≡ spec.load_asked (Some «record».now) }
 {
@@ -50,7 +50,7 @@ fn load_asked(record: &Record) -> Asked
     }
 }
 
-// Where it is stored.
+// What a store of this record asks for.
 fn store_asked(record: &Record) -> Asked
     ensures { result ≡ spec.store_asked (Some «record».now) }
 {
@@ -60,7 +60,7 @@ fn store_asked(record: &Record) -> Asked
     }
 }
 
-// Whether the reply tells the link to the protector of this label, and no byte else.
+// Whether the reply is exactly the link to the protector of this label, and no byte else.
 pub(crate) fn is_link(label: &Label, reply: &Reply) -> bool
     ensures { result ≡ spec.is_link label.now reply.now }
 {
@@ -70,7 +70,7 @@ pub(crate) fn is_link(label: &Label, reply: &Reply) -> bool
     }
 }
 
-// Whether there was no memory for the call.
+// Whether the call was out of memory.
 pub(crate) fn is_want_of_memory(reply: &Reply) -> bool
     ensures { result ≡ history.is_want_of_memory reply.now }
 {

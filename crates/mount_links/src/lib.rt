@@ -1,5 +1,5 @@
-//! A caller's port on two mounts: the record of a protector on the caller's own mount may be a link to the
-//! far one.
+//! A caller's port on two mounts: the record of a protector on the caller's own mount may be a link to
+//! the far one.
 #![tactic(auto)]
 
 mod asked;

@@ -14,14 +14,14 @@ use crate::step::LinkStep;
 use mount_model::{Call, MountPort, Op, Placed};
 use short_bytes::Label;
 
-// The place and the reply of a caller's call, and what became of it.
+// The place and the reply of a caller's call, and its step on the two mounts.
 #[derive(Drop)]
 pub(crate) struct Linked {
     pub(crate) placed: Placed,
     pub(crate) step: LinkStep,
 }
 
-// Makes the call. The room is for a name.
+// Makes the call. The buffer `room` is for a name.
 pub(crate) fn made<P: MountPort, Q: MountPort>(
     own: &mut P,
     far: &mut Q,
@@ -48,7 +48,7 @@ pub(crate) fn made<P: MountPort, Q: MountPort>(
     }
 }
 
-// A call that is about no link, and goes to the own mount as it is.
+// Makes a call that concerns no link on the own mount, as it is.
 fn alone<P: MountPort, Q: MountPort>(own: &mut P, far: &mut Q, call: &Call) -> Linked
     requires asked { spec.asked_of call.now.op ≡ Other }
     requires left { 2 ≤ P.calls_left own.old }
@@ -67,7 +67,7 @@ fn alone<P: MountPort, Q: MountPort>(own: &mut P, far: &mut Q, call: &Call) -> L
     }
 }
 
-// Loads the record of the protector, on the far mount where it is a link on the own one.
+// Loads the record of the protector, on the far mount if it is a link on the own one.
 fn load<P: MountPort, Q: MountPort>(own: &mut P, far: &mut Q, call: &Call, label: Label) -> Linked
     requires same { P.who own.old ≡ Q.who far.old }
     requires asked { spec.asked_of call.now.op ≡ Load label }
@@ -95,7 +95,7 @@ fn load<P: MountPort, Q: MountPort>(own: &mut P, far: &mut Q, call: &Call, label
     followed(label, first, loaded)
 }
 
-// Stores the record of the protector, on the far mount where it is a link on the own one.
+// Stores the record of the protector, on the far mount if it is a link on the own one.
 fn store<P: MountPort, Q: MountPort>(
     own: &mut P,
     far: &mut Q,
@@ -139,7 +139,7 @@ fn store<P: MountPort, Q: MountPort>(
     }
 }
 
-// What comes of a call that went to the far mount, behind the loading of the link.
+// The result of a call that was made on the far mount, after the link was loaded.
 fn followed(label: Label, link: Placed, there: Placed) -> Linked
     ensures place { result.placed.place ≡ link.place }
     ensures reply { result.placed.reply ≡ there.reply }

@@ -1,4 +1,4 @@
-//! What a log shows of a caller's calls, parted into what it shows on either mount.
+//! The shown form of a caller's calls, split into that of the calls on either mount.
 
 ghost use Rattle.std.specs.Prelude.{◌≡◌, ◌++◌, IfOk, OnOk};
 ghost use Rattle.mount_links.specs.ShownParts.{load_shown};
@@ -13,18 +13,18 @@ use reply_text::{Shown, shown_of};
 use short_bytes::Label;
 use std::alloc::{AllocError, Global};
 
-/// What a log shows of calls, and what was replied, each with its place.
+/// The shown form of calls, and their replies, each with its place.
 pub type ShownList = Items<(u64, Entry<Shown, Reply>)>;
 
-/// What a log shows of a caller's calls on two mounts.
+/// The shown form of a caller's calls on two mounts.
 #[derive(Drop)]
 pub struct ShownOnBoth {
     pub own: ShownList,
     pub far: ShownList,
 }
 
-/// What a log shows of the calls on the caller's own mount and on the far one, by what it shows of the
-/// caller's calls, and what became of each of them. The one error is want of memory.
+/// Returns the shown form of the calls on the caller's own mount and on the far one, by that of the
+/// caller's calls, and the step of each of them. The one error is out of memory.
 pub fn split(
     alloc: Global,
     entries: ShownList,
@@ -43,7 +43,7 @@ pub fn split(
     Ok(both)
 }
 
-// Puts the parts of a call behind the others.
+// Appends the parts of a call.
 fn put_parts(
     alloc: Global,
     both: &mut ShownOnBoth,
@@ -82,7 +82,7 @@ fn put_parts(
     Ok(())
 }
 
-// What is shown of loading a protector's record before the call.
+// The shown form of loading a protector's record before the call.
 fn look_before(
     alloc: Global,
     label: &Label,

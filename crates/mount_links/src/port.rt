@@ -12,14 +12,14 @@ use mount_model::{Call, MountPort, Placed};
 use std::alloc::{AllocError, Global};
 use std::marker::Model;
 
-/// A caller's port on two mounts: calls go to its own mount, and those about a protector's record that is a
-/// link there to the far one. It keeps what became of each call. In clauses it is a `LinkView`.
+/// A caller's port on two mounts. Calls are made on its own mount, and those on a protector's record that
+/// is a link there on the far one. It records the step of each call. In clauses it is a `LinkView`.
 #[derive(Drop)]
 pub struct LinkPort<P: MountPort + Drop, Q: MountPort + Drop> {
     own: P,
     far: Q,
     left: u64,
-    // Room for each call that is left.
+    // With capacity for each call that is left.
     steps: Vec<LinkStep>,
     names: Vec<NameRoom>,
 }
@@ -39,9 +39,9 @@ impl<P: MountPort + Drop, Q: MountPort + Drop> Model for LinkPort<P, Q> {
 }
 
 impl<P: MountPort + Drop, Q: MountPort + Drop> LinkPort<P, Q> {
-    /// The port of a caller, with so many calls, on its ports to its own mount and to the far one, which has
-    /// as many calls left as that, and the own one twice as many. All memory that its calls need is taken
-    /// here: where there is none for it, no call was made.
+    /// Returns the port of a caller, with `left` calls, on its ports to its own mount and to the far one.
+    /// The far port must have at least that many calls left, and the own one at least twice as many. All
+    /// memory that its calls need is allocated here: if it is out of memory, no call was made.
     pub fn new(alloc: Global, own: P, far: Q, left: u64) -> Result<LinkPort<P, Q>, AllocError>
         requires same { P.who own ≡ Q.who far }
         requires own_left { 2 * left ≤ P.calls_left own }
@@ -59,7 +59,7 @@ impl<P: MountPort + Drop, Q: MountPort + Drop> LinkPort<P, Q> {
         })
     }
 
-    /// The two ports, the caller's own first, and what became of each call.
+    /// Returns the two ports, the caller's own first, and the step of each call.
     pub fn back(self) -> (P, Q, Vec<LinkStep>)
         ensures own { result.0 ≡ self.own }
         ensures far { result.1 ≡ self.far }
@@ -69,7 +69,7 @@ impl<P: MountPort + Drop, Q: MountPort + Drop> LinkPort<P, Q> {
     }
 }
 
-// So many rooms for names.
+// Allocates `count` buffers for names.
 fn name_rooms(alloc: Global, count: u64) -> Result<Vec<NameRoom>, AllocError>
     ensures { IfOk result (λ rooms. count ≤ vec_len rooms) }
 {
@@ -80,8 +80,8 @@ fn name_rooms(alloc: Global, count: u64) -> Result<Vec<NameRoom>, AllocError>
     Ok(rooms)
 }
 
-/// It comes by its calls: each has what became of it, and the two ports came by what this tells. Its caller
-/// and its places are those of the port to the own mount.
+/// After its calls each has its step, and the two ports are as after the calls that these steps make. Its
+/// caller and its places are those of the port to the own mount.
 impl<P: MountPort + Drop, Q: MountPort + Drop> MountPort for LinkPort<P, Q> {
     ghost who = { λ port. P.who port.own };
 

@@ -1,4 +1,4 @@
-//! Room for the names of protectors' records, taken before any call.
+//! Buffers for the names of protectors' records, allocated before any call.
 
 ghost use Rattle.std.specs.Prelude.{◌≡◌, ◌+◌, ◌≤◌, ◌++◌, [], length};
 ghost use Rattle.std.specs.Vec.{vec_capacity, vec_len};
@@ -12,7 +12,7 @@ use mount_model::limits::MOST_RECORD_NAME_BYTES;
 use short_bytes::Label;
 use std::alloc::{AllocError, Global};
 
-// Room for the name of a record.
+// A buffer for the name of a record.
 #[derive(Drop)]
 pub(crate) struct NameRoom {
     bytes: Vec<u8>,
@@ -22,13 +22,13 @@ pub(crate) struct NameRoom {
 }
 
 impl NameRoom {
-    // Takes the room.
+    // Allocates the buffer.
     pub(crate) fn new(alloc: Global) -> Result<NameRoom, AllocError> {
         let bytes = Vec::with_capacity(alloc, MOST_RECORD_NAME_BYTES)?;
         Ok(NameRoom { bytes })
     }
 
-    // The name of the protector's record, in this room.
+    // The name of the protector's record, in this buffer.
     pub(crate) fn name(self, label: &Label) -> Bytes
         ensures value { result ≡ record_name (Protector label.now) }
         ensures fits { HasLength result MOST_RECORD_NAME_BYTES }
@@ -40,7 +40,7 @@ impl NameRoom {
     }
 }
 
-// Puts the bytes behind the text, which has room for them.
+// Appends the bytes to the text, which has the capacity for them.
 fn put(text: &mut Vec<u8>, bytes: &[u8])
     requires { vec_len text.old + length bytes.now ≤ vec_capacity text.old }
     ensures items { text.new.items ≡ text.old.items ++ bytes.now }
