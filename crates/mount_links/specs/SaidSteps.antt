@@ -11,8 +11,8 @@ use Rattle.mount_links.specs.Linked.{own_part, far_part}
 use Rattle.mount_links.specs.LinkSteps.{asked_of, is_link}
 use Rattle.mount_links.specs.LinkCalls.{load_call, IsStep}
 
--- the step of a call that asks for this, by the place and the reply of the first call on the own mount,
--- and the place of the one on the far mount, if there is one
+-- the step of a call that asks for this. It depends on the place and the reply of the first call on the
+-- own mount, and the place of the one on the far mount, if there is one
 abbrev pub step_said : Asked → ℕ → Reply → ℕ → LinkStep
 step_said (Load label) place first there = if is_link label first then Followed label first there else Alone
 step_said (Store label) place first there =

@@ -22,7 +22,8 @@ use Rattle.script_lang.proofs.ReadingLemmas.{first_bad_from, first_bad_from-line
 abbrev pub number_of_line : Option FaultyLine → Option ℕ
 number_of_line found = option_map (λ found. found.line) found
 
--- a line has a fault exactly where it may not stand, and then its number is told
+-- a line has a fault exactly when it is not allowed after those before it, and then its number is the
+-- result
 at_line : (n callers : ℕ) (line : List ℕ) (said : Option Statement) (rest : ℕ → Option FaultyLine) (bad : ℕ → Option ℕ)
     → ((c : ℕ) → number_of_line (rest c) ≡ bad c)
     → number_of_line (option_map_or (λ found. Some (record { line = n; fault = found })) (fault_of_said callers line said) (rest (if is_caller said then callers + 1 else callers)))
@@ -52,7 +53,7 @@ fault_from-number n callers (line ∷ next ∷ more) =
     at_line n callers line (statement_of line) (λ c. fault_from (n + 1) c (next ∷ more)) (λ c. first_bad_from (n + 1) c (statements_in (next ∷ more)))
     (λ c. fault_from-number (n + 1) c (next ∷ more))
 
--- the first line at fault is the one that reading tells
+-- the first line at fault is the one at which reading ends
 pub first_fault-number : (text : List ℕ) → number_of_line (first_fault text) ≡ result_err (parsed_script text)
 unfolding parsed_script
 first_fault-number text =
@@ -74,7 +75,7 @@ fault_from-line n callers line text = by_pieces (pieces_of text) (let e = length
     by_pieces [] some = absurd (omega arith)
     by_pieces (next ∷ more) some = refl
 
--- a line without fault goes over to what follows
+-- after a line without fault the search continues with the rest
 pub fault_passed : (n callers after : ℕ) (text line rest : List ℕ) (found : Option FaultyLine) (passed : Result ℕ LineFault)
     → found ≡ fault_from n callers (pieces_of text) → pieces_of text ≡ line ∷ pieces_of rest
     → passed ≡ Ok after → result_err passed ≡ fault_behind callers line → after ≡ callers_with callers line
@@ -83,7 +84,7 @@ fault_passed n callers after text line rest found passed told cut is none more =
     let no_fault : fault_behind callers line ≡ None = sym none ∙ ap result_err is in
     told ∙ rw (cut, fault_from-line n callers line rest, no_fault, more) refl
 
--- a fault is told
+-- a fault is the result
 pub fault_met : (n callers : ℕ) (text line rest : List ℕ) (found : Option FaultyLine) (why : LineFault) (passed : Result ℕ LineFault)
     → found ≡ fault_from n callers (pieces_of text) → pieces_of text ≡ line ∷ pieces_of rest
     → passed ≡ Err why → result_err passed ≡ fault_behind callers line
@@ -109,7 +110,7 @@ fault_unended n callers text line found told cut whole some =
     let at_end : fault_from n callers (line ∷ []) ≡ Some (record { line = n; fault = fault.NotEnded }) = unended_at n callers line (subst (λ (xs : List ℕ). 0 < length xs) e some) in
     sym (told ∙ rw cut at_end)
 
--- a line is a caller's at most once
+-- a line begins at most one caller
 pub few_before : (n callers after : ℕ) (line : List ℕ) → after ≡ callers_with callers line → callers ≤ n → after ≤ n + 1
 few_before n callers after line more few =
     elim (cases_Bool (is_caller (statement_of line))) [

@@ -1,4 +1,4 @@
--- The words that a form of the grammar takes are of the kinds that are told, one by one.
+-- The words that a form of the grammar takes are of the kinds of its name, one by one.
 use Rattle.std.proofs.Common.{◌≡◌, ℕ, suc, ◌==◌, true, false, List, [], ◌∷◌, ◌++◌, length, Option, Some, None, refl, sym, ap, ◌∙◌, arith, append-nil}
 use Rattle.std.specs.Prelude.{IfSome, is_some, if◌then◌else◌}
 use Rattle.std.specs.Option.{option_map, option_and_then, unwrap_or}
@@ -27,7 +27,7 @@ use Rattle.script_faults.specs.declared.word_kinds.WordKind.TheVariants as kind
 one_more : (n : ℕ) → (suc n == 0) ≡ false
 one_more n = grind (arith, nat_tests)
 
--- ---- what is read is of these kinds, where the rest is of those behind them
+-- ---- what is read is of these kinds, if the rest is of those after them
 
 abbrev Took : {A : Type 0} → List WordKind → List (List ℕ) → Option (A × List (List ℕ)) → Type 0
 Took kinds words read = IfSome read (λ x. (more : List WordKind) → are_of x.1 more ≡ true → are_of words (kinds ++ more) ≡ true)
@@ -71,7 +71,7 @@ took_optional {A = A} form kinds (w ∷ words) took =
 
 -- ---- words of all these kinds are read, and leave the rest
 
--- the rest behind words of these kinds, if they are there
+-- the rest after words of these kinds, if they are there
 abbrev taken : List WordKind → List (List ℕ) → Option (List (List ℕ))
 taken [] words = Some words
 taken (wanted ∷ kinds) [] = None
@@ -151,7 +151,7 @@ told_said_options : (words : List (List ℕ)) → Told (kind.Pad ∷ kind.Unit �
 told_said_options words = told_optional options kind.Pad (kind.Unit ∷ []) words
     (told_word kind.Pad pad_of _ (kind.Unit ∷ []) (λ w. refl) (λ pad rest. told_word kind.Unit unit_of _ [] (λ w. refl) (λ unit rest. ends rest) rest) words)
 
--- what the words behind a name have to be
+-- the kinds that the words after a name must be of
 form_of-told : (name : CommandName) (words : List (List ℕ)) → Told (kinds_of name) words (form_of name words)
 form_of-told name.AddKey words = told_word kind.AddedBytes (hex_of_size 1 MOST_ADDED_BYTES) _ [] (λ w. refl) (λ a rest. ends rest) words
 form_of-told name.RemoveKey words = told_word kind.Key key_ref_of _ [] (λ w. refl) (λ a rest. ends rest) words

@@ -12,7 +12,7 @@ use Rattle.script_lang.specs.declared.statements.Statement.{Statement}
 use Rattle.script_lang.specs.declared.statements.Statement.TheVariants.{Nothing, Caller, Order}
 use Rattle.script_faults.specs.GrammarFaults.{grammar_fault}
 
--- why a line that says this is at fault behind so many callers; none where it may stand there
+-- why a line of this statement is at fault after that many callers; none if it is allowed there
 abbrev pub fault_of_said : ℕ → List ℕ → Option Statement → Option LineFault
 fault_of_said callers line None = Some (grammar_fault line)
 fault_of_said callers line (Some Nothing) = None
@@ -24,12 +24,12 @@ fault_of_said callers line (Some (Order verb)) = if nat_lt 0 callers then None e
 abbrev pub fault_behind : ℕ → List ℕ → Option LineFault
 fault_behind callers line = fault_of_said callers line (statement_of line)
 
--- how many callers stand before the next line
+-- how many callers are before the next line
 abbrev pub callers_with : ℕ → List ℕ → ℕ
 callers_with callers line = if is_caller (statement_of line) then callers + 1 else callers
 
--- the first line at fault of the pieces between line feeds, and why: the first of them is line n, and so
--- many callers stand before it. Behind the last line feed there is to be nothing
+-- the first line at fault of the pieces between line feeds, and why: the first of them is line n, with
+-- that many callers before it. After the last line feed the text must end
 unfoldable pub fault_from : ℕ → ℕ → List (List ℕ) → Option FaultyLine
 fault_from n callers [] = None
 fault_from n callers (last ∷ []) =

@@ -1,11 +1,11 @@
--- What the words behind a command's name have to be, one by one.
+-- The kinds that the words after a command's name must be of, one by one.
 use Rattle.std.specs.Prelude.{List, [], ◌∷◌}
 use Rattle.script_lang.specs.declared.names.CommandName.{CommandName}
 use Rattle.script_lang.specs.declared.names.CommandName.TheVariants as name
 use Rattle.script_faults.specs.declared.word_kinds.WordKind.{WordKind}
 use Rattle.script_faults.specs.declared.word_kinds.WordKind.TheVariants as kind
 
--- what the words behind a name have to be, those that may be left out too
+-- the kinds that the words after a name must be of, optional ones too
 abbrev pub kinds_of : CommandName → List WordKind
 kinds_of name.AddKey = kind.AddedBytes ∷ []
 kinds_of name.RemoveKey = kind.Key ∷ []

@@ -1,4 +1,4 @@
-//! Laws of faults, each a function without work whose contract is the law.
+//! Laws of faults: each is an empty function whose contract is the law.
 
 ghost use Rattle.std.specs.Prelude.{◌≡◌, ℕ, List};
 ghost use Rattle.std.specs.Option.{option_map};
@@ -8,14 +8,14 @@ ghost use Rattle.script_faults.specs.KindLaws.{WordsOfAllKindsMakeCommands};
 ghost use Rattle.script_faults.specs.LineFaults.{first_fault};
 ghost use Rattle.script_lang.specs.Script.{parsed_script};
 
-/// The first line at fault is the one that reading tells, and a script has none.
+/// The first line at fault is the one at which reading ends, and a script has none.
 pub fn faults_are_where_reading_ends()
     ensures { (text : List ℕ) → option_map (λ found. found.line) (first_fault text)
         ≡ result_err (parsed_script text) }
 {}
 
-/// What a fault says that a word has to be is what the grammar asks of it: the words of a command are each
-/// of their kind, and words of all kinds make a command.
+/// A fault requires of a word what the grammar requires: the words of a command are each of their kind,
+/// and words of all kinds make a command.
 pub fn kinds_are_those_of_the_grammar()
     ensures each { CommandsHaveWordsOfTheirKinds }
     ensures all { WordsOfAllKindsMakeCommands }

@@ -1,12 +1,12 @@
-//! What can be amiss with a line of a script.
+//! Faults of a line of a script.
 
 use crate::word_kinds::WordKind;
 use thiserror::Error;
 
-// What some editors put in front of a text.
+// The bytes that some editors write at the beginning of a text.
 pub(crate) const BYTE_ORDER_MARK: [u8; 3] = [0xef, 0xbb, 0xbf];
 
-/// Why a line is at fault. Its text goes on behind the line: `"mkdri" is no command`.
+/// Why a line is at fault. Its text is read after the line: `"mkdri" is no command`.
 #[derive(Clone, Copy, Debug, PartialEq, Eq, Error)]
 pub enum LineFault {
     /// No line feed ended it.
@@ -18,7 +18,7 @@ pub enum LineFault {
     CarriageReturn,
     #[error("has a tab, where one space parts two words")]
     Tab,
-    /// A space stands in front, at the end, or behind another.
+    /// A space is at the beginning, at the end, or after another.
     #[error("has a space too many")]
     SpareSpace,
     #[error("is no command")]
@@ -27,10 +27,10 @@ pub enum LineFault {
     TooFewWords,
     #[error("has too many words")]
     TooManyWords,
-    /// The first word that isn't what it has to be, by its number among those behind the name, from 1.
+    /// The first word that is not of the required kind, by its number among those after the name, from 1.
     #[error("has a word, number {number} behind it, that is no {kind}")]
     NoSuchWord { number: usize, kind: WordKind },
-    /// It is a command, and stands before the first caller.
+    /// It is a command before the first caller.
     #[error("stands before the first caller")]
     NoCallerYet,
     #[error("names a ninth caller")]

@@ -1,4 +1,4 @@
-//! Finds the first line at fault of a text, and tells why it is.
+//! Finds the first line at fault of a text, and the cause.
 
 ghost use Rattle.std.specs.Prelude.{◌≡◌, ◌<◌, ◌≤◌, ◌^◌, ◌+◌, IfOk, length, if◌then◌else◌};
 ghost use Rattle.std.specs.Result.{result_err};
@@ -14,9 +14,9 @@ use script_lang::{CommandName, MOST_CALLERS, Statement, Words, read_statement};
 use std::alloc::{AllocError, Global};
 use text_words::next_line;
 
-/// The first line at fault of a text of fewer than 2^32 bytes, and why; none exactly where the text is a
-/// script. The line is the one that `read_script` tells. The one error is want of memory, which may come
-/// on any text.
+/// Returns the first line at fault of a text of fewer than 2^32 bytes, and the cause; `None` exactly when
+/// the text is a script. The line is the one that `read_script` returns. The one error is out of memory,
+/// which is possible for any text.
 pub fn line_fault(alloc: Global, text: &[u8]) -> Result<Option<FaultyLine>, AllocError>
     requires { length text.now < 2 ^ 32 }
     ensures value { IfOk result (λ found. found ≡ first_fault text.now) }
@@ -24,8 +24,9 @@ pub fn line_fault(alloc: Global, text: &[u8]) -> Result<Option<FaultyLine>, Allo
     line_fault_behind(alloc, 0, 0, text)
 }
 
-/// The first line at fault of what stands behind so many lines, among which so many callers begin, and why: so who
-/// was told of one goes on behind it. The one error is want of memory, which may come on any text.
+/// Returns the first line at fault of a text after `lines` lines, among which `before` callers begin, and
+/// the cause. So a caller continues after a line that it was given. The one error is out of memory, which
+/// is possible for any text.
 pub fn line_fault_behind(
     alloc: Global,
     lines: u32,
@@ -63,7 +64,7 @@ pub fn line_fault_behind(
     Ok(None)
 }
 
-// How many callers stand before the line behind this one, or why this one is at fault.
+// The number of callers before the next line, or why this one is at fault.
 fn pass_line(
     alloc: Global,
     callers: usize,
@@ -81,7 +82,7 @@ fn pass_line(
     }
 }
 
-// How many callers stand before the next line.
+// The number of callers before the next line.
 fn callers_with(callers: usize, said: &Option<Statement>) -> usize
     requires { callers < 2 ^ 32 }
     ensures { result ≡ (if sections.is_caller said.now then callers + 1 else callers) }
@@ -92,7 +93,7 @@ fn callers_with(callers: usize, said: &Option<Statement>) -> usize
     }
 }
 
-// Why a line that says this is at fault behind so many callers.
+// Why a line of this statement is at fault after that many callers.
 fn fault_of_said(
     alloc: Global,
     callers: usize,
@@ -119,7 +120,7 @@ fn fault_of_said(
     }
 }
 
-// Why a line is outside the grammar that is so.
+// Why a line outside the grammar is outside it.
 fn grammar_fault(alloc: Global, line: &[u8]) -> Result<LineFault, AllocError>
     ensures { IfOk result (λ fault. fault ≡ grammar.grammar_fault line.now) }
 {
@@ -145,7 +146,7 @@ fn spelling_fault(line: &[u8]) -> Option<LineFault>
     None
 }
 
-// What is amiss with the words of a line.
+// The fault of the words of a line.
 fn fault_of_words(alloc: Global, words: &mut Words<'_>) -> Result<LineFault, AllocError>
     ensures { IfOk result (λ fault. fault ≡ grammar.fault_of_words words.old) }
 {
@@ -155,7 +156,7 @@ fn fault_of_words(alloc: Global, words: &mut Words<'_>) -> Result<LineFault, All
     }
 }
 
-// What is amiss with a name and the words behind it.
+// The fault of a name and the words after it.
 fn named_fault(alloc: Global, name: &[u8], words: &mut Words<'_>) -> Result<LineFault, AllocError>
     ensures { IfOk result (λ fault. fault ≡ grammar.named_fault name.now words.old) }
 {
@@ -168,7 +169,7 @@ fn named_fault(alloc: Global, name: &[u8], words: &mut Words<'_>) -> Result<Line
     }
 }
 
-// What is amiss with words that have to be of these kinds.
+// The fault of words that must be of these kinds.
 fn words_fault(
     alloc: Global,
     kinds: &[WordKind],
@@ -198,7 +199,7 @@ fn words_fault(
     }
 }
 
-// What is amiss with a word that is empty, or else what is told.
+// The fault of a word that is empty, or else `otherwise`.
 fn word_fault(otherwise: LineFault, word: &[u8]) -> LineFault
     ensures { result ≡ grammar.word_fault otherwise word.now }
 {

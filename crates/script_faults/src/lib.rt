@@ -1,4 +1,4 @@
-//! Which line of a text is the first at fault, and what is amiss with it.
+//! The first line of a text at fault, and the cause.
 #![tactic(auto)]
 
 mod fault_laws;

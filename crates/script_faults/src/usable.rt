@@ -1,11 +1,11 @@
-//! Which words are names of commands.
+//! The words that are names of commands.
 
 ghost use Rattle.std.specs.Prelude.{◌≡◌};
 ghost use Rattle.script_faults.specs.GrammarFaults as spec;
 
 use script_lang::CommandName;
 
-/// Whether the word is the name of a command.
+/// Returns whether the word is the name of a command.
 pub fn is_usable(word: &[u8]) -> bool
     ensures { result ≡ spec.is_usable word.now }
 {

@@ -1,4 +1,4 @@
-//! What the words behind a command's name have to be.
+//! The kinds that the words after a command's name must be of.
 
 ghost use Rattle.std.specs.Prelude.{◌≡◌, IfOk};
 ghost use Rattle.script_faults.specs.WordKinds as spec;
@@ -17,7 +17,7 @@ use std::alloc::{AllocError, Global};
 use text_words::{decimal_value, hex_bytes};
 use thiserror::Error;
 
-/// What a word has to be. Its text says the word of the grammar and what stands in it.
+/// The kind of a word. Its text names the word of the grammar and its values.
 #[derive(Clone, Copy, Debug, PartialEq, Eq, Error)]
 pub enum WordKind {
     #[error("number from 0 to 4294967295")]
@@ -82,7 +82,7 @@ impl WordKind {
     }
 }
 
-// What the words of these commands have to be.
+// The kinds that the words of these commands must be of.
 const SET_POLICY: [WordKind; 4] = [WordKind::Path, WordKind::Key, WordKind::Pad, WordKind::Unit];
 
 const FILL: [WordKind; 4] = [
@@ -117,7 +117,7 @@ const ENCRYPT: [WordKind; 4] = [
     WordKind::Unit,
 ];
 
-// What the words behind the name have to be, those that may be left out too.
+// The kinds that the words after the name must be of, optional ones too.
 pub(crate) fn kinds_of(name: CommandName) -> &'static [WordKind]
     ensures { result.now ≡ spec.kinds_of name }
 {

@@ -3,7 +3,7 @@ use Rattle.text_words.specs.Lines.{pieces_of}
 use Rattle.script_faults.specs.LineFaults.{fault_from}
 use Rattle.script_faults.proofs.faulty_lines.line_fault_behind.Given as goal
 
--- no line so far is at fault, and so many callers stand before what is left
+-- no line so far is at fault, and `callers` callers are before what is left
 abbrev pub invariant-lines : goal.invariant-lines
 invariant-lines l = record {
   told : fault_from (l.lines + 1) l.before (pieces_of l.text) ≡ fault_from (l.number + 1) l.callers (pieces_of l.rest);
