@@ -1,4 +1,4 @@
--- Truth tables of what goes into the circuits and of what must come out.
+-- Truth tables of the inputs of the circuits and of their expected outputs.
 use Rattle.std.proofs.Common.{◌≡◌, ℕ, List, true, refl, sym, ◌∙◌}
 use Rattle.std.specs.Prelude.{nat_eq}
 use Rattle.std.specs.Int.{bit_at}
@@ -18,7 +18,7 @@ pub plane_of_state_map : (f : ℕ → ℕ) (k : ℕ) (s : ℕ → List ℕ) → 
 unfolding plane vector_of packed state_map
 plane_of_state_map f k s = refl
 
--- the plane of a bit, where a constant was added
+-- the plane of a bit, if a constant was added
 pub plane_plus_constant : (k table : ℕ) (s : ℕ → List ℕ) → AllBlocks s → all_from (λ x. nat_eq (bit_at (plus_constant x) k) (bit_at table x)) 0 256 ≡ true →
     plane (λ x. bit_at x k) (λ b. state_map plus_constant (s b)) ≡ plane (bit_at table) s
 plane_plus_constant k table s blocks all = sym (plane_of_state_map plus_constant k s) ∙ plane_same (λ x. bit_at (plus_constant x) k) (bit_at table) s blocks all

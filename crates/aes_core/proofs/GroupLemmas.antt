@@ -31,7 +31,7 @@ sum_2 a b c = xor_assoc c b (bit_xor a 0) ∙ ap (λ x. bit_xor c (bit_xor b x))
 sum_3 : (a b c d : ℕ) → bit_xor (bit_xor d c) (bit_xor b a) ≡ bit_xor d (bit_xor c (bit_xor b a))
 sum_3 a b c d = xor_assoc d c (bit_xor b a)
 
--- the columns one on, and two on, behind columns of zeros
+-- the columns one on, and two on, after columns of zeros
 abbrev pub one_before : List ℕ → List ℕ
 one_before s = pick_l 0 (replicate 16 0 ++ s) (0 ∷ 1 ∷ 2 ∷ 3 ∷ 16 ∷ 17 ∷ 18 ∷ 19 ∷ 20 ∷ 21 ∷ 22 ∷ 23 ∷ 24 ∷ 25 ∷
     26 ∷ 27 ∷ [])
@@ -205,7 +205,7 @@ four_more key m w0 w1 w2 w3 e0 e1 e2 e3 =
     sym (s4 ∙ append_assoc (s ++ w0 ++ w1) w2 w3 ∙ append_assoc (s ++ w0) w1 (w2 ++ w3)
     ∙ append_assoc s w0 (w1 ++ (w2 ++ w3)))
 
--- what stands before a place stays when more is added behind it
+-- the bytes before a place stay when more are appended
 reads_on : (w before word : List ℕ) (m : ℕ) → m ≤ length before → ((p : ℕ) → p < m →
     get_or before p 0 ≡ get_or w p 0) →
     (p : ℕ) → p < m → get_or (before ++ word) p 0 ≡ get_or w p 0

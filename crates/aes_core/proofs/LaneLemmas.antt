@@ -23,7 +23,7 @@ vector-IsBlock v size fits = record {
   ];
 }
 
--- the product by x in each lane: the mask is taken where the highest bit is set
+-- the product by x in each lane: the mask is xored if the highest bit is set
 pub times_x_lanes : (n : ℕ) (v : List ℕ) → length v ≡ n → Each1 (Fits w8) v →
     zip2 bit_xor (zip2 (λ a b. (a + b) % 2 ^ 8) v v) (sel_l (map (top 7) (zip2 (λ a b. cond (nat_le a b) 255 0) (replicate n 128) v)) (replicate n 27) (replicate n 0)) ≡ map times_x v
 times_x_lanes zero [] size fits = refl

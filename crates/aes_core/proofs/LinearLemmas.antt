@@ -22,7 +22,7 @@ sum4 a b c d = bit_xor (bit_xor (bit_xor a b) c) d
 sum4-lt : (a b c d : ℕ) → a < 256 → b < 256 → c < 256 → d < 256 → sum4 a b c d < 256
 sum4-lt a b c d p q r s = xor_of_8 (bit_xor (bit_xor a b) c) d (xor_of_8 (bit_xor a b) c (xor_of_8 a b p q) r) s
 
--- the last may stand first
+-- the last may come first
 pub sum4_turned : (a b c d : ℕ) → sum4 b c d a ≡ sum4 a b c d
 sum4_turned a b c d =
     xor_comm (bit_xor (bit_xor b c) d) a ∙ sym (xor_assoc a (bit_xor b c) d) ∙ ap (λ z. bit_xor z d) (sym (xor_assoc a b c))

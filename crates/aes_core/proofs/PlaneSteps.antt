@@ -123,7 +123,7 @@ key_bit_right : all_from (λ k. all_from (λ x. nat_eq (cond (top 7 (cond (nat_e
 unfolding all_from packed
 key_bit_right = refl
 
--- all ones where a byte has the bit
+-- all ones if a byte has the bit
 key_bit : (k x : ℕ) → k < 8 → x < 256 → cond (top 7 (cond (nat_eq (bit_and x (1 * 2 ^ k % 256)) (1 * 2 ^ k % 256)) 255 0)) 255 0 ≡ packed 8 (λ _. bit_at x k)
 key_bit k x bit low = eqb-true _ _ (all_from-at (λ x. nat_eq (cond (top 7 (cond (nat_eq (bit_and x (1 * 2 ^ k % 256)) (1 * 2 ^ k % 256)) 255 0)) 255 0) (packed 8 (λ _. bit_at x k))) 0 256 x
     (all_from-at (λ k. all_from (λ x. nat_eq (cond (top 7 (cond (nat_eq (bit_and x (1 * 2 ^ k % 256)) (1 * 2 ^ k % 256)) 255 0)) 255 0) (packed 8 (λ _. bit_at x k))) 0 256) 0 8 k key_bit_right (omega arith) (omega arith)) (omega arith) (omega arith))

@@ -14,7 +14,7 @@ state_after w block (suc n) =
 unfoldable pub encrypted_with : List ℕ → List ℕ → List ℕ
 encrypted_with w block = add_round_key w 14 (shift_rows (substitute_bytes (state_after w block 13)))
 
--- what INVCIPHER (5.3, algorithm 3) makes of a state when the rounds n to 1 are left, lines 4 to 12
+-- the result of INVCIPHER (5.3, algorithm 3) for a state when the rounds n to 1 are left, lines 4 to 12
 unfoldable pub rounds_undone : List ℕ → List ℕ → ℕ → List ℕ
 rounds_undone w s zero = add_round_key w 0 (inverse_substitute_bytes (inverse_shift_rows s))
 rounds_undone w s (suc n) =

@@ -1,5 +1,5 @@
--- One block between rounds, as the code has it: its bytes in the basis of the S-box or of its inverse, and
--- its rows not shifted yet. These words describe the code and not the standard.
+-- One block between rounds, as the code has it: its bytes in the basis of the S-box or of its inverse,
+-- and its rows not shifted yet. These definitions describe the code and not the standard.
 use Rattle.std.specs.Prelude.{ℕ, ◌+◌, ◌-◌, ◌%◌, List, map, bit_xor}
 use Rattle.byte_words.specs.Blocks.{first_blocks}
 use Rattle.aes_core.specs.declared.shuffle_tables.TheConstants.{AFFINE_CONSTANT, BASIS_OF_HIGH, BASIS_OF_LOW}

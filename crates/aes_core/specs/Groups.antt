@@ -1,5 +1,5 @@
--- The key schedule by groups of four words, of which each stands in a vector, a word a column. These
--- words describe the code and not the standard.
+-- The key schedule by groups of four words, each in one vector, a word a column. These definitions
+-- describe the code and not the standard.
 use Rattle.std.specs.Prelude.{◌≡◌, ℕ, zero, suc, ◌-◌, ◌*◌, List, bit_xor, slice_index, take}
 use Rattle.aes_core.specs.RoundKeys.{key_schedule}
 use Rattle.aes_core.specs.Steps.{cell, state_of}
@@ -13,7 +13,7 @@ unfoldable pub row_sum : List ℕ → ℕ → ℕ → ℕ
 row_sum s r zero = cell s r 0
 row_sum s r (suc c) = bit_xor (cell s r (suc c)) (row_sum s r c)
 
--- in each column the sum of it and of those before it
+-- in each column the sum of the columns up to it
 unfoldable pub column_sums : List ℕ → List ℕ
 column_sums s = state_of (row_sum s)
 

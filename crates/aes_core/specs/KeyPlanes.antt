@@ -1,5 +1,5 @@
--- The round keys in planes of bits, as eight blocks at once are encrypted and decrypted with them. These
--- words describe the code and not the standard.
+-- The round keys in planes of bits, with which eight blocks at once are encrypted and decrypted. These
+-- definitions describe the code and not the standard.
 use Rattle.std.specs.Prelude.{ℕ, ◌+◌, ◌-◌, ◌%◌, List, map, bit_xor}
 use Rattle.std.specs.Int.{bit_at}
 use Rattle.byte_words.specs.Blocks.{first_blocks}

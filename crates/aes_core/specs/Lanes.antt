@@ -1,4 +1,4 @@
--- Vectors of 16 lanes as the code has them. These words describe the code and not the standard.
+-- Vectors of 16 lanes as the code has them. These definitions describe the code and not the standard.
 use Rattle.std.specs.Prelude.{ℕ, ◌+◌, ◌*◌, List, map, slice_index}
 use Rattle.std.specs.List.{range_with_len}
 use Rattle.aes_core.specs.Steps.{cell, state_of}

@@ -21,7 +21,7 @@ EncryptionUndoes =
     (key block : List ℕ) → AreBytes key → IsBlock block
     → encrypted_block key (decrypted_block key block) ≡ block
 
--- both make 16 bytes of whatever they are given
+-- both return 16 bytes for all arguments
 abbrev pub MakesSixteen : Type 0
 MakesSixteen =
     (key block : List ℕ) → (length (encrypted_block key block) ≡ 16)

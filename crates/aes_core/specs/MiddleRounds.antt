@@ -1,5 +1,6 @@
--- What is done to a block while it is in planes of bits: all between the first and the last key, but for
--- the shifts of rows and the constant of the last S-box. These words describe the code and not the standard.
+-- The steps on a block while it is in planes of bits: all between the first and the last key, except the
+-- shifts of rows and the constant of the last S-box. These definitions describe the code and not the
+-- standard.
 use Rattle.std.specs.Prelude.{ℕ, zero, suc, ◌-◌, List, bit_xor}
 use Rattle.aes_core.specs.declared.shuffle_tables.TheConstants.{AFFINE_CONSTANT}
 use Rattle.aes_core.specs.Steps.{add_round_key, cell, inverse_mix_columns, inverse_shift_rows}
@@ -12,7 +13,7 @@ use Rattle.aes_core.specs.UnshiftedRows.{rotated_rows}
 unfoldable pub state_map : (ℕ → ℕ) → List ℕ → List ℕ
 state_map f s = state_of (λ r c. f (cell s r c))
 
--- the S-box but for its constant, and the constant alone
+-- the S-box without its constant, and the constant alone
 unfoldable pub substitute_without_constant : ℕ → ℕ
 substitute_without_constant b = bit_xor (substitute_byte b) AFFINE_CONSTANT
 

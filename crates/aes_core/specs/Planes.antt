@@ -1,5 +1,5 @@
--- Eight blocks in eight vectors of bit planes: lane p of plane k has in bit b the bit k of byte p of
--- block b. These words describe the code and not the standard.
+-- Eight blocks in eight vectors of bit planes: bit b of lane p of plane k is bit k of byte p of block b.
+-- These definitions describe the code and not the standard.
 use Rattle.std.specs.Prelude.{ℕ, zero, suc, ◌+◌, ◌-◌, ◌*◌, ◌/◌, ◌%◌, ◌<◌}
 use Rattle.std.specs.Prelude.{List, map, nat_eq, slice_index, if◌then◌else◌}
 use Rattle.std.specs.List.{range_with_len}
@@ -35,11 +35,10 @@ AllBlocks blocks = (b : ℕ) → IsBlock (blocks b)
 abbrev pub AllBits : (ℕ → ℕ → ℕ) → Type 0
 AllBits bit = (b p : ℕ) → bit b p < 2
 
--- where the bit n of the number k is not set, the bit k of the first vector; where it is set, the bit
--- k - n of the second
+-- bit k of the first vector if k / n is even, and otherwise bit k - n of the second
 unfoldable pub lower_bits : ℕ → (ℕ → ℕ → ℕ) → (ℕ → ℕ → ℕ) → ℕ → ℕ → ℕ
 lower_bits n first second k p = if nat_eq (k / n % 2) 0 then first k p else second (k - n) p
 
--- where it is not set, the bit k + n of the first vector; where it is set, the bit k of the second
+-- bit k + n of the first vector if k / n is even, and otherwise bit k of the second
 unfoldable pub upper_bits : ℕ → (ℕ → ℕ → ℕ) → (ℕ → ℕ → ℕ) → ℕ → ℕ → ℕ
 upper_bits n first second k p = if nat_eq (k / n % 2) 0 then first (k + n) p else second k p

@@ -22,8 +22,8 @@ power_of_x (suc n) = times_x (power_of_x n)
 unfoldable pub round_constant : ℕ → ℕ → ℕ
 round_constant j k = if nat_eq k 0 then power_of_x (j - 1) else 0
 
--- what word i - 8 is xored with: the word before, which each eighth time is turned, substituted and
--- changed by the round constant, and at 4 modulo 8 substituted alone
+-- the word with which word i - 8 is xored: the word before. Each eighth time that is rotated, substituted
+-- and changed by the round constant, and at 4 modulo 8 it is only substituted
 unfoldable pub changed_word : List ℕ → ℕ → List ℕ
 changed_word w i =
     if nat_eq (i % 8) 0

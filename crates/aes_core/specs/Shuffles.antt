@@ -1,4 +1,5 @@
--- What the code's shuffles give, byte by byte. These words describe the code and not the standard.
+-- The results of the code's shuffles, byte by byte. These definitions describe the code and not the
+-- standard.
 use Rattle.std.specs.Prelude.{ℕ, ◌/◌, Bool, ◌||◌, List, bit_and, bit_xor, nat_le}
 use Rattle.std.specs.Prelude.{nat_lt, slice_index, if◌then◌else◌, IsTrue}
 
@@ -9,7 +10,7 @@ is_place p = nat_le 128 p || nat_lt p 16
 abbrev pub IsPlace : ℕ → Type 0
 IsPlace p = IsTrue (is_place p)
 
--- 0 if it has the highest bit, else what stands at the place
+-- 0 if it has the highest bit, and otherwise the table's byte at the place
 unfoldable pub found_in : List ℕ → ℕ → ℕ
 found_in table p = if nat_le 128 p then 0 else slice_index table p
 

@@ -20,14 +20,14 @@ substitute_bytes s = state_of (λ r c. substitute_byte (cell s r c))
 unfoldable pub inverse_substitute_bytes : List ℕ → List ℕ
 inverse_substitute_bytes s = state_of (λ r c. inverse_substitute_byte (cell s r c))
 
--- SHIFTROWS (5.1.2): row r turns to the left by r; INVSHIFTROWS (5.3.1): to the right
+-- SHIFTROWS (5.1.2): row r rotates to the left by r; INVSHIFTROWS (5.3.1): to the right
 unfoldable pub shift_rows : List ℕ → List ℕ
 shift_rows s = state_of (λ r c. cell s r (c + r))
 
 unfoldable pub inverse_shift_rows : List ℕ → List ℕ
 inverse_shift_rows s = state_of (λ r c. cell s r (c + 4 - r))
 
--- a column times the fixed polynomial whose coefficients stand before its bytes, from row r on
+-- a column times the fixed polynomial, from row r on; k0 to k3 are the coefficients for its bytes
 abbrev pub mixed_cell : ℕ → ℕ → ℕ → ℕ → List ℕ → ℕ → ℕ → ℕ
 mixed_cell k0 k1 k2 k3 s r c =
     bit_xor (bit_xor (bit_xor (field_product k0 (cell s r c)) (field_product k1 (cell s (r + 1) c)))

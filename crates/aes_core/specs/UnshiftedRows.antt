@@ -1,5 +1,5 @@
--- States whose rows are not shifted yet, as the code has them between rounds. These words describe the
--- code and not the standard.
+-- States whose rows are not shifted yet, as the code has them between rounds. These definitions describe
+-- the code and not the standard.
 use Rattle.std.specs.Prelude.{ℕ, ◌+◌, ◌*◌, List, map, bit_xor}
 use Rattle.std.specs.Simd.Lanes.{zip2}
 use Rattle.aes_core.specs.Field.{times_x}
@@ -9,11 +9,11 @@ use Rattle.aes_core.specs.Steps.{cell, state_of}
 unfoldable pub rotated_rows : ℕ → List ℕ → List ℕ
 rotated_rows n s = state_of (λ r c. cell s r (c + n * r))
 
--- in each column the byte m rows on, where n shifts of rows and one more are left out
+-- in each column the byte m rows on, if n shifts of rows and one more are left out
 unfoldable pub unshifted_row : ℕ → ℕ → List ℕ → List ℕ
 unshifted_row m n s = state_of (λ r c. cell s (r + m) (c + m * (n + 1)))
 
--- columns mixed, and mixed back, where n shifts of rows and one more are left out
+-- columns mixed, and mixed back, if n shifts of rows and one more are left out
 unfoldable pub unshifted_mix : ℕ → List ℕ → List ℕ
 unshifted_mix n s =
     let next = unshifted_row 1 n s in

@@ -99,7 +99,7 @@ fn forward_round(state: u8x16, key: u8x16, deferred: usize) -> u8x16
     xor(xor(keyed, sum), next_unshifted_row(sum, deferred))
 }
 
-// The last round but for its key: out of the basis, and each row where it belongs.
+// The last round without its key: out of the basis, and with each row in its place.
 #[inline(always)]
 fn last_round(state: u8x16) -> u8x16
     ensures { (s : List ℕ) → IsBlock s → state ≡ forward_state 1 s
@@ -141,7 +141,7 @@ fn inverse_round(state: u8x16, key: u8x16, deferred: usize) -> u8x16
     xor(xor(by_14, key), next_unshifted_row(three, shifts))
 }
 
-// The last round of decryption but for its key.
+// The last round of decryption without its key.
 #[inline(always)]
 fn last_inverse_round(state: u8x16) -> u8x16
     ensures { (s : List ℕ) → IsBlock s → state ≡ inverse_state 1 s

@@ -1,5 +1,5 @@
-//! Eight blocks at once: into planes of bits, through the rounds, and back. Rows are shifted and the first
-//! and the last key are added outside of the planes, where a block is one vector.
+//! Eight blocks at once: into planes of bits, through the rounds, and back. Outside of the planes a block
+//! is one vector: there the rows are shifted, and the first and the last key are added.
 
 ghost use Rattle.std.specs.Prelude.{◌≡◌, ℕ, ◌<◌, List, [], slice_index_or};
 ghost use Rattle.byte_words.specs.Bytes.{AreBytes};
@@ -53,8 +53,8 @@ fn end_encryption(keys: &RoundKeys, block: u8x16) -> u8x16
     add_round_key(keys, 14, rotate_rows(substituted, 2))
 }
 
-// Rows are rotated by what 14 inverse shifts leave. So each round has its rows where that of encryption has
-// them, and the same planes of its key serve both.
+// Rows are rotated by 14 inverse shifts, which are 2 modulo 4. So each round has its rows where that
+// round of encryption has them, and the same planes of its key serve both.
 #[inline(always)]
 fn begin_decryption(keys: &RoundKeys, block: u8x16) -> u8x16
     ensures { result ≡ state_map plus_constant (rotated_rows 2 (add_round_key keys.now 14 block)) }

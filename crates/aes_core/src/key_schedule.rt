@@ -1,7 +1,7 @@
-//! The key schedule of AES-256 (FIPS 197, 5.2) by groups of four words, which are round keys. A group
-//! stands in one vector, a word a column. Each word is the one eight before it xored with the one
-//! before it, and that one is changed only where a group begins: so a group is the group two before it,
-//! summed up from column to column, with one changed word added to each column.
+//! The key schedule of AES-256 (FIPS 197, 5.2) by groups of four words, which are round keys. A group is
+//! in one vector, a word a column. Each word is the one eight before it xored with the one before it,
+//! which is changed first only at the beginning of a group. So a group is the group two before it, summed
+//! up from column to column, with one changed word added to each column.
 
 ghost use Rattle.std.specs.Prelude.{◌≡◌, ◌*◌, ◌+◌, ◌-◌, ◌<◌, ◌≤◌, ◌++◌, List, drop, length, ℕ};
 ghost use Rattle.aes_core.specs.Groups.{HoldsGroups, column_sums, in_each_column, last_column};
@@ -13,11 +13,11 @@ use crate::shuffles::substitute;
 use crate::vectors::xor;
 use std::simd::prelude::*;
 
-// As many as rounds and one more.
+// One more than the number of rounds.
 const GROUPS: usize = 15;
 
 // Writes the round keys of a key of 32 bytes. The loop makes an odd group and an even one at a time, so
-// that which of them is which is known when this is compiled.
+// the parity of each is known at compile time.
 pub(crate) fn write_round_keys(keys: &mut RoundKeys, key: &[u8])
     requires { length key.now ≡ 32 }
     ensures { keys.new ≡ round_keys key.now }
@@ -49,7 +49,7 @@ fn append_group(keys: &mut RoundKeys, n: usize)
     group.copy_to_slice(&mut keys[16 * n..16 * n + 16]);
 }
 
-// In each column the sum of it and of those before it.
+// In each column the sum of the columns up to it.
 #[inline(always)]
 fn column_sums(words: u8x16) -> u8x16
     ensures { result ≡ column_sums words }
@@ -97,7 +97,7 @@ fn round_constants(j: usize) -> u8x16
     ])
 }
 
-// What the first word of group `n` is xored with, in each column.
+// The word with which the first word of group `n` is xored, in each column.
 #[inline(always)]
 fn changed_word(keys: &RoundKeys, n: usize) -> u8x16
     requires { (2 ≤ n) × (n ≤ 14) }

@@ -33,10 +33,11 @@ use byte_words::wipe;
 use std::marker::Model;
 use std::simd::prelude::*;
 
-/// A key of 32 bytes with its round keys, which are made once. In contracts it is the key.
+/// A key of 32 bytes with its round keys, which are computed once. In contracts it is the key.
 ///
-/// A move copies all of them, and what it leaves behind is not overwritten. Who has to see a key gone
-/// makes room for it (`zeros`), has it made there (`set`), lends it, and wipes it there.
+/// A move copies all of them, and the bytes that it leaves behind are not wiped. To be sure that a key is
+/// wiped, make the cipher with `zeros`, `set` the key in it, pass only references to it, and `wipe` it in
+/// place.
 #[derive(Drop)]
 pub struct Aes256 {
     // The key itself is the first 32 bytes.
@@ -56,7 +57,7 @@ impl Model for Aes256 {
 }
 
 impl Aes256 {
-    /// Makes the round keys of `key`.
+    /// Returns the cipher of `key`, with its round keys.
     pub fn new(key: &[u8; 32]) -> Aes256
         ensures { result ≡ key.now }
     {
@@ -65,7 +66,7 @@ impl Aes256 {
         cipher
     }
 
-    /// The key of 32 zeros: room for another.
+    /// Returns the cipher of 32 zeros, in which a key can be set.
     pub fn zeros() -> Aes256
         ensures { result ≡ replicate 32 0 }
     {
@@ -76,7 +77,7 @@ impl Aes256 {
         }
     }
 
-    /// Makes the round keys of `key`, which has 32 bytes, where those of the key before stand.
+    /// Replaces the key by `key`, which has 32 bytes, and its round keys in place.
     pub fn set(&mut self, key: &[u8])
         requires { length key.now ≡ 32 }
         ensures { self.new ≡ key.now }
@@ -86,7 +87,7 @@ impl Aes256 {
         write_inverse_keys(&mut self.inverse, &self.schedule);
     }
 
-    /// Overwrites the key and its round keys where they stand. It is then the key of 32 zeros.
+    /// Wipes the key and its round keys in place. It is then the cipher of 32 zeros.
     pub fn wipe(&mut self)
         ensures { self.new ≡ replicate 32 0 }
     {
@@ -98,21 +99,21 @@ impl Aes256 {
         self.inverse = inverse_keys_of_zeros();
     }
 
-    /// The block encrypted (FIPS 197, 5.1).
+    /// Returns the block encrypted (FIPS 197, 5.1).
     pub fn encrypt_block(&self, block: [u8; 16]) -> [u8; 16]
         ensures { result ≡ encrypted_block self.now block }
     {
         basis::encrypt(&self.schedule, &self.forward, u8x16::from_array(block)).to_array()
     }
 
-    /// The block decrypted (FIPS 197, 5.3).
+    /// Returns the block decrypted (FIPS 197, 5.3).
     pub fn decrypt_block(&self, block: [u8; 16]) -> [u8; 16]
         ensures { result ≡ decrypted_block self.now block }
     {
         basis::decrypt(&self.schedule, &self.inverse, u8x16::from_array(block)).to_array()
     }
 
-    /// Eight blocks encrypted, each in the lanes of one vector, byte by byte.
+    /// Returns eight blocks encrypted, each in the lanes of one vector, byte by byte.
     pub fn encrypt_eight(&self, blocks: [u8x16; 8]) -> [u8x16; 8]
         ensures { (b : ℕ) → b < 8
             → slice_index_or result b [] ≡ encrypted_block self.now (slice_index_or blocks b []) }
@@ -124,7 +125,7 @@ impl Aes256 {
         encrypted
     }
 
-    /// Eight blocks decrypted, each in the lanes of one vector, byte by byte.
+    /// Returns eight blocks decrypted, each in the lanes of one vector, byte by byte.
     pub fn decrypt_eight(&self, blocks: [u8x16; 8]) -> [u8x16; 8]
         ensures { (b : ℕ) → b < 8
             → slice_index_or result b [] ≡ decrypted_block self.now (slice_index_or blocks b []) }
@@ -136,8 +137,8 @@ impl Aes256 {
         decrypted
     }
 
-    /// Writes the planes of the round keys, with which any number of eights is encrypted and decrypted. They
-    /// are as secret as the key: the caller wipes them after the last use.
+    /// Writes the planes of the round keys, with which any number of groups of eight blocks can be
+    /// encrypted and decrypted. They are as secret as the key: the caller wipes them after the last use.
     pub fn write_key_planes(&self, planes: &mut KeyPlanes)
         ensures { planes.new ≡ key_planes (round_keys self.now) }
     {
@@ -163,8 +164,8 @@ impl Aes256 {
     }
 }
 
-/// Does nothing. Its contract is the law that decryption and encryption undo one another, for
-/// every key and block, and that both make blocks of 16 bytes.
+/// Does nothing. Its contract is the law that decryption and encryption undo one another, for every key
+/// and block, and that both return blocks of 16 bytes.
 pub fn decryption_undoes_encryption()
     ensures decrypted { DecryptionUndoes }
     ensures encrypted { EncryptionUndoes }

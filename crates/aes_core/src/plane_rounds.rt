@@ -1,6 +1,6 @@
 //! The steps of a round on eight blocks at once, in eight planes of bits (after Käsper and Schwabe,
-//! "Faster and timing-attack resistant AES-GCM", 2009). Each says what it does to every block. Rows are not
-//! shifted here.
+//! "Faster and timing-attack resistant AES-GCM", 2009). The contract of each says how it changes every
+//! block. Rows are not shifted here.
 
 ghost use Rattle.std.specs.Prelude.{◌≡◌, ℕ, ◌+◌, ◌<◌, ◌%◌, List, bit_xor, length, map};
 ghost use Rattle.std.specs.Int.{bit_at};
@@ -20,7 +20,7 @@ use crate::unshifted_rows::{next_unshifted_row, rotate_rows, second_unshifted_ro
 use crate::vectors::xor;
 use std::simd::prelude::*;
 
-/// How many bytes the planes of the round keys have: 8 planes of 16 bytes for each of 13 keys.
+/// The number of bytes of the planes of the round keys: 8 planes of 16 bytes for each of 13 keys.
 pub const KEY_PLANE_BYTES: usize = 1664;
 
 /// The planes of the round keys, as `Aes256::write_key_planes` writes them.
@@ -81,7 +81,7 @@ fn second_plane_rows(state: Square, deferred: usize) -> Square
     ]
 }
 
-// The product of each byte by x: bit 7 comes back in bits 0, 1, 3 and 4.
+// The product of each byte by x: bit 7 is added to bits 0, 1, 3 and 4.
 #[inline(always)]
 fn planes_times_x(state: Square) -> Square
     ensures { (s : ℕ → List ℕ) → AllBlocks s → state ≡ planes s

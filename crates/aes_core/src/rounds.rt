@@ -1,5 +1,5 @@
-//! The steps of a round (FIPS 197, 5.1 and 5.3) on one state, whose 16 bytes stand in a vector column
-//! by column.
+//! The steps of a round (FIPS 197, 5.1 and 5.3) on one state, whose 16 bytes are in a vector column by
+//! column.
 
 ghost use Rattle.std.specs.Prelude.{◌≡◌, ◌≤◌, map};
 ghost use Rattle.aes_core.specs.Field.{times_x};

@@ -1,6 +1,6 @@
-//! Tables of 16 bytes by which the S-box and its inverse are found (after Hamburg, "Accelerating AES with
-//! vector permute instructions", 2009). A byte is written in a basis over the field of 16 elements, where
-//! its inverse is a few look-ups by halves of bytes.
+//! Tables of 16 bytes by which the S-box and its inverse are computed (after Hamburg, "Accelerating AES
+//! with vector permute instructions", 2009). A byte is written in a basis over the field of 16 elements;
+//! there its inverse is a few look-ups by halves of bytes.
 
 pub(crate) type Table = [u8; 16];
 
@@ -32,7 +32,7 @@ pub(crate) const SCALED_INVERSES: Table = [
     0x80, 0x07, 0x0b, 0x0f, 0x06, 0x0a, 0x04, 0x01, 0x09, 0x08, 0x05, 0x02, 0x0c, 0x0e, 0x0d, 0x03,
 ];
 
-// Back from the parts of an inverse, through the affine map but for its constant.
+// Back from the parts of an inverse, through the affine map without its constant.
 pub(crate) const BYTE_OF_FIRST: Table = [
     0x00, 0xc7, 0xbd, 0x6f, 0x17, 0x6d, 0xd2, 0xd0, 0x78, 0xa8, 0x02, 0xc5, 0x7a, 0xbf, 0xaa, 0x15,
 ];
@@ -43,7 +43,7 @@ pub(crate) const BYTE_OF_SECOND: Table = [
 
 pub(crate) const AFFINE_CONSTANT: u8 = 0x63;
 
-// The same in the basis, and its product by 02, as encryption mixes columns.
+// The same in the basis, and its product by 02, for the mixing of columns in encryption.
 pub(crate) const ONCE_OF_FIRST: Table = [
     0x00, 0x3e, 0x50, 0xcb, 0x8f, 0xe1, 0x9b, 0xb1, 0x44, 0xf5, 0x2a, 0x14, 0x6e, 0x7a, 0xdf, 0xa5,
 ];
@@ -69,8 +69,8 @@ pub(crate) const INVERSE_BYTE_OF_SECOND: Table = [
     0x00, 0x1d, 0x44, 0x93, 0x0f, 0x56, 0xd7, 0x12, 0x9c, 0x8e, 0xc5, 0xd8, 0x59, 0x81, 0x4b, 0xca,
 ];
 
-// The products of the same by 09, 0d, 0b and 0e, as decryption mixes columns, in the basis of the
-// inverse but for its constant.
+// The products of the same by 09, 0d, 0b and 0e, for the mixing of columns in decryption, in the basis of
+// the inverse without its constant.
 pub(crate) const BY_NINE_OF_FIRST: Table = [
     0x00, 0xd6, 0x86, 0x9a, 0x53, 0x03, 0x1c, 0x85, 0xc9, 0x4c, 0x99, 0x4f, 0x50, 0x1f, 0xd5, 0xca,
 ];

@@ -1,6 +1,7 @@
-//! The S-box on eight blocks in planes of bits, as the circuit of Boyar and Peralta ("A new
-//! combinational logic minimization technique with applications to cryptology", 2010), whose names the
-//! gates have. The constant of the S-box is added with the round keys, which saves its four complements.
+//! The S-box on eight blocks in planes of bits. The circuit and the names of its gates are those of Boyar
+//! and Peralta ("A new combinational logic minimization technique with applications to cryptology",
+//! 2010). The constant of the S-box is added with the round keys, which saves the circuit's four
+//! complements.
 
 ghost use Rattle.std.specs.Prelude.{◌≡◌, ℕ, List};
 ghost use Rattle.aes_core.specs.MiddleRounds.{state_map, substitute_without_constant};

@@ -1,5 +1,5 @@
-//! Eight blocks to eight planes of bits and back: in each lane a square of eight rows of eight bits
-//! changes rows and columns, in three stages of four exchanges.
+//! Eight blocks to eight planes of bits and back: each lane is a square of eight rows of eight bits,
+//! whose rows and columns are exchanged in three stages of four exchanges.
 
 ghost use Rattle.std.specs.Prelude.{◌≡◌, ℕ, ◌<◌, [], slice_index_or};
 ghost use Rattle.aes_core.specs.Laws.{IsBlock};

@@ -1,6 +1,6 @@
 //! States whose rows are not shifted yet. A round needs the bytes of a column together, and they can be
 //! found wherever the rows are: so the shifts of all rounds are left to the end. After four of them each
-//! row is in place again, so a number of deferred shifts counts modulo 4.
+//! row is in its place again, so the number of deferred shifts is taken modulo 4.
 
 ghost use Rattle.std.specs.Prelude.{◌≡◌, ◌<◌, map};
 ghost use Rattle.std.specs.Simd.Lanes.{Each1};
@@ -54,7 +54,7 @@ fn shuffle(state: u8x16, places: Table) -> u8x16
     state.swizzle_dyn(u8x16::from_array(places))
 }
 
-// In each column the byte of the next row, where `deferred` shifts and that of this round are left out.
+// In each column the byte of the next row, if `deferred` shifts and that of this round are left out.
 #[inline(always)]
 pub(crate) fn next_unshifted_row(state: u8x16, deferred: usize) -> u8x16
     requires { deferred < 4 }

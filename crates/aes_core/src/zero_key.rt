@@ -1,4 +1,4 @@
-//! The key of zeros, which a key that was wiped is.
+//! The key of zeros, which is the value of a wiped key.
 
 ghost use Rattle.std.specs.Prelude.{◌≡◌, replicate};
 ghost use Rattle.aes_core.specs.Basis.{forward_keys, inverse_keys};
@@ -7,7 +7,7 @@ ghost use Rattle.aes_core.specs.RoundKeys.{round_keys};
 use crate::basis::PreparedKeys;
 use crate::rounds::RoundKeys;
 
-// The round keys of 32 zeros (FIPS 197, 5.2), one a line.
+// The round keys of 32 zeros (FIPS 197, 5.2), one per line.
 #[rattlefmt::skip]
 const ROUND_KEYS_OF_ZEROS: RoundKeys = [
     0x00, 0x00, 0x00, 0x00, 0x00, 0x00, 0x00, 0x00, 0x00, 0x00, 0x00, 0x00, 0x00, 0x00, 0x00, 0x00,
@@ -27,7 +27,7 @@ const ROUND_KEYS_OF_ZEROS: RoundKeys = [
     0x10, 0xf8, 0x0a, 0x17, 0x53, 0xbf, 0x72, 0x9c, 0x45, 0xc9, 0x79, 0xe7, 0xcb, 0x70, 0x63, 0x85,
 ];
 
-// Those that the key schedule makes of 32 zeros, without the work.
+// The result of the key schedule for 32 zeros, without computing it.
 #[inline(always)]
 pub(crate) fn round_keys_of_zeros() -> RoundKeys
     ensures { result ≡ round_keys (replicate 32 0) }

@@ -1,4 +1,4 @@
--- The state goes back by a round.
+-- Each pass of the loop undoes a round.
 use Rattle.std.proofs.Common.{◌≡◌, ℕ, ◌+◌, ◌-◌, ◌%◌, List, map, refl, ap, ◌∙◌, arith, add-one}
 use Rattle.aes_core.specs.Laws.{IsBlock}
 use Rattle.aes_core.specs.Lanes.{round_key}

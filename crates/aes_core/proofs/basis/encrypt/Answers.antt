@@ -1,4 +1,4 @@
--- The state goes on by a round.
+-- Each pass of the loop is a round.
 use Rattle.std.proofs.Common.{◌≡◌, ℕ, ◌+◌, ◌%◌, List, map, refl, ap, ◌∙◌, arith, add-one}
 use Rattle.aes_core.specs.Aes.{state_after, encrypted_with}
 use Rattle.aes_core.specs.Laws.{IsBlock}

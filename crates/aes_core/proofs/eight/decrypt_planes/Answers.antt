@@ -1,4 +1,4 @@
--- The state of each block goes back by a round.
+-- Each pass of the loop undoes a round of each block.
 use Rattle.std.proofs.Common.{◌≡◌, ℕ, ◌+◌, ◌-◌, ◌%◌, ◌<◌, List, refl, ap, ◌∙◌, arith, add-one}
 use Rattle.std.specs.Prelude.{bit_xor}
 use Rattle.std.specs.Simd.Lanes.{zip2}

@@ -1,4 +1,4 @@
--- The state of each block goes on by a round.
+-- Each pass of the loop is a round of each block.
 use Rattle.std.proofs.Common.{◌≡◌, ℕ, ◌+◌, ◌-◌, ◌%◌, ◌<◌, List, refl, ap, ◌∙◌, arith, add-one}
 use Rattle.aes_core.specs.Lanes.{round_key}
 use Rattle.aes_core.specs.Steps.{substitute_bytes, shift_rows, mix_columns}

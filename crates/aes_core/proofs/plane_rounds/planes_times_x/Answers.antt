@@ -1,4 +1,5 @@
--- Each plane of the product comes from the plane below, with the highest where the polynomial has a term.
+-- Each plane of the product is the plane below it, xored with the highest plane if the polynomial has
+-- that term.
 use Rattle.std.proofs.Common.{[], ◌∷◌, get_or, ap, refl}
 use Rattle.byte_words.specs.Tables.{all_from}
 use Rattle.aes_core.specs.Field.{times_x}

@@ -1,4 +1,4 @@
--- The mask is taken where the highest bit is set.
+-- The mask is xored if the highest bit is set.
 use Rattle.aes_core.proofs.LaneLemmas.{times_x_lanes}
 use Rattle.aes_core.proofs.rounds.times_x.Goals as goal
 

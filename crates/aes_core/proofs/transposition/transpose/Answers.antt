@@ -1,4 +1,4 @@
--- Three stages of four exchanges; at the end each bit stands where rows and columns have changed.
+-- Three stages of four exchanges; at the end rows and columns are exchanged for each bit.
 use Rattle.std.proofs.Common.{◌≡◌, [], ◌∷◌, get_or, ap}
 use Rattle.aes_core.specs.Laws.{IsBlock}
 use Rattle.aes_core.specs.Planes.{AllBits, packed, vector_of, square_of, lower_bits, upper_bits}
