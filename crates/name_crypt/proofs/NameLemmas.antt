@@ -18,7 +18,7 @@ use Rattle.policy_ctx.specs.declared.policy.Pad.TheVariants.{P4, P8, P16, P32}
 use Rattle.name_crypt.specs.Plain.{IsPlain}
 use Rattle.name_crypt.specs.StoredName.{padded_length, before_nul, name_iv}
 
--- a stored name has room for its name, and 16 to 255 bytes
+-- a stored name is long enough for its name, and has 16 to 255 bytes
 pub record Fits (len size : ℕ) : Type 0 where
   pub room : len ≤ size
   pub least : 16 ≤ size
@@ -52,14 +52,14 @@ before_nul-zero_filled name size plain =
     ∙ get_or-replicate (size - length name) (length name - length name) 0 0 (omega (arith, more, whole)))) in
     ap (λ n. take n (name ++ zeros)) place ∙ take_at name zeros (length name) refl
 
--- what stands before the first NUL has none
+-- the bytes before the first NUL include none
 pub before_nul-none : (bytes : List ℕ) → ¬ Contains (before_nul bytes) 0
 before_nul-none bytes = λ held.
     let low : held.0 < position_or_len is_nul bytes = omega (arith, held.1, length-take (position_or_len is_nul bytes) bytes) in
     let same : get_or bytes held.0 0 ≡ 0 = sym (get_or-take (position_or_len is_nul bytes) bytes held.0 0 low) ∙ held.2 in
     true≢false (sym (eq-eqb (get_or bytes held.0 0) 0 same) ∙ fails_before_first is_nul bytes held.0 0 low)
 
--- what stands before the first NUL is no longer
+-- the bytes before the first NUL are no more than all bytes
 pub length-before_nul : (bytes : List ℕ) → length (before_nul bytes) ≤ length bytes
 length-before_nul bytes = omega (arith, length-take (position_or_len is_nul bytes) bytes)
 
@@ -75,7 +75,7 @@ take-filled name size room most =
     ∙ take-append-add name (replicate (255 - length name) 0) (size - length name)
     ∙ ap (λ l. name ++ l) (take-replicate {X = ℕ} (size - length name) (255 - length name) 0 (omega (arith, most)))
 
--- behind the filled name are zeros
+-- zeros follow the filled name
 pub drop-filled : (name : List ℕ) (size : ℕ) → length name ≤ size
     → drop size (name ++ drop (length name) (replicate 255 0)) ≡ replicate (255 - size) 0
 drop-filled name size room =
@@ -89,7 +89,7 @@ drop-filled name size room =
     ∙ ap (λ n. drop n zeros) (sym split)
     ∙ drop-replicate size 255 0
 
--- the first place, or the end where there is none
+-- the first place, or the end if there is none
 pub place_or_end : (place len : ℕ) (found : Option ℕ) → found ≡ cond (nat_lt place len) (Some place) None → place ≤ len → unwrap_or found len ≡ place
 place_or_end place len found is low = elim (cases_lt place len) [
   | inl before ↦ ap (λ o. unwrap_or o len) (is ∙ ap (λ b. cond b (Some place) None) (lt-ltb place len before))

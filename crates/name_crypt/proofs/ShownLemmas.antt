@@ -1,4 +1,4 @@
--- What a no-key text shows is told from what it decodes to.
+-- What a no-key text shows follows from what it decodes to.
 use Rattle.std.proofs.Common.{◌≡◌, ◌≢◌, ◌↔◌, sym, ◌∙◌, ap, arith, refl, ℕ, zero, suc, List, ◌++◌, length, take, drop, replicate, ◌≤◌, ◌<◌, Some, None, Bool, IsTrue, false, inl, inr}
 use Rattle.std.specs.declared.result.Result.TheVariants.{Ok, Err}
 use Rattle.std.specs.Bool.{Decides}
@@ -16,7 +16,7 @@ use Rattle.name_crypt.specs.NoKeyText.{nokey_text_of, shown_bytes, IsShownBy}
 use Rattle.name_crypt.proofs.Symbols.{refused}
 use Rattle.name_crypt.proofs.TextLemmas.{shown_whole, shown_cut, length-shown_bytes, length-nokey_text_of}
 
--- ---- what is shown is bytes, at most 181
+-- ---- a text shows bytes, at most 181
 
 AreBytes-digest_bytes : (h : List ℕ) (n : ℕ) → AreBytes (digest_bytes h n)
 unfolding digest_bytes

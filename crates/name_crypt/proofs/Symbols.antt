@@ -22,7 +22,7 @@ symbols_of-append xs ys groups =
     ∙ encode_symbols-append url_safe_no_pad.encode_table xs ys groups
     ∙ (λ i. sym (append-nil (encode_symbols url_safe_no_pad.encode_table xs)) i ++ sym (append-nil (encode_symbols url_safe_no_pad.encode_table ys)) i)
 
--- the symbols of the first g groups, and of the bytes behind them
+-- the symbols of the first g groups, and of the bytes after them
 pub symbols_split : (bytes : List ℕ) (g : ℕ) → 3 * g ≤ length bytes
     → symbols_of bytes ≡ symbols_of (take (3 * g) bytes) ++ symbols_of (drop (3 * g) bytes)
 symbols_split bytes g fits =
@@ -66,7 +66,7 @@ next_block whole_text whole text bytes later_text later more same front et eb = 
   λ is. same.1 (symbols_join text bytes 8 (omega arith) front (sym et ∙ is ∙ ap symbols_of eb)),
 )
 
--- the answer `false` is right where the fact leads to nothing
+-- the result `false` is right if the fact is false
 pub refused : (P : Type 0) → (P → ⊥) → (IsTrue false → P) × (P → IsTrue false)
 refused P differs = (λ e. absurd (true≢false (sym e)), λ p. absurd (differs p))
 

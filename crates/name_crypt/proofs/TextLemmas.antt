@@ -12,13 +12,13 @@ use Rattle.byte_words.proofs.AreBytesLemmas.{AreBytes-append, AreBytes-zeros}
 use Rattle.name_crypt.specs.NoKeyText.{nokey_text_of, shown_bytes}
 use Rattle.name_crypt.proofs.Symbols.{symbols_of, length-symbols_of}
 
--- bytes are told apart by their symbols
+-- different bytes have different symbols
 same_symbols : (xs ys : List ℕ) → AreBytes xs → AreBytes ys → symbols_of xs ≡ symbols_of ys → xs ≡ ys
 same_symbols xs ys left right same =
     let both = sym (decode_of-encode_of url_safe_no_pad xs refl left) ∙ ap (decode_of url_safe_no_pad) same ∙ decode_of-encode_of url_safe_no_pad ys refl right in
     cc both
 
--- what is spelled whole stands in its text, and what is not is 181 bytes
+-- a stored name of at most 149 bytes is shown whole; of a longer one 181 bytes are shown
 pub shown_whole : (stored : List ℕ) → length stored ≤ 149 → shown_bytes stored ≡ stored
 shown_whole stored few = rw (le-leb (length stored) 149 few) refl
 

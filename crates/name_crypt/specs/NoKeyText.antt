@@ -1,4 +1,4 @@
--- The text by which a stored name is shown and found where its key is absent (Linux, `struct
+-- The text by which a stored name is shown and found if its key is absent (Linux, `struct
 -- fscrypt_nokey_name`).
 use Rattle.std.specs.Prelude.{◌≡◌, ◌↔◌, ℕ, Option, Some, List, ◌++◌, length, take, drop, replicate}
 use Rattle.std.specs.Prelude.{nat_le, if◌then◌else◌}
@@ -8,17 +8,17 @@ use Rattle.base64.specs.Engines.{url_safe_no_pad}
 use Rattle.byte_words.specs.Bytes.{AreBytes}
 use Rattle.name_crypt.specs.declared.limits.TheConstants.{MOST_SPELLED_BYTES}
 
--- the stored name, up to 149 bytes whole, else its first 149 bytes and the SHA-256 of the others
+-- the stored name whole up to 149 bytes, and otherwise its first 149 bytes and the SHA-256 of the others
 abbrev pub shown_bytes : List ℕ → List ℕ
 shown_bytes stored =
     if nat_le (length stored) MOST_SPELLED_BYTES then stored
     else take MOST_SPELLED_BYTES stored ++ sha256 (drop MOST_SPELLED_BYTES stored)
 
--- base64url without padding, of two little-endian words of 32 bits that are 0, and these bytes
+-- base64url without padding, of two little-endian words of 32 bits that are 0, followed by these bytes
 abbrev pub nokey_text_of : List ℕ → List ℕ
 nokey_text_of stored = encode_of url_safe_no_pad (replicate 8 0 ++ shown_bytes stored)
 
--- of all stored names, those that show this have the text
+-- the stored names with this text are exactly those with these shown bytes
 abbrev pub IsShownBy : List ℕ → Option (List ℕ) → Type 0
 IsShownBy text shown = (stored : List ℕ) → AreBytes stored
     → (text ≡ nokey_text_of stored) ↔ (shown ≡ Some (shown_bytes stored))

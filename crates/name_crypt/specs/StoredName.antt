@@ -14,11 +14,12 @@ abbrev pub padded_length : Pad → ℕ → ℕ
 padded_length pad len =
     min MOST_NAME_BYTES (div_ceil (max LEAST_STORED_BYTES len) (pad_size pad) * pad_size pad)
 
--- the name, filled with NULs to that length and enciphered by ciphertext stealing
+-- the name, filled with NULs to that length and encrypted with ciphertext stealing
 unfoldable pub stored_name_with : List ℕ → List ℕ → Pad → List ℕ → List ℕ
 stored_name_with key iv pad name = cts_encrypted key iv (zero_filled (padded_length pad (length name)) name)
 
--- the iv of a node's names: the start that the node counts from in 8 bytes, the low byte first, and zeros
+-- the iv of a node's names: the number from which the node counts in 8 bytes, the low byte first, and
+-- zeros
 abbrev pub name_iv : ℕ → List ℕ
 name_iv start = little_endian_bytes 8 start ++ replicate 8 0
 
@@ -26,11 +27,11 @@ name_iv start = little_endian_bytes 8 start ++ replicate 8 0
 abbrev pub stored_name : List ℕ → ℕ → Pad → List ℕ → List ℕ
 stored_name key start pad name = stored_name_with key (name_iv start) pad name
 
--- the bytes before the first NUL, all of them where there is none
+-- the bytes before the first NUL, or all of them if there is none
 abbrev pub before_nul : List ℕ → List ℕ
 before_nul bytes = before_first (λ b. b == 0) bytes
 
--- the name of a stored name, also of one that no encryption made; empty where there is none
+-- the name of a stored name, also of one that no encryption made; empty if it begins with NUL
 unfoldable pub plain_name_with : List ℕ → List ℕ → List ℕ → List ℕ
 plain_name_with key iv stored = before_nul (cts_decrypted key iv stored)
 

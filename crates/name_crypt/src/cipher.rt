@@ -1,4 +1,4 @@
-//! What the names of one node are enciphered with: made once, for as many names as there are.
+//! The cipher for the names of one node: made once, for any number of names.
 
 ghost use Rattle.std.specs.Prelude.{◌≡◌, ◌+◌, ◌≤◌, ◌↔◌, [], IsErr, IfOk, length, replicate, take};
 ghost use Rattle.aes_core.specs.Laws.{IsBlock};
@@ -14,8 +14,8 @@ use aes_core::Aes256;
 use policy_ctx::Pad;
 use std::sync::ledger::Ledger;
 
-/// The iv of the names of a node: the start that the node counts from in 8 bytes, the low byte first,
-/// and zeros.
+/// Returns the iv of the names of a node: the number from which the node counts in 8 bytes, the low byte
+/// first, and zeros.
 pub fn name_iv(start: u64) -> [u8; 16]
     ensures value { result ≡ spec.name_iv start }
     ensures block { IsBlock result }
@@ -25,18 +25,19 @@ pub fn name_iv(start: u64) -> [u8; 16]
     iv
 }
 
-/// The round keys of a names key, made once, and the start of the node whose names they are for: a
-/// whole directory is listed with one of these.
+/// The round keys of a names key, computed once, and the start of the node for whose names they are. One
+/// of these is enough to list a whole directory.
 #[derive(Drop)]
 pub struct NameCipher {
     /// The names key.
     pub key: Aes256,
-    /// What the node counts from: 0 under a key of its own, else its number times 2^32.
+    /// The number from which the node counts: 0 under a key of its own, and otherwise the node's number
+    /// times 2^32.
     pub start: u64,
 }
 
 impl NameCipher {
-    /// The cipher of a names key of 32 bytes and a start.
+    /// Returns the cipher of a names key of 32 bytes and a start.
     pub fn new(key: &[u8; 32], start: u64) -> NameCipher
         ensures key { result.key ≡ key.now }
         ensures start { result.start ≡ start }
@@ -47,7 +48,7 @@ impl NameCipher {
         }
     }
 
-    /// Overwrites the key and its round keys where they stand. It is then the cipher of 32 zeros.
+    /// Wipes the key and its round keys in place. It is then the cipher of 32 zeros; the start stays.
     pub fn wipe(&mut self)
         ensures key { self.new.key ≡ replicate 32 0 }
         ensures start { self.new.start ≡ self.old.start }
@@ -55,7 +56,7 @@ impl NameCipher {
         self.key.wipe();
     }
 
-    /// The stored name of a name or target. `steps` counts one more.
+    /// Returns the stored name of a name or target. `steps` counts one more.
     pub fn encrypt<L: Ledger>(&self, pad: Pad, name: &Plain, steps: &mut Steps<L>) -> StoredName
         ensures value { result ≡ stored_name self.now.key self.now.start pad name.now }
         ensures tick { steps.new ≡ steps.old + 1 }
@@ -63,8 +64,8 @@ impl NameCipher {
         encrypt_name_with(&self.key, name_iv(self.start), pad, name, steps)
     }
 
-    /// The name or target of a stored one: the deciphered bytes before the first NUL. There is none
-    /// exactly where the first of them is NUL.
+    /// Returns the name or target of a stored one: the decrypted bytes before the first NUL. Returns
+    /// `NotPlain` exactly when the first of them is NUL.
     pub fn decrypt(&self, stored: &StoredName) -> Result<Plain, NotPlain>
         ensures value { IfOk result (λ name. name ≡ plain_name self.now.key self.now.start stored.now) }
         ensures not_plain { IsErr result ↔ (plain_name self.now.key self.now.start stored.now ≡ []) }

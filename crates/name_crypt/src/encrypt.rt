@@ -17,12 +17,12 @@ use short_bytes::Filled;
 use std::sync::ledger::Ledger;
 use thiserror::Error;
 
-/// What a stored name is deciphered to begins with NUL, so it was not made under this key.
+/// The decrypted name begins with NUL, so the stored name was not made under this key.
 #[derive(Clone, Copy, Debug, PartialEq, Eq, Error)]
 #[error("the deciphered name is empty")]
 pub struct NotPlain;
 
-/// The stored name of a name or target, under a names key of 32 bytes. `steps` counts one more.
+/// Returns the stored name of a name or target, under a names key of 32 bytes. `steps` counts one more.
 pub fn encrypt_name<L: Ledger>(
     key: &[u8; 32],
     iv: [u8; 16],
@@ -36,7 +36,7 @@ pub fn encrypt_name<L: Ledger>(
     encrypt_name_with(&Aes256::new(key), iv, pad, name, steps)
 }
 
-/// The same with the round keys made before, for several names under one key.
+/// The same with round keys that were computed before, for several names under one key.
 pub fn encrypt_name_with<L: Ledger>(
     key: &Aes256,
     iv: [u8; 16],
@@ -52,9 +52,9 @@ pub fn encrypt_name_with<L: Ledger>(
     StoredName::of(&text[..len])
 }
 
-/// Writes the stored name of a plain name or target over the beginning of `text`, which is zeros and stays so
-/// behind it, and tells its length: 16 to 255 bytes. The round keys are those of a names key. `steps` counts
-/// one more.
+/// Writes the stored name of a plain name or target to the beginning of `text`, and returns its length:
+/// 16 to 255 bytes. `text` must be zeros, and stays so after the stored name. The round keys are those of
+/// a names key. `steps` counts one more.
 pub fn encrypt_into<L: Ledger>(
     key: &Aes256,
     iv: [u8; 16],
@@ -79,8 +79,8 @@ pub fn encrypt_into<L: Ledger>(
     len
 }
 
-/// The name or target of a stored one, under a names key of 32 bytes: the deciphered bytes before
-/// the first NUL. There is none exactly where the first of them is NUL.
+/// Returns the name or target of a stored one, under a names key of 32 bytes: the decrypted bytes before
+/// the first NUL. Returns `NotPlain` exactly when the first of them is NUL.
 pub fn decrypt_name(key: &[u8; 32], iv: [u8; 16], stored: &StoredName) -> Result<Plain, NotPlain>
     ensures value { IfOk result (λ name. name ≡ plain_name_with key.now iv stored.now) }
     ensures not_plain { IsErr result ↔ (plain_name_with key.now iv stored.now ≡ []) }
@@ -88,7 +88,7 @@ pub fn decrypt_name(key: &[u8; 32], iv: [u8; 16], stored: &StoredName) -> Result
     decrypt_name_with(&Aes256::new(key), iv, stored)
 }
 
-/// The same with the round keys made before, for several names under one key.
+/// The same with round keys that were computed before, for several names under one key.
 pub fn decrypt_name_with(key: &Aes256, iv: [u8; 16], stored: &StoredName) -> Result<Plain, NotPlain>
     ensures value { IfOk result (λ name. name ≡ plain_name_with key.now iv stored.now) }
     ensures not_plain { IsErr result ↔ (plain_name_with key.now iv stored.now ≡ []) }
@@ -112,7 +112,7 @@ pub(crate) fn decrypt_in_place(key: &Aes256, iv: [u8; 16], text: &mut [u8]) -> u
     name_end(text)
 }
 
-// What a stored name is deciphered to, with the NULs behind the name.
+// The decrypted bytes of a stored name, with the NULs after the name.
 fn deciphered(key: &Aes256, iv: [u8; 16], stored: &StoredName) -> Filled<MOST_NAME_BYTES>
     ensures { result ≡ cts_decrypted key.now iv stored.now }
 {
@@ -132,7 +132,7 @@ fn padded_length(pad: Pad, len: usize) -> usize
     (len.max(LEAST_STORED_BYTES).div_ceil(size) * size).min(MOST_NAME_BYTES)
 }
 
-// Writes the bytes over the beginning of the text.
+// Writes the bytes to the beginning of the text.
 fn fill(text: &mut [u8; MOST_NAME_BYTES], bytes: &[u8])
     requires { length bytes.now ≤ MOST_NAME_BYTES }
     ensures { text.new ≡ bytes.now ++ drop (length bytes.now) text.old }

@@ -1,17 +1,18 @@
 //! How long names and their texts are.
 
-/// The most bytes of a name or a target, plain or stored.
+/// The maximal number of bytes of a name or a target, plain or stored.
 pub const MOST_NAME_BYTES: usize = 255;
 
-/// The fewest bytes of a stored name: a block of AES.
+/// The minimal number of bytes of a stored name: a block of AES.
 pub const LEAST_STORED_BYTES: usize = 16;
 
-/// The most bytes of a stored name that its no-key text spells. Of a longer name it has the hash of
-/// the others.
+/// The maximal number of bytes of a stored name that its no-key text spells. For a longer name the text
+/// has the hash of the others.
 pub const MOST_SPELLED_BYTES: usize = 149;
 
-/// The most bytes of a stored name that its no-key text shows: those that it spells, and a hash.
+/// The maximal number of bytes that a no-key text shows of a stored name: those that it spells, and a
+/// hash.
 pub const MOST_SHOWN_BYTES: usize = MOST_SPELLED_BYTES + 32;
 
-/// The most characters of a no-key text.
+/// The maximal number of characters of a no-key text.
 pub const MOST_TEXT_CHARACTERS: usize = 252;

@@ -1,4 +1,4 @@
-//! The text by which a stored name is shown and found where its key is absent.
+//! The text by which a stored name is shown and found if its key is absent.
 
 ghost use Rattle.std.specs.Prelude.{◌≡◌, ◌<◌, ◌≤◌, ◌↔◌, ◌++◌, ℕ, List, length, take, drop, replicate, IsTrue};
 ghost use Rattle.base64.specs.Engines.{url_safe_no_pad};
@@ -31,7 +31,7 @@ impl Model for NoKeyText {
 }
 
 impl NoKeyText {
-    /// The characters, each of one byte.
+    /// Returns the characters, each of one byte.
     pub fn bytes(&self) -> &[u8]
         ensures value { result.now ≡ self.now }
         ensures bound { length result.now ≤ MOST_TEXT_CHARACTERS }
@@ -40,8 +40,9 @@ impl NoKeyText {
     }
 }
 
-/// The text by which the stored name is shown: base64url of eight zeros and the name, where it has
-/// at most 149 bytes, else of eight zeros, its first 149 bytes and the SHA-256 of the others.
+/// Returns the text by which the stored name is shown: base64url of eight zeros and the name, if it has
+/// at most 149 bytes. For a longer name it is base64url of eight zeros, its first 149 bytes and the
+/// SHA-256 of the others.
 pub fn nokey_text(stored: &StoredName) -> NoKeyText
     ensures { result ≡ nokey_text_of stored.now }
 {
@@ -55,7 +56,7 @@ pub fn nokey_text(stored: &StoredName) -> NoKeyText
     }
 }
 
-// What the text encodes.
+// The bytes that the text encodes.
 fn encoded_bytes(stored: &[u8]) -> Filled<189>
     requires { length stored.now ≤ MOST_NAME_BYTES }
     ensures { result ≡ replicate 8 0 ++ shown_bytes stored.now }
@@ -71,8 +72,9 @@ fn encoded_bytes(stored: &[u8]) -> Filled<189>
     bytes
 }
 
-/// Whether the text is the no-key text of the stored name. The text isn't built: symbols are made
-/// 32 at a time and compared until one differs, and the hash is made only where all before it agree.
+/// Returns whether the text is the no-key text of the stored name. The text isn't built. Symbols are made
+/// 32 at a time and compared until one differs, and the hash is computed only if all symbols before it
+/// agree.
 pub fn nokey_matches(text: &[u8], stored: &StoredName) -> bool
     ensures { IsTrue result ↔ (text.now ≡ nokey_text_of stored.now) }
 {
@@ -83,8 +85,8 @@ pub fn nokey_matches(text: &[u8], stored: &StoredName) -> bool
     is_hashed_text(text, bytes)
 }
 
-// The same for a stored name of more than 149 bytes. 8 zeros and the first 148 bytes are 52 groups
-// of three, so their 208 symbols can be compared before there is a hash.
+// The same for a stored name of more than 149 bytes. 8 zeros and the first 148 bytes are 52 groups of
+// three, so their 208 symbols can be compared before the hash is computed.
 fn is_hashed_text(text: &[u8], stored: &[u8]) -> bool
     requires { MOST_SPELLED_BYTES < length stored.now }
     ensures { IsTrue result ↔ (text.now ≡ encode_of url_safe_no_pad (replicate 8 0

@@ -29,7 +29,7 @@ impl Model for Plain {
 /// Why bytes are no plain name.
 #[derive(Clone, Copy, Debug, PartialEq, Eq, Error)]
 pub enum PlainFault {
-    /// There are none, or more than 255.
+    /// There are no bytes, or more than 255.
     #[error("a name has 1 to 255 bytes")]
     Length,
     /// One of them is NUL.
@@ -37,7 +37,7 @@ pub enum PlainFault {
     Nul,
 }
 
-/// Whether the bytes are a plain name or target: 1 to 255, none of them NUL.
+/// Returns whether the bytes are a plain name or target: 1 to 255, none of them NUL.
 pub fn is_plain(bytes: &[u8]) -> bool
     ensures { IsTrue result ↔ IsPlain bytes.now }
 {
@@ -45,7 +45,8 @@ pub fn is_plain(bytes: &[u8]) -> bool
 }
 
 impl Plain {
-    /// The name of these bytes.
+    /// Returns the name of these bytes. Returns `Length` if there are none or more than 255, and
+    /// otherwise `Nul` if one of them is NUL.
     pub fn read(bytes: &[u8]) -> Result<Plain, PlainFault>
         ensures value { IfOk result (λ name. name ≡ bytes.now) }
         ensures plain { IsOk result ↔ IsPlain bytes.now }
@@ -65,7 +66,7 @@ impl Plain {
         })
     }
 
-    /// The bytes of the name.
+    /// Returns the bytes of the name.
     pub fn bytes(&self) -> &[u8]
         ensures value { result.now ≡ self.now }
         ensures plain { IsPlain result.now }

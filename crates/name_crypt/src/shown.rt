@@ -1,4 +1,4 @@
-//! What a no-key text says of the stored name that it stands for.
+//! What a no-key text shows of its stored name.
 
 ghost use Rattle.std.specs.Prelude.{◌≡◌, ◌↔◌, IsTrue};
 ghost use Rattle.name_crypt.specs.NoKeyText.{shown_bytes, IsShownBy};
@@ -8,11 +8,12 @@ use base64::engine::general_purpose::URL_SAFE_NO_PAD;
 use sha2::{Digest, Sha256};
 use short_bytes::Filled;
 
-/// The most bytes that a no-key text encodes: eight zeros, and what it shows.
+/// The maximal number of bytes that a no-key text encodes: eight zeros, and what it shows.
 const MOST_ENCODED_BYTES: usize = 8 + MOST_SHOWN_BYTES;
 
-/// What the text shows of a stored name: the name whole, where it has at most 149 bytes, else its
-/// first 149 bytes and the SHA-256 of the others. `None` only where no stored name has the text.
+/// Returns what the text shows of a stored name: the name whole, if it has at most 149 bytes, and
+/// otherwise its first 149 bytes and the SHA-256 of the others. Returns `None` only if no stored name has
+/// the text.
 pub fn shown_by(text: &[u8]) -> Option<Filled<MOST_SHOWN_BYTES>>
     ensures { IsShownBy text.now result }
 {
@@ -29,7 +30,7 @@ pub fn shown_by(text: &[u8]) -> Option<Filled<MOST_SHOWN_BYTES>>
     }
 }
 
-/// Whether this is what the text of the stored name shows. The hash is made only where the bytes
+/// Returns whether this is what the text of the stored name shows. The hash is computed only if the bytes
 /// before it agree.
 pub fn is_shown_as(stored: &[u8], shown: &[u8]) -> bool
     ensures { IsTrue result ↔ (shown.now ≡ shown_bytes stored.now) }

@@ -1,11 +1,12 @@
-//! The count of name encryptions, which takes no memory and no time.
+//! The count of name encryptions, which uses neither memory nor time.
 
 ghost use Rattle.std.specs.Prelude.{◌≡◌, ◌+◌, ◌<◌, ℕ};
 
 use std::marker::Model;
 use std::sync::ledger::{Blank, Book, Ledger, Share};
 
-/// How many names were encrypted so far. It has no bytes; `tick` alone changes it, and has no code.
+/// The number of names that were encrypted so far. It has no bytes; only `tick` changes it, and has no
+/// code.
 #[derive(Drop)]
 pub struct Steps<L: Ledger> {
     book: Book<L>,
@@ -21,7 +22,7 @@ impl<L: Ledger> Model for Steps<L> {
 }
 
 impl<L: Ledger> Steps<L> {
-    /// The count 0, on a ledger that nothing counts on yet.
+    /// Returns the count 0, on a ledger on which nothing is counted yet.
     pub fn new(blank: Blank) -> Self
         requires name { blank.name ≡ L.name }
         requires parts { blank.parts ≡ L.parts }

@@ -1,4 +1,4 @@
-//! Names as they are stored: enciphered, or plain in a directory without policy.
+//! Names and targets as they are stored in a directory under a policy: encrypted.
 
 ghost use Rattle.std.specs.Prelude.{◌≡◌, ◌<◌, ◌↔◌, ◌⊎◌, ℕ, List, length, IsErr, IfOk};
 ghost use Rattle.byte_words.specs.Bytes.{AreBytes};
@@ -9,7 +9,7 @@ use short_bytes::Filled;
 use std::marker::Model;
 use thiserror::Error;
 
-/// An enciphered name or target: 16 to 255 bytes.
+/// An encrypted name or target: 16 to 255 bytes.
 #[derive(Clone, Copy, Debug, PartialEq, Eq, Hash)]
 pub struct StoredName {
     bytes: Filled<MOST_NAME_BYTES>,
@@ -25,13 +25,14 @@ impl Model for StoredName {
     ghost inverse = { λ bytes. record { bytes = bytes } };
 }
 
-/// Bytes are no stored name: there are fewer than 16, or more than 255.
+/// The bytes are not a stored name: there are fewer than 16, or more than 255.
 #[derive(Clone, Copy, Debug, PartialEq, Eq, Error)]
 #[error("a stored name has 16 to 255 bytes")]
 pub struct StoredLength;
 
 impl StoredName {
-    /// The stored name of these bytes.
+    /// Returns the stored name of these bytes, or `StoredLength` if there are fewer than 16 or more than
+    /// 255.
     pub fn read(bytes: &[u8]) -> Result<StoredName, StoredLength>
         ensures value { IfOk result (λ name. name ≡ bytes.now) }
         ensures length { IsErr result ↔ ((length bytes.now < LEAST_STORED_BYTES)
@@ -43,7 +44,7 @@ impl StoredName {
         Ok(StoredName::of(bytes))
     }
 
-    // The stored name of bytes that are known to be one's.
+    // The stored name of bytes that are known to be a stored name's.
     pub(crate) fn of(bytes: &[u8]) -> StoredName
         requires { IsStored bytes.now }
         ensures { result ≡ bytes.now }
@@ -53,7 +54,7 @@ impl StoredName {
         }
     }
 
-    /// The bytes of the stored name.
+    /// Returns the bytes of the stored name.
     pub fn bytes(&self) -> &[u8]
         ensures value { result.now ≡ self.now }
         ensures stored { IsStored result.now }

@@ -1,4 +1,4 @@
--- What is shown of a long name is its beginning and a hash.
+-- The text of a long name shows its beginning and a hash.
 use Rattle.std.proofs.Common.{◌≡◌, ◌≢◌, ◌++◌, ℕ, List, subst, ◌∙◌}
 use Rattle.std.specs.Bool.{Decides}
 use Rattle.sha2.specs.Sha256.{sha256}

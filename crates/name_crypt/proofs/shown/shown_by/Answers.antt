@@ -1,4 +1,4 @@
--- What the text decodes to is told by its encoding, as is that it doesn't.
+-- The encoding determines what the text decodes to, and whether it does.
 use Rattle.std.proofs.Common.{◌≡◌, ◌≢◌, ◌++◌, ℕ, List, take, replicate, Some, subst, arith, sym}
 use Rattle.std.proofs.lemmas.Bool.Decides.{Decides-eqb}
 use Rattle.std.proofs.lemmas.Slice.Eq.{strip_prefix_is}
