@@ -1,4 +1,4 @@
--- What a drawn number asks for.
+-- The command that a number chooses.
 use Rattle.std.specs.Prelude.{ℕ, ◌*◌, ◌/◌, ◌%◌, ◌==◌, None, if◌then◌else◌}
 use Rattle.load_gen.specs.Words.{key, raw_key, directory, file, moved_file}
 use Rattle.script_lang.specs.declared.verb.Verb.{Verb}
@@ -18,7 +18,7 @@ operation_of c k kind =
     else if kind == 8 then verb.Rename (file c k) (moved_file c k)
     else verb.Unlink (moved_file c k)
 
--- the command that a drawn number r gives caller c: the last digit tells the kind, and what stands before
--- it the file
+-- the command that the value r chooses for caller c: the last digit is the kind, and the digits before it
+-- decide the file
 abbrev pub operation : ℕ → ℕ → Verb
 operation c r = operation_of c (r / 10 % 8) (r % 10)

@@ -1,11 +1,11 @@
--- What stands in the generated commands of a caller.
+-- The arguments of a caller's generated commands.
 use Rattle.std.specs.Prelude.{ℕ, ◌+◌, ◌%◌, ◌==◌, List, [], ◌∷◌, ◌++◌, replicate, codes, if◌then◌else◌}
 use Rattle.script_words.specs.declared.path.ScriptPart.{ScriptPart}
 use Rattle.script_words.specs.declared.path.ScriptPart.TheVariants.{Given}
 use Rattle.script_words.specs.declared.key_words.KeyRef.{KeyRef}
 use Rattle.script_words.specs.declared.key_words.KeyRef.TheVariants.{Raw}
 
--- the byte of a caller's key: in digits, `11` where the caller's number is even, and `22` where it is odd
+-- the byte of a caller's key: in digits, `11` if the caller's number is even, and `22` if it is odd
 abbrev pub key_byte : ℕ → ℕ
 key_byte c = if c % 2 == 0 then 17 else 34
 
@@ -28,6 +28,6 @@ directory c = name (codes "d") c ∷ []
 abbrev pub file : ℕ → ℕ → List ScriptPart
 file c k = name (codes "d") c ∷ name (codes "f") k ∷ []
 
--- the name `/dC/gK` that the file is moved to
+-- the name `/dC/gK` to which the file is moved
 abbrev pub moved_file : ℕ → ℕ → List ScriptPart
 moved_file c k = name (codes "d") c ∷ name (codes "g") k ∷ []

@@ -12,18 +12,18 @@ use policy_ctx::Pad;
 use script_lang::{Command, CommandList, Section, Settings, Verb};
 use std::alloc::{AllocError, Global};
 
-// The commands of a caller that are drawn.
+// The number of a caller's pseudorandom commands.
 const DRAWN: u32 = 200;
 
-// The lines of a caller: its own, five that stand first, those that are drawn, and two that stand last.
+// The number of a caller's lines: its own, five first ones, the pseudorandom ones, and two last ones.
 const LINES: u32 = 1 + 5 + DRAWN + 2;
 
-// The user of the first caller. Four users take turns.
+// The user of the first caller. The callers have four users in turn.
 const FIRST_USER: u32 = 1000;
 
 const USERS: u8 = 4;
 
-// The caller of this number, with the commands that the numbers give it.
+// The caller of this number, with the commands that the numbers choose.
 pub(crate) fn section(
     alloc: Global,
     caller: u8,
@@ -41,7 +41,7 @@ pub(crate) fn section(
     })
 }
 
-// What the caller asks for.
+// The commands of the caller.
 fn verbs(alloc: Global, caller: u8, numbers: &mut Numbers) -> Result<Vec<Verb>, AllocError>
     requires { caller < 8 }
     ensures value { IfOk result (λ verbs. verbs.items ≡ spec.verbs caller numbers.old.last) }
@@ -57,7 +57,7 @@ fn verbs(alloc: Global, caller: u8, numbers: &mut Numbers) -> Result<Vec<Verb>, 
     Ok(verbs)
 }
 
-// What it asks for before the commands that are drawn: an encrypted directory with an open file.
+// The commands before the pseudorandom ones, for an encrypted directory with an open file.
 fn first_verbs(alloc: Global, caller: u8) -> Result<Vec<Verb>, AllocError>
     requires { caller < 8 }
     ensures { IfOk result (λ verbs. verbs.items ≡ spec.first_verbs caller) }
@@ -78,7 +78,7 @@ fn first_verbs(alloc: Global, caller: u8) -> Result<Vec<Verb>, AllocError>
     Ok(verbs)
 }
 
-// Commands in lines one behind the other, of which the first has this number.
+// Commands in consecutive lines, of which the first has this number.
 fn in_lines(alloc: Global, first: u32, verbs: Vec<Verb>) -> Result<CommandList, AllocError>
     requires { first + length verbs.items < 2 ^ 32 }
     ensures { IfOk result (λ commands. commands ≡ spec.in_lines first verbs.items) }

@@ -1,4 +1,4 @@
-//! Generated scripts: a workload of eight callers for each number, the same at every time.
+//! Generated scripts: a workload of eight callers for each number, always the same.
 #![tactic(auto)]
 
 mod callers;

@@ -1,4 +1,4 @@
-//! The numbers that a script's commands are drawn from.
+//! The pseudorandom numbers by which a script's commands are chosen.
 
 ghost use Rattle.std.specs.Prelude.{◌≡◌};
 ghost use Rattle.load_gen.specs.Numbers.{drawn, next};
@@ -8,14 +8,14 @@ const MULTIPLIER: u64 = 6364136223846793005;
 
 const INCREMENT: u64 = 1442695040888963407;
 
-// A number, and those behind it.
+// A sequence of pseudorandom numbers.
 #[derive(Drop)]
 pub(crate) struct Numbers {
     last: u64,
 }
 
 impl Numbers {
-    // The numbers behind this one.
+    // Returns the numbers after this one.
     pub(crate) fn behind(number: u32) -> Numbers
         ensures { result.last ≡ number }
     {
@@ -24,7 +24,7 @@ impl Numbers {
         }
     }
 
-    // Goes on to the next number, and draws its upper 31 bits.
+    // Advances to the next number, and returns its upper 31 bits.
     pub(crate) fn draw(&mut self) -> u64
         ensures gone_on { self.new.last ≡ next self.old.last }
         ensures value { result ≡ drawn self.new.last }

@@ -1,4 +1,4 @@
-//! What a drawn number asks for.
+//! The command that a number chooses.
 
 ghost use Rattle.std.specs.Prelude.{◌≡◌, ◌<◌, IfOk};
 ghost use Rattle.load_gen.specs.Operations as spec;
@@ -7,14 +7,14 @@ use crate::words::{added_key, directory, file, moved_file, raw_key};
 use script_lang::Verb;
 use std::alloc::{AllocError, Global};
 
-// How much of a file is written or read at a time.
+// The number of bytes of a file that are written or read at a time.
 const PART_BYTES: u32 = 4096;
 
-// How far the places are apart where files are written and read.
+// The distance of the offsets at which files are written and read, in bytes.
 const PART_STEP: u32 = 1000;
 
-// The command that a drawn number gives a caller: its last digit tells which, and the digits before it
-// tell which file and where.
+// The command that a value chooses for a caller: its last digit is the kind, and the digits before it
+// decide the file and the offset.
 pub(crate) fn operation(alloc: Global, caller: u8, drawn: u64) -> Result<Verb, AllocError>
     requires { caller < 8 }
     ensures { IfOk result (λ verb. verb ≡ spec.operation caller drawn) }

@@ -11,10 +11,10 @@ use item_list::{Bytes, Items};
 use script_lang::{Script, write_script};
 use std::alloc::{AllocError, Global};
 
-// The callers of a generated script.
+// The number of callers of a generated script.
 const CALLERS: u8 = 8;
 
-/// The text of the script that the number gives.
+/// Returns the text of the script that is generated from the number. The only error is out of memory.
 pub fn generate(alloc: Global, number: u32) -> Result<Bytes, AllocError>
     ensures value { IfOk result (λ text. text ≡ generated number) }
     ensures reads_back { IfOk result (λ text. parsed_script text ≡ Ok (generated_script number)) }
@@ -24,7 +24,7 @@ pub fn generate(alloc: Global, number: u32) -> Result<Bytes, AllocError>
     Ok(text)
 }
 
-/// The script that the number gives.
+/// Returns the script that is generated from the number. The only error is out of memory.
 pub fn generate_script(alloc: Global, number: u32) -> Result<Script, AllocError>
     ensures value { IfOk result (λ script. script ≡ generated_script number) }
     ensures spelled { IfOk result (λ script. IsSpelled script) }

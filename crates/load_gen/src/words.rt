@@ -1,4 +1,4 @@
-//! What stands in the generated commands: a caller's key, its directory, and the files in it.
+//! The arguments of the generated commands: a caller's key, its directory, and the files in it.
 
 ghost use Rattle.std.specs.Prelude.{◌≡◌, ◌<◌, Some, IfOk, IsSome};
 ghost use Rattle.script_words.specs.Path.{path_of};
@@ -63,7 +63,7 @@ pub(crate) fn file(alloc: Global, caller: u8, digit: u8) -> Result<ScriptPath, A
     Ok(path)
 }
 
-// The name that a file is moved to.
+// The name to which a file is moved.
 pub(crate) fn moved_file(alloc: Global, caller: u8, digit: u8) -> Result<ScriptPath, AllocError>
     requires caller { caller < 8 }
     requires digit { digit < 8 }
