@@ -36,7 +36,7 @@ fn of_257_names_the_first_is_gone(rt: HostRuntime) {
     try_on_a_mount(&rt, rt.alloc(), Trial::Look257Up);
 }
 
-/// A turn in `/e`, and what is to come of it.
+/// A turn in `/e`, and its expected result.
 #[derive(Clone, Copy)]
 pub(crate) enum Turn {
     /// It is done.
@@ -45,9 +45,9 @@ pub(crate) enum Turn {
     Renamed(&'static [u8], &'static [u8]),
     /// The name isn't found by its path.
     NotFound(&'static [u8]),
-    /// The name leads there once it is looked up.
+    /// The name resolves to this node, or to none, once it is looked up.
     Leads(&'static [u8], Option<u32>),
-    /// The name is cached so, or not.
+    /// The name is cached with this node, or isn't cached.
     Cached(&'static [u8], Option<u32>),
     /// All caches are dropped.
     Dropped,
@@ -67,7 +67,8 @@ static LOOK_ONE_UP: [Turn; 11] = [
     Turn::Dropped,
 ];
 
-// A name that moves or goes is forgotten at once, and the new one is cached once it is looked up.
+// A name that is moved or removed is dropped from the cache at once, and the new one is cached once it is
+// looked up.
 static MOVE_AND_REMOVE: [Turn; 11] = [
     Turn::Done(Ask::Create, b"f"),
     Turn::Leads(b"f", Some(2)),
@@ -82,7 +83,7 @@ static MOVE_AND_REMOVE: [Turn; 11] = [
     Turn::Leads(b"g", None),
 ];
 
-// So it is with a directory.
+// The same for a directory.
 static MAKE_AND_REMOVE: [Turn; 5] = [
     Turn::Done(Ask::Mkdir, b"d"),
     Turn::Leads(b"d", Some(2)),
@@ -125,12 +126,12 @@ fn comes_so<L: Ledger, A: Abort>(
     }
 }
 
-// The node of the name of this number, which is made in its turn.
+// The node of the name of this number; names are made in order.
 fn node_of(number: u16) -> Option<u32> {
     Some(u32::from(number) + 2)
 }
 
-// Makes so many names, and looks each up once it is made.
+// Makes `count` names, and looks each up once it is made.
 fn make_names<L: Ledger, A: Abort>(
     rt: &A,
     alloc: Global,
@@ -145,7 +146,8 @@ fn make_names<L: Ledger, A: Abort>(
     }
 }
 
-// Of 300 names some are cached; none is once the key is gone, and each leads where it led once it is back.
+// Of 300 names some are cached, and none is after the key was removed. Once the key is back, each
+// resolves to the same node as before.
 pub(crate) fn lose_the_key<L: Ledger, A: Abort>(
     rt: &A,
     alloc: Global,
@@ -171,7 +173,7 @@ fn remove_and_forget<A: Abort>(rt: &A, state: &mut MountState, id: &KeyId) {
     }
 }
 
-// The cache has room for 256 names, and the one that was not used for longest goes.
+// The cache has space for 256 names, and the least recently used one is removed.
 pub(crate) fn look_257_up<L: Ledger, A: Abort>(
     rt: &A,
     alloc: Global,

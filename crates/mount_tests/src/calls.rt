@@ -1,9 +1,9 @@
-//! Calls that may be asked, and the numbers of answers.
+//! Calls that may be asked, and the numbers of replies.
 
 use mount_model::{Bytes, Call, KeyState, Op, Part, Path, Refusal};
 use std::alloc::{AllocError, Global};
 
-// So many letters.
+// `length` letters.
 fn bytes_of(alloc: Global, length: usize) -> Result<Bytes, AllocError> {
     let mut bytes = Bytes::new(alloc);
     for _ in 0..length {

@@ -9,21 +9,21 @@ fn key(number: u8) -> KeyId {
     KeyId([number; 16])
 }
 
-/// What is asked of claims, by the number of a key and a user, and what is to be answered. Users are counted from a
-/// first one.
+/// A query or change of claims, by the number of a key and a user, and the expected result. Users are
+/// counted from a first one.
 #[derive(Clone, Copy)]
 enum Ask {
     /// The user claims the key.
     Claim(u8, u32, Result<(), ClaimFault>),
-    /// The claim is given up, if there was one.
+    /// The claim is removed; true if there was one.
     GiveUp(u8, u32, bool),
-    /// All claims on the key are given up.
+    /// All claims on the key are removed.
     Clear(u8),
-    /// The user has a claim on the key, or none.
+    /// Whether the user has a claim on the key.
     Has(u8, u32, bool),
-    /// The user has so many claims.
+    /// The number of the user's claims.
     OfUser(u32, u32),
-    /// There are so many claims on the key.
+    /// The number of claims on the key.
     OnKey(u8, u32),
 }
 
@@ -51,7 +51,7 @@ fn ask_each<A: Abort>(rt: &A, claims: &mut Claims, first: u32, asks: &[Ask]) {
     }
 }
 
-// Of a user with 64 claims, and of the next user.
+// For a user with 64 claims, and for the next user.
 static ASKS_OF_ONE_MORE: [Ask; 8] = [
     Ask::Claim(64, 0, Err(ClaimFault::Quota)),
     Ask::Claim(0, 0, Ok(())),

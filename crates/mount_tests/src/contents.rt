@@ -54,7 +54,7 @@ const MODE: KeyText = KeyText {
     start: 116 << 32,
 };
 
-// The key; each call that takes one overwrites it.
+// The key; each call that takes a key wipes it.
 fn key_of(text: Option<KeyText>) -> Option<ContentsKey> {
     let text = text?;
     let mut bytes = [0; 64];
@@ -81,8 +81,8 @@ fn write<R: Abort>(
     assert!(rt; written == Ok(()), "a piece at {offset}");
 }
 
-// A file that is written in odd pieces: a gap first, then over borders of blocks and units, and other
-// bytes that a piece which covers block 1 overwrites.
+// Writes the file in odd pieces: after a gap first, then across borders of blocks and units. A last piece
+// covers block 1, and replaces other bytes there.
 fn write_in_pieces<R: Abort>(rt: &R, disk: &mut DiskTree, alloc: Global, key: Option<KeyText>) {
     let contents = contents();
     for (from, to) in [
@@ -117,7 +117,7 @@ fn a_file_written_in_pieces_is_stored_as_linux_stores_it(rt: HostRuntime) {
     }
 }
 
-// That the file has three blocks, of which the first two have these digests.
+// Asserts that the file has three blocks, of which the first two have these digests.
 fn expect_blocks<R: Abort>(rt: &R, disk: &DiskTree, alloc: Global, blocks: [&str; 2]) {
     assert!(rt; disk.file_size(1) == 9192 && disk.block_count(1) == 3);
     for (index, sha256) in [(0, blocks[0]), (1, blocks[1])] {
@@ -162,12 +162,12 @@ fn read_in_parts<R: Abort>(rt: &R, disk: &DiskTree, alloc: Global, key: Option<K
         let wanted = contents.get(offset as usize..end).expect(rt, "a part");
         read(rt, disk, alloc, key, (offset, len), Some(wanted));
     }
-    // at the file's end, and where no byte is asked for
+    // at the file's end, and if no byte is requested
     read(rt, disk, alloc, key, (9192, 1), None);
     read(rt, disk, alloc, key, (0, 0), None);
 }
 
-// That a read of so many bytes from there on gives these, or finds none.
+// Asserts that a read of `len` bytes at `offset` returns the expected bytes, or none.
 fn read<R: Abort>(
     rt: &R,
     disk: &DiskTree,

@@ -46,7 +46,7 @@ fn hash_of(name: &[u8]) -> u64 {
     hasher.finish()
 }
 
-// The last eight bytes make the hash 0, whatever stands before them.
+// The last eight bytes make the hash 0, for any bytes before them.
 const ONE: &[u8] = b"one name\x15\x7c\x4a\x7f\xb9\x79\x37\x9e";
 
 const ANOTHER: &[u8] = b"another.\x15\x7c\x4a\x7f\xb9\x79\x37\x9e";
@@ -115,7 +115,7 @@ fn the_disk_is_full_at_its_borders_and_not_before(rt: HostRuntime) {
     go(&rt, &mut tree, rt.alloc(), &BEYOND_ITS_BORDERS);
 }
 
-// As many nodes as there may be, and as many entries in the root.
+// Makes the maximal number of nodes, and of entries in the root.
 fn make_all_nodes_and_entries<R: Abort>(rt: &R, tree: &mut DiskTree, alloc: Global) {
     for number in 1..65536 {
         assert!(rt; changed(tree, alloc, Change::Dir(number)) == Some(Ok(())));

@@ -1,4 +1,4 @@
-//! Steps of tests of a disk: what is done to its tree, and what is seen of it.
+//! Steps of tests of a disk: changes of its tree, and queries of it.
 ghost use Rattle.std.specs.Prelude.{◌≡◌, []};
 ghost use Rattle.disk_tree.specs.Nodes.{blocks_of};
 
@@ -70,43 +70,43 @@ pub(crate) enum Change {
     Put((u32, &'static [u8]), u32),
     /// A name in a directory that becomes another.
     Move((u32, &'static [u8]), (u32, &'static [u8])),
-    /// So many blocks of a file.
+    /// This many blocks of a file.
     Grow(u32, u32),
 }
 
-/// What is seen of a tree.
+/// A query of a tree, with the expected result.
 #[derive(Clone, Copy)]
 pub(crate) enum Sight {
     /// The directory has these names, in this order.
     Names(u32, &'static [&'static [u8]]),
-    /// The name leads to a node of this number, or to none.
+    /// The name resolves to a node of this number, or to none.
     Leads((u32, &'static [u8]), Option<u32>),
-    /// The node of this number has a name, or none.
+    /// Whether the node of this number has a name.
     IsNamed(u32, bool),
     /// There is no node of this number.
     Gone(u32),
-    /// There are so many nodes.
+    /// The number of nodes.
     Nodes(usize),
-    /// All files have so many blocks.
+    /// The number of blocks of all files.
     Blocks(usize),
-    /// The file has so many blocks.
+    /// The number of blocks of the file.
     BlocksOf(u32, usize),
     /// Each byte of this block of file 1 is this one.
     Filled(u32, u8),
 }
 
-/// A step of a test: what is done to a tree, or seen of it, and what is to come of it.
+/// A step of a test: a change or a query of a tree, and its expected result.
 #[derive(Clone, Copy)]
 pub(crate) enum Step {
     /// The change is made.
     Made(Change),
-    /// It isn't, for want of space.
+    /// The change is refused, since there is no space.
     Full(Change),
-    /// This is so.
+    /// The query has its expected result.
     Seen(Sight),
-    /// The name is dropped, if it was there.
+    /// The name is dropped; true if it was there.
     Drop((u32, &'static [u8]), bool),
-    /// The name is dropped with the node of this number, if it was there.
+    /// The name is dropped with the node of this number; `None` if it wasn't there.
     DropNamed((u32, &'static [u8]), Option<u32>),
     /// The node of this number is removed.
     Remove(u32),
@@ -118,7 +118,7 @@ pub(crate) enum Step {
     Size(u32, u32),
 }
 
-/// What is told of the change; nothing, if the tree isn't one that it can be asked of.
+/// Returns the result of the change, or `None` if the tree doesn't meet the requirements of the call.
 pub(crate) fn changed(
     tree: &mut DiskTree,
     alloc: Global,
@@ -196,7 +196,7 @@ pub(crate) fn go<R: Abort>(rt: &R, tree: &mut DiskTree, alloc: Global, steps: &[
     }
 }
 
-/// Goes these steps on a new tree.
+/// Takes these steps on a new tree.
 pub(crate) fn go_on_a_tree<R: Abort>(rt: &R, alloc: Global, steps: &[Step]) {
     let mut tree = DiskTree::new(alloc).expect(rt, "memory");
     go(rt, &mut tree, alloc, steps);

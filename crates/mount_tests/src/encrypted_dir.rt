@@ -1,5 +1,5 @@
-//! An encrypted directory `/e`, and what is asked of its names. A mount is always lent: a function that owns one gives
-//! it up at each of its ends, and is dear to prove.
+//! An encrypted directory `/e`, and calls on its names. A mount is always passed by reference: a function
+//! that owns one drops it at each of its exits, and is expensive to prove.
 use crate::paths::{part, path_in, path_of};
 use crate::told::{is_done, key_added};
 use item_list::Bytes;
@@ -62,7 +62,7 @@ fn policy_under(id: &KeyId) -> [u8; 24] {
     policy
 }
 
-/// What is asked of a name in `/e`.
+/// A call on a name in `/e`.
 #[derive(Clone, Copy)]
 pub(crate) enum Ask {
     Create,
@@ -72,7 +72,7 @@ pub(crate) enum Ask {
     Rmdir,
 }
 
-/// Asks this of `/e/NAME`.
+/// Makes this call on `/e/NAME`.
 pub(crate) fn asked<L: Ledger, A: Abort>(
     rt: &A,
     alloc: Global,
@@ -113,7 +113,7 @@ pub(crate) fn renamed<L: Ledger, A: Abort>(
     rename(alloc, state, &from, &to, steps)
 }
 
-/// Where the name leads in `/e`.
+/// Returns the node to which the name resolves in `/e`.
 pub(crate) fn found<L: Ledger, A: Abort>(
     rt: &A,
     alloc: Global,
@@ -125,7 +125,7 @@ pub(crate) fn found<L: Ledger, A: Abort>(
     looked_up(alloc, state, DIR, &part, steps)
 }
 
-/// Where the name leads in the directory.
+/// Returns the node to which the name resolves in the directory.
 pub(crate) fn looked_up<L: Ledger>(
     alloc: Global,
     state: &mut MountState,
@@ -139,7 +139,7 @@ pub(crate) fn looked_up<L: Ledger>(
     lookup(alloc, state, dir, part, steps)
 }
 
-/// Where the name leads that is cached of `/e`.
+/// Returns the node that is cached for the name in `/e`.
 pub(crate) fn cached(state: &mut MountState, name: &[u8]) -> Option<u32> {
     if name.len() > 255 {
         return None;

@@ -10,7 +10,7 @@ use mount_model::Refusal;
 use std::alloc::{AllocError, Global};
 use std::process::Abort;
 
-/// The identifier of the key of the bytes 0 to 63, as Linux told it.
+/// The identifier of the key of the bytes 0 to 63, as Linux returned it.
 const ID: KeyId = KeyId([
     0x86, 0x99, 0xc2, 0xc5, 0x37, 0x07, 0x40, 0x5d, 0xa5, 0xab, 0xa5, 0xae, 0x4d, 0x85, 0x83, 0xc0,
 ]);
@@ -32,7 +32,7 @@ fn add_for<A: Abort>(rt: &A, alloc: Global, state: &mut MountState, uids: &[u32]
     }
 }
 
-// Whether that status is told of a key to who has no claim on it.
+// Whether the reply is that status of a key, for a user without a claim on it.
 fn is_status(told: Reply, wanted: KeyState, wanted_users: u32) -> bool {
     matches!(
         told,
@@ -80,7 +80,7 @@ pub(crate) fn add_each_size<A: Abort>(rt: &A, alloc: Global, state: &mut MountSt
     assert!(rt; is_refused(added(rt, alloc, state, 65), Refusal::Inval));
 }
 
-// What is told of adding a key of so many bytes.
+// The reply to adding a key of `length` bytes.
 fn added<A: Abort>(rt: &A, alloc: Global, state: &mut MountState, length: usize) -> Reply {
     let raw = Bytes::from_vec(Vec::from_elem(alloc, 7, length).expect(rt, "memory"));
     add_key(alloc, state, 1000, &raw)

@@ -1,4 +1,4 @@
-//! The parts of a mount and its calls, each once with ample memory. This crate has tests alone.
+//! The parts of a mount and its calls, each once with ample memory. This crate has only tests.
 #![tactic(auto)]
 
 #[cfg(test)]

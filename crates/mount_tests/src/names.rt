@@ -28,7 +28,7 @@ pub(crate) fn ask_a_new_mount<L: Ledger, A: Abort>(
     make_a_file(rt, alloc, state, steps);
 }
 
-// Whether this is told of an empty node, neither encrypted nor without its key.
+// Whether the reply is the status of an empty node that is not encrypted, and whose key is not absent.
 fn is_plain(told: Reply, kind: NodeKind, node: u32) -> bool {
     matches!(
         told,

@@ -1,4 +1,4 @@
-//! Keys that nodes hold.
+//! Keys that are cached with nodes.
 
 use inode_refs::{FileKey, InodeCache, KeyId, NodeKey};
 use std::alloc::Global;
@@ -16,12 +16,12 @@ const FIRST: KeyId = KeyId([1; 16]);
 
 const SECOND: KeyId = KeyId([2; 16]);
 
-/// A step of a test: what is done to a cache, or seen of it.
+/// A step of a test: a change or a query of a cache.
 #[derive(Clone, Copy)]
 enum Step {
-    /// The node keeps the names key of this number, under the identifier.
+    /// The names key of this number is cached for the node, under the identifier.
     Keep(u32, KeyId, u8),
-    /// The node's only pin goes.
+    /// The node's only pin is removed.
     Unpin(u32),
     /// The node's key is dropped.
     Drop(u32),
@@ -56,7 +56,7 @@ fn goes_so(cache: &mut InodeCache, alloc: Global, step: Step) -> bool {
     }
 }
 
-// Whether the node had one pin, and has none without it.
+// Whether the node had one pin, and has none after it was removed.
 fn unpinned(cache: &mut InodeCache, node: u32) -> bool {
     if cache.pins(node) != 1 {
         return false;
@@ -103,7 +103,7 @@ fn pin_one<A: Abort>(rt: &A, alloc: Global, cache: &mut InodeCache) {
     }
 }
 
-// Whether the node's cipher makes this block of one of zeros.
+// Whether the node's cipher encrypts a block of zeros to this block.
 fn has_cipher(cache: &InodeCache, node: u32, block: u128) -> bool {
     match cache.cipher_of(node) {
         Some(cipher) => cipher.encrypt_block([0; 16]) == block.to_be_bytes(),

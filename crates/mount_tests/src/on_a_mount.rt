@@ -1,5 +1,5 @@
-//! Trials of a new mount. One function alone owns the mount and lends it: each call of a function that owns a mount is
-//! dear to prove.
+//! Trials of a new mount. Only one function owns the mount, and passes references to it: each call in a
+//! function that owns a mount is expensive to prove.
 ghost use Rattle.std.specs.Prelude.{◌≡◌, ◌<◌};
 
 use crate::cached_names::{Turn, look_257_up, lose_the_key, take_turns};
@@ -14,7 +14,7 @@ use std::marker::Brand;
 use std::process::Abort;
 use std::sync::ledger::{Blank, Ledger};
 
-/// What is tried.
+/// The subject of a trial.
 #[derive(Clone, Copy)]
 pub(crate) enum Trial {
     TakeTurns(&'static [Turn]),
@@ -29,13 +29,14 @@ pub(crate) enum Trial {
     LoadAndStore,
 }
 
-/// Tries this on a new mount.
+/// Runs this trial on a new mount.
 pub(crate) fn try_on_a_mount<A: Abort>(rt: &A, alloc: Global, trial: Trial) {
     let mut state = MountState::new(alloc).expect(rt, "memory");
     try_counted::<Brand, A>(rt, alloc, Blank::new(1), &mut state, trial);
 }
 
-// With a ledger of its own, on which each encryption ticks: that a cached name ticks nothing is a clause.
+// With a ledger of its own, on which each encryption ticks. A contract says that looking up a cached name
+// does not tick.
 fn try_counted<L: Ledger, A: Abort>(
     rt: &A,
     alloc: Global,

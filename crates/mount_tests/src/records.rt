@@ -8,8 +8,8 @@ use mount_records::{Bytes, MountState, Reply, meta_load, meta_store};
 use std::alloc::{AllocError, Global};
 use std::process::Abort;
 
-/// The name of a record that is stored, the version that it is to have by then, the length of its text, and what is
-/// told.
+/// The name of a record that is stored, its expected version before, the length of its text, and the
+/// expected result.
 type Store = (&'static [u8], u32, usize, Result<u32, StoreFault>);
 
 fn store_each<A: Abort>(rt: &A, alloc: Global, files: &mut MetaFiles, stores: &[Store]) {
@@ -26,7 +26,7 @@ static STORES_BY_VERSION: [Store; 6] = [
     (b"a", 0, 3, Err(StoreFault::Changed { version: 1 })),
     (b"a", 1, 3, Ok(2)),
     (b"b", 1, 3, Err(StoreFault::Changed { version: 0 })),
-    // the longest record, and one byte more, which comes before a wrong version
+    // the longest record, and one byte more, which is refused before a wrong version is
     (b"b", 0, 8_192, Ok(1)),
     (b"b", 0, 8_193, Err(StoreFault::TooBig)),
 ];
@@ -46,7 +46,7 @@ fn load_one<A: Abort>(rt: &A, alloc: Global, files: &MetaFiles) {
     assert!(rt; files.load(alloc, b"c").expect(rt, "an answer").is_none());
 }
 
-// One record more, also at a wrong version, and the eighth one anew.
+// One record more, also at a wrong version, and the eighth one again.
 static STORES_BESIDE_1024: [Store; 3] = [
     (b"one more", 0, 0, Err(StoreFault::NoSpace)),
     (b"one more", 1, 0, Err(StoreFault::Changed { version: 0 })),
@@ -72,7 +72,7 @@ fn a_record_that_changed_meanwhile_is_not_written(rt: HostRuntime) {
     try_on_a_mount(&rt, rt.alloc(), Trial::LoadAndStore);
 }
 
-// Whether the record of one byte 0 is told, as its first version.
+// Whether the reply is the record of one byte 0, in its first version.
 fn is_the_first(told: Reply) -> bool {
     match told {
         Reply::Held { version, bytes } => version == 1 && bytes.as_slice() == [0].as_slice(),
@@ -102,7 +102,7 @@ fn store_again<A: Abort>(rt: &A, alloc: Global, state: &mut MountState, name: &B
     assert!(rt; is_refused(too_big, Refusal::TooBig));
 }
 
-// What is told of storing these bytes over this version.
+// The result of storing these bytes over this version.
 fn stored<A: Abort>(
     rt: &A,
     alloc: Global,

@@ -1,4 +1,4 @@
-//! What replies tell. Each of these takes its reply, so that a test holds none.
+//! The content of replies. Each function takes its reply by value, so that no test owns one.
 
 use mount_model::{KeyId, Refusal, Reply};
 
@@ -10,7 +10,7 @@ pub(crate) fn is_refused(reply: Reply, why: Refusal) -> bool {
     matches!(reply, Reply::Refused(told) if told == why)
 }
 
-/// The key that was added, if one was.
+/// Returns the key that was added, if one was.
 pub(crate) fn key_added(reply: Reply) -> Option<KeyId> {
     match reply {
         Reply::Added(id) => Some(id),
@@ -18,12 +18,13 @@ pub(crate) fn key_added(reply: Reply) -> Option<KeyId> {
     }
 }
 
-/// Whether the claim is gone, whether others have one, and whether the key is busy.
+/// Returns whether the claim was removed, with these answers: whether others have a claim, and whether
+/// the key is busy.
 pub(crate) fn is_removed(reply: Reply, others: bool, busy: bool) -> bool {
     matches!(reply, Reply::Removed { others: some, busy: is_busy } if some == others && is_busy == busy)
 }
 
-/// The handle that was opened, if one was.
+/// Returns the handle that was opened, if one was.
 pub(crate) fn handle_opened(reply: Reply) -> Option<u32> {
     match reply {
         Reply::Opened(handle) => Some(handle),
@@ -31,7 +32,7 @@ pub(crate) fn handle_opened(reply: Reply) -> Option<u32> {
     }
 }
 
-/// The version under which a record was stored, if it was.
+/// Returns the version under which a record was stored, if it was.
 pub(crate) fn version_stored(reply: Reply) -> Option<u32> {
     match reply {
         Reply::Stored(version) => Some(version),
