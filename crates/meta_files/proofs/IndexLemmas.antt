@@ -56,7 +56,7 @@ index_updates m n name w updates other =
           ∙ sym (cond-false (bytes_eq name other) w (indexed m.entries other) differ)
     ]
 
--- ---- a record is put behind the others
+-- ---- a record is appended
 
 pushed_here : (xs : List Record) (kept : Record) (other : List ℕ) → bytes_eq kept.name other ≡ true
     → place_in xs other ≡ None → place_in (xs ++ kept ∷ []) other ≡ Some (length xs)

@@ -1,4 +1,4 @@
--- Records as they are kept, looked up and written by name.
+-- Records as they are stored, looked up and written by name.
 use Rattle.std.proofs.Common.{◌≡◌, ℕ, zero, suc, ◌+◌, ◌<◌, ◌≤◌, true, false, cond, not, List, [], ◌∷◌, ◌++◌}
 use Rattle.std.proofs.Common.{length, get_or, set, Option, Some, None, is_some, IfSome, Ok, Err, is_ok}
 use Rattle.std.proofs.Common.{position, sym, refl, ap, ◌∙◌, subst, ⊎_elim, arith, nat_lt, bytes_eq}
@@ -156,7 +156,7 @@ module _ (rs : RecordList) (xs : List Record) (name : List ℕ) (view : pairs_of
     seen_fault kept is expected bytes fits =
         store_fault_there rs name expected bytes (kept.version, kept.bytes) fits (seen_Some kept is)
 
--- where a version came, no fault was due
+-- if a version was returned, no fault was expected
 pub None-from_Ok : (due : Option StoreFault) (version : ℕ) → IfSome due (λ fault. Ok version ≡ Err fault)
     → due ≡ None
 None-from_Ok None version none = refl

@@ -6,8 +6,8 @@ use Rattle.meta_files.specs.declared.fault.StoreFault.{StoreFault}
 use Rattle.meta_files.specs.declared.fault.StoreFault.TheVariants.{TooBig, Changed, NoSpace}
 use Rattle.meta_files.specs.Records.{RecordList, record_of, version_of}
 
--- TooBig above the most bytes; Changed where the version isn't the expected one; NoSpace for a new record
--- where there are as many as there may be, and where the version is the last that there is
+-- TooBig above the maximal number of bytes; Changed if the version isn't the expected one; NoSpace for a
+-- new record if there are `MOST_RECORDS` already, and for any record at the last version that there is
 abbrev pub store_fault : RecordList → List ℕ → ℕ → List ℕ → Option StoreFault
 store_fault records name expected bytes =
     if nat_lt MOST_RECORD_BYTES (length bytes) then Some TooBig else

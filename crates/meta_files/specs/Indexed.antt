@@ -1,4 +1,4 @@
--- How a record is found by its name; words of private functions.
+-- How a record is found by its name; definitions for private functions.
 use Rattle.std.specs.Prelude.{◌≡◌, ℕ, List, Option, position}
 use Rattle.std.specs.Str.{bytes_eq}
 use Rattle.std.specs.Ordering.{nat_cmp, is_eq}
@@ -16,7 +16,7 @@ Index = List (Vec ℕ Global × ℕ)
 abbrev pub indexed : Index → List ℕ → Option ℕ
 indexed index name = lookup (λ k. is_eq (slice_cmp nat_cmp name k.items)) index
 
--- where the record of that name stands
+-- the place of the record of that name
 abbrev pub place_in : List Record → List ℕ → Option ℕ
 place_in records name = position (λ kept. bytes_eq kept.name name) records
 

@@ -1,4 +1,4 @@
--- How records are kept; words of private functions.
+-- How records are stored; definitions for private functions.
 use Rattle.std.specs.Prelude.{ℕ, List, map, Option, Some, None, not, ◌==◌, nat_le, if◌then◌else◌}
 use Rattle.meta_files.specs.declared.files.TheConstants.{MOST_RECORDS, LAST_VERSION}
 use Rattle.meta_files.specs.declared.fault.StoreFault.{StoreFault}
@@ -12,14 +12,14 @@ pair_of kept = (kept.name, (kept.version, kept.bytes))
 abbrev pub pairs_of : List Record → RecordList
 pairs_of kept = map pair_of kept
 
--- why one that is there can't be written anew, by its version
+-- why a record that is there can't be replaced, by its version
 abbrev pub rewrite_fault : ℕ → ℕ → Option StoreFault
 rewrite_fault version expected =
     if not (version == expected) then Some (Changed version) else
     if version == LAST_VERSION then Some NoSpace else
     None
 
--- why a new one can't be put behind the others, by their number
+-- why a new record can't be appended, by the number of records
 abbrev pub append_fault : ℕ → ℕ → Option StoreFault
 append_fault count expected =
     if not (0 == expected) then Some (Changed 0) else

@@ -12,11 +12,11 @@ RecordList = List (List ℕ × (ℕ × List ℕ))
 abbrev pub record_of : RecordList → List ℕ → Option (ℕ × List ℕ)
 record_of records name = lookup (λ kept. bytes_eq kept name) records
 
--- the version of the record of that name; 0 where there is none
+-- the version of the record of that name; 0 if there is none
 abbrev pub version_of : RecordList → List ℕ → ℕ
 version_of records name = option_map_or (λ found. found.0) (record_of records name) 0
 
--- a record that is there is written anew in its place; a new one comes last
+-- a record that is there is replaced in its place; a new one is appended
 abbrev pub with_record : RecordList → List ℕ → ℕ → List ℕ → RecordList
 with_record [] name version bytes = (name, (version, bytes)) ∷ []
 with_record (r ∷ rs) name version bytes =

@@ -6,7 +6,7 @@ ghost use Rattle.meta_files.specs.declared.fault.StoreFault.TheVariants.{NoMemor
 use std::alloc::{AllocError, AllocFailed};
 use thiserror::Error;
 
-/// Why a record wasn't stored. Whichever it is, all records are as before.
+/// Why a record wasn't stored. After each of these errors the records are unchanged.
 #[derive(Clone, Copy, Debug, PartialEq, Eq, Error)]
 pub enum StoreFault {
     /// A record has at most 8,192 bytes.
@@ -18,7 +18,7 @@ pub enum StoreFault {
     /// There are 1,024 records already, or the version can't rise any more.
     #[error("no space for a record")]
     NoSpace,
-    /// There was no memory for it.
+    /// Out of memory.
     #[error("out of memory")]
     NoMemory,
 }

@@ -13,16 +13,16 @@ use std::alloc::{AllocError, Global};
 use std::collections::BTreeMap;
 use std::marker::Model;
 
-/// The most bytes that a record may have.
+/// The maximal number of bytes of a record.
 pub const MOST_RECORD_BYTES: usize = 8_192;
 
-/// The most records that there may be.
+/// The maximal number of records.
 pub const MOST_RECORDS: usize = 1_024;
 
 /// The last version that a record can have.
 pub const LAST_VERSION: u32 = 4_294_967_295;
 
-/// A record as it is kept.
+/// A record as it is stored.
 #[derive(Drop)]
 struct Record {
     name: Bytes,
@@ -38,7 +38,7 @@ pub struct MetaFiles {
     index: Index,
 }
 
-// Written, and not derived, so that a crate that lets one go needn't prove how that is done.
+// Implemented, not derived, so that a crate that drops the records needn't prove how their drop works.
 impl Drop for MetaFiles {
     fn drop(self) {
         let MetaFiles {
@@ -61,7 +61,7 @@ impl Model for MetaFiles {
 }
 
 impl MetaFiles {
-    /// No records yet. It takes no memory before the first one is stored.
+    /// Returns an empty list of records. Allocates nothing before the first one is stored.
     pub fn new(alloc: Global) -> MetaFiles
         ensures { result ≡ [] }
     {
@@ -71,8 +71,9 @@ impl MetaFiles {
         }
     }
 
-    /// The version and a copy of the bytes of the record of this name, where there is one. Only the copy
-    /// takes memory, so none is wanting where there is no record.
+    /// Returns the version and a copy of the bytes of the record of this name, or `None` if there is
+    /// none. The only error is out of memory. Only the copy allocates, so there is no error if there is
+    /// no record.
     pub fn load(&self, alloc: Global, name: &[u8]) -> Result<Option<(u32, Bytes)>, AllocError>
         ensures found { IfOk result (λ found. found ≡ record_of self.now name.now) }
         ensures absent { record_of self.now name.now ≡ None → IsOk result }
@@ -85,8 +86,14 @@ impl MetaFiles {
         Ok(Some((kept.version, bytes)))
     }
 
-    /// Stores the bytes under the name, and answers the record's new version. The caller tells
-    /// which version the record has to have now: 0 where there has to be none.
+    /// Stores the bytes under the name, and returns the record's new version. `expected` is the version
+    /// that the record must have now: 0 if there must be none. After an error the records are unchanged.
+    /// Returns
+    /// - `TooBig` if there are more than 8,192 bytes,
+    /// - otherwise `Changed` if the record has another version,
+    /// - otherwise `NoSpace` if a new record would exceed 1,024, or the version can't rise any more.
+    ///
+    /// Otherwise the only error is `NoMemory`.
     pub fn store(
         &mut self,
         alloc: Global,
@@ -124,7 +131,7 @@ impl MetaFiles {
     }
 }
 
-// The version after this one, where this one is expected.
+// The version after this one, if this one is expected.
 fn next_version(version: u32, expected: u32) -> Result<u32, StoreFault>
     ensures next { IfOk result (λ next. next ≡ version + 1) }
     ensures refused { IfSome (rewrite_fault version expected) (λ fault. result ≡ Err fault) }
@@ -136,7 +143,7 @@ fn next_version(version: u32, expected: u32) -> Result<u32, StoreFault>
     version.checked_add(1).ok_or(StoreFault::NoSpace)
 }
 
-// Puts a new record of version 1 behind the others, and its place into the index.
+// Appends a new record of version 1, and adds its place to the index.
 fn append(
     alloc: Global,
     records: &mut Vec<Record>,

@@ -1,4 +1,5 @@
-//! The records of a mount: small texts under names, each with a version that counts its writings.
+//! The records of a mount: small texts under names, each with a version that counts how often it was
+//! written.
 #![tactic(auto)]
 
 mod fault;

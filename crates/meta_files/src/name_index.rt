@@ -9,14 +9,14 @@ use std::collections::BTreeMap;
 // The place of each name.
 pub(crate) type Index = BTreeMap<Vec<u8>, usize>;
 
-// The place under the name, where there is one.
+// The place under the name, if there is one.
 pub(crate) fn place_of(index: &Index, name: &[u8]) -> Option<usize>
     ensures { result ≡ indexed index.now.entries name.now }
 {
     index.get(name).copied()
 }
 
-// Says at which place the name is.
+// Adds the name with its place.
 pub(crate) fn add_name(
     index: &mut Index,
     alloc: Global,
@@ -31,7 +31,7 @@ pub(crate) fn add_name(
     Ok(())
 }
 
-// Forgets the name.
+// Removes the name.
 pub(crate) fn drop_name(index: &mut Index, name: &[u8])
     ensures { (other : List ℕ) → indexed index.new.entries other
         ≡ if bytes_eq name.now other then None else indexed index.old.entries other }

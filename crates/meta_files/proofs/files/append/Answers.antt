@@ -1,4 +1,4 @@
--- The new record stands behind the others, and the index has its place.
+-- The new record is after the others, and the index has its place.
 use Rattle.std.proofs.Common.{rules, ◌≡◌, [], ◌∷◌, ◌++◌, length, ◌∙◌}
 use Rattle.meta_files.specs.declared.files.Record.{Record}
 use Rattle.meta_files.proofs.IndexLemmas.{pushed_IsIndexed}

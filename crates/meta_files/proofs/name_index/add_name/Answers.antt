@@ -1,4 +1,4 @@
--- A name is told by its bytes.
+-- Names are equal if their bytes are.
 use Rattle.std.proofs.Common.{ℕ, List, Some, cond, ap, ◌∙◌}
 use Rattle.std.specs.Str.{bytes_eq}
 use Rattle.meta_files.specs.Indexed.{indexed}

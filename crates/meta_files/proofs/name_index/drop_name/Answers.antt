@@ -1,4 +1,4 @@
--- A name is told by its bytes.
+-- Names are equal if their bytes are.
 use Rattle.std.proofs.Common.{None}
 use Rattle.meta_files.proofs.IndexLemmas.{index_updates}
 use Rattle.meta_files.proofs.name_index.drop_name.Goals as goal

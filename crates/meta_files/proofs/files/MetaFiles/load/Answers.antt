@@ -1,4 +1,4 @@
--- The index tells the place, and the record there is the one of that name.
+-- The index has the place, and the record there is the one of that name.
 use Rattle.std.proofs.Common.{ℕ, List, Some, sym, ap, ◌∙◌}
 use Rattle.meta_files.proofs.KeptLemmas.{seen_None, seen_Some, not_absent}
 use Rattle.meta_files.proofs.files.MetaFiles.load.Goals as goal
