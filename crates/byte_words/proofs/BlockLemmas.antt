@@ -10,11 +10,11 @@ use Rattle.std.specs.List.{range_with_len, between, flat_map}
 use Rattle.std.specs.Int.{div_ceil}
 use Rattle.byte_words.specs.Blocks.{block_at, blocks_of, first_blocks}
 
--- where block n ends, block n + 1 begins
+-- the end of block n is the beginning of block n + 1
 pub next_end : (size n : ℕ) → size * (n + 1) ≡ size * n + size
 next_end size n = rw (add-one) (mul-suc size n)
 
--- a block before n ends where block n begins, or before
+-- a block before n ends at the beginning of block n, or before it
 pub block_end_le : (size j n : ℕ) → j < n → size * j + size ≤ size * n
 block_end_le size j n below =
     let product : size * (j + 1) ≤ size * n = mul-le-mul_left size (omega arith) in
@@ -45,7 +45,7 @@ first_blocks_same f g (suc n) same =
     let before : first_blocks f n ≡ first_blocks g n = first_blocks_same f g n (λ j low. same j (omega arith)) in
     (λ i. before i ++ same n (omega arith) i)
 
--- block j of the first n blocks is f j, where those below n have one size
+-- block j of the first n blocks is f j, if those below n have one size
 pub block_at-first_blocks_below : {A : Type 0} (size : ℕ) (f : ℕ → List A) (n j : ℕ) → ((j : ℕ) → j < n → length (f j) ≡ size) → j < n → block_at size (first_blocks f n) j ≡ f j
 unfolding block_at first_blocks
 block_at-first_blocks_below size f zero j sizes low = absurd (omega arith)
@@ -70,7 +70,7 @@ block_at-first_blocks_below size f (suc n) j sizes low =
 pub block_at-first_blocks : {A : Type 0} (size : ℕ) (f : ℕ → List A) (n j : ℕ) → ((j : ℕ) → length (f j) ≡ size) → j < n → block_at size (first_blocks f n) j ≡ f j
 block_at-first_blocks size f n j sizes low = block_at-first_blocks_below size f n j (λ j low. sizes j) low
 
--- a block that lies within the list is whole
+-- a block that is within the list is whole
 pub length-block_at : {A : Type 0} (size : ℕ) (xs : List A) (j : ℕ) → size * j + size ≤ length xs → length (block_at size xs j) ≡ size
 unfolding block_at
 length-block_at size xs j within =

@@ -23,7 +23,7 @@ pub get_or-zero_filled : (size : ℕ) (xs : List ℕ) (i : ℕ) → get_or (zero
 unfolding zero_filled
 get_or-zero_filled size xs i = zeros_behind xs (size - length xs) i
 
--- a filled list has the size, or its own length where that is more
+-- a filled list has the size, or its own length if that is greater
 pub length-filled : (size : ℕ) (xs : List ℕ) → length (zero_filled size xs) ≡ max size (length xs)
 unfolding zero_filled
 length-filled size xs = length-append xs (replicate (size - length xs) 0) ∙ ap (λ k. length xs + k) (length-replicate {A = ℕ} (size - length xs) 0) ∙ omega arith
@@ -69,7 +69,7 @@ AreBytes-spliced xs at piece bytes others = AreBytes-append (take at xs) (piece 
 
 -- ---- bytes written into contents
 
--- the place where they begin lies within the contents, once a gap is filled
+-- the place where they begin is within the contents, once a gap is filled
 reached : (at : ℕ) (contents : List ℕ) → at ≤ length (zero_filled at contents)
 reached at contents = omega (arith, length-filled at contents)
 
@@ -87,14 +87,14 @@ with_bytes_before at [] contents i before = refl
 with_bytes_before at (b ∷ bs) contents i before =
     spliced_before (zero_filled at contents) at (b ∷ bs) i (reached at contents) before ∙ get_or-zero_filled at contents i
 
--- and so is a byte behind them
+-- and so is a byte after them
 pub with_bytes_after : (at : ℕ) (bytes contents : List ℕ) (i : ℕ) → at + length bytes ≤ i → get_or (with_bytes at bytes contents) i 0 ≡ get_or contents i 0
 unfolding with_bytes
 with_bytes_after at [] contents i behind = refl
 with_bytes_after at (b ∷ bs) contents i behind =
     spliced_after (zero_filled at contents) at (b ∷ bs) i (reached at contents) behind ∙ get_or-zero_filled at contents i
 
--- between stand the bytes that were written
+-- between are the bytes that were written
 pub with_bytes_in : (at : ℕ) (bytes contents : List ℕ) (i : ℕ) → at ≤ i → i < at + length bytes → get_or (with_bytes at bytes contents) i 0 ≡ get_or bytes (i - at) 0
 unfolding with_bytes
 with_bytes_in at [] contents i from to = absurd (omega arith)

@@ -1,4 +1,4 @@
--- What an in-place loop over blocks keeps: the first blocks are replaced, the rest is as it was.
+-- The invariant of an in-place loop over blocks: the first blocks are replaced, the rest is unchanged.
 use Rattle.std.proofs.Common.{◌≡◌, ℕ, ◌+◌, ◌*◌, ◌≤◌, ◌<◌, List, ◌++◌, length, take, drop, refl, ap, sym, ◌∙◌, append_assoc, mul-zero}
 use Rattle.std.proofs.lemmas.List.{append-nil, take_at, drop_at, drop-drop, drop_all}
 use borrow.Rule.Slice.PartMut.{put_mid}
@@ -10,7 +10,7 @@ pub none_in_place : {A : Type 0} (size : ℕ) (f : ℕ → List A) (xs : List A)
 unfolding first_blocks
 none_in_place size f xs = rw (mul-zero size) refl
 
--- the block that comes next is still the one that was passed, where the blocks before it have one size
+-- the next block is still the one that was passed, if the blocks before it have one size
 pub read_in_place_below : {A : Type 0} (size : ℕ) (f : ℕ → List A) (n : ℕ) (xs was : List A) → ((j : ℕ) → j < n → length (f j) ≡ size) →
     xs ≡ first_blocks f n ++ drop (size * n) was → block_at size xs n ≡ block_at size was n
 unfolding block_at
@@ -22,8 +22,7 @@ pub read_in_place : {A : Type 0} (size : ℕ) (f : ℕ → List A) (n : ℕ) (xs
     xs ≡ first_blocks f n ++ drop (size * n) was → block_at size xs n ≡ block_at size was n
 read_in_place size f n xs was sizes now = read_in_place_below size f n xs was (λ j low. sizes j) now
 
--- The next block is written over: `at` and `count` are where it begins and how long it is, as a
--- goal says them.
+-- The next block is replaced: `at` and `count` are its beginning and its length, as a goal has them.
 pub write_in_place_below : {A : Type 0} (size : ℕ) (f : ℕ → List A) (n at count : ℕ) (xs was ys : List A) → ((j : ℕ) → j < n → length (f j) ≡ size) →
     at ≡ size * n → count ≡ size → xs ≡ first_blocks f n ++ drop (size * n) was → ys ≡ f n →
     put_mid at count xs ys ≡ first_blocks f (n + 1) ++ drop (size * (n + 1)) was

@@ -1,7 +1,7 @@
--- What is known of words in bytes.
+-- Lemmas on words in bytes.
 use Rattle.std.proofs.Common.{◌≡◌, ℕ, suc, ◌+◌, ◌≤◌, ◌<◌, List, [], ◌∷◌, length, take, drop, get_or, ap, ◌∙◌, arith, drop-cons}
 
--- the element at a place, and what stands behind it
+-- the element at a place, and the elements after it
 begun : (xs : List ℕ) (at next : ℕ) → next ≡ at + 1 → at < length xs → drop at xs ≡ get_or xs at 0 ∷ drop next xs
 begun xs at next is within =
     let behind : suc at ≡ next = omega arith in

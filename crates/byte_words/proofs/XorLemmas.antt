@@ -47,7 +47,7 @@ xor_bytes-lt (x ∷ xs) [] xb yb i = yb i
 xor_bytes-lt (x ∷ xs) (y ∷ ys) xb yb zero = xor_of_8 x y (xb 0) (yb 0)
 xor_bytes-lt (x ∷ xs) (y ∷ ys) xb yb (suc i) = xor_bytes-lt xs ys (λ k. xb (suc k)) (λ k. yb (suc k)) i
 
--- one step of a loop that xors ys into xs: below i stands the xor
+-- one step of a loop that xors ys into xs: below i the elements are xored
 pub xor_bytes_more : (xs ys : List ℕ) (i : ℕ) → i < length xs → i < length ys →
     set (xor_bytes (take i xs) (take i ys) ++ drop i xs) i (bit_xor (get_or (xor_bytes (take i xs) (take i ys) ++ drop i xs) i 0) (get_or ys i 0))
     ≡ xor_bytes (take (suc i) xs) (take (suc i) ys) ++ drop (suc i) xs
@@ -69,7 +69,7 @@ unfolding zero_filled
 length-zero_filled size xs short =
     length-append xs (replicate (size - length xs) 0) ∙ ap (λ k. length xs + k) (length-replicate {A = ℕ} (size - length xs) 0) ∙ omega arith
 
--- the list itself stands in front of the zeros
+-- the zeros are after the list itself
 pub take-zero_filled : (size : ℕ) (xs : List ℕ) → take (length xs) (zero_filled size xs) ≡ xs
 unfolding zero_filled
 take-zero_filled size xs = take_at xs (replicate (size - length xs) 0) (length xs) refl

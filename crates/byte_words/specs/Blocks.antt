@@ -3,11 +3,11 @@ use Rattle.std.specs.Prelude.{ℕ, zero, suc, ◌*◌, List, [], ◌++◌, lengt
 use Rattle.std.specs.Int.{div_ceil}
 use Rattle.std.specs.List.{range_with_len}
 
--- the j-th block, shorter where the list ends in it
+-- the j-th block, shorter if the list ends in it
 unfoldable pub block_at : {A : Type 0} → ℕ → List A → ℕ → List A
 block_at size xs j = take size (drop (size * j) xs)
 
--- the list cut into blocks, of which the last may be shorter; an empty list has none
+-- the list divided into blocks, of which the last may be shorter; an empty list has none
 unfoldable pub blocks_of : {A : Type 0} → ℕ → List A → List (List A)
 blocks_of size xs = map (block_at size xs) (range_with_len 0 (div_ceil (length xs) size))
 

@@ -5,6 +5,6 @@ use Rattle.std.specs.Prelude.{◌≡◌, ℕ, ◌<◌, List, length, slice_index
 abbrev pub AreBytes : List ℕ → Type 0
 AreBytes xs = (i : ℕ) → slice_index xs i < 256
 
--- so many bytes
+-- n bytes
 abbrev pub AreBytesOfLength : ℕ → List ℕ → Type 0
 AreBytesOfLength n xs = (length xs ≡ n) × AreBytes xs

@@ -3,8 +3,8 @@
 ghost use Rattle.std.specs.Prelude.{◌≡◌, length};
 ghost use Rattle.std.specs.Str.{bytes_eq};
 
-/// Whether two secrets of the same length are equal. By the form of the code every byte of both is read,
-/// whichever differs first: there is no exit at the first difference, as `==` has one.
+/// Returns whether two secrets of the same length are equal. By the form of the code every byte of both
+/// is read, wherever the first difference is: there is no early exit, as `==` has one.
 pub fn is_same(one: &[u8], other: &[u8]) -> bool
     requires same_length { length one.now ≡ length other.now }
     ensures { result ≡ bytes_eq one.now other.now }

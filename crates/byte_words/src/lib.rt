@@ -1,6 +1,6 @@
-//! What the ciphers and hashes say of bytes: xor of lists, cutting into blocks, filling with zeros,
-//! numbers written as bytes, and contents that are written and read; and the wipe and the comparison of
-//! secrets. The definitions are in specs/, their lemmas in proofs/.
+//! Definitions and functions on bytes for ciphers and hashes: xor of lists, division into blocks, filling
+//! with zeros, numbers written as bytes, and contents that are written and read; and the wipe and the
+//! comparison of secrets. The definitions are in specs/, their lemmas in proofs/.
 #![tactic(auto)]
 
 mod comparison;
@@ -16,7 +16,7 @@ pub use comparison::is_same;
 pub use wiping::{wipe, wipe_words};
 pub use words::{read_word, write_words};
 
-/// Xors `other` into `target`, byte by byte. Both have the same length, in bytes.
+/// Xors `other` into `target`, byte by byte. Both must have the same length, in bytes.
 pub fn xor_into(target: &mut [u8], other: &[u8])
     requires same_length { length target.old ≡ length other.now }
     ensures { target.new ≡ xor_bytes target.old other.now }
@@ -26,15 +26,15 @@ pub fn xor_into(target: &mut [u8], other: &[u8])
     }
 }
 
-/// Does nothing. Its contract is that the numbers of a slice are bytes, as the laws of ciphers ask.
+/// Does nothing. Its contract is that the numbers of a slice are bytes, as the laws of ciphers require.
 pub fn slice_is_bytes(bytes: &[u8])
     ensures { AreBytes bytes.now }
 {
     let _length = bytes.len();
 }
 
-/// Does nothing. Its contract is what it means that bytes are written into contents: they are read
-/// again, all else stays, and the contents grow as far as the last byte that was written.
+/// Does nothing. Its contract is the law of writing bytes into contents: they are read again, the other
+/// bytes stay, and the contents grow up to the last byte that was written.
 pub fn written_bytes_are_read()
     ensures written { WrittenBytesAreRead }
     ensures others { OtherBytesStay }

@@ -4,10 +4,10 @@ ghost use Rattle.std.specs.Prelude.{◌≡◌, length, replicate};
 
 /// Writes a zero over each byte.
 ///
-/// A compiler removes stores that nothing reads, and with them the wipe of an array whose life ends. It may
-/// not remove this call: the call is never inlined, and after the stores it searches for a byte that is zero,
-/// a loop of which LLVM doesn't know that it ends. The first byte is zero by then, so neither a branch nor
-/// the time depends on the bytes that are wiped.
+/// A compiler removes stores that nothing reads, and with them the wipe of an array at the end of its
+/// lifetime. It may not remove this call, which is never inlined. After the stores the call searches for
+/// a byte that is zero, a loop of which LLVM doesn't know that it ends. The first byte is zero by then,
+/// so neither a branch nor the time depends on the bytes that are wiped.
 #[inline(never)]
 pub fn wipe(bytes: &mut [u8])
     ensures { bytes.new ≡ replicate (length bytes.old) 0 }

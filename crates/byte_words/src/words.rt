@@ -3,7 +3,7 @@
 ghost use Rattle.std.specs.Prelude.{◌≡◌, ◌+◌, ◌*◌, ◌≤◌, length};
 ghost use Rattle.byte_words.specs.Words.{bytes_of_words, word_at};
 
-/// Reads word `i` of the bytes, counted from 0.
+/// Returns word `i` of the bytes, counted from 0.
 #[inline]
 pub fn read_word(bytes: &[u8], i: usize) -> u64
     requires within { 8 * i + 8 ≤ length bytes.now }
@@ -22,7 +22,7 @@ pub fn read_word(bytes: &[u8], i: usize) -> u64
     ])
 }
 
-/// Writes the words over `out`, which has 8 bytes for each.
+/// Writes the words to `out`, which must have 8 bytes for each.
 pub fn write_words(words: &[u64], out: &mut [u8])
     requires room { length out.old ≡ 8 * length words.now }
     ensures { out.new ≡ bytes_of_words words.now }

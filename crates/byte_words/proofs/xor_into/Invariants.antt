@@ -1,4 +1,4 @@
--- Below the index stands the xor, from it on what was passed.
+-- Below the index is the xor, from it on the bytes that were passed.
 use Rattle.std.proofs.Common.{◌≡◌, ◌++◌, take, drop}
 use Rattle.byte_words.specs.Xor.{xor_bytes}
 use Rattle.byte_words.proofs.xor_into.Given as goal

@@ -1,4 +1,4 @@
--- Below the index stand the bytes of the words.
+-- Below the index are the bytes of the words.
 use Rattle.std.proofs.Common.{◌≡◌, ◌*◌, length, take}
 use Rattle.byte_words.specs.Words.{bytes_of_words}
 use Rattle.byte_words.proofs.words.write_words.Given as goal
