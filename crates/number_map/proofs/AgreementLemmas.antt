@@ -41,7 +41,7 @@ module _ {V W : Type 0} (f : ℕ → V → W) where
       ∙ sym (get-from_sorted nat_cmp (mapped (entries plain)) q sorted ∙ find_mapped q (entries plain))) in
       ap entries same ∙ entries-from_sorted nat_cmp (mapped (entries plain)) sorted
 
--- where the function looks at the value alone
+-- if the function depends only on the value
 pub agree_entries : {V W : Type 0} (f : V → W) (plain : Numbered V) (stored : Numbered W) → AgreesUnder f plain stored
     → entries stored ≡ map (λ e. (e.0, f e.1)) (entries plain)
 agree_entries f plain stored agree = agree_entries_by (λ _. f) plain stored agree

@@ -24,7 +24,7 @@ module _ {V : Type 0} where
   pub remove_other : (m : Numbered V) (k q : ℕ) → (q ≢ k) → get (remove m k) q ≡ get m q
   remove_other m k q differ = get-remove nat_cmp_total m k q ∙ ap (λ b. cond b None (get m q)) (untied q k differ)
 
-  -- what `changed` is, where the map has a value and where it has none
+  -- `changed` if the map has a value, and if it has none
   pub changed_Some : (m : Numbered V) (k : ℕ) (f : V → V) (v : V) → get m k ≡ Some v → changed m k f ≡ insert m k (f v)
   unfolding changed
   changed_Some m k f v has = ap (changed_to f m k) has
@@ -88,7 +88,7 @@ module _ {V : Type 0} where
         | inr differ ↦ remove_other _ k q differ ∙ insert_other m k v q differ
       ])
 
-  -- of two values put at one number the later stands
+  -- if two values are put at one number, the later one is retained
   pub insert_again : (m : Numbered V) (k : ℕ) (v w : V) → insert (insert m k v) k w ≡ insert m k w
   insert_again m k v w =
       same_numbered _ _ (λ q. elim (cases_eq q k) [

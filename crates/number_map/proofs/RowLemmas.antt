@@ -176,7 +176,7 @@ module _ {V : Type 0} where
   pub none_rising : (slots : List (Slot V)) → slots ≡ [] → IsRising slots 0
   none_rising slots none = subst (λ (ss : List (Slot V)). IsRising ss 0) (sym none) (record { rising = sorted_none; counted = refl })
 
-  -- so many more have a value once the slot has this one
+  -- how the number of values changes once the slot has this value
   pub length_set : (slots : List (Slot V)) (at : ℕ) (old new : Slot V) → slice_get slots at ≡ Some old →
       length (filled (set slots at new)) + cond (is_some old.value) 1 0 ≡ length (filled slots) + cond (is_some new.value) 1 0
   length_set [] at old new got = absurd (cc)

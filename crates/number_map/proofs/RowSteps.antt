@@ -43,7 +43,7 @@ module _ {V : Type 0} where
             omega arith
       ]
 
-  -- a number has a slot only where it would come
+  -- a number has a slot only at the place where it would be put
   only_there : (slots : List (Slot V)) (at number : ℕ) → IsSorted (numbers slots) → ((k : ℕ) → k < at → at_place slots k < number) → ((k : ℕ) → at ≤ k → k < length slots → number ≤ at_place slots k) →
       ((at < length slots) × (at_place slots at ≡ number) → ⊥) → (k : ℕ) → k < length slots → (at_place slots k ≢ number)
   only_there slots at number sorted lower others lacks k within same =

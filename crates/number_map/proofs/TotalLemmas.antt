@@ -97,6 +97,6 @@ module _ {V : Type 0} (count : V → ℕ) where
   changed_by_case m k f None is same = ap total (changed_None m k f is)
   changed_by_case m k f (Some v) is same = omega (arith, total_changed_to m k f v is, same v)
 
-  -- a change that keeps what the value counts
+  -- a change that doesn't change the value's count
   pub total_changed : (m : Numbered V) (k : ℕ) (f : V → V) → ((v : V) → count (f v) ≡ count v) → total (changed m k f) ≡ total m
   total_changed m k f same = changed_by_case m k f (get m k) refl same

@@ -1,4 +1,4 @@
--- What a `NumberMap` ends as, where a `&mut` to one of its values is returned.
+-- The value of a `NumberMap` after a borrow: a `&mut` to one of its values is returned.
 use Rattle.std.specs.Prelude.{ℕ, Option}
 use Rattle.std.specs.Borrow.{LendsIf, Fml, RattleType, MutBor}
 use Rattle.number_map.specs.Numbered.{Numbered, insert}

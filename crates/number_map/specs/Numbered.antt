@@ -1,4 +1,4 @@
--- Finite maps from numbers to values, and the changes that are made to them.
+-- Finite maps from numbers to values, and their changes.
 use Rattle.std.specs.Prelude.{◌≡◌, ℕ, Option, Some, None, option_map}
 use Rattle.std.specs.FinMap.{FinMap}
 use Rattle.std.specs.Ordering.{nat_cmp}
@@ -8,7 +8,7 @@ pub use Rattle.std.specs.FinMap.{empty, get, contains_key, insert, remove, len, 
 abbrev pub Numbered : Type 0 → Type 0
 Numbered V = FinMap nat_cmp V
 
--- the map with f of the value that it is told to have at the number; at `None` the map itself
+-- the map with f of the given value at the number; at `None` the map itself
 abbrev pub changed_to : {V : Type 0} → (V → V) → Numbered V → ℕ → Option V → Numbered V
 changed_to f m number None = m
 changed_to f m number (Some value) = insert m number (f value)

@@ -23,8 +23,8 @@ use std::marker::Model;
 
 /// A map from numbers to values, seen as the finite map of its values by number.
 ///
-/// Numbers are expected to come from a counter: then a look-up, an insertion and a removal take the same
-/// time however many there are (`RisingMap`).
+/// Numbers are expected to come from a counter. Then a look-up, an insertion and a removal take the same
+/// time for any number of values (`RisingMap`).
 #[derive(Drop)]
 pub struct NumberMap<V> {
     slots: Slab<V>,
@@ -50,7 +50,7 @@ impl<V> Model for NumberMap<V> {
 impl<V: Drop> NumberMap<V> {
     ghost use Rattle.number_map.specs.Lends.{LendsValue};
 
-    /// An empty map. It takes no memory.
+    /// Returns an empty map. Allocates nothing.
     pub fn new(alloc: Global) -> Self
         ensures { result ≡ map.empty }
     {
@@ -60,14 +60,14 @@ impl<V: Drop> NumberMap<V> {
         }
     }
 
-    /// The number of numbers that have a value.
+    /// Returns how many numbers have a value.
     pub fn len(&self) -> usize
         ensures { result ≡ map.len self.now }
     {
         self.index.len()
     }
 
-    /// The value at `number`, if there is one.
+    /// Returns the value at `number`, if there is one.
     pub fn get(&self, number: u32) -> Option<&V>
         ensures { option_copied result ≡ map.get self.now number }
     {
@@ -77,7 +77,7 @@ impl<V: Drop> NumberMap<V> {
         }
     }
 
-    /// The numbers and their values, by rising number.
+    /// Iterates over the numbers and their values, by rising number.
     pub fn iter(&self) -> Iter<'_, V>
         ensures rest { result ≡ map.entries self.now }
     {
@@ -87,7 +87,7 @@ impl<V: Drop> NumberMap<V> {
         }
     }
 
-    /// The value at `number` for writing, if there is one. Every other number keeps its value.
+    /// Returns the value at `number` for writing, if there is one. The values at other numbers stay.
     pub fn get_mut(&mut self, number: u32) -> Option<&mut V>
         ensures* writes_back { sem 𝓛 (LendsValue V.row self.entry number result) }
         ensures value { option_copied_mut result ≡ map.get self.old number }
@@ -98,9 +98,10 @@ impl<V: Drop> NumberMap<V> {
         self.slots.get_mut(key)
     }
 
-    /// Puts `value` at `number`, in place of the value that is there, if any.
+    /// Puts `value` at `number`, replacing the value that is there, if any.
     ///
-    /// Where there is no memory for one more, the map is as before, and no slot keeps the value.
+    /// The only error is out of memory, and only if the number has no value. The map is then unchanged,
+    /// and `value` is dropped.
     pub fn set(&mut self, number: u32, value: V) -> Result<(), AllocError>
         ensures put { OnOk result (self.new ≡ map.insert self.old number value) }
         ensures kept { OnErr result (self.new ≡ self.old) }
@@ -117,7 +118,7 @@ impl<V: Drop> NumberMap<V> {
         Ok(())
     }
 
-    /// Takes the value at `number` out, if there is one. It takes no memory.
+    /// Removes the value at `number` and returns it, if there is one. Allocates nothing.
     pub fn remove(&mut self, number: u32) -> Option<V>
         ensures value { result ≡ map.get self.old number }
         ensures removed { self.new ≡ map.remove self.old number }

@@ -13,10 +13,10 @@ use std::marker::Model;
 
 /// Values by number, seen as the list of the numbers with their values, by rising number.
 ///
-/// Numbers are expected to come from a counter. Then a new one is pushed at the end of the row, and one is
-/// found in the last slot, or as many slots after the first as it is greater; both take the same time
-/// however many there are. Any other number is found by halving. The slot of a removed value stays empty
-/// until clearly more than half of the slots are.
+/// Numbers are expected to come from a counter. Then a new one is pushed at the end of the row. A number
+/// is found in the last slot, or as many slots after the first as it is greater. Both take the same time
+/// for any number of values. Any other number is found by binary search. The slot of a removed value
+/// stays empty until clearly more than half of the slots are.
 #[derive(Drop)]
 pub struct RisingMap<V> {
     slots: Vec<Slot<V>>,
@@ -36,7 +36,7 @@ impl<V> Model for RisingMap<V> {
 }
 
 impl<V: Drop> RisingMap<V> {
-    /// No values. It takes no memory.
+    /// Returns a map without values. Allocates nothing.
     pub fn new(alloc: Global) -> Self
         ensures { result ≡ [] }
     {
@@ -46,7 +46,7 @@ impl<V: Drop> RisingMap<V> {
         }
     }
 
-    /// How many numbers have a value.
+    /// Returns how many numbers have a value.
     pub fn len(&self) -> usize
         ensures value { result ≡ length self.now }
         ensures rising { IsStrictlySortedBy nat_cmp (keys_of self.now) }
@@ -54,7 +54,7 @@ impl<V: Drop> RisingMap<V> {
         self.count
     }
 
-    /// The value at the number, if there is one.
+    /// Returns the value at the number, if there is one.
     pub fn get(&self, number: u64) -> Option<&V>
         ensures { option_copied result ≡ value_at self.now number }
     {
@@ -64,8 +64,8 @@ impl<V: Drop> RisingMap<V> {
         }
     }
 
-    /// Puts the value at the number, in place of the one that is there, if any. Out of memory, all is as
-    /// before.
+    /// Puts the value at the number, replacing the one that is there, if any. The only error is out of
+    /// memory; the map is then unchanged.
     pub fn put(&mut self, number: u64, value: V) -> Result<(), AllocError>
         ensures put { OnOk result (self.new ≡ insert_entry nat_cmp self.old number value) }
         ensures kept { OnErr result (self.new ≡ self.old) }
@@ -83,7 +83,7 @@ impl<V: Drop> RisingMap<V> {
         Ok(())
     }
 
-    /// Takes the value at the number out, if there is one. It takes no memory.
+    /// Removes the value at the number and returns it, if there is one. Allocates nothing.
     pub fn remove(&mut self, number: u64) -> Option<V>
         ensures value { result ≡ value_at self.old number }
         ensures removed { self.new ≡ remove_entry (eq_by_cmp nat_cmp number) self.old }
@@ -97,7 +97,7 @@ impl<V: Drop> RisingMap<V> {
         Some(gone)
     }
 
-    /// The numbers with their values, by rising number.
+    /// Iterates over the numbers with their values, by rising number.
     pub fn iter(&self) -> Entries<'_, V>
         ensures rest { result ≡ self.now }
         ensures rising { IsStrictlySortedBy nat_cmp (keys_of self.now) }
@@ -107,7 +107,7 @@ impl<V: Drop> RisingMap<V> {
         }
     }
 
-    /// The values, by rising number.
+    /// Iterates over the values, by rising number.
     pub fn values(&self) -> Values<'_, V>
         ensures { result ≡ values_of self.now }
     {

@@ -17,7 +17,7 @@ pub(crate) struct Slot<V> {
     pub(crate) value: Option<V>,
 }
 
-// Empty slots stay while half of the slots are no more than those with a value and this many.
+// Empty slots stay unless half of the slots are more than those with a value and this many.
 const SPARE_SLOTS: usize = 16;
 
 // Whether the slot at the place has the number.
@@ -31,7 +31,7 @@ fn has<V>(slots: &[Slot<V>], at: usize, number: u64) -> bool
     }
 }
 
-// How many slots have a lower number, found by halving.
+// The number of slots with a lower number, found by binary search.
 fn lower_count<V>(slots: &[Slot<V>], number: u64) -> usize
     requires { IsStrictlySortedBy nat_cmp (numbers slots.now) }
     ensures within { result ≤ length slots.now }
@@ -63,7 +63,7 @@ fn is_above<V>(slots: &[Slot<V>], number: u64) -> bool
     }
 }
 
-// How much the number is above the first: its place, if each number in between has a slot.
+// The distance of the number from the first: its place, if each number in between has a slot.
 fn likely_place<V>(slots: &[Slot<V>], number: u64) -> usize {
     match slots.first() {
         Some(first) => number.saturating_sub(first.number) as usize,
@@ -72,7 +72,7 @@ fn likely_place<V>(slots: &[Slot<V>], number: u64) -> usize {
 }
 
 // The place of the number's slot. If there is none, the number has no value. The last slot and the likely
-// place are tried first, since newest numbers are asked for most, and most rows have no gaps.
+// place are tried first, since the newest numbers are asked for most often, and most rows have no gaps.
 pub(crate) fn place_of<V>(slots: &[Slot<V>], number: u64) -> Option<usize>
     requires { IsStrictlySortedBy nat_cmp (numbers slots.now) }
     ensures found { IfSome result
@@ -97,8 +97,8 @@ pub(crate) fn place_of<V>(slots: &[Slot<V>], number: u64) -> Option<usize>
     None
 }
 
-// Puts a slot with a value in the place of its number, and returns whether the number had no value. Out of
-// memory, the slots are as before.
+// Puts a slot with a value in the place of its number, and returns whether the number had no value. After
+// an error the slots are unchanged.
 pub(crate) fn put_slot<V: Drop>(slots: &mut Vec<Slot<V>>, slot: Slot<V>) -> Result<bool, AllocError>
     requires rising { IsStrictlySortedBy nat_cmp (numbers slots.old.items) }
     requires filled { IsTrue (is_some slot.value) }
@@ -124,7 +124,7 @@ pub(crate) fn put_slot<V: Drop>(slots: &mut Vec<Slot<V>>, slot: Slot<V>) -> Resu
     Ok(true)
 }
 
-// Takes the value of the slot out.
+// Removes the value from the slot and returns it.
 pub(crate) fn take_value<V: Drop>(slots: &mut Vec<Slot<V>>, at: usize) -> Option<V>
     requires { at < vec_len slots.old }
     ensures { (slot : Stored V) → slice_get slots.old.items at ≡ Some slot → (result ≡ slot.value)

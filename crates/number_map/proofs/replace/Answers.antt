@@ -1,4 +1,4 @@
--- One slot keeps having a value.
+-- One slot has a value before and after.
 use Rattle.number_map.proofs.SlotLemmas.{count_written}
 use Rattle.number_map.proofs.replace.Goals as goal
 

@@ -1,4 +1,4 @@
--- A number that has a value keeps its slot; a new one takes the vacant slot.
+-- A number that has a value retains its slot; a new one uses the vacant slot.
 use Rattle.std.proofs.Common.{rules, ◌≡◌, ◌<◌, ◌^◌, ℕ, ◌+◌, length, List, Some, None, is_some, sym, ap, ◌∙◌, refl, arith}
 use Rattle.slab.specs.Slab.{get, slab_len}
 use Rattle.number_map.specs.Numbered as map

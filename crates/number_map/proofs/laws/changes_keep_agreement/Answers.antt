@@ -1,4 +1,4 @@
--- Each change keeps it by a lemma.
+-- Each change preserves the agreement by a lemma.
 use Rattle.number_map.proofs.NumberedLemmas as lemma
 use Rattle.number_map.proofs.laws.changes_keep_agreement.Goals as goal
 

@@ -1,4 +1,4 @@
--- The number has no slot where it would be put.
+-- The number has no slot at the place where it would be put.
 use Rattle.std.proofs.Common.{◌≡◌, true, false, refl}
 use Rattle.number_map.proofs.RowSteps.{not_found, none_above}
 use Rattle.number_map.proofs.row.place_of.Goals as goal
