@@ -9,7 +9,8 @@ use mount_model::{Call, MountPort, Reply};
 use mount_shared::{Mount, SerialMount};
 use std::alloc::{AllocError, Global};
 
-/// Makes two calls on a new mount that nobody else calls, both as caller 0, and gives their replies.
+/// Makes two calls on a new mount that has no other callers, both as caller 0, and returns their replies.
+/// The only error is out of memory.
 pub fn ask_new_mount(
     alloc: Global,
     first: &Call,

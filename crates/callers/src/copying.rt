@@ -9,23 +9,23 @@ ghost use Rattle.callers.specs.declared.copying.TheConstants.{PAGE};
 use fsc_outside::{InputFault, InputLimits, Sink, Source, read_all, write_all};
 use std::alloc::Global;
 
-/// What a page holds.
+/// The limits of a page.
 const PAGE: InputLimits = InputLimits {
     bytes: 4096,
     lines: 60,
 };
 
-/// Why nothing, or not all, was copied.
+/// Why no text, or not the whole text, was copied.
 #[derive(Debug, Drop)]
 pub enum CopyFault {
-    /// The source failed, gave too much, or its text found no memory.
+    /// The source failed, its text was too long, or there was no memory for it.
     Read(InputFault),
     /// The sink failed.
     Write,
 }
 
-/// At most a page of text goes from the source to the sink, whole, once it was read to its end. Where reading
-/// fails, as `read_all` does, the sink stays as it was; where writing fails, the sink got less than the text.
+/// Copies a text of at most a page from the source to the sink, once it was read to its end. If reading
+/// fails, as in `read_all`, the sink is unchanged. If writing fails, the sink got less than the text.
 pub fn copy<S: Source, K: Sink>(
     alloc: Global,
     source: &mut S,

@@ -8,8 +8,8 @@ ghost use Rattle.disk_tree.specs.Entries.{number_under};
 
 use disk_tree::DiskTree;
 
-/// Takes the name out of the directory, and the node that it led to off the disk. Whether there was
-/// such a name.
+/// Removes the name from the directory, and the node to which it resolves from the disk. Returns whether
+/// there was such a name; if not, the disk is unchanged.
 pub fn erase(disk: &mut DiskTree, dir: u32, name: &[u8]) -> bool
     ensures told { result ≡ is_some (number_under name.now (children disk.old dir)) }
     ensures gone { IfSome (number_under name.now (children disk.old dir))

@@ -7,8 +7,8 @@ ghost use Rattle.key_ring.specs.Holding.{secrets_left};
 
 use key_ring::{KeyId, KeyRing};
 
-/// How many users still claim the key once this one has let it go, and with the last claim the secret goes;
-/// none exactly where it had no claim.
+/// Removes the user's claim on the key, and with the last claim the secret. Returns the number of claims
+/// that remain on the key, or `None` exactly when the user had no claim.
 pub fn let_go(ring: &mut KeyRing, id: &KeyId, uid: u32) -> Option<u32>
     ensures held { is_some result ≡ has_claim ring.old.claims id.now uid }
     ensures claims { IfSome result (λ _. ring.new.claims ≡ without_claim ring.old.claims id.now uid) }

@@ -16,7 +16,7 @@ use policy_ctx::{Pad, Policy, Unit, encode_policy};
 use std::alloc::Global;
 use turn_lock::Machine;
 
-/// A mount, a key that was given up, and what the mount told of it then.
+/// A mount, a key whose claim was removed, and the mount's reply on the key's status then.
 #[derive(Drop)]
 pub struct Locked {
     pub mount: Mount,
@@ -24,8 +24,8 @@ pub struct Locked {
     pub told: Reply,
 }
 
-/// Writes a file into an encrypted directory of a new mount, gives the key up, so that no claim is left, and
-/// asks for its status. None where there is no memory, or a reply isn't the one that is wanted.
+/// Writes a file into an encrypted directory of a new mount, removes the only claim on the key, and asks
+/// for the key's status. Returns `None` if there is no memory, or a reply isn't the expected one.
 pub fn write_and_lock(alloc: Global, raw: &[u8], nonces: &[[u8; 16]; 3]) -> Option<Locked>
     ensures id { IfSome result (λ l. l.id ≡ key_id_of raw.now) }
     ensures claims { IfSome result (λ l. l.mount.state.ring.claims ≡ no_claims) }
@@ -37,7 +37,8 @@ pub fn write_and_lock(alloc: Global, raw: &[u8], nonces: &[[u8; 16]; 3]) -> Opti
     Some(Locked { mount, id, told })
 }
 
-// The same in a mount that is lent: tells the key's identifier, and what the mount told of it.
+// The same in a mount that is passed by reference: returns the key's identifier, and the mount's reply on
+// its status.
 fn write_in(
     alloc: Global,
     mount: &mut Mount,
@@ -55,7 +56,7 @@ fn write_in(
     Some((id, reply))
 }
 
-// Adds the key, makes the directory and the file under it, and tells the key's identifier.
+// Adds the key, makes the directory and the file under it, and returns the key's identifier.
 fn fill(alloc: Global, mount: &mut Mount, raw: &[u8], nonces: &[[u8; 16]; 3]) -> Option<KeyId>
     ensures id { IfSome result (λ id. id ≡ key_id_of raw.now) }
     ensures claims { IfSome result (λ id. mount.new.state.ring.claims
@@ -68,7 +69,7 @@ fn fill(alloc: Global, mount: &mut Mount, raw: &[u8], nonces: &[[u8; 16]; 3]) ->
     Some(id)
 }
 
-// Gives the key up, and asks for its status.
+// Removes the claim on the key, and asks for its status.
 fn lock(mount: &mut Mount, id: KeyId) -> Option<Reply>
     ensures claims { IfSome result (λ _. mount.new.state.ring.claims
         ≡ without_claim mount.old.state.ring.claims id 1000) }
@@ -81,7 +82,7 @@ fn lock(mount: &mut Mount, id: KeyId) -> Option<Reply>
     ask(mount, Op::KeyStatus { id })
 }
 
-// Adds the key, and tells its identifier.
+// Adds the key, and returns its identifier.
 fn add(mount: &mut Mount, raw: Bytes) -> Option<KeyId>
     ensures id { IfSome result (λ id. id ≡ key_id_of raw) }
     ensures claims { IfSome result (λ id. mount.new.state.ring.claims
@@ -133,7 +134,7 @@ fn write(alloc: Global, mount: &mut Mount, file: &Path, nonce: [u8; 16]) -> Opti
     done(ask(mount, Op::Close { handle })?)
 }
 
-// Names are padded to 32 bytes, and contents are cut into blocks.
+// Names are padded to 32 bytes, and contents are divided into blocks.
 fn policy_of(id: KeyId) -> Policy {
     Policy {
         pad: Pad::P32,
@@ -143,7 +144,7 @@ fn policy_of(id: KeyId) -> Policy {
     }
 }
 
-// What the mount replies to user 1000; none where it may not be asked.
+// The mount's reply to user 1000, or `None` if the call may not be asked.
 fn ask(mount: &mut Mount, op: Op) -> Option<Reply>
     ensures claims { IfSome result (λ reply. mount.new.state.ring.claims ≡ claims_left
         mount.old.state.ring.claims (entry 0 (record { uid = 1000; op = op }) reply)) }
@@ -158,7 +159,7 @@ fn ask(mount: &mut Mount, op: Op) -> Option<Reply>
     Some(Mount::finish(lent))
 }
 
-// That it is done.
+// `Some` if the reply is that the call is done.
 fn done(reply: Reply) -> Option<()>
     ensures { IfSome result (λ _. reply ≡ Done) }
 {
@@ -168,7 +169,7 @@ fn done(reply: Reply) -> Option<()>
     }
 }
 
-// The handle, where one was opened.
+// The handle, if one was opened.
 fn opened(reply: Reply) -> Option<u32>
     ensures { IfSome result (λ handle. reply ≡ Opened handle) }
 {
@@ -178,7 +179,7 @@ fn opened(reply: Reply) -> Option<u32>
     }
 }
 
-// The bytes in memory of their own.
+// A copy of the bytes.
 fn bytes(alloc: Global, of: &[u8]) -> Option<Bytes>
     ensures { IfSome result (λ copy. copy ≡ of.now) }
 {
@@ -186,7 +187,7 @@ fn bytes(alloc: Global, of: &[u8]) -> Option<Bytes>
     Some(Bytes::from_vec(copy))
 }
 
-// The path with a part more.
+// The path with one part more.
 fn below(alloc: Global, path: Path, name: &[u8]) -> Option<Path> {
     let mut path = path;
     path.push(Part::new(bytes(alloc, name)?)).ok()?;

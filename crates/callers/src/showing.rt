@@ -11,8 +11,8 @@ use name_crypt::{NameCipher, NoKeyText, Plain, PlainFault, Steps, nokey_text};
 use policy_ctx::Pad;
 use std::sync::ledger::Ledger;
 
-/// How a directory shows the name while its key isn't there. Refused exactly where `Plain::read` is, and as
-/// that is.
+/// Returns the text by which a directory shows the name if its key is absent. Returns the error of
+/// `Plain::read` exactly when that has one.
 pub fn shown<L: Ledger>(
     key: &[u8; 32],
     pad: Pad,

@@ -9,8 +9,8 @@ use std::alloc::{AllocFailed, Global};
 use std::sync::Wait;
 use turn_lock::{Machine, Pass, Shared, Worn};
 
-/// The machine behind a turn, and a pass for one caller with two calls. For want of memory the
-/// machine comes back.
+/// Returns the machine shared by turns, and a pass for one caller with two calls. The only error is out
+/// of memory; it returns the machine.
 pub fn begun<M: Machine>(alloc: Global, machine: M) -> Result<(Shared<M>, Pass<M>), AllocFailed<M>>
     requires { M.leads [] machine }
     ensures shared { IfOk result (λ r. (r.0.numbers ≡ 1) × (r.0.allowance ≡ 2)) }
@@ -20,8 +20,8 @@ pub fn begun<M: Machine>(alloc: Global, machine: M) -> Result<(Shared<M>, Pass<M
     Shared::start(alloc, machine, 1, 2)
 }
 
-/// Makes two calls, the second at a later place, and gives both replies. `Worn` exactly where the pass has
-/// fewer left: one that it has is then used up by the first call.
+/// Makes two calls, the second at a later place, and returns both replies. Returns `Worn` exactly when
+/// the pass has fewer calls left: if it has one, the first call has used it up.
 pub fn ask_twice<M: Machine, W: Wait>(
     rt: &W,
     shared: &Shared<M>,
