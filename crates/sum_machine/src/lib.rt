@@ -1,4 +1,4 @@
-//! A small machine to share: it adds up numbers below 1,000, and answers each with the sum so far.
+//! A small machine to share: it adds up numbers below 1,000, and replies to each with the sum so far.
 #![tactic(auto)]
 
 ghost use Rattle.std.specs.Prelude.{◌≡◌, ◌<◌};
@@ -18,7 +18,7 @@ pub struct Sum {
 }
 
 impl Sum {
-    /// Nothing is added yet.
+    /// Returns the machine with sum 0.
     pub fn new() -> Sum
         ensures { result.total ≡ 0 }
     {

@@ -9,7 +9,7 @@ use std::thread;
 use std::thread::join;
 use turn_lock::{Machine, Pass, Shared};
 
-// What two callers tell each other while they call.
+// The flags by which two callers signal each other during their calls.
 #[derive(Drop)]
 struct Flags {
     begun: AtomicU64,
@@ -17,7 +17,7 @@ struct Flags {
     ran_out: AtomicU64,
 }
 
-// Looks at the flag until it is raised, a hundred million times at most.
+// Polls the flag until it is raised, at most a hundred million times.
 fn is_raised(flag: &AtomicU64) -> bool {
     for _ in 0..100_000_000u32 {
         if flag.load(Ordering::SeqCst) == 1 {
@@ -28,7 +28,7 @@ fn is_raised(flag: &AtomicU64) -> bool {
     false
 }
 
-/// A machine whose `finish` for caller 0 waits until caller 1 is answered.
+/// A machine whose `finish` for caller 0 waits until caller 1 has its reply.
 #[derive(Drop)]
 struct Signals {
     flags: Arc<Flags, Global>,
@@ -70,7 +70,7 @@ impl Machine for Signals {
     ghost leads_lawful = { λ _ _ _. tt };
 }
 
-// Caller 1 begins once caller 0 has begun, and says when it is answered.
+// Caller 1 begins once caller 0 has begun, and signals when it has its reply.
 fn call_second<W: Wait>(
     rt: &W,
     shared: &Shared<Signals>,

@@ -73,7 +73,7 @@ impl NumberMachine for Sum {
     ghost takes_small = { λ number small. small };
 }
 
-// One caller's calls: the places that it was told.
+// Makes one caller's calls, and returns their places.
 fn run_one<M: NumberMachine, W: Wait>(
     rt: &W,
     alloc: Global,
@@ -96,7 +96,8 @@ fn run_one<M: NumberMachine, W: Wait>(
 
 type Told = Result<Vec<Vec<u64>>, AllocError>;
 
-// Each caller of the pass in a thread of its own: the pass again, and the places that each was told.
+// Runs each caller of the pass in a thread of its own. Returns the pass again, and the places of each
+// caller's calls.
 fn run_all<M: NumberMachine + Send, R: Threads + Wait + Sync>(
     rt: &R,
     alloc: Global,
@@ -148,7 +149,7 @@ fn both(told: Told, more: Told) -> Told {
     Ok(told)
 }
 
-// Marks the places of one caller: false where they don't rise, or one is marked already.
+// Marks the places of one caller. Returns false if they don't rise, or one is marked already.
 fn mark(seen: &mut [bool], places: &[u64]) -> bool {
     let mut least = 0;
     for place in places.iter() {
@@ -165,7 +166,7 @@ fn mark(seen: &mut [bool], places: &[u64]) -> bool {
     true
 }
 
-// Whether each caller was told as many places, which rise, and no place twice.
+// Whether each caller has `calls` places, which rise, and no place twice.
 fn each_once(
     alloc: Global,
     told: &[Vec<u64>],
