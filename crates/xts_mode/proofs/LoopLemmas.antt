@@ -11,12 +11,12 @@ use Rattle.xts_mode.proofs.GroupLemmas.{part_is_group, grouped, length-grouped, 
 use Rattle.xts_mode.proofs.TweakLemmas.{length-tweaked, tweak_at_next}
 use Rattle.xts_mode.proofs.UnitLemmas.{tweaked_blocks, unit_done}
 
--- so many groups are done, and the tweak is that of the next block
+-- g groups are done, and the tweak is that of the next block
 pub record GroupsDone (cipher : List ℕ → List ℕ) (key : List ℕ) (index : ℕ) (unit now : List ℕ) (tweak g : ℕ) : Type 0 where
   pub running : tweak ≡ tweak_at key index (8 * g)
   pub replaced : now ≡ first_blocks (grouped (tweaked_blocks cipher key index unit)) g ++ drop (128 * g) unit
 
--- so many blocks are done, and the tweak is that of the next
+-- j blocks are done, and the tweak is that of the next
 pub record BlocksDone (cipher : List ℕ → List ℕ) (key : List ℕ) (index : ℕ) (unit now : List ℕ) (tweak j : ℕ) : Type 0 where
   pub running : tweak ≡ tweak_at key index j
   pub replaced : now ≡ first_blocks (tweaked_blocks cipher key index unit) j ++ drop (16 * j) unit

@@ -1,4 +1,5 @@
--- Groups of eight blocks, as the code takes them. These words describe the code and not the standard.
+-- Groups of eight blocks, as the code processes them. These definitions describe the code and not the
+-- standard.
 use Rattle.std.specs.Prelude.{ℕ, zero, suc, List}
 use Rattle.byte_words.specs.Blocks.{block_at, first_blocks}
 use Rattle.xts_mode.specs.Xts.{times_alpha, tweaked}

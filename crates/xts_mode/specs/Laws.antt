@@ -20,7 +20,7 @@ EncryptionUndoes =
     (key : List ℕ) (index : ℕ) (unit : List ℕ) → AreBytes key → IsUnit unit
     → xts_encrypted key index (xts_decrypted key index unit) ≡ unit
 
--- both keep the length, and make bytes
+-- both preserve the length, and return bytes
 abbrev pub KeepsLength : Type 0
 KeepsLength = (key : List ℕ) (index : ℕ) (unit : List ℕ) → length unit % 16 ≡ 0 →
     (length (xts_encrypted key index unit) ≡ length unit)

@@ -1,4 +1,4 @@
--- XTS-AES-256 on whole blocks (IEEE 1619, 5). A key is 64 bytes: the first half enciphers, the second
+-- XTS-AES-256 on whole blocks (IEEE 1619, 5). A key is 64 bytes: the first half encrypts, the second
 -- makes the tweaks. A data unit is a list of blocks of 16 bytes.
 use Rattle.std.specs.Prelude.{ℕ, zero, suc, ◌*◌, ◌/◌, ◌%◌, ◌^◌, List, ◌++◌, length}
 use Rattle.std.specs.Prelude.{take, drop, replicate, bit_xor, nat_lt, if◌then◌else◌}
@@ -7,8 +7,8 @@ use Rattle.byte_words.specs.Numbers.{little_endian_bytes, little_endian_value}
 use Rattle.byte_words.specs.Xor.{xor_bytes}
 use Rattle.aes_core.specs.Aes.{encrypted_block, decrypted_block}
 
--- the product by α (5.2): the double of a number of 128 bits, and 0x87 added to its lowest byte
--- where a bit falls out
+-- the product by α (5.2): twice a number of 128 bits, with 0x87 xored into its lowest byte if a bit is
+-- shifted out
 unfoldable pub times_alpha : ℕ → ℕ
 times_alpha t = bit_xor (2 * t % 2 ^ 128) (if nat_lt t (2 ^ 127) then 0 else 0x87)
 

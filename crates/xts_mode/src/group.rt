@@ -15,10 +15,11 @@ use std::simd::prelude::*;
 
 pub(crate) const GROUP_BYTES: usize = 128;
 
-/// What is added to each block of a group: its tweak, low byte first.
+/// The mask that is xored to each block of a group: its tweak, low byte first.
 type Masks = [u8x16; 8];
 
-// By its two halves of 8 bytes, since 16 single bytes would go into the vector one by one.
+// Built from its two halves of 8 bytes, since 16 single bytes would be inserted into the vector one by
+// one.
 #[inline(always)]
 fn mask_of(tweak: u128) -> u8x16
     ensures { result ≡ little_endian_bytes 16 tweak }

@@ -18,7 +18,7 @@ use std::marker::Model;
 /// halves are not refused.
 #[derive(Drop)]
 pub struct XtsKey {
-    // Enciphers the blocks.
+    // Encrypts the blocks.
     cipher: Aes256,
     // Makes the first tweak of a unit.
     tweaker: Aes256,
@@ -33,7 +33,7 @@ impl Model for XtsKey {
 }
 
 impl XtsKey {
-    /// Makes the round keys of both halves.
+    /// Returns the key, with the round keys of both halves.
     pub fn new(key: &[u8; 64]) -> XtsKey
         ensures { result ≡ key.now }
     {
@@ -42,7 +42,7 @@ impl XtsKey {
         made
     }
 
-    /// The key of 64 zeros: room for another.
+    /// Returns the key of 64 zeros, in which another key can be set.
     pub fn zeros() -> XtsKey
         ensures { result ≡ replicate 64 0 }
     {
@@ -52,7 +52,7 @@ impl XtsKey {
         }
     }
 
-    /// Makes the round keys of both halves of `key`, where those of the key before stand.
+    /// Replaces the key by `key`, and the round keys of both halves in place.
     pub fn set(&mut self, key: &[u8; 64])
         ensures { self.new ≡ key.now }
     {
@@ -60,7 +60,7 @@ impl XtsKey {
         self.tweaker.set(&key[32..]);
     }
 
-    /// Overwrites the key and its round keys where they stand. It is then the key of 64 zeros.
+    /// Wipes the key and its round keys in place. It is then the key of 64 zeros.
     pub fn wipe(&mut self)
         ensures { self.new ≡ replicate 64 0 }
     {
@@ -68,7 +68,7 @@ impl XtsKey {
         self.tweaker.wipe();
     }
 
-    /// Encrypts the unit with this index, in place. Its length is a multiple of 16 bytes.
+    /// Encrypts the unit with this index, in place. Its length must be a multiple of 16 bytes.
     #[inline(never)]
     pub fn encrypt_unit(&self, index: u64, unit: &mut [u8])
         requires whole_blocks { length unit.old % 16 ≡ 0 }
@@ -76,7 +76,7 @@ impl XtsKey {
     {
         let mut tweak = self.first_tweak(index);
         let groups = unit.len() / GROUP_BYTES;
-        // As secret as the key, so they are in this frame alone, and wiped once the groups are done.
+        // As secret as the key: they are only in this frame, and are wiped once the groups are done.
         let mut planes = [0; KEY_PLANE_BYTES];
         self.cipher.write_key_planes(&mut planes);
         'groups: for g in 0..groups {
@@ -96,7 +96,7 @@ impl XtsKey {
         }
     }
 
-    /// Decrypts the unit with this index, in place. Its length is a multiple of 16 bytes.
+    /// Decrypts the unit with this index, in place. Its length must be a multiple of 16 bytes.
     #[inline(never)]
     pub fn decrypt_unit(&self, index: u64, unit: &mut [u8])
         requires whole_blocks { length unit.old % 16 ≡ 0 }
@@ -104,7 +104,7 @@ impl XtsKey {
     {
         let mut tweak = self.first_tweak(index);
         let groups = unit.len() / GROUP_BYTES;
-        // As secret as the key, so they are in this frame alone, and wiped once the groups are done.
+        // As secret as the key: they are only in this frame, and are wiped once the groups are done.
         let mut planes = [0; KEY_PLANE_BYTES];
         self.cipher.write_key_planes(&mut planes);
         'groups: for g in 0..groups {
@@ -133,8 +133,8 @@ impl XtsKey {
     }
 }
 
-/// Does nothing. Its contract is the law that decryption and encryption undo one another, for every
-/// key, index and unit, and that both keep the length.
+/// Does nothing. Its contract is the law that decryption and encryption undo one another, for every key,
+/// index and unit, and that both return units of the same length.
 pub fn decryption_undoes_encryption()
     ensures decrypted { DecryptionUndoes }
     ensures encrypted { EncryptionUndoes }
