@@ -33,7 +33,7 @@ fn argon2id_example(rt: HostRuntime) {
     same_bytes(&rt, &by_lanes, &want);
 }
 
-// What no contract says is that the threads run to their end.
+// No contract says that the threads run to their end.
 #[test]
 fn lanes_at_once_end_with_the_tag(rt: HostRuntime) {
     for lanes in 1..9 {
@@ -53,8 +53,8 @@ fn lanes_at_once_end_with_the_tag(rt: HostRuntime) {
     }
 }
 
-// Segments of 137 columns, which take two address blocks, and memory that is cut to whole segments. The
-// tag is that of the program argon2 20171227.
+// Segments of 137 columns, which take two address blocks, and memory that is rounded down to whole
+// segments. The tag is that of the program argon2 20171227.
 const LONG_SEGMENTS: Costs = Costs {
     passes: 2,
     kib: 1100,

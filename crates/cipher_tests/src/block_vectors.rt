@@ -2,11 +2,11 @@
 
 use policy_ctx::Unit;
 
-/// A block of a file, and the SHA-256 of what the kernel stored of it.
+/// A block of a file, and the SHA-256 of the block as the kernel stored it.
 pub struct Stored {
     /// The file's contents key, or the mode key.
     pub key: &'static str,
-    /// The inode's number under a mode key, else 0.
+    /// The inode's number under a mode key, otherwise 0.
     pub inode: u32,
     pub unit: Unit,
     /// Byte q of the file is (131 q + 29 (q / 256) + seed) modulo 256.
@@ -16,10 +16,9 @@ pub struct Stored {
     pub sha256: &'static str,
 }
 
-// Keys of single files, which HKDF-SHA512 makes of the master key 00 to 3f and the files' nonces:
-// ab01d93dec201643a492a2ae0ff2f281, 7b9f8d7296695fbcacd4340a064835d9,
-// ec675c89bde4a3d29efbc8d8305eef99, 9ba8c48eb2cbbc778fb3b7a470b6e51f,
-// 2e6cc439e42c1da00e6865d3c18ecd77, 8fe38d877faa31bcfbbdb70d0a4960e8.
+// Keys of single files, which HKDF-SHA512 derives from the master key 00 to 3f and the files' nonces:
+// ab01d93dec201643a492a2ae0ff2f281, 7b9f8d7296695fbcacd4340a064835d9, ec675c89bde4a3d29efbc8d8305eef99,
+// 9ba8c48eb2cbbc778fb3b7a470b6e51f, 2e6cc439e42c1da00e6865d3c18ecd77, 8fe38d877faa31bcfbbdb70d0a4960e8.
 const SHORT_KEY: &str = "112a5e0e2c607edb93265fa0e2c96c29e672089742dd5b49be90a5d80afe9f39\
      3ceadcf04567d114183394f0ae164fb1c432be78407e3a56750808448b7de83b";
 

@@ -35,13 +35,13 @@ fn first_unit(known: &Stored) -> u64 {
     ((known.inode as u64) << 32).wrapping_add(known.block.wrapping_mul(units))
 }
 
-// That these digits are the SHA-256 of the bytes.
+// Asserts that these digits are the SHA-256 of the bytes.
 fn expect_digest<A: Abort>(rt: &A, alloc: Global, bytes: &[u8], wanted: &str) {
     let digits = hex::encode(alloc, Sha256::digest(bytes).as_slice()).expect(rt, "memory");
     same_bytes(rt, digits.as_bytes(), wanted.as_bytes());
 }
 
-// That the block is sealed to what the kernel stored, and opened to what it was.
+// Asserts that the block is encrypted as the kernel stored it, and decrypted to what it was.
 fn expect_stored<A: Abort>(rt: &A, alloc: Global, known: &Stored) {
     let key = key_of(rt, known.key);
     let first = first_unit(known);

@@ -1,8 +1,8 @@
-//! How bytes are compared. The comparison is proved once, here, and not where it is made.
+//! The comparison of bytes. It is proved once, here, and not at each use.
 
 use std::process::Abort;
 
-// That the bytes are those that are wanted.
+// Asserts that the bytes are the expected ones.
 pub(crate) fn same_bytes<A: Abort>(rt: &A, got: &[u8], wanted: &[u8]) {
     assert!(rt; got == wanted, "{got:?} in place of {wanted:?}");
 }

@@ -1,6 +1,6 @@
 //! Bytes that count.
 
-// Bytes that count up from 0, and from 0 again behind 255.
+// Bytes that count up from 0, and from 0 again after 255.
 pub(crate) fn counted<const N: usize>() -> [u8; N] {
     let mut bytes = [0; N];
     for (i, byte) in bytes.iter_mut().enumerate() {

@@ -18,7 +18,7 @@ fn counted_text() -> [u8; 255] {
     counted_by_sevens()
 }
 
-// Whether the text's beginning is enciphered to these bytes, 16 to 255.
+// Whether the text's beginning is encrypted to these bytes, 16 to 255.
 fn is_enciphered_to(want: &[u8]) -> bool {
     if want.len() < 16 || want.len() > 255 {
         return false;
@@ -81,8 +81,8 @@ const SECOND: &[u8] = b"\xf9\xc6\x17\x4e\x35\x36\x2b\x76\x29\x36\xc7\x70\x2d\x95
 
 const THIRD: &[u8] = b"\x39\x54\xab\x62\x78\xe8\x0c\x7e\x7e\x10\x80\x9f\x37\xc4\xb7\x63";
 
-// One block is its first; two are its second and its first; of three, the second is cut to its first
-// byte and stands last.
+// One block is its first; two are its second and its first; of three, the second is cut to its first byte
+// and is the last.
 static SWAPPED: [&[&[u8]]; 3] = [&[FIRST], &[SECOND, FIRST], &[FIRST, THIRD, b"\xf9"]];
 
 #[test]
@@ -109,7 +109,7 @@ fn every_length_goes_there_and_back(rt: HostRuntime) {
     }
 }
 
-// Whether so many bytes of the text, 16 to 255, are enciphered to others, and back.
+// Whether the first `length` bytes of the text, 16 to 255, are encrypted to other bytes, and back.
 fn goes_there_and_back(key: &Aes256, plain: &[u8; 255], length: usize) -> bool {
     if length < 16 || length > 255 {
         return false;

@@ -11,7 +11,8 @@ type HmacRow = (
     &'static [u8; 64],
 );
 
-// The test vectors of RFC 4231, cases 1 to 4, 6 and 7. Case 5 cuts its HMAC short, which nothing here does.
+// The test vectors of RFC 4231, cases 1 to 4, 6 and 7. Case 5 truncates its HMAC, which nothing here
+// does.
 static HMACS: [HmacRow; 6] = [
     (
         &[0x0b; 20],
@@ -109,7 +110,7 @@ const HIGH: &[u8; 80] = b"\xb0\xb1\xb2\xb3\xb4\xb5\xb6\xb7\xb8\xb9\xba\xbb\xbc\x
     \xe0\xe1\xe2\xe3\xe4\xe5\xe6\xe7\xe8\xe9\xea\xeb\xec\xed\xee\xef\
     \xf0\xf1\xf2\xf3\xf4\xf5\xf6\xf7\xf8\xf9\xfa\xfb\xfc\xfd\xfe\xff";
 
-// A salt, the keying material, the info, and what is derived of them.
+// A salt, the keying material, the info, and the bytes derived from them.
 type KeyRow = (&'static [u8], &'static [u8], &'static [u8], &'static [u8]);
 
 // RFC 5869, appendix A.1 to A.3.
@@ -154,7 +155,7 @@ fn keys_with_sha_256_are_those_of_rfc_5869(rt: HostRuntime) {
     }
 }
 
-// Whether HKDF with SHA-256 makes these bytes, at most 82.
+// Whether HKDF with SHA-256 returns these bytes, at most 82.
 fn is_expanded_to(salt: &[u8], ikm: &[u8], info: &[u8], want: &[u8]) -> bool {
     let mut out = [0; 82];
     if want.len() > out.len() {

@@ -1,5 +1,5 @@
-//! Ciphers, hashes and what is derived, against their standards and other implementations. This crate
-//! has tests alone.
+//! Ciphers, hashes and key derivation, against their standards and other implementations. This crate has
+//! only tests.
 #![tactic(auto)]
 
 #[cfg(test)]

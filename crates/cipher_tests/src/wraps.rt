@@ -8,7 +8,7 @@ fn counted_key() -> [u8; 32] {
     counted()
 }
 
-// Whether the secret, of at most 64 bytes, is wrapped to these, with this tag.
+// Whether the secret, of at most 64 bytes, is wrapped to these bytes, with this tag.
 fn is_wrapped_to(secret: &[u8], iv: &[u8; 16], want: &[u8], want_tag: &[u8; 32]) -> bool {
     if secret.len() > 64 {
         return false;
@@ -19,7 +19,7 @@ fn is_wrapped_to(secret: &[u8], iv: &[u8; 16], want: &[u8], want_tag: &[u8; 32])
     &*out == want && tag == *want_tag
 }
 
-// Whether these, at most 64 bytes, open by the tag to the secret.
+// Whether these bytes, at most 64, unwrap with the tag to the secret.
 fn opens_to(wrapped: &[u8], iv: &[u8; 16], tag: &[u8; 32], secret: &[u8]) -> bool {
     if wrapped.len() > 64 {
         return false;
@@ -30,7 +30,7 @@ fn opens_to(wrapped: &[u8], iv: &[u8; 16], tag: &[u8; 32], secret: &[u8]) -> boo
     opened == Ok(()) && &*out == secret
 }
 
-// An iv, what the secret's beginning is wrapped to under it, and the tag.
+// An iv, the result of wrapping the secret's beginning with it, and the tag.
 type WrapRow = (&'static [u8; 16], &'static [u8], &'static [u8; 32]);
 
 // Made by Python's `cryptography` (HKDF, AES in counter mode) and its hmac and hashlib. The last iv

@@ -13,8 +13,8 @@ const STANDARD_KEY: [u8; 64] = *b"\x27\x18\x28\x18\x28\x45\x90\x45\x23\x53\x60\x
 type UnitRow = (u64, &'static [u8], &'static [u8]);
 
 // The keys, indexes and units of IEEE 1619, annex B, vectors 10 to 14: 512 bytes that count up, at five
-// indexes. The first and the last block of what they become, and the way back. The ciphertexts are those
-// that another implementation, Python's `cryptography`, makes of these.
+// indexes. Each row has the first and the last block of the ciphertext, for both directions. The
+// ciphertexts are those that another implementation, Python's `cryptography`, makes of these.
 static UNITS: [UnitRow; 5] = [
     (
         0xff,
@@ -55,7 +55,7 @@ fn standard_units_encrypt_and_decrypt(rt: HostRuntime) {
     }
 }
 
-// Whether the unit is encrypted to one that begins and ends so, and back.
+// Whether the unit is encrypted to one with this beginning and end, and back.
 fn is_made_so(xts: &XtsKey, plain: &[u8; 512], index: u64, (first, last): (&[u8], &[u8])) -> bool {
     let mut unit = *plain;
     xts.encrypt_unit(index, &mut unit);
@@ -90,8 +90,8 @@ fn units_of_every_length_encrypt_and_decrypt(rt: HostRuntime) {
     }
 }
 
-// Whether so many blocks, at most 256, are encrypted to the beginning of the whole, and back, and the rest
-// stays as it is.
+// Whether the first `blocks` blocks, at most 256, are encrypted to the beginning of `whole`, and back,
+// and the rest is unchanged.
 fn is_made_alone(xts: &XtsKey, blocks: usize, plain: &[u8; 4096], whole: &[u8; 4096]) -> bool {
     if blocks > 256 {
         return false;
