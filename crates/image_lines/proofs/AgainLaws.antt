@@ -1,4 +1,4 @@
--- The lines of an image are at fault nowhere, and tell the image.
+-- The lines of an image are at fault nowhere, and are read as the image.
 use Rattle.std.proofs.Common.{◌≡◌, ℕ, ◌<◌, ◌+◌, ◌-◌, ◌==◌, Bool, true, false, List, [], ◌∷◌, ◌++◌, length, map, Some, None, refl, sym, ap, ◌∙◌, arith, append_assoc, length-append, nat_lt, suc}
 use Rattle.std.specs.Prelude.{is_some, is_none}
 use Rattle.std.specs.List.{AllByRecursion, flat_map}
@@ -41,7 +41,7 @@ unfolding line_fault_from
 at_line k place line [] some = absurd (omega arith)
 at_line k place line (next ∷ more) some = refl
 
--- a line that may stand there, in front of others that may
+-- a line that is allowed there, before others that are
 goes_on : (k : ℕ) (place p : Place) (line : List ℕ) (ps : List (List ℕ)) → 0 < length ps → step place line ≡ Some p
     → ((k : ℕ) → line_fault_from k p ps ≡ None) → line_fault_from k place (line ∷ ps) ≡ None
 goes_on k place p line ps some fits later = at_line k place line ps some ∙ ap (λ o. or_fault k o (λ q. line_fault_from (k + 1) q ps)) fits ∙ later (k + 1)
@@ -94,7 +94,7 @@ step_node number (Behind n left) node h is above =
 
 -- ---- a body
 
--- where what stands behind the body is at fault nowhere
+-- if what follows the body is at fault nowhere
 module _ (number : ℕ) (image : Image) (later : (k : ℕ) (place : Place) → IsBehind number place → line_fault_from k place (lines_of image) ≡ None) where
   entries_again : (under_policy : Bool) (last : List ℕ) (es : Entries) → AreEntries under_policy last es → (k : ℕ)
       → line_fault_from k (InDir number under_policy last) (map entry_line es ++ lines_of image) ≡ None
@@ -159,7 +159,7 @@ image_again (root ∷ nodes) good =
     ∙ goes_on k AtRoot (behind_node (line_of root)) (node_line (line_of root)) (body_lines root.body ++ lines_of nodes) (some_left (body_lines root.body) nodes) fits
     (body_again root.number nodes (nodes_again nodes root.number are.1) (is_some root.context) root.body are.0.body))
 
--- ---- what they tell
+-- ---- what they are read as
 
 no_entry_first : (image : Image) → entries_at (lines_of image) ≡ []
 unfolding entries_at entry_told

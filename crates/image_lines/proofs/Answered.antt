@@ -68,7 +68,7 @@ pub every_fault : (text : List ℕ) (fault : ImageFault) → IsReadFault fault (
 every_fault text NoMemory err image is own = inr refl
 every_fault text (BadLine line) err image is own = absurd (cc (sym err ∙ (images_are_texts text image).1 (is, own)))
 
--- where the places are seen as a slice
+-- if the places are seen as a slice
 pub whole_from : (text : List ℕ) (places slice : List NodePlace) → slice ≡ places → line_fault text ≡ None → map (node_of_place text) places ≡ nodes_at (pieces_of text)
     → child_fault_from 1 (numbers_at slice) [] (pieces_of text) ≡ None → image_read text ≡ Ok (map (node_of_place text) places)
 whole_from text places slice same faultless nodes none =

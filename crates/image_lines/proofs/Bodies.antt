@@ -1,4 +1,4 @@
--- The rules of an image, told from each line to the next.
+-- The rules of an image, stated from each line to the next.
 use Rattle.std.proofs.Common.{◌≡◌, ℕ, ◌≤◌, ◌&&◌, Bool, true, false, List, [], ◌∷◌, length, None, refl, arith}
 use Rattle.std.specs.Prelude.{is_some, nat_le}
 use Rattle.std.specs.List.{AllByRecursion}

@@ -1,4 +1,4 @@
--- Lists that rise strictly, told from each item to the next.
+-- Lists that rise strictly, stated from each item to the next.
 use Rattle.std.proofs.Common.{◌≡◌, List, [], ◌∷◌}
 use Rattle.std.specs.Prelude.{⊤}
 use Rattle.std.specs.List.{AllByRecursion}

@@ -1,4 +1,4 @@
--- Where entries lead: no line is at fault exactly where the rules on children hold.
+-- To which nodes entries refer: no line is at fault exactly when the rules on children hold.
 use Rattle.std.proofs.Common.{◌≡◌, ◌≢◌, ℕ, ◌+◌, ◌==◌, ◌&&◌, Bool, true, false, not, List, [], ◌∷◌, ◌++◌, map, Option, Some, None, refl, sym, ap, ◌∙◌, subst, inl, inr, append_assoc, nat_eq, get_or}
 use Rattle.std.specs.Prelude.{Contains, is_some, ⊤}
 use Rattle.std.specs.List.{AllByRecursion, IsDistinct, list_any, flat_map}
@@ -30,7 +30,7 @@ told : List (List ℕ) → Entries
 told [] = []
 told (line ∷ lines) = if_entry (entry_told line) (told lines)
 
--- each may lead where it does, behind the earlier ones
+-- each may refer to its child, after the earlier ones
 abbrev AreLed : List ℕ → List ℕ → Entries → Type 0
 AreLed numbers earlier [] = ⊤
 AreLed numbers earlier (e ∷ es) = (may_lead_to numbers earlier e.1 ≡ true) × AreLed numbers (e.1 ∷ earlier) es
@@ -121,7 +121,7 @@ contains_from_any xs x h =
     let found = Any-from_list_any (nat_eq x) xs h in
     (found.0, found.2, subst (λ z. get_or xs found.0 z ≡ z) (sym (eqb-true x found.1 found.4)) found.3)
 
--- what entries lead to
+-- what entries refer to
 abbrev led_to : Entries → List ℕ
 led_to es = map (λ e. e.1) es
 

@@ -14,7 +14,7 @@ use Rattle.image_lines.specs.Marks.{AreMarked, GoesOn}
 use Rattle.image_lines.proofs.RoundLemmas.{shorter}
 use Rattle.image_lines.proofs.SearchLemmas.{length-numbers}
 
--- what the lines before this number have led to, and what is left
+-- what the lines before this number have referred to, and what is left
 pub record SoFar (numbers text rest : List ℕ) (number : ℕ) (marks : List Bool) : Type 0 where
   pub earlier : List ℕ
   pub marked : AreMarked numbers earlier marks
@@ -87,7 +87,7 @@ module _ (numbers text old line rest : List ℕ) (number : ℕ) (marks : List Bo
     counted = counted;
   }
 
-  -- an entry that leads where it may
+  -- an entry that may refer to its child
   pub over_entry : (name : List ℕ) (child : ℕ) (new : List Bool) → entry_told line ≡ Some (name, child) → true ≡ may_lead_to numbers so.earlier child
       → AreMarked numbers (child ∷ so.earlier) new → SoFar numbers text rest (number + 1) new
   over_entry name child new is fits are =
@@ -99,7 +99,7 @@ module _ (numbers text old line rest : List ℕ) (number : ℕ) (marks : List Bo
         counted = counted;
       }
 
-  -- and one that leads elsewhere
+  -- and one that may not
   pub at_entry : (name : List ℕ) (child : ℕ) → entry_told line ≡ Some (name, child) → false ≡ may_lead_to numbers so.earlier child
       → child_fault_from 1 numbers [] (pieces_of text) ≡ Some number
   at_entry name child is unfit =

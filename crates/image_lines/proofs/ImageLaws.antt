@@ -1,4 +1,4 @@
--- A text is read as an image exactly where it is the text of that image, and the image is one.
+-- A text is read as an image exactly when it is the text of that image, and the image is one.
 use Rattle.std.proofs.Common.{◌≡◌, ℕ, List, [], ◌∷◌, Option, Some, None, Result, Ok, refl, sym, ap, ◌∙◌, subst}
 use Rattle.std.specs.List.{flat_map}
 use Rattle.std.proofs.lemmas.List.Elements.{recursion_from_All}

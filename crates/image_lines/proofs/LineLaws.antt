@@ -87,7 +87,7 @@ last_word Dir = None
 last_word (File size) = Some (decimal_of size)
 last_word (Link target) = Some (encode_lower target)
 
--- what the types and rules keep of what a node's line tells
+-- what the types and rules preserve of the content of a node's line
 abbrev pub IsKind : Bool → NodeKind → Type 0
 IsKind under_policy Dir = ⊤
 IsKind under_policy (File size) = size ≤ 1048576
@@ -143,7 +143,7 @@ pub record IsNodeLine (node : NodeLine) : Type 0 where
   pub context : IsContext node.context
   pub kind : IsKind (is_some node.context) node.kind
 
--- the words behind `node`
+-- the words after `node`
 abbrev with_last : Option (List ℕ) → List (List ℕ)
 with_last None = []
 with_last (Some last) = last ∷ []

@@ -1,4 +1,4 @@
--- What stands at the places of the nodes of an image.
+-- What is at the places of the nodes of an image.
 use Rattle.std.proofs.Common.{◌≡◌, ℕ, ◌<◌, ◌≤◌, ◌+◌, ◌-◌, Bool, true, false, List, [], ◌∷◌, ◌++◌, length, map, drop, get_or, Option, Some, None, Ok, refl, sym, ap, ◌∙◌, subst, arith, inl, inr}
 use Rattle.std.specs.Prelude.{if◌then◌else◌, slice_get, IsTrue, ◌↔◌}
 use Rattle.std.proofs.lemmas.Bool.{cases_lt}
@@ -36,7 +36,7 @@ module _ (text : List ℕ) (places : List NodePlace) (read : image_read text ≡
       let own = All-get_or IsNode (map (node_of_place text) places) i (node_of_place text p) (omega (arith, long)) is_image.lines.each in
       subst IsNode (get_or-map (node_of_place text) places i p (node_of_place text p) lt ∙ ap (node_of_place text) (sym is)) own
 
--- a node isn't told by a line that is no node's
+-- a line that is no node's has no node
 pub no_node_line : (text line : List ℕ) (more : List (List ℕ)) (p : NodePlace) → pieces_of (drop p.at text) ≡ line ∷ more → node_told line ≡ None
     → IsNode (node_of_place text p) → ⊥
 no_node_line text line more p cut none is =
@@ -53,7 +53,7 @@ begins text p is = elim (cases_lt (length text) p.at) [
   | inr within ↦ within
 ]
 
--- nothing is told behind the end of a text
+-- nothing is read after the end of a text
 nothing_behind : (node : NodeLine) → node_at node [] ≡ node_at node ([] ∷ [])
 unfolding entries_at blocks_at entry_told block_told
 nothing_behind node = of node.number node.context node.kind
@@ -81,7 +81,7 @@ node_found text places i p line bytes rest ended lt is cut none told =
     ∙ ap Some (get_or-map (node_of_place text) places i p (node_of_place text p) lt ∙ ap (node_of_place text) (sym is) ∙ here
     ∙ ap (λ (n : ImageNode). let m : ImageNode = record n { number = p.number } in m) (behind_is ended rest line none))
 
--- what stands behind a line is the end of the text
+-- what follows a line is the end of the text
 pub rest_found : (text : List ℕ) (at : ℕ) (bytes rest : List ℕ) (ended : Bool) → at ≤ length text
     → drop at text ≡ bytes ++ (if ended then 10 ∷ rest else []) → (ended ≡ false → rest ≡ []) → IsRestOf text rest
 rest_found text at bytes rest true within whole none =
@@ -98,7 +98,7 @@ index_within text places image i is lt =
     let same = ap length is in
     omega (arith, long, same, lt)
 
--- nothing stands behind a line that no line feed ends
+-- nothing follows a line that no line feed ends
 pub nothing_left : (ended : Bool) (text rest : List ℕ) → IsTrue ended ↔ (position_or_len is_line_feed text < length text) → rest ≡ after_first is_line_feed text
     → ended ≡ false → rest ≡ []
 nothing_left ended text rest ends is not_ended = elim (cases_lt (position_or_len is_line_feed text) (length text)) [

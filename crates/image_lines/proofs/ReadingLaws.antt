@@ -1,4 +1,5 @@
--- What the lines of a text tell where none is at fault: the lines are those of the nodes that they tell, and the rules on lines hold.
+-- What the lines of a text are read as if none is at fault: the lines are those of the nodes that are read,
+-- and the rules on lines hold.
 use Rattle.std.proofs.Common.{◌≡◌, ℕ, ◌+◌, ◌-◌, ◌==◌, ◌&&◌, Bool, true, false, List, [], ◌∷◌, ◌++◌, length, map, Option, Some, None, refl, sym, ap, ◌∙◌, subst, arith, inl, inr, append_assoc, nat_lt, suc}
 use Rattle.std.specs.Prelude.{is_some, is_none, if◌then◌else◌}
 use Rattle.std.specs.List.{AllByRecursion, flat_map}
@@ -36,16 +37,16 @@ use Rattle.image_lines.proofs.LineLaws.{IsKind, node_told_found, entry_told_foun
 use Rattle.image_lines.proofs.LineLaws.{node_is_no_entry, node_is_no_block, entry_is_no_node, block_is_no_node}
 use Rattle.image_lines.proofs.Bodies.{AreEntries, AreNodes, AreNodes-none, AreNodes-more, entries_from, lines_from_nodes}
 
--- the lines of nodes, and behind them the end of a text
+-- the lines of nodes, and after them the end of a text
 abbrev pub lines_of : Image → List (List ℕ)
 lines_of image = flat_map node_lines image ++ [] ∷ []
 
--- so many blocks
+-- `count` blocks
 pub record AreBlocks (count : ℕ) (blocks : List (List ℕ)) : Type 0 where
   pub long : length blocks ≡ count
   pub each : AllByRecursion (AreBytesOfLength 4096) blocks
 
--- what the lines from a place on tell
+-- what the lines from a place on are read as
 abbrev pub Told : Place → List (List ℕ) → Type 0
 Told AtHeader ps = (ps ≡ header ∷ lines_of (nodes_at ps)) × HasGoodLines (nodes_at ps)
 Told AtRoot ps = (ps ≡ lines_of (nodes_at ps)) × HasGoodLines (nodes_at ps)
@@ -99,7 +100,7 @@ told_node line ps node is t =
       own = found.0;
     }
 
--- the next node behind another
+-- the next node after another
 record NextTold (number : ℕ) (line : List ℕ) (ps : List (List ℕ)) : Type 0 where
   lines : line ∷ ps ≡ lines_of (nodes_at (line ∷ ps))
   are : AreNodes number (nodes_at (line ∷ ps))

@@ -44,7 +44,7 @@ at_end k place text none = ap (λ l. line_fault_from k place (pieces_of l)) (nil
 
 -- ---- the nodes
 
--- of a line that is a node's, what stands at its index is that node
+-- the node at the index of a node's line is the one that the line describes
 here : (text line rest : List ℕ) (at : ℕ) (node : NodeLine) → node_told line ≡ Some node → pieces_of (drop at text) ≡ line ∷ pieces_of rest
     → node_of_place text (record { number = node.number; at = at }) ≡ node_at node (pieces_of rest)
 here text line rest at node is cut = rw (cut, is) refl
@@ -80,7 +80,7 @@ shorter old bytes rest whole =
     let long = ap length whole ∙ length-append bytes (10 ∷ rest) in
     omega (arith, long)
 
--- where the rest is the end of a text, so is what stands behind its first line
+-- if the rest is the end of a text, so is what follows its first line
 pub dropped : (text old bytes rest : List ℕ) → old ≡ drop (length text - length old) text → old ≡ bytes ++ 10 ∷ rest → length old ≤ length text
     → rest ≡ drop (length text - length rest) text
 dropped text old bytes rest end whole within =

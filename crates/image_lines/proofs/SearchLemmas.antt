@@ -1,4 +1,4 @@
--- The index of a number among the nodes' numbers, and which of them entries have led to.
+-- The index of a number among the nodes' numbers, and which of them entries have referred to.
 use Rattle.std.proofs.Common.{◌≡◌, ◌≢◌, ℕ, ◌<◌, ◌≤◌, ◌==◌, Bool, true, false, List, [], ◌∷◌, length, get_or, set, Some, None, Result, Ok, Err, refl, sym, ap, ◌∙◌, subst, arith, nat_eq, inl, inr, ◌⊎◌}
 use Rattle.std.specs.List.{list_any}
 use Rattle.std.specs.List.Sorted.{IsSearchInRange, IsBinarySearchResult, IsNonDecreasingBy}
@@ -62,7 +62,7 @@ module _ (places : List NodePlace) (rises : DoRise places) (number : ℕ) where
 found_among : (numbers : List ℕ) (number index : ℕ) → index < length numbers → get_or numbers index 0 ≡ number → list_any (nat_eq number) numbers ≡ true
 found_among numbers number index lt is = list_any_at (nat_eq number) numbers index 0 lt (eq-eqb number (get_or numbers index 0) (sym is))
 
--- the answer where there is no such node, or it was marked, or neither
+-- the answer if there is no such node, or it was marked, or neither
 pub leads_nowhere : (numbers earlier : List ℕ) (child : ℕ) → IsIndexOf numbers child None → false ≡ may_lead_to numbers earlier child
 leads_nowhere numbers earlier child none = of (child == 0) refl
   where

@@ -1,4 +1,4 @@
--- What words tell, and what is read on: each is read from what it is spelled as, and from nothing else.
+-- What words are read as: each value is read from its own spelling, and from nothing else.
 use Rattle.std.proofs.Common.{◌≡◌, ℕ, ◌^◌, ◌*◌, ◌<◌, ◌≤◌, ◌==◌, Bool, true, ◌&&◌, List, length, Option, Some, None, refl, ap, subst, arith}
 use Rattle.std.specs.Prelude.{nat_le, nat_lt}
 use Rattle.std.specs.List.{list_all}

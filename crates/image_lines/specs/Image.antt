@@ -5,7 +5,7 @@ use Rattle.disk_tree.specs.Entries.{Entries}
 use Rattle.disk_tree.specs.Nodes.{entries_of}
 use Rattle.disk_tree.specs.declared.node.Body.{Body}
 
--- a node: the bytes of its context, where it is under a policy, and the entries, blocks or target as they are
+-- a node: the bytes of its context, if it is under a policy, and the entries, blocks or target as they are
 -- stored
 pub record ImageNode : Type 0 where
   pub number : ℕ
@@ -23,6 +23,6 @@ numbers_of image = map (λ node. node.number) image
 abbrev pub all_entries : Image → Entries
 all_entries image = flat_map (λ node. entries_of node.body) image
 
--- the numbers to which entries lead
+-- the numbers to which entries refer
 abbrev pub children_of : Image → List ℕ
 children_of image = map (λ e. e.1) (all_entries image)

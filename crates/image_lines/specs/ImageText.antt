@@ -1,4 +1,4 @@
--- The text of an image: a line for each node, and behind it one for each entry or block.
+-- The text of an image: a line for each node, each followed by one for each entry or block.
 use Rattle.std.specs.Prelude.{ℕ, List, [], ◌∷◌, ◌++◌, map, codes, Option, None, Some}
 use Rattle.std.specs.List.{flat_map}
 use Rattle.hex.specs.Hex.{encode_lower}
@@ -16,7 +16,7 @@ abbrev pub context_text : Option (List ℕ) → List ℕ
 context_text None = codes "-"
 context_text (Some context) = encode_lower context
 
--- the kind and the context, and behind them the size of a file, the stored target of a link
+-- the kind and the context, followed by the size of a file, the stored target of a link
 abbrev pub kind_text : Option (List ℕ) → NodeKind → List ℕ
 kind_text context Dir = codes "dir " ++ context_text context
 kind_text context (File size) = codes "file " ++ (context_text context ++ 32 ∷ decimal_of size)
@@ -32,7 +32,7 @@ entry_line e = codes "entry " ++ (decimal_of e.1 ++ 32 ∷ encode_lower e.0)
 abbrev pub block_line : List ℕ → List ℕ
 block_line block = codes "block " ++ encode_lower block
 
--- what the line of a node tells of its body
+-- what the line of a node contains of its body
 abbrev pub told_kind : Body → NodeKind
 told_kind (body.Dir entries) = Dir
 told_kind (body.File blocks size) = File size

@@ -18,8 +18,8 @@ abbrev pub or_fault : ℕ → Option Place → (Place → Option ℕ) → Option
 or_fault number None go_on = Some number
 or_fault number (Some place) go_on = go_on place
 
--- of pieces from this place and number on, the number of the first that may not stand there, that no line feed
--- ended, or that is missing
+-- in pieces from this place and number on, the number of the first that is not allowed there, that no line
+-- feed ended, or that is missing
 unfoldable pub line_fault_from : ℕ → Place → List (List ℕ) → Option ℕ
 line_fault_from number place [] = Some number
 line_fault_from number place (last ∷ []) =

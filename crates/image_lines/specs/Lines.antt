@@ -1,4 +1,4 @@
--- What the lines of an image tell, one by one.
+-- What the lines of an image contain, one by one.
 use Rattle.std.specs.Prelude.{ℕ, List, [], ◌∷◌, codes, Option, Some, None, is_some}
 use Rattle.text_words.specs.Digits.{lower_hex_bytes_of_length}
 use Rattle.text_words.specs.Words.{behind, words_of}
@@ -6,7 +6,7 @@ use Rattle.mount_limits.specs.declared.TheConstants.{BLOCK_SIZE}
 use Rattle.image_lines.specs.declared.node_line.NodeLine.{NodeLine}
 use Rattle.image_lines.specs.Words.{◌>>=◌, number_told, stored_told, context_told, kind_told}
 
--- the node of which words tell: its number, its kind, its context, and the size or the target
+-- the node that words describe: its number, its kind, its context, and the size or the target
 abbrev pub node_of : List ℕ → List ℕ → List ℕ → Option (List ℕ) → Option NodeLine
 node_of number kind context last = do
   number ← number_told number
@@ -19,7 +19,7 @@ node_of_words (number ∷ kind ∷ context ∷ []) = node_of number kind context
 node_of_words (number ∷ kind ∷ context ∷ last ∷ []) = node_of number kind context (Some last)
 node_of_words other = None
 
--- the entry of which words tell: the child's number, and the stored name
+-- the entry that words describe: the child's number, and the stored name
 abbrev pub entry_of_words : List (List ℕ) → Option (List ℕ × ℕ)
 entry_of_words (child ∷ name ∷ []) = do
   child ← number_told child

@@ -1,11 +1,11 @@
--- Which nodes are marked, as those to which an earlier entry leads.
+-- Which nodes are marked, as those to which an earlier entry refers.
 use Rattle.std.specs.Prelude.{ℕ, ◌≡◌, ◌<◌, Bool, true, false, nat_eq, List, ◌∷◌, length}
 use Rattle.std.specs.Prelude.{slice_index, slice_index_or, Option, None, Some}
 use Rattle.std.specs.Bool.{OnTrue}
 use Rattle.std.specs.List.{list_any}
 use Rattle.image_lines.specs.ChildFaults.{may_lead_to}
 
--- the index of a number, or none where it isn't among them
+-- the index of a number, or none if it isn't among them
 abbrev pub IsIndexOf : List ℕ → ℕ → Option ℕ → Type 0
 IsIndexOf numbers number None = list_any (nat_eq number) numbers ≡ false
 IsIndexOf numbers number (Some index) = (index < length numbers) × (slice_index numbers index ≡ number)
@@ -16,7 +16,8 @@ pub record AreMarked (numbers earlier : List ℕ) (marks : List Bool) : Type 0 w
   pub each : (i : ℕ) → i < length numbers
       → slice_index_or marks i false ≡ list_any (nat_eq (slice_index numbers i)) earlier
 
--- going over a line: where it is an entry's, whether it may lead where it does, and then the mark is set
+-- going over a line: if it is an entry's, the answer is whether it may refer to its child, and then the
+-- mark is set
 abbrev pub GoesOn : List ℕ → List ℕ → Option (List ℕ × ℕ) → List Bool → Bool → Type 0
 GoesOn numbers earlier None marks answer = (answer ≡ true) × AreMarked numbers earlier marks
 GoesOn numbers earlier (Some entry) marks answer =

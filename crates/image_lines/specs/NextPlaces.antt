@@ -1,4 +1,4 @@
--- Which line may stand where: the place behind a line, where the line may stand at its own.
+-- Which lines are allowed at which place, and the place after each of them.
 use Rattle.std.specs.Prelude.{ℕ, ◌-◌, ◌==◌, ◌&&◌, Bool, List, Option, Some, None, if◌then◌else◌}
 use Rattle.std.specs.Option.{option_map}
 use Rattle.std.specs.Ordering.{is_lt, nat_cmp}
@@ -23,11 +23,11 @@ abbrev pub in_dir : ℕ → Bool → List ℕ → Option (List ℕ × ℕ) → L
 in_dir number under_policy last None line = next_node number line
 in_dir number under_policy last (Some entry) line = next_entry number under_policy last entry.0
 
--- behind a file with blocks still to come: one of them
+-- after a file with blocks still to come: one of them
 abbrev pub next_block : ℕ → ℕ → List ℕ → Option Place
 next_block number left line = option_map (λ block. Behind number (left - 1)) (block_told line)
 
--- the place behind the line, where it may stand at this one
+-- the place after the line, if the line is allowed at this one
 abbrev pub step : Place → List ℕ → Option Place
 step AtHeader line = if bytes_eq line header then Some AtRoot else None
 step AtRoot line = option_map behind_node (node_told line >>= passing is_root)

@@ -1,4 +1,4 @@
--- Which line of a node may stand as the root or behind other nodes, and the place behind it.
+-- Which line of a node is allowed as the root or after other nodes, and the place after it.
 use Rattle.std.specs.Prelude.{ℕ, ◌==◌, ◌&&◌, Bool, true, false, nat_lt, List, [], is_some, is_none, Option}
 use Rattle.std.specs.Option.{option_map}
 use Rattle.image_lines.specs.declared.node_line.NodeKind.{NodeKind}
@@ -10,8 +10,8 @@ use Rattle.image_lines.specs.NodeRules.{blocks_for}
 use Rattle.image_lines.specs.Lines.{node_told}
 use Rattle.image_lines.specs.Words.{◌>>=◌, passing}
 
--- the place behind the line of a node: in a directory with no entry yet, behind a file with its blocks still to
--- come, or behind a link
+-- the place after the line of a node: in a directory with no entry yet, after a file with its blocks still
+-- to come, or after a link
 abbrev pub place_behind : ℕ → Bool → NodeKind → Place
 place_behind number under_policy Dir = InDir number under_policy []
 place_behind number under_policy (File size) = Behind number (blocks_for size)

@@ -29,7 +29,7 @@ pub record IsEntry (under_policy : Bool) (e : List ℕ × ℕ) : Type 0 where
 abbrev pub blocks_for : ℕ → ℕ
 blocks_for size = div_ceil size BLOCK_SIZE
 
--- entries in strictly rising byte order of names, so many blocks as the size asks for, a target in range
+-- entries in strictly rising byte order of names, as many blocks as the size requires, a target in range
 abbrev pub IsBody : Bool → Body → Type 0
 IsBody under_policy (Dir entries) =
     All (IsEntry under_policy) entries × IsStrictlySortedBy (slice_cmp nat_cmp) (keys_of entries)

@@ -1,4 +1,4 @@
--- A node of an image where it stands in the text, and what stands behind it.
+-- A node of an image at its place in the text, and what follows it.
 use Rattle.std.specs.Prelude.{◌≡◌, ◌-◌, ℕ, List, length, drop}
 use Rattle.text_words.specs.Lines.{pieces_of}
 use Rattle.image_lines.specs.declared.image.NodeText.{NodeText}

@@ -1,4 +1,4 @@
--- Where nodes stand in a text, and what is read there.
+-- Where nodes are in a text, and what is read there.
 use Rattle.std.specs.Prelude.{ℕ, List, [], ◌∷◌, map, drop, Option, None, Some}
 use Rattle.std.specs.List.Sorted.{IsStrictlySortedBy}
 use Rattle.std.specs.Ordering.{nat_cmp}
@@ -10,7 +10,7 @@ use Rattle.image_lines.specs.Image.{ImageNode}
 use Rattle.image_lines.specs.Lines.{node_told}
 use Rattle.image_lines.specs.Told.{node_at}
 
--- in place of a node, where a text has none
+-- in place of a node, if a text has none
 abbrev pub no_node : ImageNode
 no_node = record { number = 0; context = None; body = body.Link [] }
 
@@ -28,7 +28,7 @@ abbrev pub node_of_place : List ℕ → NodePlace → ImageNode
 node_of_place text place =
     record (first_node (pieces_of (drop place.at text))) { number = place.number }
 
--- the place of a node whose line begins at this index, where the line is a node's
+-- the place of a node whose line begins at this index, if the line is a node's
 abbrev pub place_told : Option NodeLine → ℕ → List NodePlace
 place_told None at = []
 place_told (Some node) at = record { number = node.number; at = at } ∷ []

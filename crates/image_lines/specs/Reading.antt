@@ -1,5 +1,5 @@
--- How an image is read from its text: the first line that its place doesn't allow, else the first entry line
--- whose child isn't allowed, else the image.
+-- How an image is read from its text: the first line that its place doesn't allow, else the first entry
+-- line whose child isn't allowed, else the image.
 use Rattle.std.specs.Prelude.{ℕ, ◌≡◌, ◌↔◌, List, Option, Some, None, Result, Ok, Err}
 use Rattle.text_words.specs.Lines.{pieces_of}
 use Rattle.image_lines.specs.Image.{Image}
@@ -14,12 +14,12 @@ abbrev pub unless_fault : Option ℕ → Result Image ℕ → Result Image ℕ
 unless_fault None read = read
 unless_fault (Some number) read = Err number
 
--- the image whose text it is; else the first line at fault, or the first entry line whose child is
+-- the image with this text; else the first line at fault, or the first entry line whose child is
 unfoldable pub image_read : List ℕ → Result Image ℕ
 image_read text =
     unless_fault (line_fault text) (unless_fault (child_fault text) (Ok (nodes_at (pieces_of text))))
 
--- a text is read as an image exactly where it is the image's text, and the image is one
+-- a text is read as an image exactly when it is the image's text, and the image is one
 abbrev pub ImagesAreTexts : Type 0
 ImagesAreTexts =
     (text : List ℕ) (image : Image)

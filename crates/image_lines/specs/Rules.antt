@@ -1,4 +1,5 @@
--- What an image is: rules on each node and on the order of nodes, and rules on where entries lead.
+-- What an image is: rules on each node and on the order of nodes, and rules on the nodes to which entries
+-- refer.
 use Rattle.std.specs.Prelude.{◌≡◌, ◌≢◌, nat_eq, [], ◌∷◌, None, All, Contains}
 use Rattle.std.specs.List.{IsDistinct}
 use Rattle.std.specs.List.Sorted.{IsStrictlySortedBy}
@@ -18,7 +19,8 @@ pub record HasGoodLines (image : Image) : Type 0 where
   pub rising : IsStrictlySortedBy nat_cmp (numbers_of image)
   pub each : All IsNode image
 
--- the rules on children: each entry leads to a node of the image that is not the root, and no two to one
+-- the rules on children: each entry refers to a node of the image that is not the root, and no two entries
+-- to the same one
 pub record HasGoodChildren (image : Image) : Type 0 where
   pub there : All (λ child. (child ≢ 0) × Contains (numbers_of image) child) (children_of image)
   pub once : IsDistinct nat_eq (children_of image)

@@ -1,9 +1,9 @@
--- Which bytes may stand as an entry's name or as a link's target.
+-- Which bytes are allowed as an entry's name or as a link's target.
 use Rattle.std.specs.Prelude.{◌&&◌, ℕ, Bool, true, false, nat_le, List, length}
 pub use Rattle.text_words.specs.Parts.{is_slash_or_nul, may_be_part}
 use Rattle.name_crypt.specs.declared.limits.TheConstants.{LEAST_STORED_BYTES, MOST_NAME_BYTES}
 
--- whether there are at least low and at most 255 bytes
+-- whether there are from `low` to 255 bytes
 abbrev pub is_stored : ℕ → List ℕ → Bool
 is_stored low bytes = nat_le low (length bytes) && nat_le (length bytes) MOST_NAME_BYTES
 

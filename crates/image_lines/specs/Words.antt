@@ -1,4 +1,4 @@
--- What the words on the lines of an image tell, one by one.
+-- What the words on the lines of an image mean, one by one.
 use Rattle.std.specs.Prelude.{ℕ, ◌^◌, ◌*◌, ◌&&◌, Bool, nat_le, List, length}
 use Rattle.std.specs.Prelude.{codes, Option, Some, None, is_none, if◌then◌else◌}
 use Rattle.std.specs.List.{list_all}
@@ -14,7 +14,7 @@ use Rattle.image_lines.specs.declared.node_line.NodeKind.{NodeKind}
 use Rattle.image_lines.specs.declared.node_line.NodeKind.TheVariants.{Dir, File, Link}
 use Rattle.image_lines.specs.StoredNames.{is_target}
 
--- go on where there is a value
+-- go on if there is a value
 infixl 10 ◌>>=◌
 abbrev pub ◌>>=◌ : {A B : Type 0} → Option A → (A → Option B) → Option B
 None >>= f = None
@@ -51,7 +51,7 @@ file_told word = option_map File (number_told word >>= passing (λ size. nat_le 
 abbrev pub link_told : Bool → List ℕ → Option NodeKind
 link_told under_policy word = option_map Link (stored_told word >>= passing (is_target under_policy))
 
--- what a word tells a node to be, with the one behind the context, where there is one
+-- the kind of node that a word names, with the word after the context, if there is one
 abbrev pub kind_told : List ℕ → Bool → Option (List ℕ) → Option NodeKind
 kind_told word under_policy None = if bytes_eq word (codes "dir") then Some Dir else None
 kind_told word under_policy (Some last) =

@@ -9,7 +9,7 @@ pub enum ImageFault {
     /// This line, counted from 1, is at fault.
     #[error("line {line} is not as an image has it")]
     BadLine { line: u32 },
-    /// There was no memory for the places of the nodes.
+    /// There was no memory for the nodes' places or their marks.
     #[error("out of memory")]
     NoMemory,
 }

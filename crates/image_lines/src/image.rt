@@ -23,8 +23,9 @@ use std::alloc::Global;
 use std::marker::Model;
 use text_words::next_line;
 
-/// An image, over the text from which it was read. Of each node it keeps 8 bytes besides: where the node
-/// stands. What the node is, and its entries and blocks, are read from the text when they are asked for.
+/// An image, over the text from which it was read. Besides the text it stores 8 bytes for each node: the
+/// node's number and its place. The node's kind, and its entries and blocks, are read from the text on
+/// request.
 #[derive(Drop)]
 pub struct Image<'a> {
     text: &'a [u8],
@@ -46,17 +47,17 @@ impl<'a> Model for Image<'a> {
         ≡ Ok (map (node_of_place image.text.now) image.places.items)) };
 }
 
-/// A node of an image, where it stands in the text.
+/// A node of an image, at its place in the text.
 #[derive(Clone, Copy)]
 pub struct NodeText<'a> {
-    /// What its own line tells.
+    /// The content of the node's own line.
     pub line: NodeLine,
-    /// The text behind that line, which begins with the lines of its entries or blocks.
+    /// The text after that line. It begins with the lines of the node's entries or blocks.
     pub rest: &'a [u8],
 }
 
 impl<'a> Image<'a> {
-    /// The text from which the image was read.
+    /// Returns the text from which the image was read.
     pub fn text(&self) -> &'a [u8]
         ensures text { result.now ≡ image_text self.now }
         ensures short { length result.now ≤ MOST_IMAGE_BYTES }
@@ -65,14 +66,14 @@ impl<'a> Image<'a> {
         self.text
     }
 
-    /// How many nodes there are.
+    /// Returns the number of nodes.
     pub fn node_count(&self) -> usize
         ensures { result ≡ length self.now }
     {
         self.places.len()
     }
 
-    /// The node at this index, of those in order of number.
+    /// Returns the node at this index, of those in order of number.
     pub fn node(&self, index: usize) -> NodeText<'a>
         requires { index < length self.now }
         ensures node { slice_get self.now index ≡ Some (node_in result) }
@@ -99,7 +100,7 @@ impl<'a> Image<'a> {
         }
     }
 
-    /// The index of the node of this number; None where the image has no such node.
+    /// Returns the index of the node of this number, or `None` if the image has no such node.
     pub fn index_of(&self, number: u32) -> Option<usize>
         ensures { IsIndexOf (numbers_of self.now) number result }
     {
@@ -107,7 +108,7 @@ impl<'a> Image<'a> {
     }
 }
 
-// The text from an index on.
+// Returns the text from an index on.
 fn from_index(text: &[u8], at: usize) -> &[u8]
     requires { at ≤ length text.now }
     ensures { result.now ≡ drop at text.now }
@@ -115,10 +116,13 @@ fn from_index(text: &[u8], at: usize) -> &[u8]
     &text[at..]
 }
 
-/// Reads an image: of a text of at most `MOST_IMAGE_BYTES` bytes, that whose text it is. Else the line at
-/// fault: the first that its place doesn't allow, that no line feed ended, or that is missing; where there is
-/// none, the first entry line whose child is the root, has no node line, or is the child of an earlier entry
-/// line. Or there was no memory.
+/// Reads an image from its text, of at most `MOST_IMAGE_BYTES` bytes. Returns the image with exactly this
+/// text, or one of these errors:
+/// - `BadLine` with the first line that may not be at its place, that no line feed ended, or that is
+///   missing
+/// - if there is no such line, `BadLine` with the first entry line whose child is the root, has no node
+///   line, or is the child of an earlier entry line
+/// - `NoMemory`
 pub fn read_image(alloc: Global, text: &[u8]) -> Result<Image<'_>, ImageFault>
     requires short { length text.now ≤ MOST_IMAGE_BYTES }
     ensures read { IfOk result (λ image. image_read text.now ≡ Ok image) }
@@ -131,7 +135,7 @@ pub fn read_image(alloc: Global, text: &[u8]) -> Result<Image<'_>, ImageFault>
     Ok(Image { text, places })
 }
 
-// The places of the nodes of an image.
+// Returns the places of the nodes of an image.
 fn read_places(alloc: Global, text: &[u8]) -> Result<Vec<NodePlace>, ImageFault>
     requires short { length text.now ≤ MOST_IMAGE_BYTES }
     ensures read { IfOk result (λ places. image_read text.now

@@ -2,8 +2,8 @@
 
 ghost use Rattle.image_lines.specs.Reading.{ImagesAreTexts};
 
-/// A text is read as an image exactly where it is the text of that image, and the image is one: an image is
-/// told apart from every other by its text.
+/// A text is read as an image exactly when it is the text of that image, and the image is one. So no two
+/// images have the same text.
 pub fn images_are_texts()
     ensures { ImagesAreTexts }
 {}

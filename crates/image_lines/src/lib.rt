@@ -18,6 +18,6 @@ pub use laws::images_are_texts;
 pub use lines::{read_block_line, read_entry_line, read_node_line};
 pub use node_line::{EntryLine, NodeKind, NodeLine, StoredBytes};
 
-/// The most bytes of a text that is read as an image. The image of a mount has at most 209,108,476, by the law
-/// `mount_images_are_short` of `listing_laws`.
+/// The maximum number of bytes of a text that is read as an image. The image of a mount has at most
+/// 209,108,476, by the law `mount_images_are_short` of `listing_laws`.
 pub const MOST_IMAGE_BYTES: usize = 268_435_456;

@@ -9,7 +9,7 @@ use crate::words::{entry_of_words, node_of_words};
 use mount_limits::BLOCK_SIZE;
 use text_words::{behind, is_lower_hex, lower_hex_bytes};
 
-/// The node of which a line tells.
+/// Returns the content of a node's line, or `None` if it isn't one.
 #[tactic(auto, unfolding(crate::specs::Lines::node_told))]
 pub fn read_node_line(line: &[u8]) -> Option<NodeLine>
     ensures { result ≡ node_told line.now }
@@ -17,7 +17,7 @@ pub fn read_node_line(line: &[u8]) -> Option<NodeLine>
     node_of_words(behind(line, b"node ")?)
 }
 
-/// The entry of which a line tells.
+/// Returns the content of an entry's line, or `None` if it isn't one.
 #[tactic(auto, unfolding(crate::specs::Lines::entry_told))]
 pub fn read_entry_line(line: &[u8]) -> Option<EntryLine>
     ensures { option_map (λ entry. (entry.name, entry.child)) result ≡ entry_told line.now }
@@ -25,7 +25,7 @@ pub fn read_entry_line(line: &[u8]) -> Option<EntryLine>
     entry_of_words(behind(line, b"entry ")?)
 }
 
-/// The block of which a line tells.
+/// Returns the bytes of a block's line, or `None` if it isn't one.
 #[tactic(auto, unfolding(crate::specs::Lines::block_told))]
 pub fn read_block_line(line: &[u8]) -> Option<[u8; BLOCK_SIZE]>
     ensures { result ≡ block_told line.now }
@@ -33,7 +33,7 @@ pub fn read_block_line(line: &[u8]) -> Option<[u8; BLOCK_SIZE]>
     lower_hex_bytes(behind(line, b"block ")?)
 }
 
-// Whether `read_block_line` reads a block of the line. The digits are tested and not decoded.
+// Returns whether `read_block_line` returns a block for the line. The digits are tested and not decoded.
 #[tactic(auto, unfolding(crate::specs::Lines::block_told))]
 pub(crate) fn is_block_line(line: &[u8]) -> bool
     ensures { result ≡ is_some (block_told line.now) }

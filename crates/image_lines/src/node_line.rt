@@ -1,4 +1,4 @@
-//! What the lines of an image tell.
+//! What the lines of an image contain.
 
 use name_crypt::MOST_NAME_BYTES;
 use short_bytes::Filled;
@@ -6,33 +6,33 @@ use short_bytes::Filled;
 /// A name or a target as it is stored: at most 255 bytes.
 pub type StoredBytes = Filled<MOST_NAME_BYTES>;
 
-/// What the line of a node tells.
+/// The content of the line of a node.
 #[derive(Clone, Copy)]
 pub struct NodeLine {
     /// The node's number.
     pub number: u32,
-    /// The bytes of its context, where it is under a policy.
+    /// The bytes of its context, if it is under a policy.
     pub context: Option<[u8; 40]>,
     /// What the node is.
     pub kind: NodeKind,
 }
 
-/// What a node is, and what its own line tells of its body.
+/// What a node is, and what its own line contains of its body.
 #[derive(Clone, Copy)]
 pub enum NodeKind {
-    /// A directory, whose entries stand on the lines behind.
+    /// A directory. The lines of its entries follow.
     Dir,
-    /// A file of that many bytes, whose blocks stand on the lines behind.
+    /// A file of that many bytes. The lines of its blocks follow.
     File { size: u32 },
     /// A link with this stored target.
     Link(StoredBytes),
 }
 
-/// What the line of an entry tells.
+/// The content of the line of an entry.
 #[derive(Clone, Copy)]
 pub struct EntryLine {
     /// The stored name.
     pub name: StoredBytes,
-    /// The number of the node to which it leads.
+    /// The number of the node to which the entry refers.
     pub child: u32,
 }

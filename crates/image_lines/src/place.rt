@@ -1,4 +1,4 @@
-//! Where a line of an image stands, and which lines may stand there.
+//! Where a line of an image is, and which lines are allowed there.
 
 ghost use Rattle.std.specs.Prelude.{◌≡◌, ◌≤◌};
 ghost use Rattle.image_lines.specs.declared.place.Place.TheVariants.{AtHeader, AtRoot};
@@ -16,21 +16,21 @@ use mount_limits::BLOCK_SIZE;
 /// The first line of every image.
 pub(crate) const HEADER: &[u8] = b"fsc-image 1";
 
-/// Where a line of an image stands, as far as it tells which lines may.
+/// Where a line of an image is, as far as it determines which lines are allowed.
 #[derive(Clone, Copy)]
 pub(crate) enum Place {
-    /// In front of all lines.
+    /// Before all lines.
     AtHeader,
-    /// Behind the header.
+    /// After the header.
     AtRoot,
-    /// Behind the line of a directory, or behind one of its entries. The last name is empty before the
-    /// first entry.
+    /// After the line of a directory, or after one of its entries. The last name is empty before the first
+    /// entry.
     InDir {
         number: u32,
         under_policy: bool,
         last: StoredBytes,
     },
-    /// Behind a file, with so many blocks still to come, or behind a link.
+    /// After a file, with `left` blocks still to come, or after a link.
     Behind {
         number: u32,
         left: u32,
@@ -38,7 +38,7 @@ pub(crate) enum Place {
 }
 
 impl Place {
-    // The place behind the line, where it may stand at this one.
+    // Returns the place after the line, or `None` if the line isn't allowed at this one.
     pub(crate) fn next(&self, line: &[u8]) -> Option<Place>
         ensures { result ≡ step self.now line.now }
     {
@@ -58,7 +58,7 @@ impl Place {
         }
     }
 
-    // Whether an image may end here.
+    // Returns whether an image may end here.
     pub(crate) fn may_end(&self) -> bool
         ensures { result ≡ spec.may_end self.now }
     {
@@ -94,7 +94,7 @@ fn at_root(line: &[u8]) -> Option<Place>
     }
 }
 
-// The place behind the line of a node of a greater number.
+// Returns the place after the line of a node of a greater number.
 fn next_node(number: u32, line: &[u8]) -> Option<Place>
     ensures { result ≡ nodes.next_node number line.now }
 {
@@ -110,7 +110,7 @@ fn next_node(number: u32, line: &[u8]) -> Option<Place>
     }
 }
 
-// The place behind an entry, where its name is in range and greater than the last one.
+// Returns the place after an entry, if its name is in range and greater than the last one.
 fn next_entry(
     number: u32,
     under_policy: bool,
@@ -130,7 +130,7 @@ fn next_entry(
     }
 }
 
-// The place behind a block, of which so many are still to come.
+// Returns the place after a block, of which `left` are still to come.
 fn next_block(number: u32, left: u32, line: &[u8]) -> Option<Place>
     requires { 1 ≤ left }
     ensures { result ≡ places.next_block number left line.now }
@@ -144,7 +144,7 @@ fn next_block(number: u32, left: u32, line: &[u8]) -> Option<Place>
     })
 }
 
-// The place behind the line of a node.
+// Returns the place after the line of a node.
 fn place_behind(number: u32, under_policy: bool, kind: NodeKind) -> Place
     ensures { result ≡ nodes.place_behind number under_policy kind }
 {
@@ -162,7 +162,7 @@ fn place_behind(number: u32, under_policy: bool, kind: NodeKind) -> Place
     }
 }
 
-// How many blocks a file of that many bytes has.
+// Returns how many blocks a file of that many bytes has.
 fn blocks_for(size: u32) -> u32
     ensures { result ≡ rules.blocks_for size }
 {

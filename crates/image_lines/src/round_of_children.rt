@@ -1,4 +1,4 @@
-//! The second round of reading: each entry leads to a node of its own, other than the root.
+//! The second round of reading: each entry refers to a node of its own, other than the root.
 
 ghost use Rattle.std.specs.Prelude.{◌≡◌, ◌≤◌, ℕ, List, [], ◌∷◌, None, length, IfOk, IfErr, OnOk};
 ghost use Rattle.std.specs.Bool.{OnTrue};
@@ -17,7 +17,8 @@ use crate::round_of_lines::NodePlace;
 use std::alloc::{AllocError, Global};
 use text_words::next_line;
 
-// The first entry line whose child is the root, has no node line, or is the child of an earlier one.
+// Returns an error at the first entry line whose child is the root, has no node line, or is the child of an
+// earlier one.
 pub(crate) fn check_children(
     alloc: Global,
     text: &[u8],
@@ -44,7 +45,7 @@ pub(crate) fn check_children(
     Ok(())
 }
 
-// A mark for each node, of which none is set.
+// Returns a mark for each node, none of which is set.
 fn no_marks(alloc: Global, places: &[NodePlace]) -> Result<Vec<bool>, AllocError>
     ensures { IfOk result (λ marks. AreMarked (numbers_at places.now) [] marks.items) }
 {
@@ -52,7 +53,8 @@ fn no_marks(alloc: Global, places: &[NodePlace]) -> Result<Vec<bool>, AllocError
     Ok(marks)
 }
 
-// Marks the node to which the line leads, where it is an entry's. False where it may not lead there.
+// Marks the node to which the line refers, if it is an entry's. Returns false if the entry may not refer to
+// it.
 fn over_line(places: &[NodePlace], led: &mut Vec<bool>, line: &[u8]) -> bool
     requires rising { DoRise places.now }
     requires sized { length led.old.items ≡ length places.now }
@@ -65,7 +67,7 @@ fn over_line(places: &[NodePlace], led: &mut Vec<bool>, line: &[u8]) -> bool
     }
 }
 
-// Marks the node of this number. False where it is the root, there is none, or it was marked.
+// Marks the node of this number. Returns false if it is the root, there is none, or it was marked.
 fn lead_to(places: &[NodePlace], led: &mut [bool], child: u32) -> bool
     requires rising { DoRise places.now }
     requires sized { length led.old ≡ length places.now }
@@ -86,7 +88,7 @@ fn lead_to(places: &[NodePlace], led: &mut [bool], child: u32) -> bool
     true
 }
 
-// The index of the node of this number.
+// Returns the index of the node of this number.
 pub(crate) fn index_of(places: &[NodePlace], number: u32) -> Option<usize>
     requires rising { DoRise places.now }
     ensures { IsIndexOf (numbers_at places.now) number result }

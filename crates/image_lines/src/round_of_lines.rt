@@ -1,4 +1,4 @@
-//! The first round of reading: each line may stand where it does.
+//! The first round of reading: each line is allowed at its place.
 
 ghost use Rattle.std.specs.Prelude.{◌≡◌, ◌≤◌, ◌++◌, None, map, length, IfOk, IfErr, OnOk};
 ghost use Rattle.text_words.specs.Lines.{pieces_of};
@@ -16,7 +16,7 @@ use crate::place::Place;
 use std::alloc::{AllocError, Global};
 use text_words::next_line;
 
-/// Where a node stands in a text.
+/// Where a node is in a text.
 #[derive(Clone, Copy)]
 pub(crate) struct NodePlace {
     /// The node's number.
@@ -25,8 +25,8 @@ pub(crate) struct NodePlace {
     pub at: u32,
 }
 
-// The places of the nodes. Else the first line that its place doesn't allow, that no line feed ended, or
-// that is missing.
+// Returns the places of the nodes. Otherwise the fault is the first line that may not be at its place, that
+// no line feed ended, or that is missing.
 pub(crate) fn node_places(alloc: Global, text: &[u8]) -> Result<Vec<NodePlace>, ImageFault>
     requires short { length text.now ≤ MOST_IMAGE_BYTES }
     ensures faultless { IfOk result (λ places. line_fault text.now ≡ None) }
@@ -57,7 +57,7 @@ pub(crate) fn node_places(alloc: Global, text: &[u8]) -> Result<Vec<NodePlace>, 
     Ok(places)
 }
 
-// Adds the place of the line, where it is a node's.
+// Adds the place of the line, if it is a node's.
 fn add_place(places: &mut Vec<NodePlace>, line: &[u8], at: usize) -> Result<(), AllocError>
     requires { at ≤ MOST_IMAGE_BYTES }
     ensures { OnOk result (places.new.items ≡ places.old.items ++ place_told (node_told line.now) at) }

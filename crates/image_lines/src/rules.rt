@@ -1,4 +1,4 @@
-//! Which bytes may stand as a name or a target.
+//! Which bytes are allowed as a name or a target.
 
 ghost use Rattle.std.specs.Prelude.{◌≡◌};
 ghost use Rattle.image_lines.specs.StoredNames as spec;
@@ -6,7 +6,7 @@ ghost use Rattle.image_lines.specs.StoredNames as spec;
 use name_crypt::{LEAST_STORED_BYTES, MOST_NAME_BYTES};
 use text_words::may_be_part;
 
-// Whether a directory, under a policy or not, may have the bytes as an entry's name.
+// Returns whether a directory, under a policy or not, may have the bytes as an entry's name.
 pub(crate) fn is_entry_name(under_policy: bool, name: &[u8]) -> bool
     ensures { result ≡ spec.is_entry_name under_policy name.now }
 {
@@ -17,7 +17,7 @@ pub(crate) fn is_entry_name(under_policy: bool, name: &[u8]) -> bool
     }
 }
 
-// Whether a link, under a policy or not, may have the bytes as its target.
+// Returns whether a link, under a policy or not, may have the bytes as its target.
 pub(crate) fn is_target(under_policy: bool, target: &[u8]) -> bool
     ensures { result ≡ spec.is_target under_policy target.now }
 {

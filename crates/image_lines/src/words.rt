@@ -15,7 +15,7 @@ use text_words::{
     decimal_value, lower_hex_bytes, lower_hex_bytes_into, nth_word, two_words, word_count,
 };
 
-// The words behind `node`: a number, a kind and a context, and for a file or a link one more.
+// The words after `node`: a number, a kind and a context, and for a file or a link one more.
 #[derive(Clone, Copy)]
 struct NodeWords<'a> {
     number: &'a [u8],
@@ -24,7 +24,7 @@ struct NodeWords<'a> {
     last: Option<&'a [u8]>,
 }
 
-// The node of which the words tell.
+// Returns the node that the words describe.
 pub(crate) fn node_of_words(text: &[u8]) -> Option<NodeLine>
     ensures { result ≡ spec.node_of_words (words_of text.now) }
 {
@@ -39,7 +39,7 @@ pub(crate) fn node_of_words(text: &[u8]) -> Option<NodeLine>
     })
 }
 
-// The entry of which the words tell.
+// Returns the entry that the words describe.
 pub(crate) fn entry_of_words(text: &[u8]) -> Option<EntryLine>
     ensures { option_map (λ entry. (entry.name, entry.child)) result
         ≡ spec.entry_of_words (words_of text.now) }
@@ -50,7 +50,7 @@ pub(crate) fn entry_of_words(text: &[u8]) -> Option<EntryLine>
     Some(EntryLine { name, child })
 }
 
-// The words, if they are three or four.
+// Returns the words, if they are three or four.
 fn node_words(text: &[u8]) -> Option<NodeWords<'_>>
     ensures { MatchOption result (spec.node_of_words (words_of text.now) ≡ None)
         (λ w. spec.node_of_words (words_of text.now)
@@ -68,7 +68,7 @@ fn node_words(text: &[u8]) -> Option<NodeWords<'_>>
     })
 }
 
-// At most 255 bytes, in lower-case digits.
+// Reads at most 255 bytes from lower-case digits.
 fn stored_told(word: &[u8]) -> Option<StoredBytes>
     ensures { result ≡ told.stored_told word.now }
 {
@@ -83,7 +83,7 @@ fn stored_told(word: &[u8]) -> Option<StoredBytes>
     Some(StoredBytes::of(&bytes[..len]))
 }
 
-// A context in its 80 digits, or `-` for none.
+// Reads a context from its 80 digits, or no context from `-`.
 fn context_told(word: &[u8]) -> Option<Option<[u8; CONTEXT_LEN]>>
     ensures { result ≡ told.context_told word.now }
 {
@@ -97,7 +97,7 @@ fn context_told(word: &[u8]) -> Option<Option<[u8; CONTEXT_LEN]>>
     Some(Some(context))
 }
 
-// What a word tells a node to be, with the one behind the context, where there is one.
+// Returns the kind of node that a word names, with the word after the context, if there is one.
 fn kind_told(word: &[u8], under_policy: bool, last: Option<&[u8]>) -> Option<NodeKind>
     ensures { result ≡ told.kind_told word.now under_policy (option_map (λ last. last.now) last.entry) }
 {
