@@ -23,19 +23,19 @@ pub names_in-append : {C : Type 0} (placed made : entries.PlacedList C Reply) �
 names_in-append {C} placed made =
     ap (names_from []) (map-append (λ (x : ℕ × Entry C Reply). x.1) placed made) ∙ names_from-append [] (entries_of placed) (entries_of made)
 
--- ---- what is shown of calls
+-- ---- the shown entries of calls
 
 pub shown_calls-append : (es fs : PlacedCalls) → shown_calls (es ++ fs) ≡ shown_calls es ++ shown_calls fs
 shown_calls-append es fs = map-append (λ (x : ℕ × MountEntry). (x.0, shown_entry x.1)) es fs
 
--- what grew twice grew by what is shown of all
+-- what grew twice grew by the shown entries of all calls
 pub grown_twice : (old middle new : PlacedShown) (made more : PlacedCalls) → middle ≡ old ++ shown_calls made → new ≡ middle ++ shown_calls more
     → new ≡ old ++ shown_calls (made ++ more)
 grown_twice old middle new made more first second =
     second ∙ ap (λ l. l ++ shown_calls more) first ∙ append_assoc old (shown_calls made) (shown_calls more)
     ∙ ap (λ l. old ++ l) (sym (shown_calls-append made more))
 
--- it tells the same last names
+-- they have the same last names
 pub names_from-shown : (names : List (List ℕ)) (placed : PlacedCalls) → names_from names (entries_of (shown_calls placed)) ≡ names_from names (entries_of placed)
 names_from-shown names [] = refl
 names_from-shown names (x ∷ xs) = names_from-shown (names_after names x.1.reply) xs

@@ -46,7 +46,7 @@ other_names names (reply.Held version bytes) told = refl
 other_names names (reply.Stored version) told = refl
 other_names names (reply.Refused refusal) told = refl
 
--- an entry that tells names tells the last of them
+-- the names of an entry that is a listing are the last ones up to it
 pub last_is : (told : PlacedShown) (k i : ℕ) (x : ℕ × ShownEntry) (listed : List (List ℕ)) → k < length told → i ≡ length told - 1 - k
     → x ≡ get_or told i x → names_told x.1.reply ≡ Some listed → names_in (take (length told - k) told) ≡ listed
 last_is told k i x listed below is here names = at_entry told k i x below is here ∙ told_names (names_in (take i told)) listed x.1.reply names

@@ -27,7 +27,7 @@ same_still first second = record {
   entries = second.entries ∙ first.entries;
 }
 
--- a part that is one call, with whose reply the work goes on or ends
+-- a part that is one call, after whose reply the work goes on or ends
 pub one_call : {P A : Type 0} {came : P → PlacedCalls → P → Type 0} {who left : P → ℕ} {old new : Caller P} {caller : ℕ} {call wanted : Call} {placed : ℕ × ShownEntry}
     (told : Reply → Result A Outcome) (result : Result A Stop) → call ≡ wanted → came old.port.now (asked caller call placed ∷ []) new.port.now → placed ≡ (placed.0, shown_entry (asked caller call placed).1)
     → left new.port.now + 1 ≡ left old.port.now → new.entries.now ≡ old.entries.now ++ placed ∷ [] → IsSameCaller who old new → Gives result (told placed.1.reply)
@@ -174,7 +174,7 @@ ends_now by_none caller outcome = record {
   same = record { number = refl; port = refl; entries = refl };
 }
 
--- for want of memory
+-- out of memory
 pub stops_now : {P : Type 0} {came : P → PlacedCalls → P → Type 0} {who left : P → ℕ} (by_none : (port : P) → came port [] port) (caller : Caller P) (steps : CommandSteps)
     → Worked came who left caller caller 0 steps (Err NoMemory)
 stops_now by_none caller steps = record {
@@ -206,19 +206,19 @@ by_more_calls all (Err NoMemory) low work =
 
 -- ---- in an answer
 
--- it is enough to show of the error that `?` hands on
+-- a proof about the error that `?` returns is enough
 pub by_err : {P : Type 0} {came : P → PlacedCalls → P → Type 0} {who left : P → ℕ} {old new : Caller P} {most : ℕ} {steps : CommandSteps} {stop : Stop}
     (result : Result (Option Outcome) Stop) → IsErrAnd result (λ error. error ≡ stop)
     → Worked came who left old new most steps (Err stop) → Worked came who left old new most steps result
 by_err (Ok outcome) is work = absurd is
 by_err {came = came} {who} {left} {old} {new} {most} {steps} (Err error) is work = subst (λ s. Worked came who left old new most steps (Err s)) (sym is) work
 
--- where a step was allowed
+-- if a step was allowed
 pub allowed : {P A : Type 0} {came : P → PlacedCalls → P → Type 0} {who left : P → ℕ} {old new : Caller P} {most : ℕ} {got : Result A Outcome} {value : A}
     (after : A → CommandSteps) (result : Result (Option Outcome) Stop) → Ok value ≡ got → Worked came who left old new most (after value) result → Worked came who left old new most (when_ok got after) result
 allowed {came = came} {who} {left} {old} {new} {most} after result is work = subst (λ g. Worked came who left old new most (when_ok g after) result) is work
 
--- where it was refused
+-- if it was refused
 pub refused : {P A : Type 0} {came : P → PlacedCalls → P → Type 0} {who left : P → ℕ} {got : Result A Outcome} {outcome : Outcome}
     (after : A → CommandSteps) (by_none : (port : P) → came port [] port) (caller : Caller P) → Err outcome ≡ got → Worked came who left caller caller 0 (when_ok got after) (Err (Ended outcome))
 refused {came = came} {who} {left} {outcome = outcome} after by_none caller is =

@@ -1,5 +1,5 @@
--- The caller of a command: what holds of it before its work, what stays through it, and what a call that
--- was answered leaves.
+-- The caller of a command: what holds of it before its work, what stays through it, and what an answered
+-- call leaves.
 use Rattle.std.specs.Prelude.{◌≡◌, ℕ, ◌+◌, ◌≤◌, [], ◌∷◌}
 use Rattle.mount_model.specs.Port.{PlacedCalls}
 use Rattle.mount_model.specs.declared.call.Call.{Call}
@@ -8,7 +8,7 @@ use Rattle.session_records.specs.declared.turn.Turn.{Turn}
 use Rattle.fsc_commands.specs.declared.work.Caller.{Caller}
 use Rattle.fsc_commands.specs.Made.{asked}
 
--- the port is that of the caller whose turn it is, and has at least so many calls left
+-- the port is that of the caller whose turn it is, and has `least` calls left or more
 pub record MayAsk {P : Type 0} (who calls_left : P → ℕ) (least : ℕ) (turn : Turn) (caller : Caller P)
     : Type 0 where
   pub own : turn.caller ≡ who caller.port.now
@@ -20,7 +20,7 @@ pub record IsSameCaller {P : Type 0} (who : P → ℕ) (old new : Caller P) : Ty
   pub port : new.port.ghost_name ≡ old.port.ghost_name
   pub entries : new.entries.ghost_name ≡ old.entries.ghost_name
 
--- the call was answered, and what is shown of it, with its place, isn't in the list yet
+-- the call was answered, and the list doesn't have the shown entry, with its place, yet
 pub record Answered {P : Type 0} (came : P → PlacedCalls → P → Type 0) (left : P → ℕ) (old new : Caller P)
     (caller : ℕ) (call : Call) (placed : ℕ × ShownEntry) : Type 0 where
   pub came_by : came old.port.now (asked caller call placed ∷ []) new.port.now

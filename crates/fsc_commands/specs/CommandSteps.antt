@@ -16,11 +16,11 @@ CommandSteps = Steps (Option Outcome)
 abbrev pub called : ℕ → Op → Call
 called uid asked = record { uid = uid; op = asked }
 
--- a call for a user, and what comes after its reply
+-- a call for a user, and the steps after its reply
 abbrev pub asking : ℕ → ℕ → Op → (Reply → CommandSteps) → CommandSteps
 asking caller uid asked next = Ask caller (called uid asked) next
 
--- a session's work ends so
+-- a session's work ends with this outcome
 abbrev pub ended : Outcome → CommandSteps
 ended outcome = Done (Some outcome)
 
@@ -29,6 +29,6 @@ abbrev pub when_ok : {A : Type 0} → Result A Outcome → (A → CommandSteps) 
 when_ok (Err outcome) next = ended outcome
 when_ok (Ok value) next = next value
 
--- the last call, where this reply is wanted
+-- the last call, if `wanted` is the expected reply
 abbrev pub last_call : ℕ → ℕ → Op → Wanted → CommandSteps
 last_call caller uid asked wanted = asking caller uid asked (λ reply. ended (outcome_of wanted reply))

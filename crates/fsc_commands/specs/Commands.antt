@@ -9,21 +9,21 @@ use Rattle.fsc_commands.specs.CommandSteps.{CommandSteps, asking}
 use Rattle.fsc_commands.specs.Tasks.{Task, task_of}
 use Rattle.fsc_commands.specs.Tasks.Task.{Single, Session, Idle}
 
--- the call, where it is a single one
+-- the call, if it is a single one
 abbrev pub single_call : Task → Option Op
 single_call (Single asked) = Some asked
 single_call (Session steps) = None
 single_call Idle = None
 
--- what a command asks for that is a single call
+-- the call of a command that is a single one
 abbrev pub plain_op : List ℕ → ℕ → ℕ → ℕ → List (List ℕ) → Verb → Option Op
 plain_op seed caller uid number names asked = single_call (task_of seed caller uid number names asked)
 
--- where there is a call, a mount may be asked it
+-- if there is a call, a mount may be asked for it
 abbrev pub AnyFits : Option Op → Type 0
 AnyFits asked = IfSome asked OpFits
 
--- there is a call, and it carries a path or bytes, so that making it may want memory
+-- there is a call, and it carries a path or bytes, so that making it may run out of memory
 abbrev pub MayWantMemory : Option Op → Type 0
 MayWantMemory None = ⊥
 MayWantMemory (Some asked) = IsTrue (carries_bytes asked)

@@ -11,8 +11,8 @@ use Rattle.fsc_commands.specs.Steps.{Steps, Reaches}
 use Rattle.fsc_commands.specs.Steps.Steps.{Done}
 use Rattle.fsc_commands.specs.CommandSteps.{CommandSteps, when_ok}
 
--- the port came by at most so many calls, which are these steps and leave this value, and the list has what
--- is shown of them behind its others
+-- the port is as it is after at most `most` calls, which are these steps and leave this value, and the list
+-- has the shown entries of these calls after its others
 pub record Made {P A : Type 0} (came : PlacedCalls → P → Type 0) (port : P) (left before_left most : ℕ)
     (steps : Steps A) (value : A) (old new : PlacedShown) : Type 0 where
   pub made : PlacedCalls
@@ -22,7 +22,7 @@ pub record Made {P A : Type 0} (came : PlacedCalls → P → Type 0) (port : P) 
   pub few : length made ≤ most
   pub counted : left + length made ≡ before_left
 
--- the same of a part of a session's work: whatever comes after it, it goes on with what was got
+-- the same for a part of a session's work: whatever comes after it, it goes on with `got`
 pub record MadePart {P A : Type 0} (came : PlacedCalls → P → Type 0) (port : P) (left before_left most : ℕ)
     (steps : (A → CommandSteps) → CommandSteps) (got : Result A Outcome) (old new : PlacedShown)
     : Type 0 where
@@ -33,12 +33,12 @@ pub record MadePart {P A : Type 0} (came : PlacedCalls → P → Type 0) (port :
   pub few : length made ≤ most
   pub counted : left + length made ≡ before_left
 
--- the entry of the caller's call of which this is shown, with its place
+-- the entry of the caller's call from its shown entry, with its place
 abbrev pub asked : ℕ → Call → ℕ × ShownEntry → ℕ × MountEntry
 asked caller call placed = (placed.0, entry caller call placed.1.reply)
 
--- the port came by at most so many calls, with which these steps begin: each is the one that they ask for after
--- the calls before it and their replies
+-- the port is as it is after at most `most` calls, with which these steps begin: each is the one that they
+-- ask for after the calls before it and their replies
 pub record Begun {P A : Type 0} (came : PlacedCalls → P → Type 0) (port : P) (most : ℕ) (steps : Steps A)
     : Type 0 where
   pub made : PlacedCalls
@@ -47,7 +47,7 @@ pub record Begun {P A : Type 0} (came : PlacedCalls → P → Type 0) (port : P)
   pub begins : Reaches steps (entries_of made) rest
   pub few : length made ≤ most
 
--- the same of a part of a session's work, whatever comes after it
+-- the same for a part of a session's work, whatever comes after it
 pub record BegunPart {P A : Type 0} (came : PlacedCalls → P → Type 0) (port : P) (most : ℕ)
     (steps : (A → CommandSteps) → CommandSteps) : Type 0 where
   pub made : PlacedCalls

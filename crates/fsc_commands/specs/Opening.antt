@@ -31,7 +31,7 @@ opening_policy caller uid label protector key next =
     asking caller uid (MetaLoad (record_name (Policy label)))
     (λ reply. when_ok (policy_opened label protector key reply) next)
 
--- the last call stores a record in place of the version that is expected; 0 stands for none
+-- the last call stores a record in place of the expected version; 0 means none
 abbrev pub storing : ℕ → ℕ → Record → ℕ → List ℕ → CommandSteps
 storing caller uid stored expected text =
     last_call caller uid (MetaStore (record_name stored) expected text) wanted.Stored

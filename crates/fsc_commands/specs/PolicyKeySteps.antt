@@ -12,7 +12,7 @@ use Rattle.session_records.specs.PolicyRecords.{room_for}
 use Rattle.fsc_commands.specs.CommandSteps.{CommandSteps, when_ok, last_call}
 use Rattle.fsc_commands.specs.Opening.{opening_policy, opening_protector, storing}
 
--- the key of a policy is added that a protector with this key opens
+-- the key of a policy is added; a protector with this key opens the policy
 abbrev pub unlock_through : ℕ → ℕ → List ℕ → List ℕ → List ℕ → CommandSteps
 unlock_through caller uid label protector key =
     opening_policy caller uid label protector key
@@ -46,7 +46,7 @@ add_through seed caller uid number label protector key added added_secret =
     (λ opened. when_ok (room_for added opened.loaded.policy.wraps)
     (λ room. add_to seed caller uid number label opened.loaded opened.key added added_secret))
 
--- a further protector opens a policy, whose key another one gives
+-- a further protector opens a policy, whose key comes through another one
 abbrev pub policy_add_steps : List ℕ → ℕ → ℕ → ℕ → List ℕ → List ℕ → Secret → List ℕ → Secret → CommandSteps
 policy_add_steps seed caller uid number label protector secret added added_secret =
     opening_protector caller uid protector secret

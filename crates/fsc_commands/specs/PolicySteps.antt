@@ -19,7 +19,7 @@ use Rattle.fsc_commands.specs.CommandSteps.{CommandSteps, when_ok, last_call}
 use Rattle.fsc_commands.specs.Opening.{loading_policy, storing}
 use Rattle.fsc_commands.specs.Stars.{path_meant}
 
--- the call that is asked of a policy's key, and the reply that it is meant to have
+-- the call that is made for a policy's key, and the expected reply
 abbrev pub key_op : AskedOfKey → KeyId → Op
 key_op Removal id = RemoveKey id
 key_op Status id = KeyStatus id
@@ -28,7 +28,7 @@ abbrev pub key_wanted : AskedOfKey → Wanted
 key_wanted Removal = wanted.Removed
 key_wanted Status = wanted.Status
 
--- the claim to a policy's key is removed, or it is told whether it is there
+-- the claim to a policy's key is removed, or its status is returned
 abbrev pub key_steps : AskedOfKey → ℕ → ℕ → List ℕ → CommandSteps
 key_steps asked caller uid label =
     loading_policy caller uid label
@@ -48,7 +48,7 @@ migrate_steps caller uid label =
     (λ loaded. when_ok (with_options loaded.policy loaded.policy.options)
     (λ policy. storing caller uid (Policy label) loaded.version (policy_text policy)))
 
--- a directory is encrypted from now on, under a nonce that is drawn
+-- a directory is encrypted from now on, under a derived nonce
 abbrev pub encrypt_steps : List ℕ → ℕ → ℕ → ℕ → List (List ℕ) → List ScriptPart → List ℕ → Option Settings
     → CommandSteps
 encrypt_steps seed caller uid number names path label settings =

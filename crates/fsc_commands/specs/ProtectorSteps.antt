@@ -9,18 +9,19 @@ use Rattle.session_records.specs.DrawnRecords.{drawn_protector, protector_rewrap
 use Rattle.fsc_commands.specs.CommandSteps.{CommandSteps}
 use Rattle.fsc_commands.specs.Opening.{opening_protector, storing}
 
--- a protector is made of what is drawn; no record of its name is expected
+-- a protector is made of derived values; no record of its name is expected
 abbrev pub protector_steps : List ℕ → ℕ → ℕ → ℕ → List ℕ → NewSecret → CommandSteps
 protector_steps seed caller uid number label new =
     storing caller uid (Protector label) 0 (protector_text (drawn_protector seed caller number label new))
 
--- a protector that its secret opens gets another; its key stays
+-- a protector that its secret opens gets another secret; its key stays
 abbrev pub protector_change_steps : List ℕ → ℕ → ℕ → ℕ → List ℕ → Secret → NewSecret → CommandSteps
 protector_change_steps seed caller uid number label secret new =
     opening_protector caller uid label secret
     (λ opened. storing caller uid (Protector label) opened.loaded.version
     (protector_text (protector_rewrapped seed caller number opened.loaded.protector opened.key new)))
 
--- a protector that lies on another mount is linked: the link stands as its record, and none is expected there
+-- a protector that is on another mount is linked: the link is stored as its record, and no record is
+-- expected there
 abbrev pub protector_link_steps : ℕ → ℕ → List ℕ → CommandSteps
 protector_link_steps caller uid label = storing caller uid (Protector label) 0 (link_text label)

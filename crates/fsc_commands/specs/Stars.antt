@@ -15,12 +15,12 @@ could_be_part name = (nat_le 1 (length name) && nat_le (length name) MOST_PART_B
 abbrev pub star_text : ℕ → List ℕ
 star_text number = 42 ∷ decimal_of number
 
--- the name, where there is one that could be a part, and else the star's own text
+-- the name, if there is one that could be a part, and else the star's own text
 abbrev pub name_or_star : ℕ → Option (List ℕ) → List ℕ
 name_or_star number None = star_text number
 name_or_star number (Some name) = if could_be_part name then name else star_text number
 
--- what a part means where these are the names of the caller's last listing
+-- what a part means if these are the names of the caller's last listing
 abbrev pub part_meant : List (List ℕ) → ScriptPart → List ℕ
 part_meant names (Given bytes) = bytes
 part_meant names (Star number) = name_or_star number (slice_get names number)

@@ -15,14 +15,14 @@ use Rattle.fsc_commands.specs.PolicyKeySteps.{unlock_steps, policy_new_steps, po
 use Rattle.fsc_commands.specs.ProtectorSteps.{protector_steps, protector_change_steps, protector_link_steps}
 use Rattle.fsc_commands.specs.Stars.{path_meant}
 
--- a single call; a session's work, which has these steps; or nothing, where the caller lets its turn pass
+-- a single call; a session's work, which has these steps; or nothing, if the caller lets its turn pass
 pub data Task : Type 0 where
   Single : Op → Task
   Session : CommandSteps → Task
   Idle : Task
 
--- what a command is, where it has this number in its caller's section and the caller was last told these names;
--- each has a line, so that none but a pause does nothing
+-- what a command is, if it has this number in its caller's section and these are the names of the caller's
+-- last listing; each has a line, so only a pause does nothing
 abbrev pub task_of : List ℕ → ℕ → ℕ → ℕ → List (List ℕ) → Verb → Task
 task_of seed caller uid number names (verb.AddKey raw) = Single (op.AddKey raw)
 task_of seed caller uid number names (verb.RemoveKey key) = Single (op.RemoveKey (id_meant key))

@@ -1,4 +1,4 @@
--- Calls whose bytes were overwritten: zeros stand in their place, as many.
+-- Calls whose bytes were wiped: as many zeros are in their place.
 use Rattle.std.specs.Prelude.{ℕ, List, length, replicate}
 use Rattle.mount_model.specs.declared.call.Call.{Call}
 use Rattle.mount_model.specs.declared.call.Op.{Op}

@@ -1,5 +1,5 @@
--- What the work of a command, or a part of it, makes of its caller, by how it ended; after want of memory it
--- is the beginning of the steps.
+-- What the work of a command, or a part of it, makes of its caller, by how it ended; if it was out of
+-- memory, the beginning of the steps.
 use Rattle.std.specs.Prelude.{ℕ, Option, Some, Result, Ok, Err}
 use Rattle.mount_model.specs.Port.{PlacedCalls}
 use Rattle.reply_text.specs.declared.outcome.Outcome.{Outcome}
@@ -10,7 +10,7 @@ use Rattle.fsc_commands.specs.CommandSteps.{CommandSteps}
 use Rattle.fsc_commands.specs.Made.{Made, MadePart, Begun, BegunPart}
 use Rattle.fsc_commands.specs.Callers.{IsSameCaller}
 
--- what work made, which ends with the value of its steps
+-- what work made that ends with the value of its steps
 abbrev pub Ends : {P : Type 0} → (P → PlacedCalls → P → Type 0) → (P → ℕ) → Caller P → Caller P → ℕ
     → CommandSteps → Result (Option Outcome) Stop → Type 0
 Ends came left old new most steps (Ok outcome) =
@@ -32,7 +32,7 @@ PartEnds came left old new most steps (Err (Ended outcome)) =
     old.entries.now new.entries.now
 PartEnds came left old new most steps (Err NoMemory) = BegunPart (came old.port.now) new.port.now most steps
 
--- work that ended so made at most so many calls, which these steps ask for
+-- work that ended so made at most `most` calls, which these steps ask for
 pub record Worked {P : Type 0} (came : P → PlacedCalls → P → Type 0) (who left : P → ℕ) (old new : Caller P)
     (most : ℕ) (steps : CommandSteps) (result : Result (Option Outcome) Stop) : Type 0 where
   pub ends : Ends came left old new most steps result

@@ -1,4 +1,4 @@
-//! What the commands of a script ask for that are a single call.
+//! The commands of a script that are a single call.
 
 ghost use Rattle.std.specs.Prelude.{◌≡◌, ℕ, List, Some, IfOk, OnErr};
 ghost use Rattle.mount_model.specs.Fits.{OpFits};
@@ -17,8 +17,8 @@ use script_lang::Verb;
 use session_records::{Turn, nonce_drawn, record_name};
 use std::alloc::{AllocError, Global};
 
-// What a command asks for that is a single call; `None` where it is a session's work, or a pause. The mount may
-// be asked it. What carries neither a path nor bytes takes no memory.
+// Returns the call of a command that is a single one, or `None` if the command is a session's work or a
+// pause. The mount may be asked for the call. A call with neither a path nor bytes needs no memory.
 pub(crate) fn plain_op(
     alloc: Global,
     seed: &[u8; 32],
@@ -71,7 +71,7 @@ pub(crate) fn plain_op(
     }
 }
 
-// What carries bytes, and no path.
+// Returns the call of a command with bytes and no path.
 fn bytes_op(alloc: Global, verb: &Verb) -> Result<Op, AllocError>
     requires asked { IsAskable verb.now }
     requires bytes { CarriesBytes verb.now }
@@ -118,7 +118,7 @@ fn bytes_op(alloc: Global, verb: &Verb) -> Result<Op, AllocError>
     }
 }
 
-// What carries a path and a nonce of its own.
+// Returns the call of a command with a path and a nonce of its own.
 fn nonce_op(
     alloc: Global,
     seed: &[u8; 32],
@@ -165,7 +165,7 @@ fn nonce_op(
     }
 }
 
-// What carries a path, and no nonce.
+// Returns the call of a command with a path and no nonce.
 fn path_op(alloc: Global, told: &EntryList, verb: &Verb) -> Result<Op, AllocError>
     requires asked { IsAskable verb.now }
     requires path { NamesPath verb.now }

@@ -16,7 +16,7 @@ use script_lang::NewSecret;
 use session_records::{Stop, protector_rewrapped};
 
 impl<'a, S: Stretch> Work<'a, S> {
-    // Gives a protector another secret; its key stays. The key is overwritten.
+    // Gives a protector another secret; its key stays. Wipes the key.
     pub(crate) fn protector_change<P: MountPort>(
         &self,
         caller: &mut Caller<P>,

@@ -21,10 +21,10 @@ use script_lang::Verb;
 use session_records::{Stop, Turn};
 use std::alloc::{AllocError, Global};
 
-/// Runs a command, and puts what it asked and was replied behind the caller's other entries. A session's
-/// work has an outcome. The one error is want of memory: then the calls that were made are those with which
-/// the command's steps begin. It is never inlined, so that what it leaves on the stack lies below who called
-/// it.
+/// Runs a command, and appends what a log shows of its calls and replies to the caller's entries. Returns
+/// the outcome of a session's work. The only error is out of memory; the calls made are then those with
+/// which the command's steps begin. It is never inlined, so that what it leaves on the stack is below the
+/// frame of its caller.
 #[inline(never)]
 pub fn run_command<P: MountPort, S: Stretch>(
     alloc: Global,
@@ -62,7 +62,7 @@ pub fn run_command<P: MountPort, S: Stretch>(
 }
 
 impl<'a, S: Stretch> Work<'a, S> {
-    // Runs a command: the one call that it is, or a session's work.
+    // Runs a command: its one call, or a session's work.
     fn run<P: MountPort>(
         &self,
         caller: &mut Caller<P>,

@@ -16,7 +16,7 @@ use session_records::{Stop, Wanted, node_policy, nonce_drawn};
 use short_bytes::Label;
 
 impl<'a, S> Work<'a, S> {
-    // Encrypts a directory from now on, under a policy and a nonce that is drawn.
+    // Encrypts a directory from now on, under a policy and a derived nonce.
     pub(crate) fn encrypt<P: MountPort>(
         &self,
         caller: &mut Caller<P>,

@@ -32,9 +32,9 @@ pub use session_records::Turn;
 pub use stars::path_meant;
 pub use wiping::wipe_call;
 
-/// What a log shows of a caller's calls, and what was replied, each with its place in the history, which
-/// counts from 0. Neither raw keys nor nonces nor written bytes are among it.
+/// What a log shows of a caller's calls and their replies, each with its place in the history, which counts
+/// from 0. It contains no raw keys, nonces or written bytes.
 pub type EntryList = Items<(u64, Entry<Shown, Reply>)>;
 
-/// The most calls that a command makes.
+/// The maximum number of calls that a command makes.
 pub const MOST_CALLS: u64 = 4;

@@ -14,7 +14,7 @@ use session_records::Stop;
 use short_bytes::Label;
 
 impl<'a, S> Work<'a, S> {
-    // Stores the link to a protector that lies on another mount, under the protector's name.
+    // Stores the link to a protector that is on another mount, under the protector's name.
     pub(crate) fn protector_link<P: MountPort>(
         &self,
         caller: &mut Caller<P>,

@@ -1,4 +1,4 @@
-//! What the words of a command mean.
+//! What the arguments of a command mean.
 
 ghost use Rattle.std.specs.Prelude.{◌≡◌, IfOk, replicate};
 ghost use Rattle.fsc_commands.specs.Meant as spec;
@@ -9,7 +9,7 @@ use policy_ctx::{Policy, Unit};
 use script_lang::{KeyRef, Settings};
 use std::alloc::{AllocError, Global};
 
-/// The identifier that a key's reference means: raw bytes mean theirs.
+/// Returns the identifier that a key's reference means. Raw bytes mean their own.
 pub fn id_meant(key: &KeyRef) -> KeyId
     ensures { result ≡ spec.id_meant key.now }
 {
@@ -19,7 +19,7 @@ pub fn id_meant(key: &KeyRef) -> KeyId
     }
 }
 
-// The policy of this key with the settings that are said. Each node has keys of its own.
+// Returns the policy of this key with the given settings. Each node has keys of its own.
 pub(crate) fn policy_said(id: KeyId, settings: Settings) -> Policy
     ensures { result ≡ spec.policy_said id settings }
 {
@@ -49,7 +49,7 @@ pub(crate) fn number_said(number: Option<u32>) -> u32
     }
 }
 
-// So many times this byte.
+// Returns `len` bytes of this value.
 pub(crate) fn filled(alloc: Global, len: u32, byte: u8) -> Result<Bytes, AllocError>
     ensures { IfOk result (λ bytes. bytes ≡ replicate len byte) }
 {

@@ -19,8 +19,7 @@ use session_records::{
 use short_bytes::Label;
 
 impl<'a, S: Stretch> Work<'a, S> {
-    // Loads a protector, and opens it with its secret. Its key is overwritten where there is no memory for
-    // the entry.
+    // Loads a protector, and opens it with its secret. Wipes its key if there is no memory for the entry.
     pub(crate) fn open_protector<P: MountPort>(
         &self,
         caller: &mut Caller<P>,
@@ -56,8 +55,8 @@ impl<'a, S: Stretch> Work<'a, S> {
 
 impl<'a, S> Work<'a, S> {
     // Loads the policy of this label, and opens it through the protector of another label, with its key.
-    // The policy's key has 64 bytes, and the identifier that the record tells. It is overwritten where there
-    // is no memory for the entry.
+    // The policy's key has 64 bytes, and the identifier that the record contains. It is wiped if there is
+    // no memory for the entry.
     pub(crate) fn open_policy<P: MountPort>(
         &self,
         caller: &mut Caller<P>,

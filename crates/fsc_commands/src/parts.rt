@@ -1,4 +1,4 @@
-//! The pieces of which a session's work is made: each is a call, and what its reply makes of it.
+//! The pieces of which a session's work is made: each is a call, and what follows from its reply.
 
 ghost use Rattle.std.specs.Prelude.{◌≡◌, ◌<◌, ◌+◌, [], ◌∷◌, Some, IfOk, OnErr};
 ghost use Rattle.mount_model.specs.declared.call.Call.{Call};
@@ -21,8 +21,8 @@ use session_records::{LoadedPolicy, Stop, Turn, Wanted, outcome_of, policy_loade
 use short_bytes::Label;
 use std::alloc::{AllocError, Global};
 
-// Makes a call of the caller, and gives what is shown of its entry, with its place. Want of memory comes
-// before the call. Either way the bytes that the call carries are overwritten.
+// Makes a call of the caller, and returns what a log shows of its entry, with its place. If it is out of
+// memory, the call isn't made. Either way the bytes that the call carries are wiped.
 fn ask<P: MountPort>(
     alloc: Global,
     port: &mut P,
@@ -47,7 +47,7 @@ fn ask<P: MountPort>(
     answered
 }
 
-// The same of a call that is lent, and isn't overwritten.
+// The same for a borrowed call, which isn't wiped.
 fn ask_lent<P: MountPort>(
     alloc: Global,
     port: &mut P,
@@ -77,8 +77,8 @@ fn ask_lent<P: MountPort>(
 }
 
 impl<'a, S> Work<'a, S> {
-    // Makes a call for the user whose turn it is, and gives what is shown of its entry, with its place, which
-    // isn't in the list yet.
+    // Makes a call for the user whose turn it is. Returns what a log shows of its entry, with its place;
+    // the list doesn't have it yet.
     pub(crate) fn ask_for<P: MountPort>(
         &self,
         caller: &mut Caller<P>,
@@ -98,7 +98,7 @@ impl<'a, S> Work<'a, S> {
         ask(self.alloc, caller.port, self.turn, &mut call)
     }
 
-    // Makes the last call of a session's work, which ends as the reply to it tells.
+    // Makes the last call of a session's work, whose reply determines the outcome.
     pub(crate) fn finish<P: MountPort>(
         &self,
         caller: &mut Caller<P>,

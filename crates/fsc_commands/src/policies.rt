@@ -1,4 +1,4 @@
-//! A session's work with policies that are there.
+//! A session's work with existing policies.
 
 ghost use Rattle.std.specs.Prelude.{◌≡◌};
 ghost use Rattle.fsc_commands.specs.PolicySteps as spec;
@@ -14,17 +14,17 @@ use reply_text::Outcome;
 use session_records::{Stop, Wanted};
 use short_bytes::Label;
 
-// What is asked of the key of a policy.
+// What a caller asks of the key of a policy.
 #[derive(Clone, Copy)]
 pub(crate) enum AskedOfKey {
-    // That the caller's claim to it is removed.
+    // To remove the caller's claim to it.
     Removal,
     // Whether it is there.
     Status,
 }
 
 impl<'a, S> Work<'a, S> {
-    // Makes the call that is asked of the key of a policy.
+    // Makes the call that asks this of the key of a policy.
     pub(crate) fn ask_of_key<P: MountPort>(
         &self,
         caller: &mut Caller<P>,
@@ -40,7 +40,7 @@ impl<'a, S> Work<'a, S> {
     }
 }
 
-// The call of a key.
+// Returns the call for a key.
 fn key_op(asked: AskedOfKey, id: KeyId) -> Op
     ensures { result ≡ spec.key_op asked id }
 {
@@ -50,7 +50,7 @@ fn key_op(asked: AskedOfKey, id: KeyId) -> Op
     }
 }
 
-// The reply that it is meant to have.
+// Returns the reply that is expected.
 fn key_wanted(asked: AskedOfKey) -> Wanted
     ensures { result ≡ spec.key_wanted asked }
 {

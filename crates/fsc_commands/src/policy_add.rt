@@ -20,7 +20,7 @@ use session_records::{LoadedPolicy, Stop, policy_widened, room_for};
 use short_bytes::Label;
 
 impl<'a, S: Stretch> Work<'a, S> {
-    // Lets a further protector open a policy, whose key another one gives. All keys are overwritten.
+    // Lets a further protector open a policy, whose key comes through another one. Wipes all keys.
     pub(crate) fn policy_add<P: MountPort>(
         &self,
         caller: &mut Caller<P>,
@@ -43,7 +43,8 @@ impl<'a, S: Stretch> Work<'a, S> {
         ended
     }
 
-    // The same through a protector with this key. Where there is no room, the further protector isn't loaded.
+    // The same through a protector with this key. The further protector isn't loaded if there is no free
+    // slot for it.
     fn add_through<P: MountPort>(
         &self,
         caller: &mut Caller<P>,
@@ -73,7 +74,7 @@ impl<'a, S: Stretch> Work<'a, S> {
         }
     }
 
-    // Lets a further protector open a policy with this key, where there is room for it.
+    // Lets a further protector open a policy with this key, which has a free slot for it.
     fn add_to<P: MountPort>(
         &self,
         caller: &mut Caller<P>,

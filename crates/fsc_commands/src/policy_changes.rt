@@ -12,7 +12,7 @@ use session_records::{Stop, policy_without, with_options};
 use short_bytes::Label;
 
 impl<'a, S> Work<'a, S> {
-    // Lets a protector open a policy no longer.
+    // Removes a protector from those that open a policy.
     pub(crate) fn policy_drop<P: MountPort>(
         &self,
         caller: &mut Caller<P>,

@@ -16,7 +16,7 @@ use session_records::{Stop, drawn_policy};
 use short_bytes::Label;
 
 impl<'a, S: Stretch> Work<'a, S> {
-    // Makes a policy that a protector opens. The keys of both are overwritten.
+    // Makes a policy that a protector opens. Wipes the keys of both.
     pub(crate) fn policy_new<P: MountPort>(
         &self,
         caller: &mut Caller<P>,

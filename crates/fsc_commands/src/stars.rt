@@ -19,8 +19,8 @@ use script_lang::{ScriptPart, ScriptPath};
 use std::alloc::{AllocError, Global};
 use text_words::{may_be_part, push_decimal};
 
-/// The path that a script's path means to a caller that was told these entries. A mount may be asked for
-/// it. A star means the name of its number, from 0, in the caller's last listing; where there is none, or
+/// Returns the path that a script's path means to a caller with these entries. A mount may be asked for it.
+/// A star means the name of its number, from 0, in the caller's last listing. If there is no such name, or
 /// it can't be a part of a path, the star means its own text.
 pub fn path_meant(alloc: Global, told: &EntryList, path: &ScriptPath) -> Result<Path, AllocError>
     ensures value { IfOk result (λ meant. meant ≡ path_meant (names_in told.now) path.now) }
@@ -29,7 +29,7 @@ pub fn path_meant(alloc: Global, told: &EntryList, path: &ScriptPath) -> Result<
     parts_meant(alloc, told.as_slice(), path.parts())
 }
 
-// The path of what each part means.
+// Returns the path of what each part means.
 fn parts_meant(
     alloc: Global,
     told: &[(u64, Entry<Shown, Reply>)],
@@ -47,7 +47,7 @@ fn parts_meant(
     Ok(meant)
 }
 
-// What a part means.
+// Returns what a part means.
 fn part_meant(
     alloc: Global,
     told: &[(u64, Entry<Shown, Reply>)],
@@ -63,7 +63,7 @@ fn part_meant(
     }
 }
 
-// What a star means.
+// Returns what a star means.
 fn name_or_star(alloc: Global, names: &[Bytes], number: u32) -> Result<Bytes, AllocError>
     ensures value { IfOk result (λ meant. meant ≡ name_or_star number (slice_get names.now number)) }
     ensures fits { IfOk result carried.IsPart }
@@ -74,7 +74,7 @@ fn name_or_star(alloc: Global, names: &[Bytes], number: u32) -> Result<Bytes, Al
     }
 }
 
-// The name, or where it can't be a part the text of the star.
+// Returns the name or, if it can't be a part, the text of the star.
 fn name_or_text(alloc: Global, name: &Bytes, number: u32) -> Result<Bytes, AllocError>
     ensures value { IfOk result (λ meant. meant ≡ name_or_star number (Some name.now)) }
     ensures fits { IfOk result carried.IsPart }
@@ -86,7 +86,7 @@ fn name_or_text(alloc: Global, name: &Bytes, number: u32) -> Result<Bytes, Alloc
     name.copy(alloc)
 }
 
-// A star's own text.
+// Returns a star's own text.
 fn star_text(alloc: Global, number: u32) -> Result<Bytes, AllocError>
     ensures value { IfOk result (λ text. text ≡ spec.star_text number) }
     ensures fits { IfOk result carried.IsPart }
@@ -96,7 +96,7 @@ fn star_text(alloc: Global, number: u32) -> Result<Bytes, AllocError>
     Ok(Bytes::from_vec(text))
 }
 
-// Whether a mount may be asked for the name as a part of a path.
+// Returns whether a mount may be asked for the name as a part of a path.
 fn could_be_part(name: &[u8]) -> bool
     ensures { result ≡ spec.could_be_part name.now }
 {

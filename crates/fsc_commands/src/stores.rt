@@ -18,7 +18,7 @@ use session_records::{Stop, Wanted, record_name, stored_policy, stored_protector
 use short_bytes::Label;
 
 impl<'a, S> Work<'a, S> {
-    // Stores a record in place of the version that is expected; 0 stands for none.
+    // Stores a record in place of the expected version; 0 means none.
     pub(crate) fn store_record<P: MountPort>(
         &self,
         caller: &mut Caller<P>,
@@ -39,7 +39,7 @@ impl<'a, S> Work<'a, S> {
         self.finish(caller, op, Wanted::Stored)
     }
 
-    // The same of a policy's record.
+    // The same for a policy's record.
     pub(crate) fn store_policy<P: MountPort>(
         &self,
         caller: &mut Caller<P>,
@@ -56,7 +56,7 @@ impl<'a, S> Work<'a, S> {
         self.store_record(caller, Record::Policy(*label), expected, text)
     }
 
-    // The same of a protector's.
+    // The same for a protector's record.
     pub(crate) fn store_protector<P: MountPort>(
         &self,
         caller: &mut Caller<P>,

@@ -1,4 +1,4 @@
-//! What a caller was told last.
+//! The names of a caller's last listing.
 
 ghost use Rattle.std.specs.Prelude.{◌≡◌};
 ghost use Rattle.std.specs.Option.{option_map};
@@ -9,8 +9,8 @@ use item_list::Bytes;
 use mount_model::Reply;
 use reply_text::Shown;
 
-// The names of the last listing among the entries; none before the first one. It goes back to that
-// listing entry by entry, so it is called for a star alone.
+// Returns the names of the last listing among the entries, or none before the first listing. It searches
+// backwards entry by entry, so it is called only for a star.
 pub(crate) fn last_names(told: &[(u64, Entry<Shown, Reply>)]) -> &[Bytes]
     ensures { result.now ≡ names_in told.now }
 {
@@ -24,7 +24,7 @@ pub(crate) fn last_names(told: &[(u64, Entry<Shown, Reply>)]) -> &[Bytes]
     &[]
 }
 
-// The names that a reply tells.
+// Returns the names of a reply that is a listing.
 fn names_told(reply: &Reply) -> Option<&[Bytes]>
     ensures { option_map (λ names. names.now) result ≡ names_told reply.now }
 {

@@ -22,7 +22,7 @@ use session_records::{OpenedPolicy, Stop, Wanted};
 use short_bytes::Label;
 
 impl<'a, S: Stretch> Work<'a, S> {
-    // Adds the key of a policy that a protector opens. Both keys are overwritten.
+    // Adds the key of a policy that a protector opens. Wipes both keys.
     pub(crate) fn unlock<P: MountPort>(
         &self,
         caller: &mut Caller<P>,
@@ -62,7 +62,7 @@ impl<'a, S> Work<'a, S> {
         ended
     }
 
-    // Adds the key of a policy. It is the one whose identifier the policy's record tells.
+    // Adds the key of a policy. It is the one with the identifier that the policy's record contains.
     fn add_key<P: MountPort>(
         &self,
         caller: &mut Caller<P>,

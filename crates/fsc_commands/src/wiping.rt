@@ -1,4 +1,4 @@
-//! Calls whose bytes are overwritten once they are answered.
+//! Calls whose bytes are wiped once they are answered.
 
 ghost use Rattle.std.specs.Prelude.{◌≡◌};
 ghost use Rattle.fsc_commands.specs.Wiped.{wiped_bytes, wiped_call, wiped_nonce, zeros};
@@ -9,8 +9,8 @@ use mount_model::{Call, Op};
 use std::alloc::Global;
 use std::mem;
 
-/// Writes zeros over the raw key, the nonce, the target, or the bytes that are written or stored, if the call
-/// carries any, where they stand, as many as there were. It takes no memory.
+/// Wipes in place the raw key, the nonce, the target, or the bytes that are written or stored, if the call
+/// carries any: as many zeros replace them. Allocates nothing.
 pub fn wipe_call(alloc: Global, call: &mut Call)
     ensures { call.new ≡ wiped_call call.old }
 {
@@ -18,7 +18,7 @@ pub fn wipe_call(alloc: Global, call: &mut Call)
     wipe_nonce(&mut call.op);
 }
 
-// Over all but the nonce.
+// Wipes all but the nonce.
 fn wipe_bytes(alloc: Global, op: &mut Op)
     ensures { op.new ≡ wiped_bytes op.old }
 {
@@ -31,7 +31,7 @@ fn wipe_bytes(alloc: Global, op: &mut Op)
     }
 }
 
-// Over the nonce alone.
+// Wipes the nonce alone.
 fn wipe_nonce(op: &mut Op)
     ensures { op.new ≡ wiped_nonce op.old }
 {

@@ -1,4 +1,4 @@
-//! What commands are run with: their methods lie with the work that they do.
+//! What commands are run with; the methods are in the modules of their work.
 
 use crate::EntryList;
 use script_lang::Secret;
@@ -6,7 +6,8 @@ use session_records::Turn;
 use short_bytes::Label;
 use std::alloc::Global;
 
-// What a command is run with: the seed of what it draws, how it stretches passphrases, and whose it is.
+// What a command is run with: the seed of what it derives, how it stretches passphrases, and whose turn it
+// is.
 #[derive(Drop)]
 pub(crate) struct Work<'a, S> {
     pub(crate) alloc: Global,
@@ -15,7 +16,8 @@ pub(crate) struct Work<'a, S> {
     pub(crate) turn: Turn,
 }
 
-// Whose command it is: its port, and the list of what is shown of its calls, to which each new one is added.
+// The caller of a command: its port, and the list of what a log shows of its calls, to which each new one
+// is added.
 #[derive(Drop)]
 pub(crate) struct Caller<'a, P> {
     pub(crate) port: &'a mut P,

@@ -10,7 +10,7 @@ pub returns-in-Ok : goal.returns-in-Ok
 returns-in-Ok g c =
     goes_on g.met.P.MountPort.by_more 3 c.add_to-ended.result (omega arith) c.in_ok-opened.ensures.opened (allowed _ c.add_to-ended.result c.in-Ok.ensures c.add_to-ended.ensures)
 
--- where there is no room
+-- if there is no free slot
 pub returns-in-Err : goal.returns-in-Err
 returns-in-Err g c =
     goes_on g.met.P.MountPort.by_more 3 _ (omega arith) c.in_ok-opened.ensures.opened (refused _ g.met.P.MountPort.by_none c.open_policy.new.caller c.in-Err.ensures)
