@@ -1,4 +1,4 @@
--- Callers before their first commands, and what they are told in the end.
+-- Callers before their first commands, and what they have received in the end.
 use Rattle.std.proofs.Common.{◌≡◌, ℕ, zero, suc, ◌+◌, ◌<◌, ◌^◌, Bool, true, false, List, [], ◌∷◌, length, map, Some, refl, ap, ap₂, sym, ◌∙◌, subst, ⊎_elim}
 use Rattle.std.specs.Prelude.{slice_get, All}
 use Rattle.std.proofs.lemmas.List.{length-map}
@@ -90,7 +90,7 @@ before_all leads_0 leads_1 seed whole script callers even odd is none_even none_
 
 -- ---- after the last
 
--- what is shown of a caller's calls on mount 0 and on mount 1
+-- the shown entries of a caller's calls on mount 0 and on mount 1
 even_shows : (b : Bool) (r : LinkedRunner) (made even odd : PlacedCalls) → HasParts b r.steps.items made even odd → r.runner.entries ≡ shown_calls made
     → even_part b r ≡ shown_calls even
 even_shows true r made even odd parts shown = shown ∙ ap shown_calls (sym parts.0)
@@ -103,7 +103,7 @@ odd_shows true r made even odd parts shown = ap shown_calls (sym parts.1)
 odd_shows false r made even odd parts shown =
     ap (own_parts load_shown r.steps.items) shown ∙ (shows_both r.steps.items made).on_own ∙ ap shown_calls (sym parts.2)
 
--- a history that is told as a vector is short
+-- a history whose shown entries are a vector is short
 pub short_of : (history : History) (told : PlacedShown) → told ≡ numbered 0 (shown_history history)
     → length told < 2 ^ 64 → length history < 2 ^ 64
 short_of history told in_place few =
@@ -128,7 +128,7 @@ module _ {M N : Type 0} (leads_0 : History → M → Type 0) (leads_1 : History 
       ))
       (slice_get_cases callers c).1
 
-  -- what all callers are shown on a mount is what is shown of its history
+  -- the shown entries of all callers on a mount are those of its history
   pub even_history : (c : ℕ) → by c (shown_by even_shown callers) ≡ entries_by c (shown_history (entries_of ended.even))
   even_history c =
       alike even_shown ended.even callers
@@ -147,7 +147,7 @@ module _ {M N : Type 0} (leads_0 : History → M → Type 0) (leads_1 : History 
       (λ j none. (ended.others j none).1) c
       ∙ ap (by c) (ap shown_calls ended.odd_stands.placed ∙ sym (numbered-shown 0 (entries_of ended.odd)))
 
-  -- and where no call wanted memory, both are a function of script and seed
+  -- and if no call was out of memory, both are a function of script and seed
   serial_of : whole ≡ rotation_steps seed script → IsLegal (entries_of ended.even) → IsLegal (entries_of ended.odd)
       → NeverWantsMemory (entries_of ended.even) → NeverWantsMemory (entries_of ended.odd)
       → histories (entries_of ended.even) (entries_of ended.odd) ≡ linked_histories seed script
@@ -168,7 +168,7 @@ module _ {M N : Type 0} (leads_0 : History → M → Type 0) (leads_1 : History 
       (subst (GoesOn empty_mount) (ap (λ (l : PlacedCalls). entries_of l) ended.even_is) (record { legal = legal_even; never = never_even }))
       (subst (GoesOn empty_mount) (ap (λ (l : PlacedCalls). entries_of l) ended.odd_is) (record { legal = legal_odd; never = never_odd }))
 
-  -- so what is shown of both histories tells the run
+  -- so the shown entries of both histories are those of the run
   pub tells_linked : (even_entries odd_entries : PlacedShown) (notes : List Note) → whole ≡ rotation_steps seed script
       → even_entries ≡ numbered 0 (shown_history (entries_of ended.even)) → odd_entries ≡ numbered 0 (shown_history (entries_of ended.odd))
       → notes ≡ noted_by (runners_of callers) → length even_entries < 2 ^ 64 → length odd_entries < 2 ^ 64

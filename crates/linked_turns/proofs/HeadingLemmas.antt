@@ -1,4 +1,4 @@
--- The logs of two mounts are told apart by the lines before them.
+-- The lines before the logs of two mounts separate them.
 use Rattle.std.proofs.Common.{◌≡◌, ℕ, suc, ◌+◌, ◌<◌, ◌^◌, true, List, [], ◌∷◌, ◌++◌, codes, length, map, get_or, refl, ap, ap₂, sym, ◌∙◌, append_assoc, arith}
 use Rattle.std.specs.Prelude.{nat_lt}
 use Rattle.std.specs.List.{All, list_all}
@@ -40,7 +40,7 @@ not_entry place e x y small same =
         let digit = (and_parts (is_ascii_digit d) (list_all is_ascii_digit digits) all).0 in
         absurd (grind (arith, nat_tests))
 
--- so a log ends where that line stands
+-- so a log ends before that line
 ends_from : (place : ℕ) (g h : History) (x y : List ℕ) → place + length g < 2 ^ 64 → place + length h < 2 ^ 64
     → All EntryIsInRange g → All EntryIsInRange h → log_from place g ++ (codes "mount 1\n" ++ x) ≡ log_from place h ++ (codes "mount 1\n" ++ y)
     → (map told g ≡ map told h) × (codes "mount 1\n" ++ x ≡ codes "mount 1\n" ++ y)
@@ -61,7 +61,7 @@ pub record IsPrintable (history : History) : Type 0 where
   pub short : length history < 2 ^ 64
   pub ranged : All EntryIsInRange history
 
--- one text of two logs with their notes tells the same of each
+-- if two pairs of logs with their notes have one text, the lines of each log are the same
 pub both_logs_tell : (even odd even' odd' : History) (x y : List Note) → IsPrintable even → IsPrintable odd → IsPrintable even' → IsPrintable odd'
     → both_logs even odd x ≡ both_logs even' odd' y → (map told even ≡ map told even') × (map told odd ≡ map told odd')
 both_logs_tell even odd even' odd' x y e o e' o' same =

@@ -1,4 +1,4 @@
--- What the lines of calls tell, and the calls of a caller that are told the same.
+-- What the lines of calls contain, and the calls of a caller with the same lines.
 use Rattle.std.proofs.Common.{◌≡◌, ℕ, ◌+◌, Bool, true, false, cond, List, [], ◌∷◌, map, drop, get_or, refl, ap, ap₂, sym, ◌∙◌, subst}
 use Rattle.std.specs.Prelude.{◌==◌}
 use Rattle.call_history.specs.Entries.{by, entry, numbered}
@@ -45,7 +45,7 @@ same_call x y xs ys place who call reply rest =
     ∙ ap (λ (r : Reply). let z : ℕ × MountEntry = (y.0, entry y.1.who y.1.call r) in z ∷ xs) reply
     ∙ ap (λ (l : PlacedCalls). y ∷ l) rest
 
--- a caller's lines in two histories of which the same is told
+-- a caller's lines in two histories with the same lines
 pub lines_by : (c k : ℕ) (g h : History) → map told g ≡ map told h → lines (by c (numbered k g)) ≡ lines (by c (numbered k h))
 lines_by c k [] [] same = refl
 lines_by c k [] (f ∷ h) same = absurd (cc same)
@@ -64,7 +64,7 @@ lines_by c k (e ∷ g) (f ∷ h) same =
 
 -- ---- a caller with an even number
 
--- steps whose calls were told the same made the same calls
+-- steps whose calls have the same lines made the same calls
 pub same_calls : {A : Type 0} (steps rest last : Steps A) (xs ys : PlacedCalls) → Reaches steps (entries_of xs) rest → Reaches steps (entries_of ys) last
     → lines xs ≡ lines ys → xs ≡ ys
 same_calls steps rest last [] [] so to same = refl

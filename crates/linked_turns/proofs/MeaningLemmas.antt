@@ -1,5 +1,5 @@
--- The text of a run on two mounts has one meaning: a caller's calls are those that its section asks for next, and what
--- became of each is what both histories tell.
+-- The text of a run on two mounts has one meaning: a caller's calls are those that its section asks for
+-- next, and both histories determine what became of each.
 use Rattle.std.proofs.Common.{◌≡◌, ℕ, Bool, true, false, List, [], Option, Some, None, refl, ap, ap₂, sym, ◌∙◌, subst}
 use Rattle.std.specs.Prelude.{slice_get}
 use Rattle.call_history.specs.Entries.{by, entries_by, numbered}

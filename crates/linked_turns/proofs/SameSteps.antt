@@ -1,4 +1,4 @@
--- What became of a caller's calls, whose parts on both mounts are told the same, is the same.
+-- If the parts of a caller's calls on both mounts have the same lines, the same became of the calls.
 use Rattle.std.proofs.Common.{◌≡◌, ℕ, true, false, List, [], ◌∷◌, ◌++◌, refl, ap, ap₂, sym, ◌∙◌, subst}
 use Rattle.std.proofs.lemmas.List.{map-append}
 use Rattle.call_history.specs.Placed.{entries_of}
@@ -19,7 +19,8 @@ use Rattle.mount_links.specs.LinkSteps.{asked_of, is_link, IsStepOf}
 use Rattle.mount_links.specs.LinkCalls.{AreSteps, load_call}
 use Rattle.linked_turns.proofs.LineLemmas.{Line, line_of, lines, alike, same_call}
 
--- one thing became of a call with one place and one reply, and what both mounts tell of the others is alike
+-- the same became of a call with one place and one reply, and the lines of the others on both mounts are
+-- alike
 record SameStep (l k : LinkStep) (x y : ℕ × MountEntry) (o p f q : List Line) : Type 0 where
   step : l ≡ k
   place : x.0 ≡ y.0
@@ -27,7 +28,7 @@ record SameStep (l k : LinkStep) (x y : ℕ × MountEntry) (o p f q : List Line)
   own_rest : o ≡ p
   far_rest : f ≡ q
 
--- what both mounts tell of the caller's calls from this one on is alike
+-- the lines of the caller's calls from this one on are alike on both mounts
 record AreAlike (l k : LinkStep) (x y : ℕ × MountEntry) (o p f q : List Line) : Type 0 where
   on_own : lines (own_part load_call l x) ++ o ≡ lines (own_part load_call k y) ++ p
   on_far : lines (far_part l x) ++ f ≡ lines (far_part k y) ++ q
@@ -58,7 +59,7 @@ both_followed n m r s t v x y o p f q label told =
 not_a_link : (label : List ℕ) (r s : Reply) → is_link label r ≡ true → is_link label s ≡ false → r ≡ s → ⊥
 not_a_link label r s link other same = let both : true ≡ false = sym link ∙ ap (is_link label) same ∙ other in cc both
 
--- the first calls on the own mount were replied the same
+-- the first calls on the own mount had the same reply
 first_reply : (a b : ℕ × MountEntry) (l k : List Line) → line_of a ∷ l ≡ line_of b ∷ k → a.1.reply ≡ b.1.reply
 first_reply a b l k same = (alike a b l k same).reply
 
@@ -105,7 +106,7 @@ same_step (Store label) (Looked n d r) (Looked m e s) x y o p f q is so told =
       own_rest = two.rest;
       far_rest = told.on_far;
     }
--- a looked up record is followed by the storing only where there was memory to look
+-- a record that was looked up is stored afterwards only if there was memory to look it up
 same_step (Store label) (Looked n d r) (NotMade m) x y o p f q is so told =
     let none = first_reply (look n d x r) (look m y.0 y (Refused NoMemory)) (line_of x ∷ o) p told.on_own in
     let both : false ≡ true = sym is.2 ∙ ap is_want_of_memory none in absurd (cc both)
@@ -131,7 +132,8 @@ some_own (Followed m s v) y rest same = cc same
 some_own (Looked m e s) y rest same = cc same
 some_own (NotMade m) y rest same = cc same
 
--- the calls of a caller whose parts are told the same are the same, and so is what became of each
+-- if the parts of a caller's calls have the same lines, the calls are the same, and so is what became of
+-- each
 pub same_odd : {A : Type 0} (steps rest last : Steps A) (ls : List LinkStep) (xs : PlacedCalls) (ks : List LinkStep) (ys : PlacedCalls)
     → Reaches steps (entries_of xs) rest → Reaches steps (entries_of ys) last → AreSteps ls xs → AreSteps ks ys
     → lines (own_parts load_call ls xs) ≡ lines (own_parts load_call ks ys) → lines (far_parts ls xs) ≡ lines (far_parts ks ys)

@@ -1,4 +1,4 @@
--- Without want of memory both histories are a function of script and seed.
+-- If no call is out of memory, both histories are a function of script and seed.
 use Rattle.std.proofs.Common.{◌≡◌, ◌≢◌, ℕ, Bool, true, false, cond, List, [], ◌∷◌, ◌++◌, Option, Some, None, refl, ap, ap₂, sym, ◌∙◌, subst}
 use Rattle.std.proofs.lemmas.List.Elements.{All-head, All-tail}
 use Rattle.call_history.specs.Entries.{entry}
@@ -75,7 +75,7 @@ given_reply (reply.Refused refusal.NoMemory) h = absurd (h refl)
 left_when_given : (m after : PlainMount) (want : Bool) → want ≡ false → cond want m after ≡ after
 left_when_given m after want h = rw h refl
 
--- what stands of a history that goes on from a mount without want of memory
+-- what holds of a history that goes on from a mount and in which no call is out of memory
 pub record GoesOn (m : PlainMount) (h : History) : Type 0 where
   pub legal : IsLegalFrom m h
   pub never : NeverWantsMemory h
@@ -137,7 +137,7 @@ loads_itself call label e = ap (λ (asked : Op). let c : Call = record { uid = c
 
 -- ---- a call
 
--- it has the answer of both mounts, its entries are those of the answer, and both histories go on behind it
+-- it has the answer of both mounts, its entries are those of the answer, and both histories go on after it
 record Answered (answer : LinkedAnswer) (given : Reply) (even_made odd_made even odd : History) : Type 0 where
   reply : given ≡ answer.reply
   on_even : even_made ≡ answer.even
@@ -266,7 +266,7 @@ linked_from m (Ask who call next) (x ∷ xs) (l ∷ ls) value so linked on_even 
     ∙ ap (λ (w : ℕ). linked_played m (Ask w x.1.call next)) so.0
     ∙ ap (λ (c : Call). linked_played m (Ask who c next)) so.1
 
--- and the callers were replied so
+-- and the callers had these replies
 pub calls_from : {A : Type 0} (m : TwoMounts) (steps : Steps A) (told : PlacedCalls) (ls : List LinkStep) (value : A) → Reaches steps (entries_of told) (Done value)
     → AreLinked ls told → GoesOn m.even (entries_of (parts_0 ls told)) → GoesOn m.odd (entries_of (parts_1 ls told))
     → entries_of told ≡ calls_played m steps

@@ -29,14 +29,14 @@ by-shorter c (x ∷ xs) = ⊎_elim
     (λ other. let same = ap length (by-cons_other c x xs other) in let more = by-shorter c xs in omega (arith, same, more))
     (cases_eq x.1.who c)
 
--- where all calls are one caller's, the first is, and so are the others
+-- if all calls are one caller's, the first is, and so are the others
 first_own : (c : ℕ) (x : ℕ × MountEntry) (xs : PlacedCalls) → by c (x ∷ xs) ≡ x ∷ xs → (x.1.who ≡ c) × (by c xs ≡ xs)
 first_own c x xs all = ⊎_elim
     (λ own. (own, let both = sym (by-cons_own c x xs own) ∙ all in cc both))
     (λ other. let long = ap length (sym (by-cons_other c x xs other) ∙ all) in let short = by-shorter c xs in absurd (omega (arith, long, short)))
     (cases_eq x.1.who c)
 
--- the calls on the own mount tell whose they are
+-- the calls on the own mount determine whose they are
 pub own_tells : (c : ℕ) (steps : List LinkStep) (made : PlacedCalls) → AreSteps steps made
     → by c (own_parts load_call steps made) ≡ own_parts load_call steps made → by c made ≡ made
 own_tells c [] [] are all = refl
@@ -61,7 +61,7 @@ abbrev alone : PlacedCalls → List LinkStep
 alone [] = []
 alone (x ∷ xs) = Alone ∷ alone xs
 
--- what stands of the calls that one caller made
+-- what holds of the calls that one caller made
 record OfCaller (steps : List LinkStep) (made even odd : PlacedCalls) : Type 0 where
   linked : AreLinked steps made
   even_is : even ≡ parts_0 steps made
@@ -167,7 +167,7 @@ module _ {M N : Type 0} (leads_0 : History → M → Type 0) (leads_1 : History 
         parts = subst (λ b. HasParts b came.steps stepped.made (far_parts came.steps stepped.made) (own_parts load_call came.steps stepped.made)) (sym is_odd) (came.are_steps, refl, refl);
       }
 
--- ---- what follows of a call's clauses, where it had memory
+-- ---- what follows from a call's clauses if it had memory
 
 pub ok_then : {T E A : Type 0} {P Q R : T → Type 0} (r : Result T E) → IfOk r P → IfOk r Q → OnOk r A → ((x : T) → P x → Q x → A → R x) → IfOk r R
 ok_then (Ok x) p q a then = then x p q a

@@ -1,4 +1,4 @@
--- The parts of callers' calls on two mounts, and what stands after a turn.
+-- The parts of callers' calls on two mounts, and what holds after a turn.
 use Rattle.std.proofs.Common.{◌≡◌, ◌≢◌, ℕ, ◌+◌, Bool, true, false, List, [], ◌∷◌, ◌++◌, length, map, take, drop, set, Some, None, refl, ap, ap₂, sym, ◌∙◌, subst, append_assoc}
 use Rattle.std.specs.Prelude.{slice_get}
 use Rattle.std.specs.Option.{option_map}
@@ -46,7 +46,7 @@ same_count callers old same =
 
 -- ---- the parts on both mounts
 
--- parts of calls behind parts of calls
+-- parts of calls after parts of calls
 parts_on : (b : Bool) (s t : List LinkStep) (m n e f o p : PlacedCalls) → HasParts b s m e o → HasParts b t n f p
     → HasParts b (s ++ t) (m ++ n) (e ++ f) (o ++ p)
 parts_on true s t m n e f o p x y = (ap₂ (λ (l r : PlacedCalls). l ++ r) x.0 y.0, ap₂ (λ (l r : PlacedCalls). l ++ r) x.1 y.1)
@@ -56,12 +56,12 @@ parts_on false s t m n e f o p x y = (
   ap₂ (λ (l r : PlacedCalls). l ++ r) x.2 y.2 ∙ sym (own_parts-append s t m n x.0),
 )
 
--- the same parts of the same calls, told in other words
+-- the same parts of the same calls, in other terms
 pub parts_as : (b : Bool) (s t : List LinkStep) (m n e f o p : PlacedCalls) → s ≡ t → m ≡ n → e ≡ f → o ≡ p → HasParts b s m e o → HasParts b t n f p
 parts_as b s t m n e f o p one two three four x =
     subst (λ l. HasParts b t n f l) four (subst (λ l. HasParts b t n l o) three (subst (λ l. HasParts b t l e o) two (subst (λ l. HasParts b l m e o) one x)))
 
--- what became of calls behind calls
+-- what became of calls after calls
 AreLinked-append : (s t : List LinkStep) (e f : PlacedCalls) → AreLinked s e → AreLinked t f → AreLinked (s ++ t) (e ++ f)
 AreLinked-append [] t [] f p q = q
 AreLinked-append [] t (x ∷ e) f p q = absurd p
@@ -151,7 +151,7 @@ module _ {M N : Type 0} (leads_0 : History → M → Type 0) (leads_1 : History 
             ∙ sym (parts_1-append before.steps turn.all before.told turn.made before.linked);
       }
 
-  -- the mounts stand as before where the rotation is told in other words
+  -- the mounts are as before if the rotation is stated in other terms
   pub retold : (rest rest' : Steps (List Waiting)) (turns turns' : ℕ → ℕ) (callers : List LinkedRunner)
       (even_mount : At M) (odd_mount : At N)
       → ((told : PlacedCalls) → Rotates seed script whole rest turns (runners_of callers) told

@@ -1,4 +1,4 @@
--- Callers before their first commands, and what they are told in the end.
+-- Callers before their first commands, and what they have received in the end.
 use Rattle.std.specs.Prelude.{ℕ, ◌+◌, Bool, true, false, List, [], ◌∷◌, map}
 use Rattle.script_lang.specs.declared.commands.Section.{Section}
 use Rattle.reply_text.specs.Shown.{PlacedShown}
@@ -30,7 +30,7 @@ abbrev pub fresh_views : ℕ → List Section → List LinkedView
 fresh_views k [] = []
 fresh_views k (section ∷ more) = fresh_view k section ∷ fresh_views (k + 1) more
 
--- what is shown on mount 0 of a caller's calls
+-- the shown entries of a caller's calls on mount 0
 abbrev pub even_part : Bool → LinkedRunner → PlacedShown
 even_part true caller = caller.runner.entries
 even_part false caller = far_parts caller.steps.items caller.runner.entries

@@ -1,4 +1,4 @@
--- What a call is answered by two mounts, where the record of a protector may be a link.
+-- How two mounts answer a call, if the record of a protector may be a link.
 use Rattle.std.specs.Prelude.{ℕ, List, if◌then◌else◌}
 use Rattle.mount_model.specs.declared.call.Call.{Call}
 use Rattle.mount_model.specs.Answer.{answer_of}
@@ -9,13 +9,13 @@ use Rattle.mount_links.specs.LinkCalls.{load_call}
 use Rattle.linked_turns.specs.Parts.{is_even}
 use Rattle.linked_turns.specs.TwoMounts.{TwoMounts, LinkedAnswer, on_mount_0, on_mount_1, behind}
 
--- loading a protector's record: on mount 0 too, where it is a link on mount 1
+-- loading a protector's record: on mount 0 too, if it is a link on mount 1
 abbrev pub loaded : List ℕ → TwoMounts → ℕ → Call → LinkedAnswer
 loaded label m who call =
     if is_link label (answer_of m.odd who call).reply then behind m who call (λ n. on_mount_0 n who call)
     else on_mount_1 m who call
 
--- storing it: it is loaded on mount 1 first, and stored on mount 0 where it is a link there
+-- storing it: it is loaded on mount 1 first, and stored on mount 0 if it is a link there
 abbrev pub stored : List ℕ → TwoMounts → ℕ → Call → LinkedAnswer
 stored label m who call =
     behind m who (load_call label call) (λ n.

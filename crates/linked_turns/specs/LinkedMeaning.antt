@@ -1,5 +1,5 @@
--- What the text of a run on two mounts means: whoever has the script and the seed of the run can say from it alone
--- what each caller asked and was replied, and so what each mount was.
+-- What the text of a run on two mounts means: with the script and the seed of the run, the text alone
+-- determines the calls and replies of each caller, and so what each mount was.
 use Rattle.std.specs.Prelude.{◌≡◌, ℕ, List}
 use Rattle.call_history.specs.Entries.{by}
 use Rattle.mount_model.specs.History.{History}
@@ -15,7 +15,7 @@ pub record OnTwoMounts : Type 0 where
   pub even : History
   pub odd : History
 
--- it is a run of the script with the seed, in turns or in threads, whatever the machines could answer
+-- a run of the script with the seed, in turns or in threads, whatever the machines could answer
 abbrev pub IsRunOnTwo : List ℕ → List Section → OnTwoMounts → Type 0
 IsRunOnTwo seed script run = HaveLinkedParts seed script run.told run.even run.odd
 

@@ -1,4 +1,4 @@
--- What a run of a script on two mounts is, in which the callers take turns.
+-- What a run of a script on two mounts is whose callers take turns.
 use Rattle.std.specs.Prelude.{◌≡◌, ◌<◌, ◌^◌, ℕ, List, length, slice_get, All}
 use Rattle.call_history.specs.Entries.{by, entries_by, numbered}
 use Rattle.call_history.specs.Placed.{entries_of}
@@ -16,9 +16,9 @@ use Rattle.mount_links.specs.declared.step.LinkStep.{LinkStep}
 use Rattle.linked_turns.specs.LinkedSerial.{histories, linked_calls, linked_histories}
 use Rattle.linked_turns.specs.Parts.{AreLinked, HasParts, is_even, parts_0, parts_1}
 
--- of the calls that were told, each caller made those of its section; and each history has of them, caller by
--- caller, what is on its mount, and no other calls. It has fewer entries than there are places, and holds values
--- of the program alone
+-- of the calls `told`, each caller made those of its section; and each history has of them, caller by
+-- caller, what is on its mount, and no other calls. It has fewer entries than there are places, and holds
+-- values of the program alone
 pub record HaveLinkedParts (seed : List ℕ) (script : List Section) (told : PlacedCalls) (even odd : History)
     : Type 0 where
   pub callers : (caller : ℕ) → IsRunOfCaller seed caller (slice_get script caller) (by caller told)
@@ -29,7 +29,7 @@ pub record HaveLinkedParts (seed : List ℕ) (script : List Section) (told : Pla
   pub ranged_even : All EntryIsInRange even
   pub ranged_odd : All EntryIsInRange odd
 
--- the machine of mount 0 could answer as the one history has it, that of mount 1 as the other; and both have
+-- the machine of mount 0 could answer as in the one history, that of mount 1 as in the other; and both have
 -- their parts of the callers' calls
 pub record HaveLinkedCalls (lawful_0 lawful_1 : History → Type 0) (seed : List ℕ) (script : List Section)
     (told : PlacedCalls) (even odd : History) : Type 0 where
@@ -37,9 +37,9 @@ pub record HaveLinkedCalls (lawful_0 lawful_1 : History → Type 0) (seed : List
   pub lawful_odd : lawful_1 odd
   pub linked : HaveLinkedParts seed script told even odd
 
--- both histories have the calls that callers make in turns, the script's in rotation; each holds of them, in
--- that order, what is on its mount, and no other calls. Where the one-thread mount could answer so and no call
--- wanted memory, both are a function of script and seed, and so are the calls
+-- both histories have the calls that callers make in turns, the script's in rotation; each holds of them,
+-- in that order, what is on its mount, and no other calls. If the one-thread mount could answer so and no
+-- call was out of memory, both are a function of script and seed, and so are the calls
 pub record IsLinkedRun (lawful_0 lawful_1 : History → Type 0) (seed : List ℕ) (script : List Section)
     (even odd : History) : Type 0 where
   pub told : PlacedCalls
@@ -54,8 +54,8 @@ pub record IsLinkedRun (lawful_0 lawful_1 : History → Type 0) (seed : List ℕ
   pub serial_calls : IsLegal even → IsLegal odd → NeverWantsMemory even → NeverWantsMemory odd
       → entries_of told ≡ linked_calls seed script
 
--- the entries are what is shown of the histories of such a run, each in order of place; and these are its
--- notes
+-- the entries are the shown entries of the histories of such a run, each in order of place; and these are
+-- its notes
 pub record TellsLinkedRun (lawful_0 lawful_1 : History → Type 0) (seed : List ℕ) (script : List Section)
     (even_shown odd_shown : PlacedShown) (notes : List Note) : Type 0 where
   pub even : History

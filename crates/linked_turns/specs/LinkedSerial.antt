@@ -1,4 +1,4 @@
--- The histories that a script makes in rotation on two mounts, where there is memory for every call.
+-- The histories that a script makes in rotation on two mounts if there is memory for every call.
 use Rattle.std.specs.Prelude.{ℕ, List, [], ◌∷◌, ◌++◌}
 use Rattle.call_history.specs.Entries.{entry}
 use Rattle.mount_model.specs.PlainMount.{empty_mount}
@@ -30,8 +30,7 @@ linked_played m (Ask who call next) =
 abbrev pub linked_histories : List ℕ → List Section → TwoHistories
 linked_histories seed script = linked_played (two empty_mount empty_mount) (rotation_steps seed script)
 
--- the calls of callers, with what they are replied: each call answered by the mounts that the calls before it
--- leave
+-- the calls of callers, with their replies: each call answered by the mounts that the calls before it leave
 abbrev pub calls_played : {A : Type 0} → TwoMounts → Steps A → History
 calls_played m (Done value) = []
 calls_played m (Ask who call next) =

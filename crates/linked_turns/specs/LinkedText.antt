@@ -6,12 +6,12 @@ use Rattle.reply_text.specs.Notes.{notes_text}
 use Rattle.reply_text.specs.Shown.{ShownHistory, shown_log}
 use Rattle.reply_text.specs.declared.notes.Note.{Note}
 
--- a line for each mount before the log of what is shown of its history, and behind both the notes
+-- a line for each mount before the log of its shown entries, and after both the notes
 abbrev pub linked_text : ShownHistory → ShownHistory → List Note → List ℕ
 linked_text even odd notes =
     codes "mount 0\n" ++ (shown_log even ++ (codes "mount 1\n" ++ (shown_log odd ++ notes_text notes)))
 
--- a line for each mount before the log of its history, and behind both the notes
+-- a line for each mount before the log of its history, and after both the notes
 abbrev pub both_logs : History → History → List Note → List ℕ
 both_logs even odd notes =
     codes "mount 0\n" ++ (log_text even ++ (codes "mount 1\n" ++ (log_text odd ++ notes_text notes)))

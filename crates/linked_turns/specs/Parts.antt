@@ -11,8 +11,8 @@ use Rattle.mount_links.specs.LinkCalls.{AreSteps, IsStep, load_call}
 abbrev pub is_even : ℕ → Bool
 is_even caller = caller % 2 == 0
 
--- of these calls of a caller, with what became of each where it works on mount 1, these are on mount 0 and
--- those on mount 1. One that works on mount 0 has no call on mount 1
+-- of these calls of a caller, with what became of each if it works on mount 1, these are on mount 0 and
+-- those on mount 1. A caller that works on mount 0 has no call on mount 1
 abbrev pub HasParts : Bool → List LinkStep → PlacedCalls → PlacedCalls → PlacedCalls → Type 0
 HasParts true steps made even odd = (even ≡ made) × (odd ≡ [])
 HasParts false steps made even odd =

@@ -1,4 +1,4 @@
--- What stands between two turns, while the callers of a script take turns on two mounts.
+-- The state between two turns, while the callers of a script take turns on two mounts.
 use Rattle.std.specs.Prelude.{◌≡◌, ℕ, List, [], ◌++◌, map, slice_get, Some, None}
 use Rattle.call_history.specs.Entries.{by}
 use Rattle.mount_model.specs.History.{History}
@@ -24,8 +24,8 @@ states_of callers = map state_of (runners_of callers)
 abbrev pub sections_of : List LinkedRunner → List Section
 sections_of callers = runs.sections_of (runners_of callers)
 
--- the mounts stand after their entries, which are the runners' alone and in range; and of each runner's calls,
--- whose steps it has, they have their parts
+-- the mounts are in the state after their entries, which are the runners' alone and in range; and they have
+-- their parts of each runner's calls, whose steps the runner has
 pub record Rotating {M N : Type 0} (leads_0 : History → M → Type 0) (leads_1 : History → N → Type 0)
     (seed : List ℕ) (script : List Section) (whole rest : Steps (List Waiting))
     (turns : ℕ → ℕ) (callers : List LinkedRunner) (even_mount : At M) (odd_mount : At N) : Type 0 where

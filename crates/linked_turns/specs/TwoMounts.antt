@@ -1,4 +1,4 @@
--- Two mounts, and what a call is answered that goes to the one or the other.
+-- Two mounts, and the answer to a call that goes to the one or the other.
 use Rattle.std.specs.Prelude.{ℕ, [], ◌∷◌}
 use Rattle.call_history.specs.Entries.{entry}
 use Rattle.mount_model.specs.PlainMount.{PlainMount}
@@ -15,7 +15,7 @@ pub record TwoMounts : Type 0 where
 abbrev pub two : PlainMount → PlainMount → TwoMounts
 two even odd = record { even = even; odd = odd }
 
--- what a caller's call is answered, the mounts that it leaves, and its entries on both
+-- the reply to a caller's call, the mounts that it leaves, and its entries on both
 pub record LinkedAnswer : Type 0 where
   pub reply : Reply
   pub left : TwoMounts
@@ -40,7 +40,7 @@ on_mount_1 m who call =
       odd = entry who call (answer_of m.odd who call).reply ∷ [];
     }
 
--- a call behind another one on mount 1
+-- a call after another one on mount 1
 abbrev pub behind : TwoMounts → ℕ → Call → (TwoMounts → LinkedAnswer) → LinkedAnswer
 behind m who first next =
     let after = next (two m.even (answer_of m.odd who first).mount) in

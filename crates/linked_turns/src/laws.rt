@@ -2,8 +2,8 @@
 
 ghost use Rattle.linked_turns.specs.LinkedMeaning.{LinkedLogsHaveOneMeaning};
 
-/// The text of a run on two mounts, in turns or in threads, is the text of one run of a script with a seed and of
-/// no other: it tells both histories, and each caller's calls.
+/// The text of a run on two mounts, in turns or in threads, belongs to one run of a script with a seed and
+/// to no other: it determines both histories and each caller's calls.
 pub fn linked_logs_have_one_meaning()
     ensures { LinkedLogsHaveOneMeaning }
 {}

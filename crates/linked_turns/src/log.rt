@@ -11,8 +11,8 @@ use reply_text::{write_log, write_notes};
 use script_runs::{PlacedVec, history_of};
 use std::alloc::{AllocError, Global};
 
-/// The text of a run on two mounts: the line `mount 0` and the log of mount 0, the line `mount 1` and the log of
-/// mount 1, and behind them the notes. The one error is want of memory.
+/// Returns the text of a run on two mounts: the line `mount 0` and the log of mount 0, the line `mount 1`
+/// and the log of mount 1, then the notes. The only error is out of memory.
 pub fn linked_log(alloc: Global, told: LinkedTold) -> Result<Bytes, AllocError>
     ensures { IfOk result (λ text. text ≡ linked_text (entries_of told.even.items)
         (entries_of told.odd.items) told.notes.items) }
@@ -24,7 +24,7 @@ pub fn linked_log(alloc: Global, told: LinkedTold) -> Result<Bytes, AllocError>
     Ok(Bytes::from_vec(text))
 }
 
-// Puts a heading behind the text, and behind that the log of these entries.
+// Appends a heading to the text, then the log of these entries.
 fn put_log(
     alloc: Global,
     text: &mut Vec<u8>,

@@ -10,7 +10,7 @@ pub struct Mounts<M: MountMachine, N: MountMachine> {
     pub odd: N,
 }
 
-/// Both, and how many places each gave.
+/// Both, and how many places each has given.
 #[derive(Drop)]
 pub(crate) struct SerialMounts<M: MountMachine, N: MountMachine> {
     pub(crate) even: SerialMount<M>,

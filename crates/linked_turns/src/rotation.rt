@@ -1,4 +1,4 @@
-//! Runs a script on two mounts that nobody else calls: the callers take turns, command by command.
+//! Runs a script on two mounts that have no other callers: the callers take turns, command by command.
 
 ghost use Rattle.std.specs.Prelude.{◌≡◌, [], length, IfOk, OnOk};
 ghost use Rattle.script_lang.specs.Spelled.{IsSpelled};
@@ -21,10 +21,11 @@ use script_lang::Script;
 use script_runs::longest;
 use std::alloc::{AllocError, Global};
 
-/// What a run of the script in rotation tells on two mounts, the entries of each in order of place: command 0
-/// of each caller that has one, then command 1, and so on, each between the gate's two calls. Callers with an
-/// even number work on mount 0, the others on mount 1, whose calls for protectors that are links there go to
-/// mount 0. Both machines stand before any call. The one error is want of memory.
+/// Runs the script in rotation on two mounts. Returns what the logs show, the entries of each mount in
+/// order of place. Command 0 of each caller that has one runs, then command 1, and so on, each between the
+/// gate's two calls. Callers with an even number work on mount 0. The others work on mount 1; their calls
+/// for protectors that are links there go to mount 0. No call was made on either machine before. The only
+/// error is out of memory.
 pub fn run_linked_in_rotation<G: Gate, S: Stretch, M: MountMachine, N: MountMachine>(
     alloc: Global,
     script: &Script,
@@ -62,7 +63,7 @@ pub fn run_linked_in_rotation<G: Gate, S: Stretch, M: MountMachine, N: MountMach
     Ok(told)
 }
 
-// The callers take so many rounds of turns.
+// The callers take `rounds` rounds of turns.
 fn run_rounds<G: Gate, S: Stretch, M: MountMachine, N: MountMachine>(
     alloc: Global,
     mounts: SerialMounts<M, N>,

@@ -9,14 +9,14 @@ use mount_links::LinkStep;
 use script_lang::Section;
 use std::alloc::{AllocError, Global};
 
-/// A caller between two commands, with what became of each of its calls, where it works on mount 1.
+/// A caller between two commands, with what became of each of its calls if it works on mount 1.
 #[derive(Drop)]
 pub(crate) struct LinkedRunner<'a> {
     pub(crate) runner: Runner<'a>,
     pub(crate) steps: Vec<LinkStep>,
 }
 
-// A caller for each section, before its first command.
+// Returns a caller for each section, before its first command.
 pub(crate) fn fresh_runners(
     alloc: Global,
     sections: &[Section],

@@ -1,4 +1,4 @@
-//! What the callers of a run on two mounts were told.
+//! What the callers of a run on two mounts received.
 
 ghost use Rattle.std.specs.Prelude.{◌≡◌, ◌++◌, IfOk, OnOk};
 ghost use Rattle.mount_links.specs.ShownParts.{load_shown};
@@ -12,7 +12,7 @@ use reply_text::Note;
 use script_runs::PlacedVec;
 use std::alloc::{AllocError, Global};
 
-/// What is shown of the entries of both mounts, and how the callers' session commands ended.
+/// What a log shows of the entries of both mounts, and how the callers' session commands ended.
 #[derive(Drop)]
 pub struct LinkedTold {
     pub even: PlacedVec,
@@ -20,7 +20,7 @@ pub struct LinkedTold {
     pub notes: Vec<Note>,
 }
 
-// All that the callers were told, caller after caller.
+// Returns what all callers received, caller after caller.
 pub(crate) fn told_by(alloc: Global, runners: Vec<LinkedRunner>) -> Result<LinkedTold, AllocError>
     ensures even { IfOk result (λ told. told.even.items ≡ shown_by even_shown runners.entry.items) }
     ensures odd { IfOk result (λ told. told.odd.items ≡ shown_by odd_shown runners.entry.items) }
@@ -37,7 +37,7 @@ pub(crate) fn told_by(alloc: Global, runners: Vec<LinkedRunner>) -> Result<Linke
     Ok(told)
 }
 
-// Puts what a caller was told behind that.
+// Appends what a caller received.
 fn put_told(alloc: Global, told: &mut LinkedTold, caller: LinkedRunner) -> Result<(), AllocError>
     ensures even { OnOk result (told.new.even.items ≡ told.old.even.items ++ even_shown caller.entry) }
     ensures odd { OnOk result (told.new.odd.items ≡ told.old.odd.items ++ odd_shown caller.entry) }
@@ -53,7 +53,7 @@ fn put_told(alloc: Global, told: &mut LinkedTold, caller: LinkedRunner) -> Resul
     }
 }
 
-// Puts what is shown of the calls of a caller on both mounts behind that.
+// Appends what a log shows of the calls of a caller on both mounts.
 fn put_both(
     alloc: Global,
     told: &mut LinkedTold,

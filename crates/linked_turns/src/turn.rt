@@ -23,7 +23,7 @@ use std::alloc::{AllocError, Global};
 // The port of a caller with an odd number, each of whose calls on either mount is in range.
 type SerialLinks<M, N> = LinkPort<RangedPort<SerialPort<N>>, RangedPort<SerialPort<M>>>;
 
-// The caller's next command, if it has one, on ports of its own and between the gate's two calls.
+// Runs the caller's next command, if it has one, on ports of its own and between the gate's two calls.
 pub(crate) fn take_turn<G: Gate, S: Stretch, M: MountMachine, N: MountMachine>(
     alloc: Global,
     mounts: SerialMounts<M, N>,
@@ -50,7 +50,7 @@ pub(crate) fn take_turn<G: Gate, S: Stretch, M: MountMachine, N: MountMachine>(
     Ok(after)
 }
 
-// The caller's next command, on the mount of its number.
+// Runs the caller's next command on the mount of its number.
 fn step<S: Stretch, M: MountMachine, N: MountMachine>(
     alloc: Global,
     mounts: SerialMounts<M, N>,
@@ -71,7 +71,7 @@ fn step<S: Stretch, M: MountMachine, N: MountMachine>(
     }
 }
 
-// The command of a caller with an even number.
+// Runs the command of a caller with an even number.
 fn step_on_mount_0<S: Stretch, M: MountMachine, N: MountMachine>(
     alloc: Global,
     mounts: SerialMounts<M, N>,
@@ -98,7 +98,7 @@ fn step_on_mount_0<S: Stretch, M: MountMachine, N: MountMachine>(
     })
 }
 
-// The command of a caller with an odd number.
+// Runs the command of a caller with an odd number.
 fn step_on_both<S: Stretch, M: MountMachine, N: MountMachine>(
     alloc: Global,
     mounts: SerialMounts<M, N>,
@@ -118,8 +118,8 @@ fn step_on_both<S: Stretch, M: MountMachine, N: MountMachine>(
     mounts_back(port, &mut caller.steps)
 }
 
-// The port of a caller with an odd number, on both mounts. Where they have too few places left for its calls, it
-// is as where there is no memory.
+// Returns the port of a caller with an odd number, on both mounts. If they have too few places left for its
+// calls, the error is that of no memory.
 fn link_port<M: MountMachine, N: MountMachine>(
     alloc: Global,
     mounts: SerialMounts<M, N>,
@@ -144,7 +144,7 @@ fn link_port<M: MountMachine, N: MountMachine>(
     )
 }
 
-// The mounts of such a port. What became of each call that was made on it comes behind these steps.
+// Returns the mounts of such a port. Appends to `steps` what became of each call that was made on it.
 fn mounts_back<M: MountMachine, N: MountMachine>(
     port: SerialLinks<M, N>,
     steps: &mut Vec<LinkStep>,

@@ -1,4 +1,4 @@
--- Callers before their first commands, and what they are told in the end.
+-- Callers before their first commands, and what they have received in the end.
 use Rattle.std.proofs.Common.{◌≡◌, ◌≢◌, ℕ, zero, suc, ◌+◌, ◌≤◌, max, List, [], ◌∷◌, ◌++◌, length, map, Some, None, refl, ap, ap₂, sym, ◌∙◌, subst, ⊎_elim, arith, append-nil, append_assoc}
 use Rattle.std.specs.Prelude.{slice_get, All}
 use Rattle.std.specs.List.{fold}
@@ -98,7 +98,7 @@ noted_by-more (first ∷ more) runner =
     ∙ sym (append_assoc first.notes (noted_by more) runner.notes)
 
 module _ {A : Type 0} (shown : A → PlacedShown) where
-  -- where no caller is this one
+  -- if no caller is this one
   told_none : (told : PlacedShown) (k c : ℕ) (callers : List A)
       → ((j : ℕ) (r : A) → slice_get callers j ≡ Some r → (shown r ≡ by (k + j) told) × (c ≢ k + j))
       → by c (shown_by shown callers) ≡ []
@@ -132,7 +132,7 @@ module _ {A : Type 0} (shown : A → PlacedShown) where
       each (suc j) s there ∙ ap (λ w. by w told) on)
       ∙ ap (λ w. by w told) (sym next))
 
-  -- callers of which each is shown its part of these calls show them all
+  -- callers each of which has the shown entries of its part of these calls have those of all of them
   pub alike : (told : PlacedCalls) (callers : List A)
       → ((j : ℕ) (r : A) → slice_get callers j ≡ Some r → shown r ≡ shown_calls (by j told))
       → ((j : ℕ) → slice_get callers j ≡ None → by j told ≡ [])

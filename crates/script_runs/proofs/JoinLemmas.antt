@@ -87,7 +87,7 @@ as_before_both most shared old lower upper lower' upper' first others cut one tw
   same_high = two.same_high ∙ cut.highest;
 }
 
--- what is shown of the calls of both halves
+-- the shown entries of the calls of both halves
 pub shows_both : (border : ℕ) (told more : PlacedShown) (low up : MountPass) → Shows told (calls_of low)
     → Shows more (calls_of up) → ((c : ℕ) → c < border → by c (calls_of up) ≡ [])
     → ((c : ℕ) → border ≤ c → by c (calls_of low) ≡ []) → Shows (told ++ more) (calls_of (with_other low up))
@@ -113,7 +113,7 @@ none_above seed who border first one next ran c above =
     subst (λ (n : ℕ). by n one ≡ []) is
     (subst (λ s. IsRunOfCaller seed (who + i) s (by (who + i) one)) past (ran.each i))
 
--- where each caller of a half has its calls among all, all are a run of both
+-- if each caller of a half has its calls among all, all are a run of both
 module _ (seed : List ℕ) (who border : ℕ) (first others : List Section) (one two all : PlacedCalls)
     (next : border ≡ who + length first) (ran_one : RunFrom seed who first one) (ran_two : RunFrom seed border others two)
     (low : (c : ℕ) → by c two ≡ [] → by c one ≡ by c all) (high : (c : ℕ) → by c one ≡ [] → by c two ≡ by c all) where

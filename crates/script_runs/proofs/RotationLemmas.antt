@@ -1,4 +1,4 @@
--- What stands while callers take turns on one mount, and what they tell in the end.
+-- What holds while callers take turns on one mount, and what they have received in the end.
 use Rattle.std.proofs.Common.{◌≡◌, ℕ, ◌+◌, Bool, List, [], ◌++◌, map, take, drop, set, Some, refl, ap, sym, ◌∙◌, subst}
 use Rattle.std.specs.Prelude.{slice_get, All}
 use Rattle.std.proofs.lemmas.List.Elements.{All-nil}
@@ -76,7 +76,7 @@ module _ {M : Type 0} (leads : History → M → Type 0) (seed : List ℕ) where
     rotates = rotates_on seed script whole last n i runners old new before.told turn.made here before.rotates turn.taken;
   }
 
-  -- the mount stands as before where the rotation is told in other words
+  -- the mount is as before if the rotation is stated in other terms
   pub retold : (script : List Section) (whole rest rest' : Steps (List Waiting)) (turns turns' : ℕ → ℕ)
       (runners : List RunnerView) (mount : At M)
       → ((told : PlacedCalls) → Rotates seed script whole rest turns runners told
@@ -107,7 +107,7 @@ module _ {M : Type 0} (leads : History → M → Type 0) (lawful : History → T
             legal never;
       }
 
-  -- what all callers are shown is what is shown of the history
+  -- the shown entries of all callers are those of the history
   pub told_history : (c : ℕ)
       → by c (shown_by (λ (r : RunnerView). r.entries) runners) ≡ entries_by c (shown_history (entries_of ended.told))
   told_history c =

@@ -24,7 +24,7 @@ use Rattle.script_runs.proofs.TurnLemmas.{turns_in}
 
 module _ (seed : List ℕ) (script : List Section) (whole : Steps (List Waiting)) (runners : List RunnerView)
     (told : PlacedCalls) where
-  -- the same, told in other words
+  -- the same, in other terms
   restated : (rest rest' : Steps (List Waiting)) (turns turns' : ℕ → ℕ) → rest ≡ rest'
       → ((j : ℕ) → j < length runners → turns j ≡ turns' j)
       → Rotates seed script whole rest turns runners told → Rotates seed script whole rest' turns' runners told
@@ -98,7 +98,7 @@ goes_by leads caller left mount made port mount' one two came = record {
   led = λ history so. subst (λ m. leads (history ++ entries_of made) m) (sym one) (came.led history so);
 }
 
--- a command of a runner that is told whose its calls are
+-- a command of a runner, if its calls are known to be the runner's
 pub taken_by : {P : Type 0} (came : PlacedCalls → P → Type 0) (port : P) (left before_left : ℕ) (seed : List ℕ)
     (more : Bool) (old new : RunnerView) (stepped : Stepped came port left before_left seed more old new)
     → by old.caller stepped.made ≡ stepped.made → Taken seed old new stepped.made

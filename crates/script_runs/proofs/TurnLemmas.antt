@@ -1,4 +1,4 @@
--- A turn of a caller in rotation, and what stands after it.
+-- A turn of a caller in rotation, and what holds after it.
 use Rattle.std.proofs.Common.{◌≡◌, ◌≢◌, ℕ, zero, suc, ◌+◌, ◌<◌, ◌≤◌, min, Bool, true, false, cond, List, [], ◌∷◌, ◌++◌, length, map, take, drop, set, Some, None, Option, refl, ap, ap₂, sym, ◌∙◌, subst, ⊎_elim, arith, append-nil}
 use Rattle.std.specs.Prelude.{slice_get, nat_lt}
 use Rattle.std.proofs.Math.Seq.{drop-cons, take-suc-set}
@@ -54,7 +54,7 @@ module _ {A : Type 0} where
   still_there xs new i c within same none =
       let both = sym (get-set_same xs i new within) ∙ ap (slice_get (set xs i new)) same ∙ none in cc both
 
-  -- and so of each place behind the last
+  -- and so of each place after the last
   pub past_set : (P : ℕ → Type 0) (xs : List A) (i : ℕ) (new : A) → i < length xs
       → ((j : ℕ) → j ≢ i → slice_get xs j ≡ None → P j) → (j : ℕ) → slice_get (set xs i new) j ≡ None → P j
   past_set P xs i new within others j none = others j (λ same. still_there xs new i j within (sym same) none)
@@ -66,7 +66,7 @@ min_below n m k is below = omega (arith, is, below)
 
 -- ---- the turn
 
--- where the caller has a command n, its steps were made; and where it has none, nothing was
+-- if the caller has a command n, its steps were made; and if it has none, nothing was
 turn_made : (seed : List ℕ) (n caller : ℕ) (more : Bool) (old new : RunnerView) (made : PlacedCalls) (next : Waiting → Steps (List Waiting))
     → old.caller ≡ caller → old.next ≡ min n (length old.section.commands) → new.section ≡ old.section → new.entries ≡ old.entries ++ shown_calls made
     → StepMakes seed more old new made
@@ -100,9 +100,9 @@ turn_made seed n caller true old new made next who at section grown so =
     (subst (λ (w : Waiting). Reaches (turn_of seed n caller (state_of old) (Some command) next) (entries_of made) (next w)) state
     (Reaches-and_then names (command_steps seed caller uid n names command.verb) (λ told outcome. next (waiting old.section told)) (entries_of made) outcome follows))
 
--- ---- what stands after a turn
+-- ---- what holds after a turn
 
--- the number of turns that caller j had, where those below i had theirs in round n
+-- the number of turns that caller j had, if those below i had theirs in round n
 abbrev pub turns_in : ℕ → ℕ → ℕ → ℕ
 turns_in n i j = cond (nat_lt j i) (n + 1) n
 
@@ -141,7 +141,7 @@ next_turn seed n true old new made so section at =
     let up = so.2 in
     omega (arith, within, long, up, at)
 
--- ---- the calls of one caller behind those of all
+-- ---- the calls of one caller after those of all
 
 none_by : (caller other : ℕ) (made : PlacedCalls) → by caller made ≡ made → other ≢ caller → by other made ≡ []
 none_by caller other made own differ = ap (by other) (sym own) ∙ by-by_other other caller made differ

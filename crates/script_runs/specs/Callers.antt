@@ -1,4 +1,4 @@
--- Callers before their first commands, and what they are told in the end.
+-- Callers before their first commands, and what they have received in the end.
 use Rattle.std.specs.Prelude.{ℕ, ◌+◌, List, [], ◌∷◌, ◌++◌, map}
 use Rattle.script_lang.specs.declared.commands.Section.{Section}
 use Rattle.reply_text.specs.Shown.{PlacedShown}
@@ -14,7 +14,7 @@ fresh_runners k (section ∷ more) = runner_view k section 0 [] [] ∷ fresh_run
 abbrev pub sections_of : List RunnerView → List Section
 sections_of runners = map (λ runner. runner.section) runners
 
--- what is shown of each caller's calls, caller after caller
+-- the shown entries of each caller's calls, caller after caller
 abbrev pub shown_by : {A : Type 0} → (A → PlacedShown) → List A → PlacedShown
 shown_by shown [] = []
 shown_by shown (caller ∷ more) = shown caller ++ shown_by shown more

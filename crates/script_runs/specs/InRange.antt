@@ -8,7 +8,7 @@ use Rattle.reply_text.specs.Ranges.{EntryIsInRange}
 abbrev pub AreInRange : PlacedCalls → Type 0
 AreInRange placed = All EntryIsInRange (entries_of placed)
 
--- the one port has become the other by these calls, and each is in range
+-- the port went from `old` to `new` by these calls, and each is in range
 pub record RangedCame {P : Type 0} (came : P → PlacedCalls → P → Type 0) (old : P) (calls : PlacedCalls)
     (new : P)
     : Type 0 where

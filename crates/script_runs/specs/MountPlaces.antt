@@ -1,4 +1,4 @@
--- The mount between two turns: it stands after all entries so far, whose places count from 0.
+-- The mount between two turns: its state is that after all entries so far, whose places count from 0.
 use Rattle.std.specs.Prelude.{◌≡◌, ℕ, ◌+◌, ◌++◌, length}
 use Rattle.call_history.specs.Entries.{by, numbered}
 use Rattle.call_history.specs.Placed.{entries_of}
@@ -13,7 +13,8 @@ pub record At (M : Type 0) : Type 0 where
 abbrev pub at : {M : Type 0} → M → ℕ → At M
 at machine places = record { machine = machine; places = places }
 
--- the mount stands after all of its entries so far, whose places count from 0, and so many are given
+-- the mount is in the state after all of its entries so far, whose places count from 0, and has given as
+-- many places
 pub record Stands {M : Type 0} (leads : History → M → Type 0) (told : PlacedCalls) (mount : At M)
     : Type 0 where
   pub placed : told ≡ numbered 0 (entries_of told)

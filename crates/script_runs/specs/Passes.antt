@@ -9,12 +9,12 @@ use Rattle.reply_text.specs.Shown.{PlacedShown, shown_calls}
 use Rattle.fsc_session.specs.Asking.{AsksRightly}
 use Rattle.fsc_session.specs.ScriptRun.{IsRunOfCaller}
 
--- the most calls that the commands of sections make, where each makes so many
+-- how many calls the commands of sections make, if each makes `most`
 abbrev pub calls_needed : ℕ → List Section → ℕ
 calls_needed most sections = sum_by (λ section. most * length section.commands) sections
 
--- the pass belongs to this shared machine, and nobody called by it; it has a caller's number for each
--- section, of which there is one at least, and so many calls for each command
+-- the pass belongs to this shared machine, and no call was made with it; it has a caller's number for each
+-- section, of which there are one or more, and `most` calls for each command
 pub record CanRun (most : ℕ) (shared : SharedView) (pass : MountPass) (sections : List Section) : Type 0 where
   pub belongs : pass.table ≡ shared.table
   pub some_section : 0 < length sections
@@ -44,12 +44,12 @@ pub record IsAsBefore (old new : MountPass) : Type 0 where
 abbrev pub calls_of : MountPass → PlacedCalls
 calls_of pass = pass.past ++ pass.mine
 
--- each caller's entries are a run of its section, where the first section has this caller's number, and no
+-- each caller's entries are a run of its section, if the first section has this caller's number, and no
 -- other caller has any
 pub record RunFrom (seed : List ℕ) (who : ℕ) (sections : List Section) (placed : PlacedCalls) : Type 0 where
   pub each : (i : ℕ) → IsRunOfCaller seed (who + i) (slice_get sections i) (by (who + i) placed)
   pub none : (caller : ℕ) → caller < who → by caller placed ≡ []
 
--- what is told is, caller by caller, what is shown of these calls
+-- `told` has, caller by caller, the shown entries of these calls
 abbrev pub Shows : PlacedShown → PlacedCalls → Type 0
 Shows told placed = (caller : ℕ) → by caller told ≡ shown_calls (by caller placed)

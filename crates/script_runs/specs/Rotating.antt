@@ -1,4 +1,4 @@
--- What stands between two turns, while the callers of a script take turns on one mount.
+-- The state between two turns, while the callers of a script take turns on one mount.
 use Rattle.std.specs.Prelude.{ℕ, List}
 use Rattle.mount_model.specs.History.{History}
 use Rattle.mount_model.specs.Port.{PlacedCalls}
@@ -10,7 +10,7 @@ use Rattle.script_runs.specs.InRange.{AreInRange}
 use Rattle.script_runs.specs.Turns.{Rotates, Taken}
 use Rattle.script_runs.specs.MountPlaces.{At, Goes, Stands}
 
--- the mount stands after the calls that were told, which are the runners' and in range
+-- the mount is in the state after the calls `told`, which are the runners' and in range
 pub record Rotating {M : Type 0} (leads : History → M → Type 0) (seed : List ℕ) (script : List Section)
     (whole rest : Steps (List Waiting)) (turns : ℕ → ℕ) (runners : List RunnerView) (mount : At M)
     : Type 0 where

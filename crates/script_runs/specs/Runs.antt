@@ -19,21 +19,21 @@ pub record IsLawfulRun (lawful : History → Type 0)
   pub lawfully : lawful history
   pub callers : IsRunOf seed script history
 
--- such a run in which the callers took turns; where the one-thread mount could answer so and no call wanted
--- memory, it is a function of script and seed
+-- such a run in which the callers took turns; if the one-thread mount could answer so and no call was out
+-- of memory, it is a function of script and seed
 pub record IsSerialRun (lawful : History → Type 0)
     (seed : List ℕ) (script : List Section) (history : History) : Type 0 where
   pub run : IsLawfulRun lawful seed script history
   pub order : (after : List Waiting) × Reaches (rotation_steps seed script) history (Done after)
   pub serial : IsLegal history → NeverWantsMemory history → history ≡ serial_history seed script
 
--- such a run, of whose history more is known: that a machine may stand after it
+-- such a run, of whose history `Led` holds too: that a machine may be in the state after it
 abbrev pub IsRunBefore : (History → Type 0) → (List ℕ → List Section → History → Type 0)
     → List ℕ → List Section → History → Type 0
 IsRunBefore Led IsRun seed script history = IsRun seed script history × Led history
 
--- the entries are what is shown of one history, which is such a run and holds values of the program alone, in
--- order of place; and these are its notes
+-- the entries are the shown entries of one history, which is such a run and holds values of the program
+-- alone, in order of place; and these are its notes
 pub record TellsRun (IsRun : List ℕ → List Section → History → Type 0)
     (seed : List ℕ) (script : List Section) (placed : PlacedShown) (notes : List Note) : Type 0 where
   pub history : History

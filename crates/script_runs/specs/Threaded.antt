@@ -8,8 +8,7 @@ use Rattle.fsc_session.specs.ScriptRun.{notes_by}
 use Rattle.script_runs.specs.InRange.{AreInRange}
 use Rattle.script_runs.specs.Passes.{IsAsBefore, RunFrom, Shows, calls_of}
 
--- the callers of a pass ran their sections, and this is what they were told; the calls that the pass has now are
--- in range
+-- the callers of a pass ran their sections, and received this; the calls that the pass has now are in range
 pub record HaveRun (seed : List ℕ) (old : MountPass) (sections : List Section)
     (new : MountPass) (told : PlacedShown) (notes : List Note) : Type 0 where
   pub as_before : IsAsBefore old new

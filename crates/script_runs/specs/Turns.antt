@@ -11,8 +11,8 @@ use Rattle.fsc_session.specs.Running.{StepMakes}
 use Rattle.fsc_session.specs.Runners.{RunnerView, HasRun}
 use Rattle.fsc_session.specs.Rotation.{Waiting}
 
--- runner j is caller j of the script and had so many turns: the calls that it made are a run of the commands
--- before its next, and it has what is shown of them
+-- runner j is caller j of the script and had `turns` turns: the calls that it made are a run of the
+-- commands before its next, and it has their shown entries
 pub record InTurn (seed : List ℕ) (script : List Section) (told : PlacedCalls)
     (turns j : ℕ) (runner : RunnerView) : Type 0 where
   pub caller : runner.caller ≡ j

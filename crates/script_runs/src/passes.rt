@@ -12,8 +12,8 @@ use script_lang::Section;
 use std::alloc::AllocError;
 use turn_lock::{Pass, Shared};
 
-/// The most calls that the commands of the sections make, where each makes so many; none where a history has
-/// fewer places.
+/// Returns how many calls the commands of the sections make, if each makes `most`. Returns `None` if a
+/// history has fewer places.
 pub fn calls_needed(sections: &[Section], most: u64) -> Option<u64>
     ensures some { IfSome result (λ calls. (calls ≡ calls_needed most sections.now) × (calls ≤ MOST_PLACES)) }
     ensures none { IfNone result (MOST_PLACES < calls_needed most sections.now) }
@@ -29,9 +29,9 @@ pub fn calls_needed(sections: &[Section], most: u64) -> Option<u64>
     Some(calls)
 }
 
-/// Cuts the pass in two, with the sections, of whose commands each makes so many calls at most: the pass keeps the
-/// numbers and the calls of the first sections, and the other gets those of the others. The one error is want of
-/// memory, after which the pass is as it was.
+/// Cuts the pass in two, with the sections; each of their commands makes `most` calls or fewer. The pass
+/// retains the numbers and the calls of the first sections, and the returned one gets those of the others.
+/// The only error is out of memory; the pass is unchanged then.
 pub fn cut<M: MountMachine>(
     shared: &Shared<M>,
     pass: &mut Pass<M>,

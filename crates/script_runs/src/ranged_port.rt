@@ -1,4 +1,4 @@
-//! A port that shows of each call and its reply that they are in range.
+//! A port that shows each call and its reply to be in range.
 
 ghost use Rattle.std.specs.Prelude.{◌≡◌};
 ghost use Rattle.script_runs.specs.InRange.{RangedCame};
@@ -22,14 +22,14 @@ impl<P: MountPort> Model for RangedPort<P> {
 }
 
 impl<P: MountPort> RangedPort<P> {
-    /// Over this port.
+    /// Returns a port over this one.
     pub fn over(port: P) -> RangedPort<P>
         ensures { result ≡ port }
     {
         RangedPort { port }
     }
 
-    /// The port, with what was called since.
+    /// Returns the port, with the calls made since.
     pub fn back(self) -> P
         ensures { result ≡ self }
     {
@@ -37,7 +37,7 @@ impl<P: MountPort> RangedPort<P> {
     }
 }
 
-/// It comes by the calls by which the other one does, and each is in range.
+/// It has the calls of the other port, and each is in range.
 impl<P: MountPort> MountPort for RangedPort<P> {
     ghost who = { λ port. P.who port };
 

@@ -1,4 +1,4 @@
-//! Runs a script on a machine that nobody else calls: the callers take turns, command by command.
+//! Runs a script on a machine that has no other callers: the callers take turns, command by command.
 
 ghost use Rattle.std.specs.Prelude.{◌≡◌, ◌≤◌, [], length, map, IfOk, OnOk};
 ghost use Rattle.script_lang.specs.Spelled.{IsSpelled};
@@ -23,9 +23,9 @@ use mount_shared::{MountMachine, SerialMount};
 use script_lang::{Script, Section};
 use std::alloc::{AllocError, Global};
 
-/// What a run of the script in rotation tells, its entries in order of place: command 0 of each caller that
-/// has one, then command 1, and so on, each between the gate's two calls. The machine stands before any call. The
-/// one error is want of memory.
+/// Runs the script in rotation. Returns what a log shows of the run, its entries in order of place. Command
+/// 0 of each caller that has one runs, then command 1, and so on, each between the gate's two calls. No
+/// call was made on the machine before. The only error is out of memory.
 pub fn run_in_rotation<G: Gate, S: Stretch, M: MountMachine>(
     alloc: Global,
     script: &Script,
@@ -44,7 +44,7 @@ pub fn run_in_rotation<G: Gate, S: Stretch, M: MountMachine>(
     Ok(told)
 }
 
-/// The same, with the machine as the run leaves it.
+/// The same, and returns the machine as the run leaves it.
 pub fn rotate<G: Gate, S: Stretch, M: MountMachine>(
     alloc: Global,
     script: &Script,
@@ -76,7 +76,7 @@ pub fn rotate<G: Gate, S: Stretch, M: MountMachine>(
     Ok((told, mount.machine))
 }
 
-/// The number of commands of the longest section.
+/// Returns the number of commands of the longest section.
 pub fn longest(sections: &[Section]) -> usize
     ensures { result ≡ longest sections.now }
 {
@@ -85,7 +85,7 @@ pub fn longest(sections: &[Section]) -> usize
         .fold(0, |most, section| most.max(section.commands.len()))
 }
 
-// A runner for each section, before its first command.
+// Returns a runner for each section, before its first command.
 fn fresh_runners(alloc: Global, sections: &[Section]) -> Result<Vec<Runner<'_>>, AllocError>
     requires { length sections.now ≤ MOST_CALLERS }
     ensures { IfOk result (λ runners. runners.items ≡ fresh_runners 0 sections.now) }
@@ -97,7 +97,7 @@ fn fresh_runners(alloc: Global, sections: &[Section]) -> Result<Vec<Runner<'_>>,
     Ok(runners)
 }
 
-// The callers take so many rounds of turns.
+// The callers take `rounds` rounds of turns.
 fn run_rounds<G: Gate, S: Stretch, M: MountMachine>(
     alloc: Global,
     mount: SerialMount<M>,
@@ -127,7 +127,7 @@ fn run_rounds<G: Gate, S: Stretch, M: MountMachine>(
     Ok(mount)
 }
 
-// The caller's next command, if it has one, on a port of its own and between the gate's two calls.
+// Runs the caller's next command, if it has one, on a port of its own and between the gate's two calls.
 fn take_turn<G: Gate, S: Stretch, M: MountMachine>(
     alloc: Global,
     mount: SerialMount<M>,
@@ -153,7 +153,7 @@ fn take_turn<G: Gate, S: Stretch, M: MountMachine>(
     Ok(after)
 }
 
-// The caller's next command, on a port of its own.
+// Runs the caller's next command, on a port of its own.
 fn step<S: Stretch, M: MountMachine>(
     alloc: Global,
     mount: SerialMount<M>,
@@ -175,7 +175,7 @@ fn step<S: Stretch, M: MountMachine>(
     Ok(port.back().back())
 }
 
-// All that the runners were told, runner after runner.
+// Returns what all runners received, runner after runner.
 fn told_by(alloc: Global, runners: Vec<Runner>) -> Result<Told, AllocError>
     ensures entries { IfOk result (λ told. told.entries.items
         ≡ shown_by (λ runner. runner.entries) runners.entry.items) }

@@ -30,10 +30,10 @@ struct Callers<'a, M: MountMachine> {
     sections: &'a [Section],
 }
 
-/// What a run of the script in threads tells, its entries in order of place: each caller runs its section in a
-/// thread of its own, each command between the gate's two calls, and waits for its turn on the machine at each
-/// call. The machine stands before any call. It answers when all threads have ended. The one error is want of
-/// memory.
+/// Runs the script in threads. Returns what a log shows of the run, its entries in order of place. Each
+/// caller runs its section in a thread of its own, each command between the gate's two calls, and waits for
+/// its turn on the machine at each call. No call was made on the machine before. Returns when all threads
+/// have ended. The only error is out of memory.
 pub fn run_in_threads<
     R: Threads + Wait + Sync,
     G: Gate + Sync,
@@ -69,7 +69,7 @@ pub fn run_in_threads<
     Ok(told)
 }
 
-// A run without callers: nothing is shared, and no thread starts.
+// Returns the result of a run without callers. Nothing is shared, and no thread starts.
 fn run_nobody<M: MountMachine>(alloc: Global, machine: M) -> Told
     requires { M.leads [] machine }
     ensures none { (result.entries.items ≡ []) × (result.notes.items ≡ []) }
@@ -78,7 +78,7 @@ fn run_nobody<M: MountMachine>(alloc: Global, machine: M) -> Told
     Told::nothing(alloc)
 }
 
-// Runs the section of each of the callers in a thread of its own. It answers when all have ended.
+// Runs the section of each of the callers in a thread of its own. Returns when all have ended.
 fn run_all<R: Threads + Wait + Sync, G: Gate + Sync, S: Stretch + Sync, M: MountMachine + Send>(
     rt: &R,
     alloc: Global,
@@ -119,7 +119,7 @@ fn run_all<R: Threads + Wait + Sync, G: Gate + Sync, S: Stretch + Sync, M: Mount
     Ok((pass, told))
 }
 
-// Runs the section of the one caller.
+// Runs the section of the only caller.
 fn run_one<R: Wait, G: Gate, S: Stretch, M: MountMachine>(
     rt: &R,
     alloc: Global,
@@ -140,12 +140,12 @@ fn run_one<R: Wait, G: Gate, S: Stretch, M: MountMachine>(
     let mut port = RangedPort::over(port);
     let ran = run_caller(alloc, &mut port, gate, stretches, &sections[0], seed)?;
     let pass = port.back().back();
-    // That its own entries are its caller's.
+    // This shows that its own entries are its caller's.
     let _caller = pass.who();
     Ok((pass, Told::of_caller(ran)))
 }
 
-// Cuts callers in two: the first half keep the pass, and the others get one of their own.
+// Cuts callers in two: the first half retain the pass, and the others get one of their own.
 fn halve<'a, M: MountMachine>(
     shared: &Shared<M>,
     callers: Callers<'a, M>,

@@ -1,4 +1,4 @@
-//! What the callers of a run were told.
+//! What the callers of a run received.
 
 ghost use Rattle.std.specs.Prelude.{◌≡◌, ◌<◌, ◌^◌, [], ◌++◌, length, IfOk, OnOk};
 ghost use Rattle.call_history.specs.Placed.{entries_of};
@@ -9,10 +9,10 @@ use mount_model::Reply;
 use reply_text::{Note, Shown};
 use std::alloc::{AllocError, Global};
 
-/// What is shown of entries, with their places.
+/// What a log shows of entries, with their places.
 pub type PlacedVec = Vec<(u64, Entry<Shown, Reply>)>;
 
-/// What is shown of callers' calls, with the replies, and how their session commands ended.
+/// What a log shows of callers' calls and their replies, and how their session commands ended.
 #[derive(Drop)]
 pub struct Told {
     pub entries: PlacedVec,
@@ -20,7 +20,7 @@ pub struct Told {
 }
 
 impl Told {
-    // What nobody was told. It takes no memory.
+    // Returns a value without entries and notes. Allocates nothing.
     pub(crate) fn nothing(alloc: Global) -> Told
         ensures entries { result.entries.items ≡ [] }
         ensures notes { result.notes.items ≡ [] }
@@ -31,7 +31,7 @@ impl Told {
         }
     }
 
-    // What one caller was told.
+    // Returns what one caller received.
     pub(crate) fn of_caller(ran: Ran) -> Told
         ensures entries { result.entries.items ≡ ran.entries }
         ensures notes { result.notes.items ≡ ran.notes }
@@ -42,7 +42,7 @@ impl Told {
         }
     }
 
-    /// How many entries they were told: fewer than there are places.
+    /// Returns how many entries there are: fewer than there are places.
     pub fn count(&self) -> usize
         ensures value { result ≡ length self.now.entries.items }
         ensures short { length self.now.entries.items < 2 ^ 64 }
@@ -50,7 +50,7 @@ impl Told {
         self.entries.len()
     }
 
-    // Puts what others were told behind it.
+    // Appends what other callers received.
     pub(crate) fn append(&mut self, mut others: Told) -> Result<(), AllocError>
         ensures entries { OnOk result (self.new.entries.items
             ≡ self.old.entries.items ++ others.entries.items) }
@@ -63,7 +63,7 @@ impl Told {
     }
 }
 
-/// The entries without their places. The one error is want of memory.
+/// Returns the entries without their places. The only error is out of memory.
 pub fn history_of(alloc: Global, entries: PlacedVec) -> Result<Vec<Entry<Shown, Reply>>, AllocError>
     ensures { IfOk result (λ history. history.items ≡ entries_of entries.items) }
 {
