@@ -4,7 +4,7 @@ use mount_model::{Call, Refusal, Reply};
 use mount_shared::MountMachine;
 use turn_lock::Machine;
 
-/// Answers each call with "done", but for the call of this number, from 0, which wants memory.
+/// Answers each call with "done", except the call of this number, from 0, which is out of memory.
 #[derive(Drop)]
 pub(crate) struct Counting {
     pub(crate) calls: u64,

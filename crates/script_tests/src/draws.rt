@@ -1,4 +1,4 @@
-//! What commands draw, and the names that stars mean.
+//! What commands derive from a seed, and the names that stars mean.
 
 ghost use Rattle.std.specs.Prelude.{◌≤◌, length};
 
@@ -10,10 +10,10 @@ use session_records::{Purpose, draw};
 use std::alloc::{AllocError, Global};
 use std::process::Abort;
 
-// A caller, a command, a purpose, and what is drawn for them.
+// A caller, a command, a purpose, and the bytes that are derived for them.
 type DrawRow = (u8, u64, Purpose, &'static str);
 
-// What Python's hmac and hashlib draw from 32 zeros.
+// What Python's hmac and hashlib derive from 32 zeros.
 static DRAWN_FROM_ZEROS: [DrawRow; 5] = [
     (
         0,
@@ -70,7 +70,7 @@ static DRAWN_FROM_COUNTING: [DrawRow; 2] = [
     ),
 ];
 
-// What is drawn for the row, as its digits: so many bytes as there is room for, at most 64.
+// Returns what is derived for the row, in hexadecimal: as many bytes as the buffer has, at most 64.
 fn drawn(
     alloc: Global,
     seed: &[u8; 32],
@@ -83,7 +83,7 @@ fn drawn(
     hex::encode(alloc, room)
 }
 
-// That this is drawn for each row, whole and by 16 bytes.
+// Expects these bytes for each row, whole and by 16 bytes.
 fn expect_drawn<A: Abort>(rt: &A, alloc: Global, seed: &[u8; 32], rows: &[DrawRow]) {
     for row in rows {
         expect_same(rt, drawn(alloc, seed, row, &mut [0; 64]), row.3, "64 bytes");
@@ -118,8 +118,8 @@ const STARRED_LOG: &[u8] = b"0 0 0 mkdir /e = ok\n\
     2 0 0 stat /n = refused not-found\n\
     3 0 0 stat /e/a%20b/%2A1/%2A2/%2A0 = refused not-found\n";
 
-// A star means the name of its number, and its own text where there is none or it can't be a part. No mount lists
-// a name that can't be one.
+// A star means the name of its number, or its own text if there is none or it can't be a part. No mount
+// lists a name that can't be one.
 #[test]
 fn stars_mean_listed_names(rt: HostRuntime) {
     let names = listed_names(rt.alloc()).expect(&rt, "memory");

@@ -29,7 +29,7 @@ fn each_status_has_its_number_and_its_line(rt: HostRuntime) {
     }
 }
 
-// The words, the script, the read and the write that fail, how the run ends, and what it writes.
+// The arguments, the script, the read and the write that fail, how the run ends, and what it writes.
 type FaultRow = (
     &'static [&'static str],
     &'static str,
@@ -54,7 +54,7 @@ const ADDED: &str = "0 0 1000 add-key 32 = added 1101420d499290b005fc68152725715
 const NOBODY: &str = "# nobody calls\n";
 
 // Each fault ends the run with its own status, in the order of the steps. The seed source fails at each
-// call, but is asked only where the words give no seed and the input is a script.
+// call, but is asked only if the arguments give no seed and the input is a script.
 static FAULTS: [FaultRow; 10] = [
     (SEEDED, ADDING, None, None, Status::Done, ADDED),
     (SEEDED, ADDING, Some(1), None, Status::ReadFault, ""),
@@ -89,7 +89,7 @@ static FAULTS: [FaultRow; 10] = [
     ),
 ];
 
-// A run of the row: 40 bytes come a read, and ten go a write.
+// Runs the row. A read returns 40 bytes, and a write takes ten.
 fn run_of_row<A: Abort>(rt: &A, alloc: Global, row: &FaultRow) -> (Status, Vec<u8>) {
     let outside = Outside {
         script: row.1,
@@ -144,7 +144,7 @@ remove-key id:8699c2c53707405da5aba5ae4d8583c0
 key-status id:8699c2c53707405da5aba5ae4d8583c0
 ";
 
-// Its log, whose identifier Linux gave to the key.
+// Its log, with the identifier that Linux gave to the key.
 const FIRST_LOG: &str = "\
 0 0 1000 add-key 64 = added 8699c2c53707405da5aba5ae4d8583c0
 1 0 1000 key-status 8699c2c53707405da5aba5ae4d8583c0 = status present self=1 users=1
@@ -152,7 +152,7 @@ const FIRST_LOG: &str = "\
 3 0 1000 key-status 8699c2c53707405da5aba5ae4d8583c0 = status absent self=0 users=0
 ";
 
-// A run of that script, whose bytes come by seven and go by sixteen, where these calls fail.
+// Runs that script, if these calls fail. A read returns seven bytes, and a write takes sixteen.
 fn first_run<A: Abort>(
     rt: &A,
     alloc: Global,
@@ -179,13 +179,14 @@ const READS: u32 = 43;
 
 const WRITES: u32 = 20;
 
-// Whether a run whose read of this number fails ends so, with nothing written.
+// Returns whether a run whose read of this number fails ends with that status, and nothing is written.
 fn is_a_read_fault<A: Abort>(rt: &A, alloc: Global, number: u32) -> bool {
     let (status, got) = first_run(rt, alloc, Some(number), None);
     status == Status::ReadFault && got.is_empty()
 }
 
-// Whether a run whose write of this number fails ends so, with what was written before it.
+// Returns whether a run whose write of this number fails ends with that status, and exactly the writes
+// before it arrived.
 fn is_a_write_fault<A: Abort>(rt: &A, alloc: Global, number: u32) -> bool {
     let (status, got) = first_run(rt, alloc, None, Some(number));
     let is_cut = got.len() == 16 * number as usize && FIRST_LOG.as_bytes().starts_with(&got);

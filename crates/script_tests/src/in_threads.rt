@@ -11,8 +11,8 @@ use std::process::Abort;
 use std::sync::Wait;
 use std::thread::Threads;
 
-// How a replay of the script in threads ends, and what it writes: over a machine whose call of this number, from 0,
-// wants memory. No call is made on mount 1.
+// Replays the script in threads over a machine whose call of this number, from 0, is out of memory. Returns
+// how the replay ends, and what it writes. No call is made on mount 1.
 fn replayed<R: Abort + Threads + Wait + Sync, G: Gate + Sync>(
     rt: &R,
     alloc: Global,
@@ -39,8 +39,8 @@ fn replayed<R: Abort + Threads + Wait + Sync, G: Gate + Sync>(
     (status, got(rt, alloc, &streams))
 }
 
-// On one thread the looks would run out: the first caller's second command would wait for a second
-// caller that has not begun.
+// On one thread the limit of looks would be reached: the first caller's second command would wait for a
+// second caller that has not begun.
 #[test]
 fn two_callers_meet_in_the_middle_of_their_sections(rt: HostRuntime) {
     let script = "caller 1\ndrop-caches\ndrop-caches\ncaller 2\ndrop-caches\ndrop-caches\n";
@@ -50,7 +50,7 @@ fn two_callers_meet_in_the_middle_of_their_sections(rt: HostRuntime) {
     assert!(rt; gate.missed() == 0);
 }
 
-// A reply that wants memory is a line of the log as each other is, and the caller goes on.
+// A reply that is out of memory is a line of the log like any other, and the caller goes on.
 #[test]
 fn a_reply_that_wants_memory_ends_no_section(rt: HostRuntime) {
     let script = "caller 1\ndrop-caches\ndrop-caches\ndrop-caches\n";

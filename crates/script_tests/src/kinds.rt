@@ -4,7 +4,7 @@ use item_list::Bytes;
 use mount_model::{KeyId, KeyState, NameList, NodeKind, Refusal, Reply};
 use std::alloc::Global;
 
-// What a reply is: one of the twelve variants, or want of memory.
+// What a reply is: one of the twelve variants, or out of memory.
 #[derive(Clone, Copy, PartialEq, Eq)]
 pub(crate) enum Kind {
     Added,
@@ -38,7 +38,7 @@ pub(crate) static KINDS: [Kind; 13] = [
     Kind::Wanting,
 ];
 
-// A reply of this kind.
+// Returns a reply of this kind.
 pub(crate) fn reply(alloc: Global, kind: Kind) -> Reply {
     match kind {
         Kind::Added => Reply::Added(KeyId([7; 16])),

@@ -14,7 +14,7 @@ const DROPS_LOGS: &[u8] = b"mount 0\n\
     0 1 1 drop-caches = ok\n\
     1 1 1 drop-caches = refused no-memory\n";
 
-// Both machines have the same laws, so no clause tells which of them is which mount.
+// Both machines have the same laws, so no clause states which of them is which mount.
 #[test]
 fn the_odd_machine_is_mount_1(rt: HostRuntime) {
     let (even, odd) = (wanting(0), wanting(1));

@@ -1,4 +1,4 @@
-//! A command of a caller on two mounts, of which one call wants memory, for tests.
+//! A command of a caller on two mounts, one of whose calls is out of memory, for tests.
 
 ghost use Rattle.std.specs.Prelude.{◌<◌, length};
 
@@ -8,8 +8,8 @@ use mount_model::{Refusal, Reply};
 use std::alloc::{AllocError, Global};
 use std::process::Abort;
 
-// Three protectors on mount 0 with their links on mount 1, where one lies that is no link, a policy that two of the
-// linked ones open, a policy of the first version, and an empty directory.
+// Three protectors on mount 0 with their links on mount 1, which also has one that is no link, a policy
+// that two of the linked ones open, a policy of the first version, and an empty directory.
 const BEFORE: &str = "\
 caller 0
 protector login raw:\
@@ -48,7 +48,7 @@ const OWN_BEFORE: u64 = 16;
 
 const NOTES_BEFORE: u64 = 9;
 
-// No run has so many calls.
+// No run has that many calls.
 const NEVER: u64 = u64::MAX;
 
 // Where a call of the command is made.
@@ -58,10 +58,10 @@ pub(crate) enum On {
     Far,
 }
 
-// What a command asks: on which mount, and in which words of the log.
+// What a command asks: on which mount, and the text of the call in the log.
 pub(crate) type Asked = (On, &'static str);
 
-// The call of this number on a mount, from 0, wants memory.
+// The call of this number on a mount, from 0, is out of memory.
 pub(crate) fn wanting(at: u64) -> Instead {
     Instead {
         at,
@@ -69,14 +69,15 @@ pub(crate) fn wanting(at: u64) -> Instead {
     }
 }
 
-// The logs of a run of the command behind those above, on two mounts of which the calls of these numbers want memory.
+// Returns the logs of a run of the command after those above, on two mounts whose calls of these numbers
+// are out of memory.
 fn logs<A: Abort>(rt: &A, alloc: Global, command: &str, far: u64, own: u64) -> Vec<u8> {
     let script = joined(alloc, BEFORE, command).expect(rt, "memory");
     let (far, own) = (wanting(far), wanting(own));
     log_of(rt, alloc, "replay-linked", script.as_str(), far, own).1
 }
 
-// How many of these are made on this mount.
+// Returns how many of these are made on this mount.
 fn count(calls: &[Asked], on: On) -> u64 {
     let mut count = 0u64;
     for call in calls {
@@ -87,7 +88,7 @@ fn count(calls: &[Asked], on: On) -> u64 {
     count
 }
 
-// Puts so many lines of the text, from this one on, behind the others.
+// Appends `count` lines of the text, from this one on.
 fn put_lines(got: &mut Vec<u8>, text: &[u8], first: u64, count: u64) -> Result<(), AllocError> {
     let mut line = 0u64;
     for byte in text {
@@ -101,7 +102,7 @@ fn put_lines(got: &mut Vec<u8>, text: &[u8], first: u64, count: u64) -> Result<(
     Ok(())
 }
 
-// Puts the line of a call that wants memory.
+// Appends the line of a call that is out of memory.
 fn put_wanting(
     got: &mut Vec<u8>,
     alloc: Global,
@@ -113,8 +114,8 @@ fn put_wanting(
     Ok(())
 }
 
-// Puts the logs of a run whose last call is this one, which wants memory, behind these of the command: what was
-// asked before stands as in the logs of the whole command, which makes all of these calls.
+// Appends the logs of a run whose last call is this one, which is out of memory, after the command's calls
+// `made`. What was asked before is as in the logs of the whole command, which makes all of these calls.
 fn put_logs_until(
     got: &mut Vec<u8>,
     alloc: Global,
@@ -145,7 +146,7 @@ fn put_logs_until(
     Ok(())
 }
 
-// The logs of the command where the call wants memory that it makes behind these.
+// Returns the logs of the command if its call after these is out of memory.
 fn logs_at<A: Abort>(rt: &A, alloc: Global, command: &str, made: &[Asked], on: On) -> Vec<u8> {
     let far = FAR_BEFORE.wrapping_add(count(made, On::Far));
     let own = OWN_BEFORE.wrapping_add(count(made, On::Own));
@@ -155,7 +156,8 @@ fn logs_at<A: Abort>(rt: &A, alloc: Global, command: &str, made: &[Asked], on: O
     }
 }
 
-// Whether want of memory at the command's call of this number is its end, behind the calls before it and no other.
+// Returns whether the command ends if its call of this number is out of memory, after the calls before it
+// and no other.
 fn ends_at<A: Abort>(
     rt: &A,
     alloc: Global,
@@ -173,8 +175,8 @@ fn ends_at<A: Abort>(
     got.as_slice() == wanted.as_slice()
 }
 
-// The first of a command's calls, line 14 of its script, at which want of memory isn't the command's end, behind the
-// calls before it and no other.
+// Returns the first of a command's calls, line 14 of its script, that doesn't end the command when it is
+// out of memory, after the calls before it and no other.
 pub(crate) fn first_wrong<A: Abort>(
     rt: &A,
     alloc: Global,

@@ -1,11 +1,11 @@
-//! Each command of a caller on two mounts, with want of memory in the place of the reply to each of its calls, on
-//! its own mount and on the far one.
+//! Each command of a caller on two mounts, with out of memory as the reply to each of its calls, on its own
+//! mount and on the far one.
 
 use crate::linked_commands::{Asked, On, first_wrong};
 
-// Each command, and the calls that it makes. The record of a protector that is made lies where it is stored, since no
-// link has its name. The key that a lock gives up isn't there, so a removal that is made is refused. Its identifier
-// was made by another program.
+// Each command, and the calls that it makes. The record of a new protector is on the mount where it is
+// stored, since no link has its name. The key whose claim a lock removes isn't there, so a removal that is
+// made is refused. Another program computed its identifier.
 static COMMANDS: [(&str, &[Asked]); 12] = [
     (
         "protector other raw:3333333333333333333333333333333333333333333333333333333333333333\n",

@@ -13,7 +13,7 @@ pub(crate) struct MeetingGate {
 }
 
 impl MeetingGate {
-    // Nobody has come yet.
+    // Returns a gate to which no caller has come yet.
     pub(crate) fn new() -> MeetingGate {
         MeetingGate {
             first: AtomicU64::new(0),
@@ -22,7 +22,7 @@ impl MeetingGate {
         }
     }
 
-    // How often a caller looked for the other to the end, in vain.
+    // Returns how often a caller looked for the other to the end, in vain.
     pub(crate) fn missed(&self) -> u64 {
         self.missed.load(Ordering::SeqCst)
     }
@@ -46,7 +46,7 @@ impl Gate for MeetingGate {
     fn after(&self, _caller: u32, _n: u64) {}
 }
 
-// Looks at the flag until it is raised, a hundred million times at most.
+// Reads the flag until it is raised, a hundred million times at most.
 fn is_raised(flag: &AtomicU64) -> bool {
     for _ in 0..100_000_000u32 {
         if flag.load(Ordering::SeqCst) == 1 {

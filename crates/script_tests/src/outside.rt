@@ -12,12 +12,12 @@ use std::random::RandomSource;
 
 const TEXT: &[u8; 18] = b"one two three four";
 
-// A sink with room for the text, which takes five bytes a call and fails at this one.
+// Returns a sink with space for the text, which takes five bytes a call and fails at this one.
 fn failing_sink(alloc: Global, listed: u32) -> Result<MemSink, AllocError> {
     MemSink::new(alloc, TEXT.len(), 5, call_list(alloc, Some(listed))?)
 }
 
-// Writes the piece, once more where the first call fails. Whether it failed.
+// Writes the piece, once more if the first call fails. Returns whether it failed.
 fn write_once<A: Abort>(rt: &A, sink: &mut MemSink, piece: &[u8]) -> bool {
     let (taken, has_failed) = match sink.write(piece) {
         Ok(taken) => (taken, false),
@@ -27,7 +27,8 @@ fn write_once<A: Abort>(rt: &A, sink: &mut MemSink, piece: &[u8]) -> bool {
     has_failed
 }
 
-// Copies what one call reads, which fails where it is the listed one, and only there. Whether a write failed.
+// Copies what one call reads. The read fails exactly if it is the listed one. Returns whether a write
+// failed.
 fn copy_once<A: Abort>(
     rt: &A,
     source: &mut MemSource,
@@ -43,7 +44,7 @@ fn copy_once<A: Abort>(
     }
 }
 
-// That of these the listed call fails and no other, and that the text arrives.
+// Expects that the listed call fails and no other, and that the text arrives.
 fn expect_copied<A: Abort>(rt: &A, source: &mut MemSource, sink: &mut MemSink, listed: u32) {
     let mut has_failed = false;
     for call in 0..5u32 {
@@ -68,12 +69,12 @@ fn each_listed_call_fails_alone(rt: HostRuntime) {
     }
 }
 
-// How many bytes come.
+// Returns how many bytes are read.
 fn count_read<A: Abort, S: Source>(rt: &A, source: &mut S, piece: &mut [u8]) -> usize {
     source.read(piece).expect(rt, "an answer")
 }
 
-// How many bytes are taken.
+// Returns how many bytes are taken.
 fn count_written<A: Abort, K: Sink>(rt: &A, sink: &mut K, piece: &[u8]) -> usize {
     sink.write(piece).expect(rt, "an answer")
 }
@@ -115,7 +116,7 @@ impl RandomSource for Broken {
     }
 }
 
-// Whether of these seeds no two are alike.
+// Returns whether no two of these seeds are alike.
 fn are_apart(given: &[[u8; 32]; 16]) -> bool {
     for i in 0..16 {
         for j in 0..i {
@@ -127,7 +128,7 @@ fn are_apart(given: &[[u8; 32]; 16]) -> bool {
     true
 }
 
-// Whether no byte is the same in all.
+// Returns whether no byte is the same in all.
 fn each_byte_changes(given: &[[u8; 32]; 16]) -> bool {
     for place in 0..32 {
         let mut is_same = true;
@@ -155,7 +156,7 @@ fn the_runtime_gives_other_bytes_each_time(rt: HostRuntime) {
 
 const LIMITS: InputLimits = InputLimits { bytes: 6, lines: 2 };
 
-// A text, what is read of it within the limits, and how much the next call then gives.
+// A text, what is read of it within the limits, and how many bytes the next call then returns.
 type InputRow = (&'static str, Result<&'static str, InputFault>, usize);
 
 static INPUTS: [InputRow; 5] = [
@@ -166,7 +167,7 @@ static INPUTS: [InputRow; 5] = [
     ("abcdefgh", Err(InputFault::TooLong), 1),
 ];
 
-// Whether what is read of the source is this.
+// Returns whether this is read from the source.
 fn gives(alloc: Global, source: &mut SteadySource, wanted: &Result<&str, InputFault>) -> bool {
     match (read_all(alloc, source, LIMITS), wanted) {
         (Ok(text), Ok(wanted)) => text.as_slice() == wanted.as_bytes(),
@@ -175,7 +176,7 @@ fn gives(alloc: Global, source: &mut SteadySource, wanted: &Result<&str, InputFa
     }
 }
 
-// That the source of the row's text gives what the row tells.
+// Expects that the source of the row's text gives what the row has.
 fn expect_input<A: Abort>(rt: &A, alloc: Global, source: &mut SteadySource, row: &InputRow) {
     let (text, wanted, left) = row;
     assert!(rt; gives(alloc, source, wanted), "of {text:?}");
@@ -185,8 +186,8 @@ fn expect_input<A: Abort>(rt: &A, alloc: Global, source: &mut SteadySource, row:
     );
 }
 
-// A text at a limit is read, and one line or byte more is too long. Nothing behind the first byte that
-// is too many is read.
+// A text at a limit is read, and one line or byte more is too long. Nothing is read after the first byte
+// beyond the limit.
 #[test]
 fn inputs_are_read_within_their_limits(rt: HostRuntime) {
     for row in &INPUTS {

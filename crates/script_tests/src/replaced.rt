@@ -1,11 +1,11 @@
-//! A mount of which one reply is another, for tests.
+//! A mount with one reply replaced, for tests.
 ghost use Rattle.mount_model.specs.Fits.{Fits};
 
 use mount_model::{Call, Reply};
 use mount_shared::{Mount, MountMachine};
 use turn_lock::Machine;
 
-/// A mount, but for the call of number `at`, from 0, which isn't asked and has this reply.
+/// A mount, except that the call of number `at`, from 0, isn't made on it and has this reply.
 #[derive(Drop)]
 pub(crate) struct Replaced {
     pub(crate) mount: Mount,

@@ -1,4 +1,4 @@
-//! Each command of a session with another reply in the place of each of its calls'.
+//! Each command of a session with another reply in place of the one to each of its calls.
 
 use crate::kinds::{KINDS, Kind, reply};
 use crate::runs::{Instead, as_it_is, log_of};
@@ -7,8 +7,8 @@ use mount_model::{Refusal, Reply};
 use std::alloc::Global;
 use std::process::Abort;
 
-// Three protectors, a policy that two of them open, a policy of the first version, and an empty directory. Line
-// by line a reply, but for two of the policy that is made and four of the one that gets a wrap.
+// Three protectors, a policy that two of them open, a policy of the first version, and an empty directory.
+// Each line has one reply, except two for the policy that is made and four for the one that gets a wrap.
 const BEFORE: &str = "\
 caller 1000
 protector login raw:\
@@ -36,10 +36,10 @@ mkdir /e
 
 const BEFORE_CALLS: u64 = 11;
 
-// The lines of the log behind which the last command's note comes, but for its entries: five notes and itself.
+// The number of lines of the log that are no entries: five notes, and that of the last command.
 const NOTES: u64 = 6;
 
-// Each command, and what the replies to its calls are to be.
+// Each command, and the kinds of the expected replies to its calls.
 static COMMANDS: [(&str, &[Kind]); 11] = [
     (
         "protector other raw:3333333333333333333333333333333333333333333333333333333333333333\n",
@@ -71,7 +71,8 @@ static COMMANDS: [(&str, &[Kind]); 11] = [
     ("migrate old\n", &[Kind::Held, Kind::Stored]),
 ];
 
-// The log of a run of this command behind those above, in which the call of this number has this reply.
+// Returns the log of a run of this command after those above, in which the call of this number has this
+// reply.
 fn log_with<A: Abort>(rt: &A, alloc: Global, command: &str, at: u64, reply: Reply) -> Vec<u8> {
     let script = joined(alloc, BEFORE, command).expect(rt, "memory");
     let other = Instead {
@@ -81,7 +82,7 @@ fn log_with<A: Abort>(rt: &A, alloc: Global, command: &str, at: u64, reply: Repl
     log_of(rt, alloc, "replay", script.as_str(), other, as_it_is()).1
 }
 
-// How many lines a text has.
+// Returns how many lines a text has.
 fn lines(text: &[u8]) -> u64 {
     let mut count = 0u64;
     for byte in text {
@@ -92,7 +93,7 @@ fn lines(text: &[u8]) -> u64 {
     count
 }
 
-// How a log ends whose last command, on line 9, was ended by another kind of reply than it wanted.
+// Returns how a log ends whose last command, on line 9, was ended by an unexpected kind of reply.
 fn last_note(kind: Kind) -> &'static str {
     match kind {
         Kind::Wanting => "\nnote 0 9 no-memory\n",
@@ -100,15 +101,16 @@ fn last_note(kind: Kind) -> &'static str {
     }
 }
 
-// Whether the command, on line 9, ends with this kind's word at the call of this number, behind which it makes none.
+// Returns whether the command, on line 9, ends with this kind's word at the call of this number, and makes
+// no call after it.
 fn ends_there<A: Abort>(rt: &A, alloc: Global, command: &str, at: u64, kind: Kind) -> bool {
     let log = log_with(rt, alloc, command, at, reply(alloc, kind));
     let is_last = lines(&log) == at.wrapping_add(1).wrapping_add(NOTES);
     is_last && log.ends_with(last_note(kind).as_bytes())
 }
 
-// The first of a command's calls, which want these replies, and the other reply to it that doesn't end the command
-// there, with the word that it has to.
+// Returns the first of a command's calls, which expect these replies, and the other reply to it that
+// doesn't end the command there with the right word.
 fn first_wrong<A: Abort>(
     rt: &A,
     alloc: Global,
@@ -136,7 +138,7 @@ fn each_command_ends_at_each_reply(rt: HostRuntime) {
     }
 }
 
-// No run in turns has a migration find another version at its store than the one that it loaded.
+// In no run in turns does a migration find another version at its store than the one that it loaded.
 #[test]
 fn a_migration_ends_by_its_store(rt: HostRuntime) {
     let changed = Reply::Refused(Refusal::Changed { version: 2 });

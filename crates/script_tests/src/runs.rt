@@ -1,5 +1,6 @@
-//! Runs of the tool in turns, on mounts in memory. What is dear to prove is a function that has a mount among its
-//! locals, or a source and a sink: mounts are made here alone, and so is what lies outside of a run in turns.
+//! Runs of the tool in turns, on mounts in memory. A function with a mount among its locals, or a source
+//! and a sink, is expensive to prove: so only this module makes mounts, and what is outside of a run in
+//! turns.
 
 ghost use Rattle.std.specs.Prelude.{◌≤◌};
 
@@ -14,7 +15,7 @@ use std::process::Abort;
 /// The seed of the tests.
 pub(crate) const SEED: &str = "0000000000000000000000000000000000000000000000000000000000000000";
 
-/// The words of a command line.
+/// Returns the arguments of a command line.
 pub(crate) fn words_of(alloc: Global, texts: &[&str]) -> Result<Vec<String>, AllocError> {
     let mut words = Vec::new(alloc);
     for text in texts {
@@ -23,20 +24,21 @@ pub(crate) fn words_of(alloc: Global, texts: &[&str]) -> Result<Vec<String>, All
     Ok(words)
 }
 
-/// The most bytes that a read gives or a write takes, and the call that fails: the one of this number, from 0, or none.
+/// How many bytes a read gives or a write takes at most, and the call that fails: the one of this number,
+/// from 0, or none.
 #[derive(Clone, Copy)]
 pub(crate) struct Calls {
     pub(crate) piece: usize,
     pub(crate) fails: Option<u32>,
 }
 
-/// Bytes come or go by so many.
+/// 4,096 bytes a read or a write, of which none fails.
 pub(crate) const BY_4096: Calls = Calls {
     piece: 4_096,
     fails: None,
 };
 
-/// The call of this number alone, or none.
+/// Returns a list of the call of this number alone, or of none.
 pub(crate) fn call_list(alloc: Global, number: Option<u32>) -> Result<CallList, AllocError> {
     let mut list = CallList::new(alloc);
     if let Some(number) = number {
@@ -45,7 +47,8 @@ pub(crate) fn call_list(alloc: Global, number: Option<u32>) -> Result<CallList, 
     Ok(list)
 }
 
-/// What lies outside of a run of this script: how its bytes come, how those of the log go, and the source of seeds.
+/// What is outside of a run of this script: how its bytes are read, how those of the log are written, and
+/// the source of seeds.
 #[derive(Drop)]
 pub(crate) struct Outside<'a> {
     pub(crate) script: &'a str,
@@ -57,7 +60,8 @@ pub(crate) struct Outside<'a> {
 /// What a run of the tests reaches.
 pub(crate) type MemStreams = Streams<MemSource, MemSink, FixedSeed>;
 
-/// A source of the script, and a sink with room for the logs of the tests, beside the source of seeds.
+/// Returns a source of the script, and a sink with space for the logs of the tests, beside the source of
+/// seeds.
 pub(crate) fn streams_of(alloc: Global, outside: Outside<'_>) -> Result<MemStreams, AllocError>
     requires reads { 1 ≤ outside.reads.piece }
     requires writes { 1 ≤ outside.writes.piece }
@@ -78,7 +82,7 @@ pub(crate) fn streams_of(alloc: Global, outside: Outside<'_>) -> Result<MemStrea
     })
 }
 
-/// A source of this text.
+/// Returns a source of this text.
 pub(crate) fn source_of(alloc: Global, text: &[u8], reads: Calls) -> Result<MemSource, AllocError>
     requires { 1 ≤ reads.piece }
 {
@@ -93,7 +97,7 @@ pub(crate) struct Instead {
     pub(crate) reply: Option<Reply>,
 }
 
-/// No reply is another: no run has so many calls.
+/// No reply is replaced: no run has that many calls.
 pub(crate) fn as_it_is() -> Instead {
     Instead {
         at: u64::MAX,
@@ -101,7 +105,7 @@ pub(crate) fn as_it_is() -> Instead {
     }
 }
 
-// An empty mount of which one reply is this one.
+// Returns an empty mount with one reply replaced by this one.
 fn replaced<A: Abort>(rt: &A, alloc: Global, instead: Instead) -> Replaced {
     let Instead { at, reply } = instead;
     Replaced {
@@ -112,7 +116,7 @@ fn replaced<A: Abort>(rt: &A, alloc: Global, instead: Instead) -> Replaced {
     }
 }
 
-// How a run ends on two of these.
+// Returns how a run ends on two of these.
 fn ran<A: Abort>(
     rt: &A,
     alloc: Global,
@@ -128,7 +132,8 @@ fn ran<A: Abort>(
     tool_serial(alloc, words, streams, mounts)
 }
 
-/// How a run of these words ends where one reply of each of the two mounts is another, and what it writes.
+/// Runs the tool with these arguments, with one reply of each of the two mounts replaced. Returns how it
+/// ends, and what it writes.
 pub(crate) fn run_of<A: Abort>(
     rt: &A,
     alloc: Global,
@@ -146,12 +151,12 @@ pub(crate) fn run_of<A: Abort>(
     (status, got(rt, alloc, &streams))
 }
 
-/// What was written.
+/// Returns what was written.
 pub(crate) fn got<A: Abort>(rt: &A, alloc: Global, streams: &MemStreams) -> Vec<u8> {
     Vec::from_slice(alloc, streams.sink.got()).expect(rt, "memory")
 }
 
-/// How a run of this form with the seed of the tests ends, and what it writes.
+/// Runs this form with the seed of the tests. Returns how it ends, and what it writes.
 pub(crate) fn log_of<A: Abort>(
     rt: &A,
     alloc: Global,

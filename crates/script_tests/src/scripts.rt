@@ -1,12 +1,12 @@
-//! What is written of a script. What is read of one is shown by the logs of `examples/`, and lines inside the grammar
-//! and outside of it stand in `examples/lines/`.
+//! What is written of a script. The logs of `examples/` show what is read of one; lines inside the grammar
+//! and outside of it are in `examples/lines/`.
 
 use crate::texts::same_bytes;
 use item_list::Bytes;
 use script_lang::{read_script, write_script};
 use std::alloc::{AllocError, Global};
 
-// What is written of the script that the text spells; nothing where it spells none.
+// Returns what is written of the script that the text spells, or nothing if it spells none.
 fn rewritten(alloc: Global, text: &[u8]) -> Result<Bytes, AllocError> {
     if text.len() > 1_000_000 {
         return Err(AllocError);
@@ -44,7 +44,7 @@ const KEYS: &str = "caller 1000\n\
     0707070707070707070707070707070707070707070707070707070707070707\
     07\n";
 
-// One command of each name, with all words that it may have.
+// One command of each name, with all arguments that it may have.
 const EACH_COMMAND: &str = "caller 1000\n\
     add-key 00ff\n\
     remove-key id:000102030405060708090a0b0c0d0e0f\n\
@@ -79,7 +79,7 @@ const EACH_COMMAND: &str = "caller 1000\n\
     encrypt /home/u docs 16 12\n\
     migrate docs\n";
 
-// Words that may be spelled in several ways, or left out.
+// Arguments that may be spelled in several ways, or left out.
 const WORDS: &str = "caller 7\n\
     write 0 0 00A5\n\
     write 0 0 -\n\

@@ -1,21 +1,22 @@
-//! Texts for the tests, and how they are compared. Each comparison is proved once, here, and not where it is made.
+//! Texts for the tests, and how they are compared. Each comparison is proved once, here, and not in each
+//! test.
 
 use std::alloc::{AllocError, Global};
 use std::process::Abort;
 
-// A text, and another behind it.
+// Returns a text, followed by another.
 pub(crate) fn joined(alloc: Global, text: &str, more: &str) -> Result<String, AllocError> {
     let mut whole = String::from_str(alloc, text)?;
     whole.push_str(more)?;
     Ok(whole)
 }
 
-// That the text is the one that is wanted; else the test fails, and tells what the text is about.
+// Expects this text. Otherwise the test fails, and prints what the text is about.
 pub(crate) fn same<A: Abort>(rt: &A, got: &str, wanted: &str, about: &str) {
     assert!(rt; got == wanted, "{about}: {got:?} in place of {wanted:?}");
 }
 
-// That memory sufficed for the text, and that it is the one that is wanted.
+// Expects that memory sufficed for the text, and that it is this one.
 pub(crate) fn expect_same<A: Abort>(
     rt: &A,
     made: Result<String, AllocError>,
@@ -25,7 +26,7 @@ pub(crate) fn expect_same<A: Abort>(
     same(rt, made.expect(rt, "memory").as_str(), wanted, about);
 }
 
-// That the bytes are those that are wanted.
+// Expects these bytes.
 pub(crate) fn same_bytes<A: Abort>(rt: &A, got: &[u8], wanted: &[u8], about: &str) {
     assert!(rt; got == wanted, "{about}: {got:?} in place of {wanted:?}");
 }

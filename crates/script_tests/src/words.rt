@@ -1,11 +1,11 @@
-//! Words and paths that no line of a script can show, and how words and paths are written. What a line spells
-//! stands in `examples/`.
+//! Words and paths that no line of a script can spell, and how words and paths are written. What a line
+//! spells is in `examples/`.
 
 use crate::texts::expect_same;
 use script_words::{read_path, read_target, read_word, write_path, write_word};
 use std::alloc::{AllocError, Global};
 
-// A line is cut at its spaces, so that no script has these readers meet one.
+// A line is cut at its spaces, so these readers never get one from a script.
 #[test]
 fn words_and_targets_have_no_space(rt: HostRuntime) {
     let word = read_word(rt.alloc(), b"a b").expect(&rt, "memory");
@@ -43,7 +43,7 @@ fn words_are_written_as_url_quoting_writes_them(rt: HostRuntime) {
     }
 }
 
-// What is written of the path that the text spells; `refused` for a text outside the grammar.
+// Returns what is written of the path that the text spells, or `refused` for a text outside the grammar.
 fn path_rewritten(alloc: Global, text: &[u8]) -> Result<String, AllocError> {
     match read_path(alloc, text)? {
         Some(path) => write_path(alloc, &path),
