@@ -28,7 +28,7 @@ use Rattle.entry_reader.specs.Typed.{CallIsTyped}
 use Rattle.entry_reader.proofs.WordLemmas.{IsWord, field_is_word, spaced, number_word, small_word, digits_word, one}
 use Rattle.entry_reader.proofs.BackLemmas.{number_back, zeros_back, zeros_counted, id_back, policy_back, word_back, record_back, path_back}
 
--- the name of a call, and the words behind it
+-- the name of a call, and the words after it
 abbrev pub call_name : Op → CommandName
 call_name (op.AddKey raw) = name.AddKey
 call_name (op.RemoveKey id) = name.RemoveKey
@@ -164,7 +164,7 @@ call_words-words (op.MetaStore label expected bytes) h =
 
 -- ---- what is read
 
--- behind the words of a call stands what follows it; what is made of them fits, and has the call's text
+-- what follows a call is left after its words; the call made of them fits, and has the call's text
 pub record CallRead (o : Op) (rest : List (List ℕ)) : Type 0 where
   pub made : Op
   pub reads : call_form (name_text (call_name o) ∷ (call_words o ++ rest)) ≡ (Some made, rest)

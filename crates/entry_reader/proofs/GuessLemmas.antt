@@ -1,4 +1,4 @@
--- The line of an entry is read as what the entry tells.
+-- The line of an entry is read as the text of that entry.
 use Rattle.std.proofs.Common.{◌≡◌, ℕ, IfSome, ◌-◌, ◌<◌, ◌≤◌, ◌^◌, List, [], ◌∷◌, ◌++◌, length, take, codes, Option, Some, None, refl, ap, ap₂, sym, ◌∙◌, subst, append_assoc, arith}
 use Rattle.std.specs.List.{All}
 use Rattle.std.proofs.lemmas.List.Elements.{All-nil, All-cons, All-append}
@@ -26,7 +26,7 @@ use Rattle.entry_reader.proofs.BackLemmas.{number_back, place_back}
 use Rattle.entry_reader.proofs.CallLemmas.{call_name, call_words, call_text-words, call_name-word, call_words-words, call_read}
 use Rattle.entry_reader.proofs.ReplyLemmas.{reply_name, reply_words, reply_text-words, reply_name-word, reply_words-words, reply_read}
 
--- the words of a reply, behind a `=`
+-- the words of a reply, after a `=`
 abbrev replied_words : MountEntry → List (List ℕ)
 replied_words e = codes "=" ∷ name_text (reply_name e.reply) ∷ reply_words e.reply
 
@@ -34,7 +34,7 @@ replied_words e = codes "=" ∷ name_text (reply_name e.reply) ∷ reply_words e
 abbrev asked_words : MountEntry → List (List ℕ)
 asked_words e = commands.name_text (call_name e.call.op) ∷ (call_words e.call.op ++ replied_words e)
 
--- the words of a line behind its place
+-- the words of a line after its place
 abbrev words_behind : MountEntry → List (List ℕ)
 words_behind e = decimal_of e.who ∷ decimal_of e.call.uid ∷ asked_words e
 
@@ -124,13 +124,13 @@ entry_read place e small is =
     told_of : ℕ → ℕ → List ℕ → Reply → ℕ × ℕ × List ℕ × Reply
     told_of who uid asked reply = (who, uid, asked, reply)
 
--- ---- what a line tells
+-- ---- the text of a line
 
 abbrev line_of : ℕ → ℕ → ℕ → List ℕ → List ℕ → List ℕ
 line_of place who uid asked replied =
     (decimal_of place ++ (codes " " ++ (decimal_of who ++ (codes " " ++ decimal_of uid)))) ++ (codes " " ++ (asked ++ (codes " = " ++ (replied ++ codes "\n"))))
 
--- what entries tell is what their lines have
+-- entries with the same text have the same line
 pub told_line : (place : ℕ) (e f : MountEntry) → told e ≡ told f → entry_text place e ≡ entry_text place f
 unfolding entry_text
 told_line place e f same =
@@ -146,7 +146,7 @@ pub never_unread : (line : List ℕ) (place : ℕ) (e : MountEntry) → place < 
 never_unread line place e small is same none =
     let both = sym none ∙ ap guess_of same ∙ (entry_read place e small is).reads in absurd (cc both)
 
--- what is read of an entry's line is kept
+-- what is read of an entry's line is retained
 never_left : (line : List ℕ) (read : LogEntry) (place : ℕ) (e : MountEntry) → place < 2 ^ 64 → IsEntry e → line ≡ entry_text place e → guess_of line ≡ Some read
     → Fits read.entry.call × (line ≡ entry_text read.place read.entry)
 never_left line read place e small is same guessed =

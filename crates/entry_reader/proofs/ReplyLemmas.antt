@@ -232,7 +232,7 @@ kind_back Dir = refl
 kind_back File = refl
 kind_back Link = refl
 
--- the byte behind a text
+-- the byte after a text
 last_is : (text : List ℕ) (b : ℕ) → slice_get (text ++ b ∷ []) (length (text ++ b ∷ []) - 1) ≡ Some b
 last_is text b =
     let long : length (text ++ b ∷ []) ≡ length text + 1 = length-append text (b ∷ []) in

@@ -39,7 +39,7 @@ abbrev pub spaced : List ℕ → List (List ℕ) → List ℕ
 spaced word [] = word
 spaced word (next ∷ more) = word ++ (32 ∷ spaced next more)
 
--- these, and others behind them
+-- these, and others after them
 pub spaced-append : (word : List ℕ) (some : List (List ℕ)) (next : List ℕ) (more : List (List ℕ))
     → spaced word (some ++ (next ∷ more)) ≡ spaced word some ++ (32 ∷ spaced next more)
 spaced-append word [] next more = refl
@@ -53,7 +53,7 @@ no_space word h k d within = apart _ (h k d within)
     apart : (b : ℕ) → 33 ≤ b → is_space b ≡ false
     apart b high = ne_eqb b 32 (λ same. omega (arith, same))
 
--- words are told apart by the spaces
+-- spaces separate the words
 pub words_of-spaced : (word : List ℕ) (more : List (List ℕ)) → IsWord word → All IsWord more → words_of (spaced word more) ≡ word ∷ more
 words_of-spaced word [] first rest = slice_split_none is_space word (no_space word first)
 words_of-spaced word (next ∷ more) first rest =

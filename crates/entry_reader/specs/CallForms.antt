@@ -1,4 +1,4 @@
--- What is made of the words of a call: its name, and those behind it.
+-- What is made of the words of a call: its name, and those after it.
 use Rattle.std.specs.Prelude.{Option, Some, None}
 use Rattle.mount_model.specs.declared.call.Op.{Op}
 use Rattle.script_lang.specs.Names.{name_of}
@@ -6,7 +6,7 @@ use Rattle.script_lang.specs.declared.names.CommandName.{CommandName}
 use Rattle.entry_reader.specs.Forms.{Form, says, ◌>>=◌, word}
 use Rattle.entry_reader.specs.NamedCalls.{call_named}
 
--- behind its name, where that is one
+-- after its name, if that is one
 abbrev pub call_behind : Option CommandName → Form (Option Op)
 call_behind None = says None
 call_behind (Some name) = call_named name

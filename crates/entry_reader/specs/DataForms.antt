@@ -1,5 +1,5 @@
 -- What is made of the words of a call on an open file, and of one that stores a record. Written bytes,
--- which no line shows, are zeros.
+-- which no line contains, are zeros.
 use Rattle.mount_limits.specs.declared.TheConstants.{MOST_WRITE_BYTES, MOST_CARRIED_BYTES}
 use Rattle.mount_model.specs.declared.call.Op.{Op}
 use Rattle.mount_model.specs.declared.call.Op.TheVariants as op

@@ -1,5 +1,5 @@
--- What is made of one word of a line. Each word is read as what stands there in the line of an entry. Of
--- any other word something is made too: that it was another shows when the line is written again.
+-- What is made of one word of a line. Each word is read as what the line of an entry has at its position.
+-- Any other word is given a value too; the line written again then differs.
 use Rattle.std.specs.Prelude.{ℕ, ◌^◌, ◌/◌, ◌-◌, ◌==◌, Bool, false, nat_le, nat_eq, List, [], length}
 use Rattle.std.specs.Prelude.{drop, map, replicate, codes, slice_get, unwrap_or, if◌then◌else◌}
 use Rattle.std.specs.List.{slice_split, starts_with}
@@ -18,7 +18,7 @@ number_in text = unwrap_or (number_below (2 ^ 32) text) 0
 abbrev pub place_in : List ℕ → ℕ
 place_in text = unwrap_or (number_below (2 ^ 64) text) 0
 
--- as many zeros as the number says, where they are no more than this: for bytes of which a line has the number
+-- as many zeros as the number, if it is no more than `most`: for bytes of which a line has the number
 abbrev pub zeros_in : ℕ → List ℕ → List ℕ
 zeros_in most text = replicate (if nat_le (number_in text) most then number_in text else 0) 0
 
@@ -33,7 +33,7 @@ policy_in text = unwrap_or (hex_bytes_of_length 24 text) (replicate 24 0)
 abbrev pub bytes_in : List ℕ → List ℕ
 bytes_in text = unwrap_or (hex_or_none (length text / 2) text) []
 
--- the parts of a path: the words behind its slashes, and none for `/` alone
+-- the parts of a path: the words after its slashes, and none for `/` alone
 abbrev pub path_in : List ℕ → List (List ℕ)
 path_in text = if nat_le (length text) 1 then [] else map percent_decode (slice_split is_slash (drop 1 text))
 

@@ -18,12 +18,12 @@ form >>= next = λ words. next (form words).0 (form words).1
 abbrev pub word : {A : Type 0} → (List ℕ → A) → Form A
 word read = λ words. (read (unwrap_or (slice_get words 0) []), drop 1 words)
 
--- one word, and what is made of what it says
+-- one word, and what is made of its value
 abbrev pub only : {A B : Type 0} → (A → B) → (List ℕ → A) → Form B
 only make read = word read >>= λ a. says (make a)
 
--- a function that reads makes what the form makes, and leaves the words that the form leaves; want of memory
--- comes freely
+-- a function that reads makes what the form makes, and leaves the words that the form leaves; out of memory
+-- is always possible
 abbrev pub Makes : {A E : Type 0} → Result A E → A × List (List ℕ) → List (List ℕ) → Type 0
 Makes (Ok made) read left = read ≡ (made, left)
 Makes (Err error) read left = ⊤

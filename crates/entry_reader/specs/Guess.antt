@@ -1,4 +1,4 @@
--- What entry a line may be of: the only one, but for what no line shows, if it is of one at all.
+-- Which entry a line may be of: the only one, apart from what no line contains, if it is of one at all.
 use Rattle.std.specs.Prelude.{ℕ, ◌-◌, List, length, take, Option, Some, None}
 use Rattle.text_words.specs.Words.{words_of}
 use Rattle.mount_model.specs.declared.call.Op.{Op}
@@ -8,7 +8,7 @@ use Rattle.entry_reader.specs.Forms.{Form, says, ◌>>=◌, word}
 use Rattle.entry_reader.specs.CallForms.{call_form}
 use Rattle.entry_reader.specs.ReplyForms.{reply_form}
 
--- behind place, caller, user and call: a `=` and the reply
+-- after place, caller, user and call: a `=` and the reply
 abbrev pub entry_behind : ℕ → ℕ → ℕ → Option Op → Form (Option LogEntry)
 entry_behind place who uid None = says None
 entry_behind place who uid (Some op) = do

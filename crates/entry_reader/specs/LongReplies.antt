@@ -1,4 +1,4 @@
--- What is made of the words behind the first one of a reply, where it has several.
+-- What is made of the words after the first one of a reply, if it has several.
 use Rattle.std.specs.Prelude.{ℕ, List, [], map}
 use Rattle.mount_model.specs.declared.reply.Reply.{Reply}
 use Rattle.mount_model.specs.declared.reply.Reply.TheVariants as reply

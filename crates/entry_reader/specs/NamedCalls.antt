@@ -1,4 +1,4 @@
--- What is made of the words behind the name of a call. Raw keys, which no line shows, are zeros.
+-- What is made of the words after the name of a call. Raw keys, which no line contains, are zeros.
 use Rattle.std.specs.Prelude.{ℕ, List, Option, Some, None}
 use Rattle.mount_limits.specs.declared.TheConstants.{MOST_RAW_BYTES}
 use Rattle.mount_model.specs.declared.call.Op.{Op}
@@ -19,7 +19,7 @@ some form = form >>= λ made. says (Some made)
 abbrev pub one : {A : Type 0} → (A → Op) → (List ℕ → A) → Form (Option Op)
 one make read = some (only make read)
 
--- the call of a name, where a call has it
+-- the call of a name, if a call has it
 abbrev pub call_named : CommandName → Form (Option Op)
 call_named name.AddKey = one op.AddKey (zeros_in MOST_RAW_BYTES)
 call_named name.RemoveKey = one op.RemoveKey id_in

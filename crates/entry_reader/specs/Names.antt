@@ -40,7 +40,7 @@ name_of word = find (is_written word) ALL_NAMES
 abbrev pub is_refusal_word : List ℕ → Refusal → Bool
 is_refusal_word word refusal = bytes_eq (refusal_name refusal) word
 
--- the refusal of a word, but for the one behind whose word a version stands
+-- the refusal of a word, except the one whose word is followed by a version
 abbrev pub refusal_in : List ℕ → Refusal
 refusal_in word = unwrap_or (find (is_refusal_word word) PLAIN_REFUSALS) NoMemory
 

@@ -1,5 +1,5 @@
--- What is made of the words of a call on a path, where it has several or carries a nonce. Nonces, which no
--- line shows, are zeros.
+-- What is made of the words of a call on a path, if it has several or carries a nonce. Nonces, which no
+-- line contains, are zeros.
 use Rattle.std.specs.Prelude.{ℕ, List, replicate}
 use Rattle.mount_model.specs.declared.call.Op.{Op}
 use Rattle.mount_model.specs.declared.call.Op.TheVariants as op

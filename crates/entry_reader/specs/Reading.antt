@@ -1,4 +1,4 @@
--- What reading a line answers: just the lines of entries of calls that fit are read.
+-- What reading a line returns: exactly the lines of entries of calls that fit are read.
 use Rattle.std.specs.Prelude.{◌≡◌, ◌≢◌, ◌<◌, ◌^◌, ℕ, List, Option, Some, None, IsSomeAnd}
 use Rattle.mount_model.specs.Fits.{Fits}
 use Rattle.mount_model.specs.History.{MountEntry}
@@ -22,17 +22,17 @@ pub record IsLineOf (line : List ℕ) (read : LogEntry) : Type 0 where
   pub entry : IsEntry read.entry
   pub text : line ≡ entry_text read.place read.entry
 
--- an entry is kept where the line is its line, and where it is not, none is
+-- an entry is returned if the line is its line, and otherwise none
 abbrev pub Keeps : List ℕ → LogEntry → Option LogEntry → Type 0
 Keeps line read (Some kept) = (kept ≡ read) × IsLineOf line read
 Keeps line read None = ¬ (Fits read.entry.call × (line ≡ entry_text read.place read.entry))
 
--- what was read is an entry whose line it is; and where nothing was, it is the line of none
+-- what was read is an entry with this line; if nothing was, the line is that of no entry
 abbrev pub TellsLine : List ℕ → Option LogEntry → Type 0
 TellsLine line (Some read) = IsLineOf line read
 TellsLine line None = (place : ℕ) (e : MountEntry) → place < 2 ^ 64 → IsEntry e → line ≢ entry_text place e
 
--- the line of any such entry is read, as what that entry tells
+-- the line of any such entry is read, as the text of that entry
 abbrev pub ReadsBack : List ℕ → Option LogEntry → Type 0
 ReadsBack line read =
     (place : ℕ) (e : MountEntry) → place < 2 ^ 64 → IsEntry e → line ≡ entry_text place e

@@ -13,7 +13,7 @@ use Rattle.entry_reader.specs.declared.names.ReplyName.{ReplyName}
 use Rattle.entry_reader.specs.declared.names.ReplyName.TheVariants as name
 use Rattle.entry_reader.specs.LongReplies.{removed, status, names, stat, held}
 
--- a refusal, with the version behind its word where one stands there
+-- a refusal, with the version after its word if it has one
 abbrev pub refusal_behind : List ℕ → Form Refusal
 refusal_behind why = if bytes_eq why (codes "changed") then only Changed number_in else says (refusal_in why)
 
@@ -38,7 +38,7 @@ reply_named name.Record = held
 reply_named name.Stored = only reply.Stored number_in
 reply_named name.Refused = refused
 
--- behind the first word, which is one of these
+-- after the first word, which is one of these
 abbrev pub reply_behind : Option ReplyName → Form Reply
 reply_behind None = says reply.Done
 reply_behind (Some name) = reply_named name

@@ -1,5 +1,5 @@
--- What the types of a call or a reply say besides its range: an identifier has 16 bytes, a policy 24, and the
--- name of a record is of bytes.
+-- What the types of a call or a reply ensure besides its range: an identifier has 16 bytes, a policy 24,
+-- and the name of a record is of bytes.
 use Rattle.std.specs.Prelude.{◌≡◌, ⊤, length}
 use Rattle.hex.specs.Hex.{IsBytes}
 use Rattle.mount_model.specs.declared.call.Op.{Op}

@@ -13,10 +13,11 @@ use mount_model::limits::{MOST_CARRIED_BYTES, MOST_RAW_BYTES, MOST_WRITE_BYTES};
 use script_lang::{CommandName, Words};
 use std::alloc::{AllocError, Global};
 
-// What stands for a nonce, which no line shows.
+// In place of a nonce, which no line contains.
 const NO_NONCE: [u8; 16] = [0; 16];
 
-// The call of the words, with zeros for what no line shows; none where no call has the name.
+// Returns the call that the words spell, with zeros for what no line contains, or `None` if no call has the
+// name.
 pub(crate) fn read_call(alloc: Global, words: &mut Words<'_>) -> Result<Option<Op>, AllocError>
     ensures { Makes result (forms.call_form words.old) words.new }
 {
@@ -26,7 +27,7 @@ pub(crate) fn read_call(alloc: Global, words: &mut Words<'_>) -> Result<Option<O
     }
 }
 
-// The call of this name, of the words behind it.
+// Returns the call of this name, from the words after it.
 fn read_named(
     alloc: Global,
     name: CommandName,

@@ -1,4 +1,4 @@
-//! The words of a line, each read as what stands there in the line of an entry.
+//! The words of a line, each read as what the line of an entry has at its position.
 
 ghost use Rattle.std.specs.Prelude.{◌≡◌, map, IfOk};
 ghost use Rattle.std.specs.List.{slice_split};
@@ -15,7 +15,7 @@ use script_words::read_hex_or_none;
 use std::alloc::{AllocError, Global};
 use text_words::{decimal_value, decimal_value_u64, hex_bytes};
 
-// Takes the next word, an empty one where none is left.
+// Takes the next word, or an empty one if none is left.
 pub(crate) fn take_word<'a>(words: &mut Words<'a>) -> &'a [u8]
     ensures { word (λ text. text) words.old ≡ (result.now, words.new) }
 {
@@ -25,70 +25,70 @@ pub(crate) fn take_word<'a>(words: &mut Words<'a>) -> &'a [u8]
     }
 }
 
-// A number below 2^32.
+// Reads a number below 2^32.
 pub(crate) fn number(words: &mut Words<'_>) -> u32
     ensures { word spec.number_in words.old ≡ (result, words.new) }
 {
     number_in(take_word(words))
 }
 
-// A place.
+// Reads a place.
 pub(crate) fn place(words: &mut Words<'_>) -> u64
     ensures { word spec.place_in words.old ≡ (result, words.new) }
 {
     decimal_value_u64(take_word(words)).unwrap_or(0)
 }
 
-// A flag.
+// Reads a flag.
 pub(crate) fn flag(words: &mut Words<'_>) -> bool
     ensures { word spec.flag_in words.old ≡ (result, words.new) }
 {
     flag_in(take_word(words))
 }
 
-// How many users hold a key.
+// Reads how many users hold a key.
 pub(crate) fn users(words: &mut Words<'_>) -> u32
     ensures { word spec.users_in words.old ≡ (result, words.new) }
 {
     users_in(take_word(words))
 }
 
-// An identifier.
+// Reads an identifier.
 pub(crate) fn id(words: &mut Words<'_>) -> KeyId
     ensures { word spec.id_in words.old ≡ (result, words.new) }
 {
     KeyId(hex_bytes(take_word(words)).unwrap_or([0; 16]))
 }
 
-// A policy.
+// Reads a policy.
 pub(crate) fn policy(words: &mut Words<'_>) -> [u8; 24]
     ensures { word spec.policy_in words.old ≡ (result, words.new) }
 {
     hex_bytes(take_word(words)).unwrap_or([0; 24])
 }
 
-// As many zeros as the number says, where they are at most so many.
+// Returns as many zeros as the number in the word, or none if it is greater than `most`.
 pub(crate) fn zeros(alloc: Global, words: &mut Words<'_>, most: usize) -> Result<Bytes, AllocError>
     ensures { Makes result (word (spec.zeros_in most) words.old) words.new }
 {
     zeros_in(alloc, take_word(words), most)
 }
 
-// Bytes in digits.
+// Reads bytes in digits.
 pub(crate) fn bytes(alloc: Global, words: &mut Words<'_>) -> Result<Bytes, AllocError>
     ensures { Makes result (word spec.bytes_in words.old) words.new }
 {
     bytes_in(alloc, take_word(words))
 }
 
-// Bytes as a word.
+// Reads bytes as a word.
 pub(crate) fn unescaped(alloc: Global, words: &mut Words<'_>) -> Result<Bytes, AllocError>
     ensures { Makes result (word percent_decode words.old) words.new }
 {
     unescape(alloc, take_word(words))
 }
 
-// A path.
+// Reads a path.
 pub(crate) fn path(alloc: Global, words: &mut Words<'_>) -> Result<Path, AllocError>
     ensures { Makes result (word spec.path_in words.old) words.new }
 {
@@ -154,7 +154,7 @@ fn path_in(alloc: Global, word: &[u8]) -> Result<Path, AllocError>
     parts_in(alloc, &word[1..])
 }
 
-// The path whose parts stand between slashes.
+// Returns the path whose parts are separated by slashes.
 fn parts_in(alloc: Global, text: &[u8]) -> Result<Path, AllocError>
     ensures { IfOk result (λ path. path ≡ map percent_decode (slice_split is_slash text.now)) }
 {

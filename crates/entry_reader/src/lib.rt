@@ -1,4 +1,4 @@
-//! Lines of a log, read back: who asked what of a mount, and what was replied.
+//! Lines of a log, read back: which caller asked a mount for what, and the reply.
 #![tactic(auto)]
 
 mod calls;

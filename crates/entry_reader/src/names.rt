@@ -42,7 +42,7 @@ const ALL_NAMES: [ReplyName; 13] = [
     ReplyName::Refused,
 ];
 
-// All refusals but the one behind whose word a version stands.
+// All refusals except the one whose word is followed by a version.
 const PLAIN_REFUSALS: [Refusal; 17] = [
     Refusal::NoKey,
     Refusal::Access,
@@ -64,21 +64,21 @@ const PLAIN_REFUSALS: [Refusal; 17] = [
 ];
 
 impl ReplyName {
-    // The name that the word is, if it is one.
+    // Returns the name that the word is, if it is one.
     pub(crate) fn read(word: &[u8]) -> Option<ReplyName>
         ensures { result ≡ spec.name_of word.now }
     {
         name_among(&ALL_NAMES, word).copied()
     }
 
-    // Whether the word is the name.
+    // Returns whether the word is the name.
     fn is_written(self, word: &[u8]) -> bool
         ensures { result ≡ spec.is_written word.now self }
     {
         self.text() == word
     }
 
-    // The word that is the name.
+    // Returns the word that is the name.
     fn text(self) -> &'static [u8]
         ensures { result.now ≡ spec.name_text self }
     {
@@ -100,14 +100,14 @@ impl ReplyName {
     }
 }
 
-// The name among these that the word is, if it is one.
+// Returns the name among these that the word is, if it is one.
 fn name_among<'a>(names: &'a [ReplyName], word: &[u8]) -> Option<&'a ReplyName>
     ensures { option_copied result ≡ find (spec.is_written word.now) names.now }
 {
     names.iter().find(|name| name.is_written(word))
 }
 
-// The refusal of a word; want of memory for a word of none.
+// Returns the refusal of a word, or `NoMemory` for a word of none.
 pub(crate) fn refusal_in(word: &[u8]) -> Refusal
     ensures { result ≡ spec.refusal_in word.now }
 {
@@ -122,14 +122,14 @@ fn refusal_among<'a>(refusals: &'a [Refusal], word: &[u8]) -> Option<&'a Refusal
     refusals.iter().find(|refusal| is_word_of(**refusal, word))
 }
 
-// Whether the word is the refusal's.
+// Returns whether the word is the refusal's.
 fn is_word_of(refusal: Refusal, word: &[u8]) -> bool
     ensures { result ≡ spec.is_refusal_word word.now refusal }
 {
     refusal_name(refusal) == word
 }
 
-// The state of a word.
+// Returns the state of a word.
 pub(crate) fn state_in(word: &[u8]) -> KeyState
     ensures { result ≡ spec.state_in word.now }
 {
@@ -142,7 +142,7 @@ pub(crate) fn state_in(word: &[u8]) -> KeyState
     KeyState::Incomplete
 }
 
-// The kind of a word.
+// Returns the kind of a word.
 pub(crate) fn kind_in(word: &[u8]) -> NodeKind
     ensures { result ≡ spec.kind_in word.now }
 {

@@ -1,5 +1,5 @@
-//! Reads a line of a log. A first reading takes each word for what stands there in the line of an entry; the
-//! line is an entry's just where that, written, is the line again.
+//! Reads a line of a log: each word is first taken for what the line of an entry has at its position, and
+//! the line is an entry's exactly when the result, written, is the line again.
 
 ghost use Rattle.std.specs.Prelude.{◌≡◌, ◌↔◌, ◌-◌, ◌<◌, ◌^◌, IfOk, IfSome, IsTrue, Some, length, take};
 ghost use Rattle.mount_model.specs.Fits.{Fits};
@@ -18,17 +18,17 @@ use reply_text::{entry_in_range, entry_line};
 use script_lang::Words;
 use std::alloc::{AllocError, Global};
 
-/// A line of a log: the entry at a place. Nonces, which no line shows, are 16 zeros; of a raw key, of written
-/// bytes and of those of a record that is stored a line has the number, and here are as many zeros.
+/// A line of a log: the entry at a place. Nonces, which no line contains, are 16 zeros. A line has the
+/// lengths of a raw key, of written bytes and of the bytes of a stored record; here they are as many zeros.
 #[derive(Drop)]
 pub struct LogEntry {
     pub place: u64,
     pub entry: Entry<Call, Reply>,
 }
 
-/// Reads a line, with its line feed. `None` exactly where it is the line of no entry at a place below 2^64
-/// whose call a mount may be asked, whatever the reply: so an entry has one line only. What no line shows of a
-/// call is filled with zeros. `AllocError` may come on any line.
+/// Reads a line, with its line feed. Returns `None` exactly when it is not the line of an entry at a place
+/// below 2^64 whose call a mount may be asked, with any reply. So each entry has only one line. What no
+/// line contains of a call is filled with zeros. `AllocError` is possible for any line.
 pub fn read_entry(alloc: Global, line: &[u8]) -> Result<Option<LogEntry>, AllocError>
     ensures exact { IfOk result (λ read. TellsLine line.now read) }
     ensures reads_back { IfOk result (λ read. ReadsBack line.now read) }
@@ -43,7 +43,7 @@ pub fn read_entry(alloc: Global, line: &[u8]) -> Result<Option<LogEntry>, AllocE
     }
 }
 
-// The entry, where a mount may be asked its call and the line is its line.
+// Returns the entry if a mount may be asked its call and the line is its line.
 fn keep_if_right(alloc: Global, line: &[u8], read: LogEntry) -> Result<Option<LogEntry>, AllocError>
     ensures { IfOk result (λ kept. Keeps line.now read kept) }
 {
@@ -61,7 +61,7 @@ fn keep_if_right(alloc: Global, line: &[u8], read: LogEntry) -> Result<Option<Lo
     }
 }
 
-// What entry the line may be of.
+// Returns the entry that the line may be of.
 fn guess(alloc: Global, line: &[u8]) -> Result<Option<LogEntry>, AllocError>
     ensures { IfOk result (λ read. read ≡ guess_of line.now) }
 {
@@ -75,7 +75,7 @@ fn guess(alloc: Global, line: &[u8]) -> Result<Option<LogEntry>, AllocError>
     }
 }
 
-// The entry of a call, with the reply of the words behind it.
+// Returns the entry of a call, with the reply from the words after it.
 fn entry_of(
     alloc: Global,
     place: u64,
@@ -93,7 +93,7 @@ fn entry_of(
     }))
 }
 
-// The text without its last byte, if it has one.
+// Returns the text without its last byte, if it has one.
 fn without_last(text: &[u8]) -> &[u8]
     ensures { result.now ≡ take (length text.now - 1) text.now }
 {
@@ -103,7 +103,7 @@ fn without_last(text: &[u8]) -> &[u8]
     &text[..text.len() - 1]
 }
 
-// Whether a mount may be asked the call and the line is the entry's.
+// Returns whether a mount may be asked the call and the line is the entry's.
 fn is_line_of(alloc: Global, line: &[u8], read: &LogEntry) -> Result<bool, AllocError>
     ensures { IfOk result (λ is. IsTrue is
         ↔ (Fits read.now.entry.call × (line.now ≡ entry_text read.now.place read.now.entry))) }
@@ -115,10 +115,10 @@ fn is_line_of(alloc: Global, line: &[u8], read: &LogEntry) -> Result<bool, Alloc
     Ok(written.as_slice() == line)
 }
 
-// Lets an entry go that is none of the line.
+// Drops an entry that is not the line's.
 fn leave(_read: LogEntry) {}
 
-// The entry is one that a program can hold.
+// Ensures that the entry is one that a program can hold.
 fn has_types(read: &LogEntry)
     ensures place { read.now.place < 2 ^ 64 }
     ensures entry { Fits read.now.entry.call → IsEntry read.now.entry }

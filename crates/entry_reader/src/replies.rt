@@ -12,7 +12,7 @@ use mount_model::{KeyState, NameList, NodeKind, Refusal, Reply};
 use script_lang::Words;
 use std::alloc::{AllocError, Global};
 
-// The reply of the words; of those that are none, any.
+// Returns the reply that the words spell, or any reply if they spell none.
 pub(crate) fn read_reply(alloc: Global, words: &mut Words<'_>) -> Result<Reply, AllocError>
     ensures { Makes result (forms.reply_form words.old) words.new }
 {
@@ -22,7 +22,7 @@ pub(crate) fn read_reply(alloc: Global, words: &mut Words<'_>) -> Result<Reply, 
     }
 }
 
-// The reply that begins with this name, of the words behind it.
+// Returns the reply that begins with this name, from the words after it.
 fn read_named(alloc: Global, name: ReplyName, words: &mut Words<'_>) -> Result<Reply, AllocError>
     ensures { Makes result (forms.reply_named name words.old) words.new }
 {
@@ -73,7 +73,7 @@ fn listing(alloc: Global, words: &mut Words<'_>) -> Result<Reply, AllocError>
     Ok(Reply::Names { names, more })
 }
 
-// The bytes of each word that is left.
+// Returns the bytes of each word that is left.
 fn words_left(alloc: Global, words: &mut Words<'_>) -> Result<NameList, AllocError>
     ensures { Makes result (long.words_left words.old) words.new }
 {
@@ -117,7 +117,7 @@ fn refused(words: &mut Words<'_>) -> Reply
     Reply::Refused(refusal_behind(why, words))
 }
 
-// The refusal of this word, with the version behind it where one stands there.
+// Returns the refusal of this word, with the version after it if it has one.
 fn refusal_behind(why: &[u8], words: &mut Words<'_>) -> Refusal
     ensures { forms.refusal_behind why.now words.old ≡ (result, words.new) }
 {
@@ -128,14 +128,14 @@ fn refusal_behind(why: &[u8], words: &mut Words<'_>) -> Refusal
     refusal_in(why)
 }
 
-// What stands of a key.
+// Reads the state of a key.
 fn state(words: &mut Words<'_>) -> KeyState
     ensures { word names.state_in words.old ≡ (result, words.new) }
 {
     state_in(take_word(words))
 }
 
-// What a node is.
+// Reads what a node is.
 fn kind(words: &mut Words<'_>) -> NodeKind
     ensures { word names.kind_in words.old ≡ (result, words.new) }
 {

@@ -1,5 +1,5 @@
-//! What each entry of a program holds, besides that it is in range: identifiers have 16 bytes, policies 24, and
-//! names of records are of bytes. The functions here do nothing; each says so by its contract.
+//! What each entry of a program holds, besides that it is in range: identifiers have 16 bytes, policies 24,
+//! and names of records are of bytes. The functions here do nothing; each has its fact as its contract.
 
 ghost use Rattle.std.specs.Prelude.{◌≡◌, length};
 ghost use Rattle.entry_reader.specs.Typed.{CallIsTyped, ReplyIsTyped};

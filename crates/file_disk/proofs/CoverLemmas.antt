@@ -1,4 +1,4 @@
--- A block that a piece covers is stored the same, whatever stood there.
+-- A block that a piece covers is stored the same, whatever was there.
 use Rattle.std.proofs.Common.{◌≡◌, ℕ, ◌+◌, ◌-◌, ◌*◌, ◌<◌, ◌≤◌, ◌&&◌, Bool, true, false, cond, List, ◌++◌, length, take}
 use Rattle.std.proofs.Common.{drop, refl, ap, ◌∙◌, sym, arith, length-drop, true≢false}
 use Rattle.std.specs.Prelude.{nat_le, nat_lt, Option}
@@ -43,7 +43,7 @@ both : (a b : Bool) → (a && b) ≡ true → (a ≡ true) × (b ≡ true)
 both true b is = (refl, is)
 both false b is = absurd (true≢false (sym is))
 
--- what the test tells
+-- what the test implies
 covered_part : (at count j : ℕ) → covers_block at count j ≡ true
     → (at ≤ 4096 * j) × (4096 * j + 4096 ≤ at + count)
 covered_part at count j covers =

@@ -63,7 +63,7 @@ module _ (g : List (List ℕ) → List (List ℕ)) where
   size_stays disk file =
       ap size_in (changed_here disk file (on_body (with_blocks g))) ∙ node_size (get disk file)
 
--- a file that grows has so many blocks at least
+-- a file that grows has `end` blocks or more
 pub grown_there : (disk : Disk) (file end : ℕ) → IsFileAt disk file
     → end ≤ length (file_blocks (changed disk file (on_body (with_blocks (grown end)))) file)
 grown_there disk file end is =
@@ -89,7 +89,7 @@ module _ (made : ℕ → List ℕ → List ℕ) (first : ℕ) where
   same_body (File blocks size) = ap (λ bs. File bs size) (edited_none made first blocks)
   same_body (Link target) = refl
 
-  -- nothing is made anew yet
+  -- no block is made again yet
   pub blocks_begin : (disk : Disk) (file : ℕ) → disk
       ≡ changed disk file (on_body (with_blocks (edited made first first)))
   blocks_begin disk file =

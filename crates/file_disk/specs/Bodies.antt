@@ -19,8 +19,8 @@ file_body seal contents = File (stored_blocks seal contents) (length contents)
 abbrev pub end_block : ℕ → List ℕ → ℕ
 end_block at bytes = div_ceil (at + length bytes) BLOCK_SIZE
 
--- The blocks after a write: they grow as far as the bytes go, and those that the bytes touch, and
--- all that are new, are stored anew. The others stay.
+-- The blocks after a write: they grow as far as the bytes go, and those that the bytes touch, and all that
+-- are new, are stored again. The others stay.
 unfoldable pub blocks_with : Option Seal → ℕ → List ℕ → List (List ℕ) → List (List ℕ)
 blocks_with seal at bytes blocks =
     edited (rewritten (stored_block seal) (read_block seal) (length blocks) at bytes)
@@ -44,15 +44,15 @@ ExceedsDisk disk file at bytes = MOST_BLOCKS < blocks_after disk file at bytes
 abbrev pub disk_written : Disk → ℕ → Option Seal → ℕ → List ℕ → Disk
 disk_written disk file seal at bytes = changed disk file (on_body (body_written seal at bytes))
 
--- block j stored anew with its part of the bytes, where the file had so many blocks before
+-- block j stored again with its part of the bytes, if the file had `had` blocks before
 abbrev pub stored_anew : Option Seal → ℕ → ℕ → List ℕ → ℕ → List ℕ → List ℕ
 stored_anew seal had at bytes j block = rewritten (stored_block seal) (read_block seal) had at bytes j block
 
--- so many bytes that are written from here on are enough for all of block j
+-- whether `count` bytes that are written from byte `at` on cover all of block j
 abbrev pub covers_block : ℕ → ℕ → ℕ → Bool
 covers_block at count j = nat_le at (BLOCK_SIZE * j) && nat_le (BLOCK_SIZE * j + BLOCK_SIZE) (at + count)
 
--- some blocks of the file stored anew
+-- some blocks of the file stored again
 abbrev pub blocks_rewritten : Disk → ℕ → Option Seal → ℕ → ℕ → List ℕ → ℕ → ℕ → Disk
 blocks_rewritten disk file seal had at bytes first end =
     changed disk file (on_body (with_blocks (edited (stored_anew seal had at bytes) first end)))

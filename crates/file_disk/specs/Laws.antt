@@ -1,4 +1,4 @@
--- What writes and reads are for the contents of files.
+-- What writes and reads mean for the contents of files.
 use Rattle.std.specs.Prelude.{◌≡◌, ℕ, List, Option}
 use Rattle.byte_words.specs.Bytes.{AreBytes}
 use Rattle.byte_words.specs.Contents.{with_bytes}
@@ -6,7 +6,7 @@ use Rattle.data_crypt.specs.Blocks.{Seal}
 use Rattle.data_crypt.specs.Laws.{IsKeyOfBytes}
 use Rattle.file_disk.specs.Bodies.{body_written, file_body}
 
--- the body that holds contents, after a write, holds the contents with the bytes in them
+-- after a write, the body that holds contents holds the contents with the bytes in them
 abbrev pub WritesGive : Type 0
 WritesGive = (seal : Option Seal) (at : ℕ) (bytes contents : List ℕ) → IsKeyOfBytes seal → AreBytes contents →
     body_written seal at bytes (file_body seal contents) ≡ file_body seal (with_bytes at bytes contents)

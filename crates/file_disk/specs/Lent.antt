@@ -1,4 +1,4 @@
--- What a file holds, and what a read that has begun gives.
+-- What a file holds, and what a read that has begun returns.
 use Rattle.std.specs.Prelude.{◌≡◌, ℕ, ◌<◌, ◌+◌, ◌-◌, ◌*◌, ◌/◌, List, [], length, Option}
 use Rattle.std.specs.Prelude.{None, Some, option_map, min, nat_le, if◌then◌else◌}
 use Rattle.std.specs.Int.{div_ceil}
@@ -18,7 +18,7 @@ pub record IsStored (disk : Disk) (file : ℕ) (seal : Option Seal) (contents : 
   pub body : option_map (λ node. node.body) (get disk file) ≡ Some (file_body seal contents)
   pub bytes : AreBytes contents
 
--- the content that a read will have: none, where there is nothing to decipher
+-- the content that a read will have: none, if there is nothing to decrypt
 abbrev pub lent_content : Option LentRead → List ℕ
 lent_content None = []
 lent_content (Some read) = content_of (lent_seal read.key) read.block read.text.items read.skip read.len
@@ -29,7 +29,7 @@ whole_size disk file =
     if nat_le (file_size disk file) (BLOCK_SIZE * length (file_blocks disk file))
     then file_size disk file else 0
 
--- how many bytes a part has, which ends with the file
+-- how many bytes a part has that ends with the file
 abbrev pub part_len : Disk → ℕ → ℕ → ℕ → ℕ
 part_len disk file offset len = min len (whole_size disk file - offset)
 
@@ -37,7 +37,7 @@ part_len disk file offset len = min len (whole_size disk file - offset)
 abbrev pub IsAt : ℕ → LentRead → Type 0
 IsAt offset read = BLOCK_SIZE * read.block + read.skip ≡ offset
 
--- there is content; it begins in the first block, and no block stands behind the one in which it ends
+-- there is content; it begins in the first block, and the text has no block after the one in which it ends
 pub record IsOfPart (read : LentRead) : Type 0 where
   pub some : 0 < read.len
   pub begins : read.skip < BLOCK_SIZE
@@ -48,7 +48,7 @@ abbrev pub IsCopied : Disk → ℕ → LentRead → Type 0
 IsCopied disk file read =
     read.text.items ≡ blocks_joined (file_blocks disk file) read.block (length read.text.items / BLOCK_SIZE)
 
--- what a read will have is the part that was asked for, whatever contents the file holds
+-- the content that a read will have is the part that was asked for, whatever contents the file holds
 abbrev pub IsPart : Disk → ℕ → Option Seal → ℕ → ℕ → Option LentRead → Type 0
 IsPart disk file seal offset len lent =
     (contents : List ℕ) → IsStored disk file seal contents

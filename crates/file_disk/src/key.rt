@@ -1,10 +1,10 @@
-//! What the contents of a file are sealed with.
+//! What the contents of a file are encrypted with.
 ghost use Rattle.std.specs.Prelude.{◌≡◌, ◌%◌, ◌^◌};
 
 use policy_ctx::Unit;
 
-/// A key for the contents of files: its 64 bytes, the index at which the units of a file start, and
-/// their size.
+/// A key for the contents of files: its 64 bytes, the index at which the units of a file start, and the
+/// size of a unit.
 #[derive(Drop)]
 pub struct ContentsKey {
     /// Two keys of AES-256, as XTS takes them.

@@ -1,23 +1,23 @@
-//! What a read has copied, before it is deciphered.
+//! What a read has copied, before it is decrypted.
 ghost use Rattle.std.specs.Prelude.{◌≡◌, ◌+◌, ◌*◌, ◌/◌, ◌%◌, ◌^◌, ◌<◌, ◌≤◌, length};
 ghost use Rattle.mount_limits.specs.declared.TheConstants.{BLOCK_SIZE};
 
 use crate::key::ContentsKey;
 
-/// One or two stored blocks of a file, and what deciphers them. The content that was asked for is
-/// the `len` bytes from byte `skip` of the deciphered text on.
+/// A pending read: one or two stored blocks of a file, and the key that decrypts them. The content that was
+/// asked for is the `len` bytes from byte `skip` of the decrypted text on.
 #[derive(Drop)]
 pub struct LentRead {
-    /// What the blocks are sealed with, in a box, so that no move leaves a copy behind; `None` where they
-    /// are plain.
+    /// The key that encrypts the blocks, in a box, so that no move leaves another copy; `None` if they are
+    /// plain.
     pub key: Option<Box<ContentsKey>>,
     /// The number of the first block.
     pub block: u32,
     /// The blocks as they are stored.
     pub text: Vec<u8>,
-    /// Where in the text the content begins.
+    /// Where in the text the content begins, in bytes.
     pub skip: u32,
-    /// How many bytes it has.
+    /// The length of the content in bytes.
     pub len: u32,
     pub ghost near: { block + length text.items / BLOCK_SIZE ≤ 2 ^ 20 },
     pub ghost whole_blocks: { length text.items % BLOCK_SIZE ≡ 0 },

@@ -1,5 +1,5 @@
-//! What a file on the disk holds: a piece is written into its stored blocks, and a part of them is
-//! read in two halves.
+//! What a file on the disk holds: a piece is written into its stored blocks, and a part of them is read in
+//! two halves.
 #![tactic(auto)]
 
 mod key;

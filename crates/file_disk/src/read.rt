@@ -1,4 +1,4 @@
-//! A part of a file's contents is read in two halves: stored blocks are copied, and then deciphered.
+//! A part of a file's contents is read in two halves: stored blocks are copied, and then decrypted.
 ghost use Rattle.std.specs.Prelude.{◌≡◌, ◌+◌, ◌*◌, ◌/◌, ◌%◌, ◌<◌, ◌≤◌, ◌^◌};
 ghost use Rattle.std.specs.Prelude.{take, drop, length, IfOk, IfSome, IsSome};
 ghost use Rattle.data_crypt.specs.Blocks.{wiped_seal};
@@ -18,12 +18,12 @@ use disk_tree::DiskTree;
 use mount_limits::MOST_READ_BYTES;
 use std::alloc::{AllocError, Global};
 
-/// Copies the stored blocks in which the part that is asked for lies, and no others, with the key that they
-/// are sealed with; `None` where the part is empty, and only there, which takes no memory. It deciphers
-/// nothing. The key that is handed in is overwritten.
+/// Copies exactly the stored blocks that contain the part asked for, with the key that they are encrypted
+/// with. Returns `None` exactly when the part is empty, and allocates nothing then. Decrypts nothing. Wipes
+/// the key that is passed.
 ///
-/// `len` is at most 4,096. The part ends with the file. A file that has no block for some of its bytes is
-/// read as an empty one.
+/// `len` is at most 4,096 bytes. The part ends with the file. A file that has no block for some of its
+/// bytes is read as an empty one.
 pub fn begin_read(
     disk: &DiskTree,
     alloc: Global,
@@ -88,8 +88,8 @@ fn copy_part(
     }))
 }
 
-/// Deciphers the text in place and cuts it to the content. It takes no memory; the key is overwritten in
-/// its box, and its round keys where they stand.
+/// Decrypts the text in place and cuts it to the content, which it returns. Allocates nothing. Wipes the
+/// key in its box, and its round keys in their buffer.
 pub fn finish_read(lent: LentRead) -> Vec<u8>
     ensures { result.items ≡ content_of (lent_seal lent.key) lent.block lent.text.items lent.skip lent.len }
 {
@@ -109,7 +109,7 @@ pub fn finish_read(lent: LentRead) -> Vec<u8>
     text
 }
 
-// The size of the file; 0 where it hasn't so many blocks.
+// Returns the size of the file, or 0 if it has too few blocks for it.
 fn whole_size(disk: &DiskTree, file: u32) -> u32
     ensures { result ≡ whole_size disk.now file }
 {
@@ -121,7 +121,7 @@ fn whole_size(disk: &DiskTree, file: u32) -> u32
     }
 }
 
-// So many stored blocks of the file from one on, side by side.
+// Returns `count` stored blocks of the file from block `from` on, side by side.
 fn copy_blocks(
     disk: &DiskTree,
     alloc: Global,
@@ -141,7 +141,7 @@ fn copy_blocks(
     Ok(text)
 }
 
-// A copy of the key in a box, which stands before the bytes come.
+// Returns a copy of the key in a box. The box is allocated before the bytes are copied into it.
 fn copy_key(
     alloc: Global,
     key: &Option<ContentsKey>,
@@ -160,7 +160,7 @@ fn copy_key(
     }
 }
 
-// Zeros in place of the key, with its start and unit.
+// Returns zeros in place of the key, with its start and unit.
 fn boxed_zeros(alloc: Global, key: &ContentsKey) -> Result<Box<ContentsKey>, AllocError>
     ensures start { IfOk result (λ boxed. boxed.value.start ≡ key.now.start) }
     ensures unit { IfOk result (λ boxed. boxed.value.unit ≡ key.now.unit) }
@@ -176,7 +176,7 @@ fn boxed_zeros(alloc: Global, key: &ContentsKey) -> Result<Box<ContentsKey>, All
     }
 }
 
-// Opens each block of the text; the first is block `first` of the file.
+// Decrypts each block of the text; the first is block `first` of the file.
 fn open_text(cipher: &Option<FileCipher>, first: u32, text: &mut [u8])
     requires near { first + length text.old / BLOCK_SIZE ≤ 2 ^ 20 }
     requires whole_blocks { length text.old % BLOCK_SIZE ≡ 0 }

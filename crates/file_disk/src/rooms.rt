@@ -1,4 +1,4 @@
-//! Room for round keys, which are made in it, and the overwriting of keys where they stand.
+//! Buffers for round keys, which are made in them, and the wiping of keys in place.
 ghost use Rattle.std.specs.Prelude.{◌≡◌, is_some};
 ghost use Rattle.data_crypt.specs.Blocks.{wiped, wiped_seal};
 ghost use Rattle.data_crypt.specs.Ciphers.{cipher_seal, seal_by};
@@ -8,7 +8,7 @@ use crate::key::ContentsKey;
 use byte_words::wipe;
 use data_crypt::FileCipher;
 
-// Room for round keys, where there is a key.
+// Returns a buffer for round keys, if there is a key.
 pub(crate) fn room_for(key: &Option<ContentsKey>) -> Option<FileCipher>
     ensures { is_some result ≡ is_some key.now }
 {
@@ -18,7 +18,7 @@ pub(crate) fn room_for(key: &Option<ContentsKey>) -> Option<FileCipher>
     }
 }
 
-// The same for a key that was lent.
+// The same for the key of a pending read.
 pub(crate) fn room_for_lent(key: &Option<Box<ContentsKey>>) -> Option<FileCipher>
     ensures { is_some result ≡ is_some key.now }
 {
@@ -28,7 +28,7 @@ pub(crate) fn room_for_lent(key: &Option<Box<ContentsKey>>) -> Option<FileCipher
     }
 }
 
-// Makes the round keys of the key in this room.
+// Makes the round keys of the key in this buffer.
 fn set_cipher(cipher: &mut FileCipher, key: &ContentsKey)
     ensures { cipher_seal cipher.new ≡ key_seal key.now }
 {
@@ -37,7 +37,7 @@ fn set_cipher(cipher: &mut FileCipher, key: &ContentsKey)
     cipher.unit = key.unit;
 }
 
-// Makes the round keys in their room, where there is a key.
+// Makes the round keys in their buffer, if there is a key.
 pub(crate) fn fill(cipher: &mut Option<FileCipher>, key: &Option<ContentsKey>)
     requires { is_some cipher.old ≡ is_some key.now }
     ensures { seal_by cipher.new ≡ seal_of key.now }
@@ -49,7 +49,7 @@ pub(crate) fn fill(cipher: &mut Option<FileCipher>, key: &Option<ContentsKey>)
     }
 }
 
-// The same of a key that was lent.
+// The same for the key of a pending read.
 pub(crate) fn fill_lent(cipher: &mut Option<FileCipher>, key: &Option<Box<ContentsKey>>)
     requires { is_some cipher.old ≡ is_some key.now }
     ensures { seal_by cipher.new ≡ lent_seal key.now }
@@ -62,7 +62,7 @@ pub(crate) fn fill_lent(cipher: &mut Option<FileCipher>, key: &Option<Box<Conten
 }
 
 impl ContentsKey {
-    /// Overwrites the bytes where they stand.
+    /// Wipes the bytes in place.
     pub fn wipe(&mut self)
         ensures { key_seal self.new ≡ wiped (key_seal self.old) }
     {
@@ -70,7 +70,7 @@ impl ContentsKey {
     }
 }
 
-// Overwrites the bytes of the key, where there is one.
+// Wipes the bytes of the key, if there is one.
 #[tactic(auto, unfolding(data_crypt::specs::Blocks::wiped_seal))]
 pub(crate) fn wipe_key(key: &mut Option<ContentsKey>)
     ensures { seal_of key.new ≡ wiped_seal (seal_of key.old) }
@@ -80,7 +80,7 @@ pub(crate) fn wipe_key(key: &mut Option<ContentsKey>)
     }
 }
 
-// The same of a key that was lent, in its box.
+// The same for the key of a pending read, in its box.
 #[tactic(auto, unfolding(data_crypt::specs::Blocks::wiped_seal))]
 pub(crate) fn wipe_lent(key: &mut Option<Box<ContentsKey>>)
     ensures { lent_seal key.new ≡ wiped_seal (lent_seal key.old) }

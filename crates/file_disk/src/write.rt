@@ -14,13 +14,12 @@ use disk_tree::{DiskFault, DiskTree};
 use mount_limits::MOST_FILE_BYTES;
 use std::alloc::Global;
 
-/// Writes the bytes into the file from byte `offset` on. A gap before them is zeros, sealed as all
-/// else; no bytes change nothing. Only the blocks from the first that is touched or new on are
-/// written.
+/// Writes the bytes into the file from byte `offset` on. A gap before them is zeros, encrypted like the
+/// rest; no bytes change nothing. Only the blocks from the first that is touched or new on are written.
 ///
-/// NoSpace where more than 16,384 blocks would stand in all. After a fault the disk is as before. A
-/// write that needs no new block takes no memory. The key that is handed in is overwritten, and its round
-/// keys where they were made.
+/// Returns `NoSpace` if there are bytes and all files would have more than 16,384 blocks. After a fault the
+/// disk is as before. A write that needs no new block allocates nothing. Wipes the key that is passed, and
+/// its round keys in their buffer.
 pub fn write_file(
     disk: &mut DiskTree,
     alloc: Global,
@@ -86,8 +85,8 @@ fn write_under(
     }
 }
 
-// Stores each block before `end` anew that is touched or new, with its part of the bytes. The file had
-// `had` blocks that hold contents; those behind are plain zeros.
+// Stores each block before `end` again that is touched or new, with its part of the bytes. The file had
+// `had` blocks that hold contents; those after them are plain zeros.
 fn rewrite_blocks(
     disk: &mut DiskTree,
     file: u32,
@@ -110,8 +109,8 @@ fn rewrite_blocks(
     }
 }
 
-// Stores block `index` anew with its part of the bytes. Where that part is the whole block, the old
-// bytes make no difference, and are not read.
+// Stores block `index` again with its part of the bytes. If that part is the whole block, the old bytes
+// make no difference, and are not read.
 fn rewrite_block(
     cipher: &Option<FileCipher>,
     had: usize,
@@ -131,7 +130,7 @@ fn rewrite_block(
     store_block(cipher, index, block);
 }
 
-// Whether `len` bytes that are written from byte `offset` on cover all of block `index`.
+// Returns whether `len` bytes that are written from byte `offset` on cover all of block `index`.
 fn covers_block(index: u32, offset: u32, len: usize) -> bool
     ensures { result ≡ covers_block offset len index }
 {

@@ -1,4 +1,4 @@
--- The blocks are stored anew where the bytes fall, and the size is that of the contents.
+-- The touched and new blocks are stored again, and the size is that of the contents.
 use Rattle.file_disk.proofs.BodyLemmas.{writes_give}
 use Rattle.file_disk.proofs.laws.writes_give_the_contents.Goals as goal
 

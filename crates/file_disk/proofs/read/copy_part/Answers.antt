@@ -1,4 +1,4 @@
--- The part ends with the file; where it is empty, nothing is copied.
+-- The part ends with the file; if it is empty, nothing is copied.
 use Rattle.std.proofs.Common.{◌≡◌, ◌⊎◌, ◌-◌, ◌/◌, ◌%◌, ◌≤◌, inl, inr, ap, ◌∙◌, arith}
 use Rattle.std.specs.Prelude.{Option, min}
 use Rattle.data_crypt.specs.Blocks.{Seal}

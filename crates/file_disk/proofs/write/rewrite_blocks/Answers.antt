@@ -1,4 +1,4 @@
--- One block more is stored anew.
+-- One block more is stored again.
 use Rattle.std.proofs.Common.{◌≡◌, ◌<◌, ℕ, List, length, sym, ap, ◌∙◌, arith}
 use Rattle.number_map.specs.Numbered.{changed}
 use Rattle.data_crypt.specs.Blocks.{read_block, stored_block}

@@ -1,4 +1,4 @@
--- The blocks before this one are stored anew.
+-- The blocks before this one are stored again.
 use Rattle.std.proofs.Common.{◌≡◌}
 use Rattle.number_map.specs.Numbered.{changed}
 use Rattle.data_crypt.specs.Blocks.{read_block, stored_block}

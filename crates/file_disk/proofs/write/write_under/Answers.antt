@@ -1,4 +1,4 @@
--- The file grows, the blocks are stored anew, and the size rises.
+-- The file grows, the blocks are stored again, and the size rises.
 use Rattle.std.proofs.Common.{◌≢◌, ◌+◌, ◌/◌, ◌≤◌, ◌<◌, ℕ, length, refl, sym, ap, subst, ◌∙◌, arith}
 use Rattle.std.proofs.lemmas.Bool.{eqb-true, eqb-false}
 use Rattle.std.specs.Prelude.{max, min}
