@@ -1,4 +1,4 @@
--- A policy and a context are told by their bytes.
+-- The bytes of a policy and of a context determine it.
 use Rattle.std.proofs.Common.{◌≡◌, refl, sym, ◌∙◌, ap, arith, ℕ, Bool, true, false, List, [], ◌++◌, length, take, drop, slice_index, bit_and, not, None, Some, Result, Ok, Err, IfOk, IfErr, subst, ◌==◌, if◌then◌else◌}
 use Rattle.std.proofs.lemmas.List.{take_at, drop_at, append-nil}
 use Rattle.std.proofs.Math.Seq.{drop-length}
@@ -67,11 +67,11 @@ unit_fits U1024 = refl
 unit_fits U2048 = refl
 unit_fits U4096 = refl
 
--- the bytes of a policy have no fault, whatever stands behind them
+-- the bytes of a policy have no fault, whatever follows them
 pub header_fault-policy_bytes : (p : Policy) (rest : List ℕ) → header_fault (policy_bytes p ++ rest) ≡ None
 header_fault-policy_bytes p rest = rw (flags_fit p.pad p.by_mode, unit_fits p.unit) refl
 
--- what `read_policy` says fixes its answer where the bytes begin with those of a policy
+-- the contract of `read_policy` determines its result if the bytes begin with those of a policy
 pub read_policy_is : (r : Result Policy CtxFault) (b : List ℕ) (p : Policy)
     → IfOk r (λ q. take 24 b ≡ policy_bytes q) → IfErr r (λ f. header_fault b ≡ Some f)
     → take 24 b ≡ policy_bytes p → header_fault b ≡ None → r ≡ Ok p
@@ -88,7 +88,7 @@ take-context_bytes c size = take_at (policy_bytes c.policy) c.nonce 24 (length-p
 pub drop-context_bytes : (c : Context) → length c.policy.id.0 ≡ 16 → drop 24 (context_bytes c) ≡ c.nonce
 drop-context_bytes c size = drop_at (policy_bytes c.policy) c.nonce 24 (length-policy_bytes c.policy size)
 
--- the bytes of a context tell the identifier and flag 8 of its policy
+-- the bytes of a context contain the identifier and flag 8 of its policy
 pub id_in-context_bytes : (c : Context) → length c.policy.id.0 ≡ 16 → id_in (context_bytes c) ≡ c.policy.id
 id_in-context_bytes c size =
     let here : take 16 (c.policy.id.0 ++ c.nonce) ≡ c.policy.id.0 = take_at c.policy.id.0 c.nonce 16 size in
@@ -107,7 +107,7 @@ flag_8_told P32 true = refl
 pub is_by_mode_in-context_bytes : (c : Context) → is_by_mode_in (context_bytes c) ≡ c.policy.by_mode
 is_by_mode_in-context_bytes c = flag_8_told c.policy.pad c.policy.by_mode
 
--- a list whose second part was written over
+-- a list whose second part was replaced
 pub put_behind : (xs zs ys : List ℕ) (n k : ℕ) → length xs ≡ n → length zs ≡ k → put_mid n k (xs ++ zs) ys ≡ xs ++ ys
 put_behind xs zs ys n k front back =
     let rest : drop k zs ≡ [] = subst (λ m. drop m zs ≡ []) back (drop-length zs) in

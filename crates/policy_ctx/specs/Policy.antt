@@ -13,14 +13,14 @@ pad_size P8 = 8
 pad_size P16 = 16
 pad_size P32 = 32
 
--- the flags that tell a padding
+-- the flags of a padding
 abbrev pub pad_flags : Pad → ℕ
 pad_flags P4 = 0
 pad_flags P8 = 1
 pad_flags P16 = 2
 pad_flags P32 = 3
 
--- how many bytes of contents are enciphered as one: a block has 4,096
+-- how many bytes of contents are encrypted as one: a block has 4,096
 abbrev pub unit_bytes : DataUnit → ℕ
 unit_bytes Block = 4096
 unit_bytes U512 = 512
@@ -28,7 +28,7 @@ unit_bytes U1024 = 1024
 unit_bytes U2048 = 2048
 unit_bytes U4096 = 4096
 
--- the byte that tells a unit: the logarithm to base 2 of its size, or 0 where it is a block
+-- the byte of a unit: the logarithm to base 2 of its size, or 0 if it is a block
 abbrev pub unit_log2 : DataUnit → ℕ
 unit_log2 Block = 0
 unit_log2 U512 = 9
@@ -36,7 +36,7 @@ unit_log2 U1024 = 10
 unit_log2 U2048 = 11
 unit_log2 U4096 = 12
 
--- the flags byte: its two low bits tell the padding, and flag 8 (IV_INO_LBLK_64) a key for each mode
+-- the flags byte: the padding in its two low bits, and flag 8 (IV_INO_LBLK_64) for a key for each mode
 abbrev pub flags_of : Pad → Bool → ℕ
 flags_of pad by_mode = pad_flags pad + (if by_mode then 8 else 0)
 

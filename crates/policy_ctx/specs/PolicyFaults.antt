@@ -24,6 +24,6 @@ header_fault b =
     then Some Reserved else
     None
 
--- the first fault of the bytes as a policy, where they are none
+-- the first fault of the bytes as a policy, if they are none
 abbrev pub policy_fault : List ℕ → Option CtxFault
 policy_fault b = if length b == 24 then header_fault b else Some Length

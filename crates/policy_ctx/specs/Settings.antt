@@ -1,4 +1,4 @@
--- The numbers by which a record or a script tells a padding and a unit.
+-- The numbers by which a record or a script names a padding and a unit.
 use Rattle.std.specs.Prelude.{ℕ, Option, Some, None, ◌==◌, if◌then◌else◌}
 use Rattle.policy_ctx.specs.declared.policy.Pad.{Pad}
 use Rattle.policy_ctx.specs.declared.policy.Pad.TheVariants.{P4, P8, P16, P32}
@@ -14,7 +14,7 @@ pad_of_size size =
     if size == 32 then Some P32 else
     None
 
--- the unit of 2^log bytes; 0 tells that it is a block
+-- the unit of 2^log bytes; 0 is a block
 abbrev pub unit_of_log2 : ℕ → Option DataUnit
 unit_of_log2 log =
     if log == 0 then Some Block else

@@ -11,7 +11,8 @@ use super::{
     Unit, VERSION,
 };
 
-/// The policy whose bytes these are: 24 of them. Where there is none, the first fault.
+/// Returns the policy whose bytes these are: 24 of them. If they are no policy, returns their first
+/// fault.
 pub fn decode_policy(bytes: &[u8]) -> Result<Policy, CtxFault>
     ensures found { IfOk result (λ p. bytes.now ≡ policy_bytes p) }
     ensures sized { IfOk result (λ p. length p.id.0 ≡ 16) }
@@ -25,7 +26,8 @@ pub fn decode_policy(bytes: &[u8]) -> Result<Policy, CtxFault>
     read_policy(bytes)
 }
 
-/// The context whose bytes these are: 40 of them. Where there is none, the first fault.
+/// Returns the context whose bytes these are: 40 of them. If they are no context, returns their first
+/// fault.
 pub fn decode_context(bytes: &[u8]) -> Result<Context, CtxFault>
     ensures found { IfOk result (λ c. bytes.now ≡ context_bytes c) }
     ensures sized { IfOk result HasSizes }
@@ -42,7 +44,7 @@ pub fn decode_context(bytes: &[u8]) -> Result<Context, CtxFault>
     Ok(Context { policy, nonce })
 }
 
-// The policy whose bytes the first 24 are, or the first fault among these.
+// Returns the policy whose bytes the first 24 are, or the first fault among these.
 fn read_policy(bytes: &[u8]) -> Result<Policy, CtxFault>
     requires { 24 ≤ length bytes.now }
     ensures found { IfOk result (λ p. take 24 bytes.now ≡ policy_bytes p) }
@@ -75,7 +77,7 @@ fn read_policy(bytes: &[u8]) -> Result<Policy, CtxFault>
     })
 }
 
-// The padding that the flags byte tells, and whether flag 8 stands: a byte of 0 to 3, or of 8 to 11.
+// The padding in the flags byte, and whether flag 8 is set: a byte of 0 to 3, or of 8 to 11.
 fn flags_told(flags: u8) -> Option<(Pad, bool)>
     ensures found { IfSome result (λ told. flags_of told.0 told.1 ≡ flags) }
     ensures fits { IfSome result (λ _. are_flags flags ≡ true) }
@@ -94,7 +96,7 @@ fn flags_told(flags: u8) -> Option<(Pad, bool)>
     }
 }
 
-// The unit that the byte tells: a byte of 0, or of 9 to 12.
+// The unit of the byte: a byte of 0, or of 9 to 12.
 fn unit_told(log: u8) -> Option<Unit>
     ensures found { IfSome result (λ unit. unit_log2 unit ≡ log) }
     ensures fits { IfSome result (λ _. is_unit_log2 log ≡ true) }

@@ -1,4 +1,5 @@
-//! From policies and contexts to their bytes, and what the bytes of a context tell without decoding.
+//! From policies and contexts to their bytes, and the values that can be read from a context without
+//! decoding it.
 
 ghost use Rattle.std.specs.Prelude.{◌≡◌, length};
 ghost use Rattle.policy_ctx.specs.Context as spec;
@@ -12,7 +13,7 @@ use super::{
 /// The flag of policies whose nodes share a key for each mode: IV_INO_LBLK_64.
 const BY_MODE: u8 = 8;
 
-/// The bytes of the policy.
+/// Returns the bytes of the policy.
 pub fn encode_policy(policy: &Policy) -> [u8; POLICY_LEN]
     ensures { result ≡ policy_bytes policy.now }
 {
@@ -26,7 +27,7 @@ pub fn encode_policy(policy: &Policy) -> [u8; POLICY_LEN]
     bytes
 }
 
-/// The bytes of the context: those of its policy, and the nonce.
+/// Returns the bytes of the context: those of its policy, and the nonce.
 pub fn encode_context(context: &Context) -> [u8; CONTEXT_LEN]
     ensures { result ≡ context_bytes context.now }
 {
@@ -36,7 +37,7 @@ pub fn encode_context(context: &Context) -> [u8; CONTEXT_LEN]
     bytes
 }
 
-/// The identifier of the key that the bytes of a context name.
+/// Returns the identifier of the key that the bytes of a context name.
 pub fn id_in(context: &[u8; CONTEXT_LEN]) -> KeyId
     ensures read { result ≡ spec.id_in context.now }
     ensures of_context { (c : Context) → length c.policy.id.0 ≡ 16 → context.now ≡ context_bytes c
@@ -47,7 +48,8 @@ pub fn id_in(context: &[u8; CONTEXT_LEN]) -> KeyId
     KeyId(id)
 }
 
-/// Whether the bytes of a context have the flag of policies whose nodes share a key for each mode.
+/// Returns whether the bytes of a context have the flag of policies whose nodes share a key for each
+/// mode.
 pub fn is_by_mode(context: &[u8; CONTEXT_LEN]) -> bool
     ensures read { result ≡ is_by_mode_in context.now }
     ensures of_context { (c : Context) → context.now ≡ context_bytes c → result ≡ c.policy.by_mode }

@@ -1,4 +1,4 @@
-//! Policies and contexts of version 2, and the exact bytes in which Linux fscrypt keeps them.
+//! Policies and contexts of version 2, and the exact bytes in which Linux fscrypt stores them.
 #![tactic(auto)]
 
 mod decode;
@@ -11,10 +11,10 @@ pub use encode::{encode_context, encode_policy, id_in, is_by_mode};
 pub use fault::CtxFault;
 pub use policy::{Context, KeyId, Pad, Policy, Unit, same_policy};
 
-/// How many bytes a policy takes.
+/// The length of a policy in bytes.
 pub const POLICY_LEN: usize = 24;
 
-/// How many bytes a context takes: a policy and a nonce.
+/// The length of a context in bytes: a policy and a nonce.
 pub const CONTEXT_LEN: usize = 40;
 
 /// The version of policies that has an identifier for the key.

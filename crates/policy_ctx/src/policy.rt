@@ -1,4 +1,4 @@
-//! What a directory's encryption is set to: its policy, and the context that each node keeps.
+//! The encryption settings of a directory: its policy, and the context that is stored with each node.
 
 ghost use Rattle.std.specs.Prelude.{◌≡◌, ◌↔◌, IsTrue};
 ghost use Rattle.policy_ctx.specs.Settings.{pad_of_size, unit_of_log2};
@@ -8,7 +8,7 @@ ghost use Rattle.policy_ctx.specs.Policy.{pad_size, unit_bytes, unit_log2};
 #[derive(Clone, Copy, Debug, PartialEq, Eq, PartialOrd, Ord, Hash)]
 pub struct KeyId(pub [u8; 16]);
 
-/// To a multiple of how many bytes a stored name is padded.
+/// The padding of names: a stored name is padded to a multiple of this many bytes.
 #[derive(Clone, Copy, Debug, PartialEq, Eq)]
 pub enum Pad {
     P4,
@@ -18,7 +18,7 @@ pub enum Pad {
 }
 
 impl Pad {
-    /// The padding to this many bytes: to 4, 8, 16 or 32.
+    /// Returns the padding to this many bytes: to 4, 8, 16 or 32; `None` for any other number.
     pub fn of_size(size: u32) -> Option<Pad>
         ensures { result ≡ pad_of_size size }
     {
@@ -31,7 +31,7 @@ impl Pad {
         }
     }
 
-    /// The number of bytes: 4, 8, 16 or 32.
+    /// Returns the number of bytes: 4, 8, 16 or 32.
     pub fn size(self) -> usize
         ensures { result ≡ pad_size self }
     {
@@ -44,8 +44,8 @@ impl Pad {
     }
 }
 
-/// How many bytes of contents are enciphered as one. `Block` and `U4096` encipher alike, and are two
-/// policies.
+/// The unit of contents: how many bytes are encrypted as one. `Block` and `U4096` encrypt alike, and are
+/// two policies.
 #[derive(Clone, Copy, Debug, PartialEq, Eq)]
 pub enum Unit {
     Block,
@@ -56,7 +56,8 @@ pub enum Unit {
 }
 
 impl Unit {
-    /// The unit that a policy tells by this number: 0 is `Block`, 9 to 12 are logarithms to base 2.
+    /// Returns the unit that a policy writes as this number: 0 is `Block`, 9 to 12 are logarithms to base
+    /// 2. `None` for any other number.
     pub fn of_log2(log: u32) -> Option<Unit>
         ensures { result ≡ unit_of_log2 log }
     {
@@ -70,7 +71,7 @@ impl Unit {
         }
     }
 
-    /// The number that tells it: 0 for `Block`, else the logarithm to base 2 of its bytes.
+    /// Returns its number in a policy: 0 for `Block`, else the logarithm to base 2 of its bytes.
     pub fn log2(self) -> u8
         ensures { result ≡ unit_log2 self }
     {
@@ -83,7 +84,7 @@ impl Unit {
         }
     }
 
-    /// The number of bytes: 512, 1,024, 2,048 or 4,096.
+    /// Returns the number of bytes: 512, 1,024, 2,048 or 4,096.
     pub fn size(self) -> usize
         ensures { result ≡ unit_bytes self }
     {
@@ -96,13 +97,13 @@ impl Unit {
     }
 }
 
-/// How the names and contents below a directory are encrypted: AES-256-XTS for contents,
-/// AES-256-CBC-CTS for names, under keys derived from the master key of this identifier.
+/// How the names and contents below a directory are encrypted: AES-256-XTS for contents, AES-256-CBC-CTS
+/// for names, under keys derived from the master key of this identifier.
 #[derive(Clone, Copy, Debug, PartialEq, Eq)]
 pub struct Policy {
-    /// What stored names are padded to.
+    /// The padding of stored names.
     pub pad: Pad,
-    /// What contents are cut into.
+    /// The unit of contents.
     pub unit: Unit,
     /// Whether all nodes share a key for each mode (IV_INO_LBLK_64). Else each has its own.
     pub by_mode: bool,
@@ -110,14 +111,14 @@ pub struct Policy {
     pub id: KeyId,
 }
 
-/// What an encrypted node keeps: its policy, and the nonce that its own keys are derived with.
+/// The context of an encrypted node: its policy, and the nonce that its own keys are derived with.
 #[derive(Clone, Copy, Debug, PartialEq, Eq)]
 pub struct Context {
     pub policy: Policy,
     pub nonce: [u8; 16],
 }
 
-/// Whether two policies are the same, in each setting and in the key.
+/// Returns whether two policies are the same, in each setting and in the key.
 pub fn same_policy(a: &Policy, b: &Policy) -> bool
     ensures { IsTrue result ↔ (a.now ≡ b.now) }
 {
