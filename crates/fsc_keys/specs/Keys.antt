@@ -1,4 +1,4 @@
--- The keys and names that Linux fscrypt draws from a raw master key (fs/crypto/hkdf.c), and the
+-- The keys and names that Linux fscrypt derives from a raw master key (fs/crypto/hkdf.c), and the
 -- descriptor that the fscrypt tool gives a protector's key.
 use Rattle.std.specs.Prelude.{ℕ, List, [], ◌∷◌, ◌++◌, take, codes, replicate}
 use Rattle.sha2.specs.Sha512.{sha512}
@@ -10,8 +10,8 @@ use Rattle.fsc_keys.specs.declared.file_keys.KeyKind.TheVariants.{Contents, Name
 use Rattle.fsc_keys.specs.declared.file_keys.FileKey.{FileKey}
 use Rattle.fsc_keys.specs.declared.file_keys.FileKey.TheVariants as key
 
--- len bytes drawn from a raw key: HKDF-SHA512 without salt; the info is `fscrypt`, a zero byte, the
--- byte of the context that the bytes are drawn for, and what that context adds
+-- len bytes derived from a raw key by HKDF-SHA512 without salt. The info is `fscrypt`, a zero byte, the
+-- byte of the context of the derivation, and what that context adds
 unfoldable pub derived : List ℕ → ℕ → List ℕ → ℕ → List ℕ
 derived raw context info len = hkdf_sha512 [] raw (codes "fscrypt" ++ 0 ∷ context ∷ info) len
 
@@ -40,7 +40,7 @@ abbrev pub key_bytes : FileKey → List ℕ
 key_bytes (key.Contents bytes) = bytes
 key_bytes (key.Names bytes) = bytes
 
--- what the key enciphers
+-- the kind of the key, by what it encrypts
 abbrev pub key_kind : FileKey → KeyKind
 key_kind (key.Contents bytes) = Contents
 key_kind (key.Names bytes) = Names

@@ -1,11 +1,11 @@
-//! The short name of a protector's key, by which the fscrypt tool tells a wrong key.
+//! The descriptor of a protector's key, by which the fscrypt tool recognizes a wrong key.
 
 ghost use Rattle.std.specs.Prelude.{◌≡◌};
 ghost use Rattle.fsc_keys.specs.Keys.{descriptor_of};
 
 use sha2::{Digest, Sha512};
 
-/// 16 lower-case hexadecimal digits: the first 8 bytes of SHA-512 taken twice.
+/// Returns 16 lower-case hexadecimal digits: the first 8 bytes of SHA-512 taken twice.
 pub fn descriptor(key: &[u8]) -> [u8; 16]
     ensures { result ≡ descriptor_of key.now }
 {

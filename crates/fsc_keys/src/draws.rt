@@ -13,13 +13,13 @@ use byte_words::slice_is_bytes;
 use hmac_kdf::Prk512;
 use policy_ctx::KeyId;
 
-/// What names the derivation of identifiers: `fscrypt`, a zero byte, and the context 1.
+/// The info for deriving identifiers: `fscrypt`, a zero byte, and the context 1.
 const KEY_ID_INFO: [u8; 9] = *b"fscrypt\0\x01";
 
-/// What names the derivation of file keys, before the nonce: the context is 2.
+/// The info for deriving file keys, before the nonce: the context is 2.
 const FILE_KEY_INFO: [u8; 9] = *b"fscrypt\0\x02";
 
-/// The derivation of the mode key for contents: the context 4, the mode's number, and the UUID that
+/// The info for deriving the mode key for contents: the context 4, the mode's number, and the UUID that
 /// each mount of fsc has.
 const CONTENTS_MODE_INFO: [u8; 26] = *b"fscrypt\0\x04\x01fsc-memory-mount";
 
@@ -43,7 +43,7 @@ pub(crate) fn draw_id(prk: &Prk512) -> KeyId
     KeyId(id)
 }
 
-// Writes the key of the file with this nonce over another of its kind.
+// Derives the key of the file with this nonce, and writes it over another of its kind.
 #[tactic(auto, unfolding(crate::specs::Keys::derived, hmac_kdf::specs::Hkdf::hkdf_with))]
 pub(crate) fn draw_file_key(prk: &Prk512, nonce: &[u8; 16], key: &mut FileKey)
     ensures key { (raw : List ℕ) → prk.now ≡ extracted hash_sha512 [] raw
@@ -56,7 +56,7 @@ pub(crate) fn draw_file_key(prk: &Prk512, nonce: &[u8; 16], key: &mut FileKey)
     draw(prk, &info, key);
 }
 
-// Writes the key that all nodes of its kind share over another.
+// Derives the key that all nodes of its kind share, and writes it over another.
 #[tactic(auto, unfolding(crate::specs::Keys::derived, hmac_kdf::specs::Hkdf::hkdf_with))]
 pub(crate) fn draw_mode_key(prk: &Prk512, key: &mut FileKey)
     ensures key { (raw : List ℕ) → prk.now ≡ extracted hash_sha512 [] raw
@@ -69,7 +69,7 @@ pub(crate) fn draw_mode_key(prk: &Prk512, key: &mut FileKey)
     }
 }
 
-// Writes as many bytes as the key has, expanded under this info, over it where it stands.
+// Expands as many bytes as the key has under this info, and writes them over it in place.
 fn draw(prk: &Prk512, info: &[u8], key: &mut FileKey)
     ensures key { key.new ≡ expanded_key prk.now (key_kind key.old) info.now }
     ensures ranged { AreBytes (key_bytes key.new) }

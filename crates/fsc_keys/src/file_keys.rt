@@ -1,4 +1,4 @@
-//! What is drawn from a raw key once: its identifier, and the keys of files.
+//! What is derived from a raw key once: its identifier, and the keys of files.
 
 ghost use Rattle.std.specs.Prelude.{◌≡◌};
 ghost use Rattle.byte_words.specs.Bytes.{AreBytes};
@@ -9,7 +9,7 @@ use crate::raw_key::RawKey;
 use byte_words::wipe;
 use policy_ctx::KeyId;
 
-/// What a file key enciphers.
+/// The kind of a file key, by what it encrypts.
 #[derive(Clone, Copy, Debug, PartialEq, Eq)]
 pub enum KeyKind {
     /// The contents of a regular file.
@@ -28,7 +28,7 @@ pub enum FileKey {
 }
 
 impl FileKey {
-    /// The key of this kind whose bytes are zeros: room for another.
+    /// Returns the key of this kind whose bytes are zeros: a buffer for another key.
     pub fn zeros(kind: KeyKind) -> FileKey
         ensures { result ≡ zero_key kind }
     {
@@ -38,7 +38,7 @@ impl FileKey {
         }
     }
 
-    /// Writes zeros over the key, where it stands: 64 for contents, 32 for names.
+    /// Wipes the key in place: 64 zeros for contents, 32 for names.
     pub fn wipe(&mut self)
         ensures { self.new ≡ zeros_for self.old }
     {
@@ -49,15 +49,15 @@ impl FileKey {
     }
 }
 
-/// The identifier of a raw key, by which policies and claims name it.
+/// Returns the identifier of a raw key, by which policies and claims name it.
 pub fn key_id(raw: &RawKey) -> KeyId
     ensures { result ≡ key_id_of raw.now }
 {
     draw_id(&extract(raw))
 }
 
-/// The key of the file with this nonce, for its contents or for its names. Who asks more than once
-/// prepares the key (`PreparedKey`), at a quarter of the work.
+/// Returns the key of the file with this nonce, for its contents or for its names. A caller that derives
+/// several keys should prepare the raw key (`PreparedKey`), at a quarter of the work.
 pub fn file_key(raw: &RawKey, kind: KeyKind, nonce: &[u8; 16]) -> FileKey
     ensures key { result ≡ file_key_of raw.now kind nonce.now }
     ensures ranged { AreBytes (key_bytes result) }
@@ -67,7 +67,7 @@ pub fn file_key(raw: &RawKey, kind: KeyKind, nonce: &[u8; 16]) -> FileKey
     key
 }
 
-/// The key that all nodes of this kind share under a policy with a key for each mode.
+/// Returns the key that all nodes of this kind share under a policy with a key for each mode.
 pub fn mode_key(raw: &RawKey, kind: KeyKind) -> FileKey
     ensures key { result ≡ mode_key_of raw.now kind }
     ensures ranged { AreBytes (key_bytes result) }

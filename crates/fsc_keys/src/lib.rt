@@ -1,4 +1,4 @@
-//! Raw master keys, and what is drawn from them: identifiers, file keys, the keys of modes, and the
+//! Raw master keys, and what is derived from them: identifiers, file keys, the keys of modes, and the
 //! descriptors of protectors' keys.
 #![tactic(auto)]
 

@@ -1,4 +1,4 @@
-//! A raw key from which HKDF's first step is kept, for whoever draws many keys from it.
+//! A raw key with the result of HKDF's first step, for callers that derive many keys from it.
 
 ghost use Rattle.std.specs.Prelude.{◌≡◌, ◌≤◌, ℕ, List, [], length, replicate};
 ghost use Rattle.byte_words.specs.Bytes.{AreBytes};
@@ -12,7 +12,7 @@ use hmac_kdf::Prk512;
 use policy_ctx::KeyId;
 use std::marker::Model;
 
-/// A raw key with its pseudorandom key, as Linux keeps it once a key is added. It is as secret as the
+/// A raw key with its pseudorandom key, as Linux stores it once a key is added. It is as secret as the
 /// raw key: it can be wiped, and is never printed.
 #[derive(Drop)]
 pub struct PreparedKey {
@@ -31,7 +31,7 @@ impl Model for PreparedKey {
 impl PreparedKey {
     ghost use Rattle.fsc_keys.specs.Keys.{file_key_of, key_bytes, key_id_of, key_kind, mode_key_of};
 
-    /// Prepares the key.
+    /// Returns the prepared key.
     pub fn new(raw: RawKey) -> PreparedKey
         ensures { result ≡ raw }
     {
@@ -39,7 +39,7 @@ impl PreparedKey {
         PreparedKey { raw, prk }
     }
 
-    /// The bytes of the raw key: 32 to 64.
+    /// Returns the bytes of the raw key: 32 to 64.
     pub fn bytes(&self) -> &[u8]
         ensures value { result.now ≡ self.now }
         ensures not_short { LEAST_RAW_KEY_BYTES ≤ length result.now }
@@ -49,14 +49,14 @@ impl PreparedKey {
         self.raw.bytes()
     }
 
-    /// The identifier of the key, by which policies and claims name it.
+    /// Returns the identifier of the key, by which policies and claims name it.
     pub fn id(&self) -> KeyId
         ensures { result ≡ key_id_of self.now }
     {
         draw_id(&self.prk)
     }
 
-    /// The key of the file with this nonce, for its contents or for its names.
+    /// Returns the key of the file with this nonce, for its contents or for its names.
     pub fn file_key(&self, kind: KeyKind, nonce: &[u8; 16]) -> FileKey
         ensures key { result ≡ file_key_of self.now kind nonce.now }
         ensures ranged { AreBytes (key_bytes result) }
@@ -66,8 +66,8 @@ impl PreparedKey {
         key
     }
 
-    /// Writes the key of the file with this nonce over another of the kind that is wanted, so that it is
-    /// nowhere else.
+    /// Writes the key of the file with this nonce over another of the same kind, so that it is nowhere
+    /// else.
     pub fn write_file_key(&self, nonce: &[u8; 16], key: &mut FileKey)
         ensures key { key.new ≡ file_key_of self.now (key_kind key.old) nonce.now }
         ensures ranged { AreBytes (key_bytes key.new) }
@@ -75,7 +75,7 @@ impl PreparedKey {
         draw_file_key(&self.prk, nonce, key);
     }
 
-    /// The key that all nodes of this kind share under a policy with a key for each mode.
+    /// Returns the key that all nodes of this kind share under a policy with a key for each mode.
     pub fn mode_key(&self, kind: KeyKind) -> FileKey
         ensures key { result ≡ mode_key_of self.now kind }
         ensures ranged { AreBytes (key_bytes result) }
@@ -93,8 +93,8 @@ impl PreparedKey {
         draw_mode_key(&self.prk, key);
     }
 
-    /// Writes zeros over the key, and what comes of them over what was prepared. It is then the key of
-    /// as many zeros.
+    /// Replaces the key by zeros, and what was prepared by what is prepared of them. It is then the key
+    /// of as many zeros.
     pub fn wipe(&mut self)
         ensures { self.new ≡ replicate (length self.old) 0 }
     {

@@ -1,4 +1,4 @@
-//! A raw master key as it was handed in: 32 to 64 bytes.
+//! A raw master key of 32 to 64 bytes.
 
 ghost use Rattle.std.specs.Prelude.{◌≡◌, ◌↔◌, ◌≤◌, ℕ, List, length, replicate, IsOk, IfOk, IfErr, OnOk, OnErr};
 ghost use Rattle.byte_words.specs.Bytes.{AreBytes};
@@ -7,10 +7,10 @@ use short_bytes::Filled;
 use std::marker::Model;
 use thiserror::Error;
 
-/// The fewest bytes of a raw key: what AES-256 needs.
+/// The minimum length of a raw key in bytes: what AES-256 needs.
 pub const LEAST_RAW_KEY_BYTES: usize = 32;
 
-/// The most bytes of a raw key, as Linux has it.
+/// The maximum length of a raw key in bytes, as Linux has it.
 pub const MOST_RAW_KEY_BYTES: usize = 64;
 
 /// Bytes that are no raw key, since they are fewer than 32 or more than 64.
@@ -38,7 +38,7 @@ impl Model for RawKey {
 }
 
 impl RawKey {
-    /// The key of these bytes. Any others than 32 to 64 are refused.
+    /// Returns the key of these bytes. Fewer than 32 or more than 64 are refused, with their number.
     pub fn read(bytes: &[u8]) -> Result<RawKey, KeySize>
         ensures value { IfOk result (λ key. key ≡ bytes.now) }
         ensures ok_in_range { IsOk result
@@ -51,7 +51,7 @@ impl RawKey {
         })
     }
 
-    /// The key of 32 zeros: room for another.
+    /// Returns the key of 32 zeros: a buffer for another key.
     pub fn zeros() -> RawKey
         ensures { result ≡ replicate LEAST_RAW_KEY_BYTES 0 }
     {
@@ -60,8 +60,8 @@ impl RawKey {
         }
     }
 
-    /// The key of these bytes in place of the one before, which is overwritten where it stands. Any others
-    /// than 32 to 64 are refused, and then the key is as before.
+    /// Replaces the key by the key of these bytes; the one before is wiped in place. Fewer than 32 or
+    /// more than 64 bytes are refused, with their number, and then the key is as before.
     pub fn set(&mut self, bytes: &[u8]) -> Result<(), KeySize>
         ensures value { OnOk result (self.new ≡ bytes.now) }
         ensures ok_in_range { IsOk result
@@ -74,14 +74,14 @@ impl RawKey {
         Ok(())
     }
 
-    /// The same key once more.
+    /// Returns a copy of the key.
     pub fn copy(&self) -> RawKey
         ensures { result ≡ self.now }
     {
         RawKey { bytes: self.bytes }
     }
 
-    /// The bytes of the key.
+    /// Returns the bytes of the key.
     pub fn bytes(&self) -> &[u8]
         ensures value { result.now ≡ self.now }
         ensures not_short { LEAST_RAW_KEY_BYTES ≤ length result.now }
@@ -91,7 +91,7 @@ impl RawKey {
         self.bytes.bytes()
     }
 
-    /// Writes zeros over the key. It is then the key of as many zeros.
+    /// Replaces the key by zeros. It is then the key of as many zeros.
     pub fn wipe(&mut self)
         ensures { self.new ≡ replicate (length self.old) 0 }
     {
@@ -99,7 +99,7 @@ impl RawKey {
     }
 }
 
-// Refuses what is no raw key by its length.
+// Refuses bytes that are too few or too many for a raw key.
 fn check_size(bytes: &[u8]) -> Result<(), KeySize>
     ensures ok_in_range { IsOk result
         ↔ ((LEAST_RAW_KEY_BYTES ≤ length bytes.now) × (length bytes.now ≤ MOST_RAW_KEY_BYTES)) }
