@@ -60,7 +60,7 @@ module _ (lawful_0 lawful_1 : History → Type 0) (seed : List ℕ) (script : Li
     noted = ran.noted ∙ ap (λ (w : ℕ). notes_by seed w script ran.made) first;
   }
 
--- a script that nobody calls
+-- a script without callers
 pub nobody_runs : (lawful_0 lawful_1 : History → Type 0) (seed : List ℕ) (script : List Section) (even odd : PlacedShown) (notes : List Note) → length script ≡ 0
     → even ≡ [] → odd ≡ [] → notes ≡ [] → lawful_0 [] → lawful_1 [] → TellsLinkedCalls lawful_0 lawful_1 seed script even odd notes
 nobody_runs lawful_0 lawful_1 seed [] even odd notes none no_even no_odd silent right_even right_odd = record {

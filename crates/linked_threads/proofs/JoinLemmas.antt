@@ -18,7 +18,7 @@ use Rattle.linked_turns.specs.Parts.{HasParts, is_even}
 use Rattle.linked_turns.proofs.TurnLemmas.{parts_as}
 use Rattle.linked_threads.specs.Threaded.{OnBoth, HaveCalled, HaveRun}
 
--- where a caller made no calls, the mounts have none of it
+-- if a caller made no calls, the mounts have none of it
 record HasNone (c : ℕ) (made even odd : PlacedCalls) : Type 0 where
   none : by c made ≡ []
   no_even : by c even ≡ []

@@ -30,7 +30,7 @@ use Rattle.linked_threads.specs.Threaded.{OnBoth, both, CanRunOnBoth, HaveRun}
 
 -- ---- calls of one caller alone
 
--- where each command may make twice as many calls, all may
+-- if each command may make twice as many calls, all may
 pub twice_needed : (most : ℕ) (sections : List Section) → 2 * calls_needed most sections ≡ calls_needed (2 * most) sections
 twice_needed most [] = refl
 twice_needed most (section ∷ more) =

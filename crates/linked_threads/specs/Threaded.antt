@@ -1,4 +1,4 @@
--- What callers need that run in threads on two mounts, and what is known of them when they have ended.
+-- What callers in threads on two mounts need, and what holds of them when they have ended.
 use Rattle.std.specs.Prelude.{◌≡◌, ℕ, ◌*◌, List}
 use Rattle.call_history.specs.Entries.{by, entries_by, numbered}
 use Rattle.mount_model.specs.Port.{PlacedCalls}
@@ -36,7 +36,7 @@ pub record AreFirst (shared : OnBoth SharedView) (passes : OnBoth MountPass) : T
   pub even_all : passes.even.high ≡ shared.even.numbers
   pub odd_all : passes.odd.high ≡ shared.odd.numbers
 
--- what is told of the calls of one history, caller by caller, is told in their order
+-- if the shown entries of one history are given caller by caller, they are put in their order
 abbrev pub IsPutInOrder : PlacedShown → PlacedShown → Type 0
 IsPutInOrder old new = (history : ShownHistory) → ((caller : ℕ) → by caller old ≡ entries_by caller history)
     → new ≡ numbered 0 history
@@ -49,8 +49,8 @@ pub record HaveCalled (seed : List ℕ) (who : ℕ) (sections : List Section) (m
   pub parts : (caller : ℕ) → (steps : List LinkStep)
       × HasParts (is_even caller) steps (by caller made) (by caller even) (by caller odd)
 
--- the callers of the passes ran their sections, and this is what they were told; the calls that the passes have
--- now are in range
+-- the callers of the passes ran their sections, and these are their results; the calls that the passes
+-- have now are in range
 pub record HaveRun (seed : List ℕ) (old : OnBoth MountPass) (sections : List Section)
     (new : OnBoth MountPass) (told : LinkedTold) : Type 0 where
   pub made : PlacedCalls

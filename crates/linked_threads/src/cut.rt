@@ -10,7 +10,7 @@ use mount_shared::MountMachine;
 use script_runs::cut;
 use std::alloc::AllocError;
 
-// Cuts callers in two: the first half keep the passes, and the others get two of their own.
+// Cuts callers in two: the first half retain the passes, and the others get two of their own.
 pub(crate) fn halve<'a, M: MountMachine, N: MountMachine>(
     shared: &SharedMounts<M, N>,
     callers: Callers<'a, M, N>,

@@ -12,7 +12,7 @@ use script_runs::calls_needed;
 use std::alloc::{AllocError, Global};
 use turn_lock::{Pass, Shared};
 
-// The machines of both mounts, each behind a turn of its own.
+// The machines of both mounts, each with a turn of its own.
 #[derive(Drop)]
 pub(crate) struct SharedMounts<M: MountMachine, N: MountMachine> {
     pub(crate) even: Shared<M>,
@@ -33,7 +33,8 @@ pub(crate) struct Callers<'a, M: MountMachine, N: MountMachine> {
     pub(crate) sections: &'a [Section],
 }
 
-// Puts both mounts behind turns, for the callers of a script that has some, and gives the passes that have all numbers.
+// Shares both mounts, each with a turn, for the callers of a script that has some. Returns them with the
+// passes that have all numbers.
 pub(crate) fn share<M: MountMachine, N: MountMachine>(
     alloc: Global,
     mounts: Mounts<M, N>,

@@ -78,7 +78,7 @@ fn run_on_mount_0<R: Wait, G: Gate, S: Stretch, M: MountMachine, N: MountMachine
     let mut port = RangedPort::over(port);
     let ran = run_caller(alloc, &mut port, gate, stretches, &sections[0], seed)?;
     let even = port.back().back();
-    // That its own entries are its caller's.
+    // The clause `own` of `who` holds: its own entries are its caller's.
     let _caller = even.who();
     let told = LinkedTold {
         even: ran.entries.into_vec(),
@@ -113,15 +113,15 @@ fn run_on_both<R: Wait, G: Gate, S: Stretch, M: MountMachine, N: MountMachine>(
     let (own, far, steps) = port.back();
     let odd = own.back().back();
     let even = far.back().back();
-    // That their own entries are their caller's.
+    // The clause `own` of `who` holds: their own entries are their caller's.
     let _on_mount_1 = odd.who();
     let _on_mount_0 = even.who();
     let told = told_on_both(alloc, ran, steps)?;
     Ok((Passes { even, odd }, told))
 }
 
-// The port of a caller with an odd number, for as many calls as its section may make: they go to mount 1, and those
-// for links there to mount 0, too.
+// The port of a caller with an odd number, for as many calls as its section may make. They are made on
+// mount 1, and those for links there on mount 0, too.
 fn port_on_both<'a, R: Wait, M: MountMachine, N: MountMachine>(
     rt: &'a R,
     alloc: Global,
@@ -141,7 +141,7 @@ fn port_on_both<'a, R: Wait, M: MountMachine, N: MountMachine>(
     LinkPort::new(alloc, RangedPort::over(own), RangedPort::over(far), calls)
 }
 
-// What a caller on both mounts was told, by what became of each of its calls.
+// The result of a caller on both mounts, by the step of each of its calls.
 fn told_on_both(alloc: Global, ran: Ran, steps: Vec<LinkStep>) -> Result<LinkedTold, AllocError>
     ensures even { IfOk result (λ told. told.even.items ≡ far_parts steps.items ran.entries) }
     ensures odd { IfOk result (λ told. told.odd.items ≡ own_parts load_shown steps.items ran.entries) }

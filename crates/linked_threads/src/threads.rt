@@ -20,11 +20,13 @@ use std::alloc::{AllocError, Global};
 use std::sync::Wait;
 use std::thread::{Threads, join};
 
-/// What a run of the script in threads tells on two mounts, the entries of each in order of place: each
-/// caller runs its section in a thread of its own, each command between the gate's two calls. Callers with an
-/// even number work on mount 0. The others work on mount 1, and their calls for protectors that are links
-/// there go to mount 0. Both machines stand before any call, and each is put behind a turn of its own. It
-/// answers when all threads have ended. The one error is want of memory.
+/// Runs the script in threads on two mounts. Each caller runs its section in a thread of its own, each
+/// command between the gate's two calls. Callers with an even number work on mount 0. The others work on
+/// mount 1, and their calls for protectors that are links there are made on mount 0. No call may have
+/// been made on either machine; each is shared with a turn of its own.
+///
+/// Returns when all threads have ended, with the shown entries of each mount in order of place, and the
+/// notes. The one error is out of memory.
 pub fn run_linked_in_threads<
     R: Threads + Wait + Sync,
     G: Gate + Sync,
@@ -71,7 +73,7 @@ fn run_nobody<M: MountMachine, N: MountMachine>(alloc: Global, mounts: Mounts<M,
     nothing(alloc)
 }
 
-// Runs the section of each of the callers in a thread of its own. It answers when all have ended.
+// Runs the section of each of the callers in a thread of its own. Returns when all have ended.
 fn run_all<
     R: Threads + Wait + Sync,
     G: Gate + Sync,

@@ -1,4 +1,4 @@
-//! What the callers of a run were told.
+//! The results of a run's callers.
 
 ghost use Rattle.std.specs.Prelude.{◌≡◌, [], ◌++◌, OnOk};
 ghost use Rattle.linked_threads.specs.Threaded.{IsPutInOrder};
@@ -7,7 +7,7 @@ use call_history::sort_by_place;
 use linked_turns::LinkedTold;
 use std::alloc::{AllocError, Global};
 
-// What nobody was told. It takes no memory.
+// The result without callers. It takes no memory.
 pub(crate) fn nothing(alloc: Global) -> LinkedTold
     ensures even { result.even.items ≡ [] }
     ensures odd { result.odd.items ≡ [] }
@@ -20,7 +20,7 @@ pub(crate) fn nothing(alloc: Global) -> LinkedTold
     }
 }
 
-// Puts what others were told behind it.
+// Appends the results of others.
 pub(crate) fn append(told: &mut LinkedTold, mut others: LinkedTold) -> Result<(), AllocError>
     ensures even { OnOk result (told.new.even.items ≡ told.old.even.items ++ others.even.items) }
     ensures odd { OnOk result (told.new.odd.items ≡ told.old.odd.items ++ others.odd.items) }
@@ -32,7 +32,7 @@ pub(crate) fn append(told: &mut LinkedTold, mut others: LinkedTold) -> Result<()
     Ok(())
 }
 
-// Puts what was told of either mount in order of place.
+// Sorts the entries of either mount by place.
 pub(crate) fn put_in_order(told: &mut LinkedTold) -> Result<(), AllocError>
     ensures even { OnOk result (IsPutInOrder told.old.even.items told.new.even.items) }
     ensures odd { OnOk result (IsPutInOrder told.old.odd.items told.new.odd.items) }
