@@ -1,4 +1,4 @@
--- The image of a disk is that of the mount for which the disk stands.
+-- The image of a disk is that of the mount that the disk represents.
 use Rattle.std.proofs.Common.{◌≡◌, ℕ, Bool, true, false, cond, List, [], ◌∷◌, map, refl, ap, ◌∙◌}
 use Rattle.std.specs.Prelude.{filter}
 use Rattle.number_map.specs.Numbered.{entries}

@@ -1,4 +1,4 @@
--- Lines behind lines, and that each loop writes one more.
+-- Lines after lines, and that each loop writes one more.
 use Rattle.std.proofs.Common.{◌≡◌, ℕ, true, cond, List, ◌∷◌, ◌++◌, map, sym, ap, ◌∙◌, append_assoc}
 use Rattle.std.specs.List.{flat_map}
 use Rattle.std.proofs.lemmas.List.Concat.{flat_map-cons}

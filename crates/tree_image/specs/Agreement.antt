@@ -1,4 +1,4 @@
--- That the image of a disk is that of the mount for which it stands.
+-- The image of a disk is that of the mount that it represents.
 use Rattle.std.specs.Prelude.{◌≡◌, ℕ}
 use Rattle.disk_tree.specs.DiskTree.{Disk}
 use Rattle.mount_model.specs.PlainMount.{PlainMount}

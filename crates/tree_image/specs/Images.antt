@@ -1,4 +1,5 @@
--- The image of a disk, and that of a mount: of the root and of each node to which a name leads, by rising number.
+-- The image of a disk, and that of a mount: of the root and of each node that has a name, by rising
+-- number.
 use Rattle.std.specs.Prelude.{ℕ, List, map, filter}
 use Rattle.number_map.specs.Numbered.{entries}
 use Rattle.plain_tree.specs.Nodes.{Node}
@@ -9,7 +10,7 @@ use Rattle.mount_state.specs.Stored.{stored_node}
 use Rattle.image_lines.specs.Image.{Image, ImageNode}
 use Rattle.tree_image.specs.Order.{ordered}
 
--- what an image has of a stored node: its number, the bytes of its context, and its body, with the entries of a
+-- the image of a stored node: its number, the bytes of its context, and its body, with the entries of a
 -- directory in order
 abbrev pub image_node : ℕ × StoredNode → ImageNode
 image_node e = record { number = e.0; context = e.1.context; body = ordered e.1.body }
@@ -18,7 +19,7 @@ image_node e = record { number = e.0; context = e.1.context; body = ordered e.1.
 abbrev pub image_from : List (ℕ × StoredNode) → Image
 image_from nodes = map image_node (filter (λ e. e.1.named) nodes)
 
--- of what lies on a disk
+-- of the nodes on a disk
 abbrev pub image_of : Disk → Image
 image_of disk = image_from (entries disk)
 

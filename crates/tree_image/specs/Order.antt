@@ -1,5 +1,5 @@
--- The order in which an image has the entries of a directory: by name, byte by byte, and where two names are
--- one, by number.
+-- The order in which an image has the entries of a directory: by name, byte by byte, and if two names are
+-- equal, by number.
 use Rattle.std.specs.Prelude.{ℕ, List, [], ◌∷◌, if◌then◌else◌}
 use Rattle.std.specs.declared.cmp.Ordering.{Ordering}
 use Rattle.std.specs.Ordering.{nat_cmp, is_gt, on, then_cmp}
@@ -20,6 +20,6 @@ abbrev pub in_order : Entries → Entries
 in_order [] = []
 in_order (e ∷ es) = put_in_order e (in_order es)
 
--- a directory with its entries in order; every other body stays
+-- a directory with its entries in order; every other body is unchanged
 abbrev pub ordered : Body → Body
 ordered body = with_entries in_order body

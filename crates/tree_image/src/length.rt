@@ -1,4 +1,4 @@
-//! How long the image of a disk is, so that it is written into memory that is taken once.
+//! The length of a disk's image, so that it is written into memory that is allocated once.
 
 ghost use Rattle.std.specs.Prelude.{◌≡◌, ◌+◌, length, map, IfSome};
 ghost use Rattle.hex.specs.Hex.{encode_lower};
@@ -11,7 +11,8 @@ ghost use Rattle.tree_image.specs.Order.{in_order, ordered};
 use disk_tree::{BlockList, Body, DirEntries, DiskTree, StoredNode};
 use text_words::decimal_digits;
 
-// How many bytes the image of a disk has; none where these are more than any text has.
+// Returns the length of the image of a disk in bytes; `None` if it is greater than the length of any
+// text.
 #[tactic(auto, using(crate::proofs::LengthLemmas::line_longer), unfolding(image_lines::specs::ImageText::image_text))]
 pub(crate) fn image_len(disk: &DiskTree) -> Option<usize>
     ensures { IfSome result (λ len. len ≡ length (image_text (image_of disk.now))) }
@@ -39,7 +40,7 @@ fn numeral_len(number: u32) -> usize
     decimal_digits(u64::from(number)).as_bytes().len()
 }
 
-// Of what a node's line has behind its number.
+// The length of the part of a node's line after its number, or `None`.
 #[tactic(auto, using(crate::proofs::LengthLemmas::digits_are))]
 fn kind_len(context: &Option<[u8; 40]>, body: &Body) -> Option<usize>
     ensures { IfSome result (λ len. len ≡ length (kind_text context.now (told_kind (ordered body.now)))) }
@@ -64,7 +65,7 @@ fn context_len(context: &Option<[u8; 40]>) -> Option<usize>
     }
 }
 
-// Of the digits of bytes.
+// The length of the digits of bytes, or `None`.
 #[tactic(auto, using(crate::proofs::LengthLemmas::digits_are))]
 fn digits_len(bytes: &[u8]) -> Option<usize>
     ensures { IfSome result (λ len. len ≡ length (encode_lower bytes.now)) }
@@ -72,7 +73,7 @@ fn digits_len(bytes: &[u8]) -> Option<usize>
     bytes.len().checked_mul(2)
 }
 
-// Of the lines behind a node's own.
+// The length of the lines after a node's own, or `None`.
 fn lines_len(body: &Body) -> Option<usize>
     ensures { IfSome result (λ len. len ≡ length (ended (body_lines (ordered body.now)))) }
 {

@@ -1,4 +1,4 @@
-//! The image of a tree: what lies on a disk, written as a text.
+//! The image of a tree: the contents of a disk, written as a text.
 #![tactic(auto)]
 
 mod laws;

@@ -14,9 +14,9 @@ use item_list::Bytes;
 use std::alloc::{AllocError, Global};
 use text_words::{push_decimal, push_lower_hex};
 
-/// Writes the image of a disk: the header, then for the root and for each node to which a name leads, by
-/// rising number, its line, and behind it a line for each entry or block. AllocError where there is no
-/// memory for it.
+/// Writes the image of a disk: the header, then the root and each node that has a name, by rising number.
+/// Each has its line, and after it a line for each entry or block. Returns `AllocError` if it is out of
+/// memory.
 pub fn write_image(alloc: Global, disk: &DiskTree) -> Result<Bytes, AllocError>
     ensures { IfOk result (λ text. text ≡ image_text (image_of disk.now)) }
 {
@@ -42,7 +42,7 @@ fn push_nodes(alloc: Global, text: &mut Vec<u8>, disk: &DiskTree) -> Result<(), 
     Ok(())
 }
 
-// Writes a node: its line, and what its body has behind it.
+// Writes a node: its line, and the lines of its body after it.
 fn push_node(
     alloc: Global,
     text: &mut Vec<u8>,
@@ -61,7 +61,7 @@ fn push_node(
     Ok(())
 }
 
-// Writes what a node's line has behind its number.
+// Writes the part of a node's line after its number.
 fn push_kind(text: &mut Vec<u8>, context: &Option<[u8; 40]>, body: &Body) -> Result<(), AllocError>
     ensures { OnOk result (text.new.items
         ≡ text.old.items ++ kind_text context.now (told_kind (ordered body.now))) }
@@ -87,7 +87,7 @@ fn push_kind(text: &mut Vec<u8>, context: &Option<[u8; 40]>, body: &Body) -> Res
     Ok(())
 }
 
-// Writes the digits of a context, or what stands where there is none.
+// Writes the digits of a context, or `-` if there is none.
 fn push_context(text: &mut Vec<u8>, context: &Option<[u8; 40]>) -> Result<(), AllocError>
     ensures { OnOk result (text.new.items ≡ text.old.items ++ context_text context.now) }
 {
