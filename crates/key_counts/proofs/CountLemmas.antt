@@ -1,4 +1,4 @@
--- Counts as they are kept, when a key is counted once more or once less.
+-- Counts as they are stored, when a key is counted once more or once less.
 use Rattle.std.proofs.Common.{◌≡◌, ℕ, ◌+◌, ◌-◌, ◌<◌, true, cond, eqb, Some, None, unwrap_or, sym, refl, ap, ◌∙◌, ⊎_elim, arith}
 use Rattle.std.specs.declared.cmp.Ordering.{Ordering}
 use Rattle.std.specs.Ordering.{eq_by_cmp}

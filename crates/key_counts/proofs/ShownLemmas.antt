@@ -1,4 +1,4 @@
--- The finite map that an ordered map is seen as, when an entry comes, changes or goes.
+-- The finite map that an ordered map is seen as, when an entry is added, changed or removed.
 use Rattle.std.proofs.Common.{◌≡◌, Bool, true, false, cond, List, [], ◌∷◌, Option, Some, None, sym, refl, ap, ◌∙◌}
 use Rattle.std.specs.Prelude.{option_map}
 use Rattle.std.specs.Map.{lookup}
@@ -34,7 +34,7 @@ module _ {K V X : Type 0} {R : K → K → Ordering} (o : IsTotalOrder R) (f : V
         ∙ (ap (λ b. cond b (Some (f v)) (option_map f (tree.get R m q))) ((eq_by_cmp_equiv o).symm k q)
         ∙ (ap (cond (eq_by_cmp R q k) (Some (f v))) (sym (get-shown m.entries q)) ∙ sym (get-insert o (shown R f m.entries) k (f v) q))))))
 
-    -- one value taken out
+    -- one value removed
     pub shown-removed : (k : K) → ((q : K) → tree.get R n q ≡ cond (eq_by_cmp R k q) None (tree.get R m q)) → shown R f n.entries ≡ finite.remove (shown R f m.entries) k
     shown-removed k updates = same_map o same _ _ (λ q.
         get-shown n.entries q ∙ (ap (option_map f) (updates q) ∙ (apart_from (eq_by_cmp R k q) f None (tree.get R m q)

@@ -1,6 +1,6 @@
--- How a count is kept.
+-- How a count is stored.
 use Rattle.std.specs.Prelude.{ℕ, Option, Some, None, ◌==◌, if◌then◌else◌}
 
--- what stands for a count; nothing stands for none
+-- the stored form of a count; 0 is not stored
 abbrev pub counted : ℕ → Option ℕ
 counted n = if n == 0 then None else Some n

@@ -1,4 +1,4 @@
-//! Counts under keys. A key whose count falls to 0 goes.
+//! Counts under keys. A key whose count falls to 0 is removed.
 
 ghost use Rattle.std.specs.Prelude.{◌≡◌, ◌+◌, ◌-◌, ◌<◌, ◌^◌, Some, unwrap_or, if◌then◌else◌};
 ghost use Rattle.std.specs.Prelude.{IsSome, IsOk, OnOk, OnErr};
@@ -9,14 +9,14 @@ ghost use Rattle.key_counts.specs.Counted.{counted};
 use std::alloc::AllocError;
 use std::collections::BTreeMap;
 
-/// The count of the key; 0 where none stands.
+/// Returns the count of the key; 0 if there is none.
 pub fn count_of<K: Ord>(counts: &BTreeMap<K, u32>, key: &K) -> u32
     ensures { result ≡ unwrap_or (tree.get K.cmp counts.now key.now) 0 }
 {
     counts.get(key).copied().unwrap_or(0)
 }
 
-/// Counts the key once more. Only a key that has no count takes memory; where there is none, the
+/// Counts the key once more. Only a key that has no count takes memory. If it is out of memory, the
 /// counts are as before.
 pub fn one_more<K: Ord + Drop>(counts: &mut BTreeMap<K, u32>, key: K) -> Result<(), AllocError>
     requires { unwrap_or (tree.get K.cmp counts.old key) 0 + 1 < 2 ^ 32 }

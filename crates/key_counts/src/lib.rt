@@ -1,4 +1,4 @@
-//! Counts under keys, for whoever asks often how many there are of each.
+//! Counts under keys, for callers that often ask how many there are of each.
 #![tactic(auto)]
 
 mod counts;

@@ -1,4 +1,4 @@
-//! Words and small types, each called with ample memory. This crate has tests alone.
+//! Tests of words and small types, each called with ample memory. This crate has tests alone.
 #![tactic(auto)]
 
 #[cfg(test)]

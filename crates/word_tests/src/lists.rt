@@ -7,7 +7,7 @@ use std::alloc::{AllocError, Global};
 use std::collections::BTreeMap;
 use std::process::Abort;
 
-/// A list of owned things, so that the calls run at a type that isn't `Copy`.
+/// Returns a list of owned values, so that the calls run at a type that isn't `Copy`.
 fn three_words(alloc: Global) -> Result<Items<Bytes>, AllocError> {
     let mut words = Items::new(alloc);
     for word in [b"one", b"two", b"six"] {
@@ -64,7 +64,7 @@ fn look_up<A: Abort>(rt: &A, map: &mut NumberMap<u32>) {
     assert!(rt; map.get_mut(6).is_none());
 }
 
-// That the map has these entries, by rising number.
+// Asserts that the map has these entries, by rising number.
 fn expect_left<A: Abort>(rt: &A, map: &NumberMap<u32>) {
     assert!(rt; map.iter().eq([(3, &31), (5, &51), (9, &90)]));
 }

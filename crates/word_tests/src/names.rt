@@ -5,7 +5,7 @@ use dentry_cache::{MOST_CACHED_NAME_BYTES, NameCache};
 use std::alloc::AllocError;
 use std::process::Abort;
 
-/// Keeps names of three digits, from 0 on, each with its number.
+/// Caches names of three digits, from 0 on, each with its number.
 fn keep_numbers(names: &mut NameCache, count: u32) -> Result<(), AllocError> {
     for number in 0..count {
         names.keep(9, &digits(number), number)?;
@@ -13,7 +13,7 @@ fn keep_numbers(names: &mut NameCache, count: u32) -> Result<(), AllocError> {
     Ok(())
 }
 
-/// The lowest three digits of the number.
+/// Returns the lowest three digits of the number.
 fn digits(number: u32) -> [u8; 3] {
     [
         (number / 100 % 10) as u8,
@@ -22,7 +22,7 @@ fn digits(number: u32) -> [u8; 3] {
     ]
 }
 
-// That the cache leads from this name to this number, or nowhere; else the test fails.
+// Asserts that the cache finds this number under this name, or none.
 fn expect_number<A: Abort>(
     rt: &A,
     names: &mut NameCache,

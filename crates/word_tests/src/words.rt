@@ -20,7 +20,7 @@ fn words_have_the_low_byte_first(rt: HostRuntime) {
     assert!(rt; want == [0; 16]);
 }
 
-/// What a map would look the value up by.
+/// Returns the hash under which a map would look the value up.
 fn hash_of<T: Hash>(value: &T) -> u64 {
     let mut hasher = DefaultHasher::new();
     value.hash(&mut hasher);
@@ -60,7 +60,7 @@ fn labels_have_characters_and_bounds(rt: HostRuntime) {
     }
 }
 
-/// Puts numbers with a space behind each, and then bytes in hex, behind the text.
+/// Appends numbers with a space after each, and then bytes in hex, to the text.
 fn push_digits(text: &mut Vec<u8>) -> Result<(), AllocError> {
     push_decimal(text, 0)?;
     text.push(b' ')?;
