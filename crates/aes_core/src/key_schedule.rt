@@ -1,7 +1,7 @@
 //! The key schedule of AES-256 (FIPS 197, 5.2) by groups of four words, which are round keys. A group is
-//! in one vector, a word a column. Each word is the one eight before it xored with the one before it,
-//! which is changed first only at the beginning of a group. So a group is the group two before it, summed
-//! up from column to column, with one changed word added to each column.
+//! in one vector, a word a column. Each word is the one eight before it xored with the one before it. At
+//! the beginning of a group the latter is changed first. So a group is the group two before it, summed up
+//! from column to column, with one changed word added to each column.
 
 ghost use Rattle.std.specs.Prelude.{◌≡◌, ◌*◌, ◌+◌, ◌-◌, ◌<◌, ◌≤◌, ◌++◌, List, drop, length, ℕ};
 ghost use Rattle.aes_core.specs.Groups.{HoldsGroups, column_sums, in_each_column, last_column};

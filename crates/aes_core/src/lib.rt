@@ -77,7 +77,7 @@ impl Aes256 {
         }
     }
 
-    /// Replaces the key by `key`, which has 32 bytes, and its round keys in place.
+    /// Replaces the key by `key`, which must have 32 bytes, and its round keys in place.
     pub fn set(&mut self, key: &[u8])
         requires { length key.now ≡ 32 }
         ensures { self.new ≡ key.now }
@@ -145,7 +145,8 @@ impl Aes256 {
         plane_rounds::write_key_planes(planes, &self.schedule);
     }
 
-    /// `encrypt_eight`, with the planes of the round keys as `write_key_planes` wrote them.
+    /// Returns eight blocks encrypted as by `encrypt_eight`, with the planes that `write_key_planes`
+    /// wrote.
     pub fn encrypt_eight_with(&self, planes: &KeyPlanes, blocks: [u8x16; 8]) -> [u8x16; 8]
         requires { planes.now ≡ key_planes (round_keys self.now) }
         ensures { (b : ℕ) → b < 8
@@ -154,7 +155,8 @@ impl Aes256 {
         eight::encrypt_eight(&self.schedule, planes, blocks)
     }
 
-    /// `decrypt_eight`, with the planes of the round keys as `write_key_planes` wrote them.
+    /// Returns eight blocks decrypted as by `decrypt_eight`, with the planes that `write_key_planes`
+    /// wrote.
     pub fn decrypt_eight_with(&self, planes: &KeyPlanes, blocks: [u8x16; 8]) -> [u8x16; 8]
         requires { planes.now ≡ key_planes (round_keys self.now) }
         ensures { (b : ℕ) → b < 8

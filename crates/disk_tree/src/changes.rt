@@ -48,7 +48,7 @@ impl DiskTree {
         self.blocks -= gone;
     }
 
-    /// Sets the context of the node. A number without a node changes nothing.
+    /// Sets the context of the node, if there is one of this number.
     pub fn set_context(&mut self, number: u32, context: [u8; 40])
         ensures { self.new ≡ map.changed self.old number (with_context context) }
     {

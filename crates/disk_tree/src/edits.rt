@@ -1,4 +1,5 @@
-//! Changes of one node of the map, which leave all others; and a node added with its entry.
+//! Changes of one node of the map, which leave all other nodes unchanged; and a node added with its
+//! entry.
 ghost use Rattle.std.specs.Prelude.{◌≡◌, ◌≤◌, None, length, IfErr, IsOk, OnOk, OnErr};
 ghost use Rattle.number_map.specs.Numbered as map;
 ghost use Rattle.disk_tree.specs.Blocks.{grown};

@@ -20,8 +20,8 @@ use std::marker::Model;
 /// - After older entries were removed, an entry's place is found by binary search.
 /// - The hash has a fixed seed. A user who picks the names can make them collide, and then a search
 ///   visits those that do.
-/// - Once two entries have had one name, or one hash of 64 bits, each search visits all entries: at most
-///   the 4,096 of a directory.
+/// - Once two entries have had one name, or one hash of 64 bits, each search goes through all entries: at
+///   most the 4,096 of a directory.
 pub struct DirEntries {
     order: Order,
     index: HeldIndex,

@@ -1,4 +1,4 @@
--- Calls followed by calls are calls, and no call leaves a source unchanged.
+-- Calls followed by calls are calls, and an empty list of calls leaves a source unchanged.
 use Rattle.std.proofs.Common.{◌≡◌, ℕ, List, [], ◌∷◌, ◌++◌, Option, Some, None, refl, sym, ap, ◌∙◌, subst, append_assoc}
 use Rattle.std.specs.Io.KnownBytes.{Consumes}
 use Rattle.fsc_outside.specs.Causes.{one_more}

@@ -45,11 +45,11 @@ impl From<AllocError> for InputFault {
     }
 }
 
-/// Reads a source to its end, or to the first byte beyond the limit, so that it makes at most one call
-/// more than the limit has bytes. Returns
+/// Reads a source to its end, and returns the text. Reading stops at the first byte beyond the limit, so
+/// it makes at most one call more than the limit has bytes. Its errors are
 /// - `ReadFault` if a call failed,
 /// - `TooLong` at the first byte beyond the limit, or at the end of a text with too many lines,
-/// - `NoMemory` possibly at any piece.
+/// - `NoMemory`, possibly at any piece.
 pub fn read_all<S: Source>(
     alloc: Global,
     source: &mut S,

@@ -31,10 +31,10 @@ pub trait Source {
         ensures cause { HasCause (state self.old).faults (state self.new).faults result }
         ensures came { came self.old (read_call piece.new result ∷ []) self.new };
 
-    /// No call leaves the source unchanged.
+    /// An empty list of calls relates each source to itself.
     ghost by_none: { (source : Self) → came source [] source };
 
-    /// Calls can be followed by calls.
+    /// Two lists of calls, one after the other, relate the first source to the last.
     ghost by_more: { (first second third : Self) (calls more : List ReadCall)
         → came first calls second → came second more third → came first (calls ++ more) third };
 }

@@ -16,7 +16,7 @@ fn dir(alloc: Global) -> StoredNode
     }
 }
 
-/// An empty file without a name.
+/// Returns an empty file without a name.
 pub(crate) fn file(alloc: Global) -> StoredNode
     ensures { blocks_of result.body ≡ [] }
 {

@@ -151,7 +151,7 @@ fn raw_key(alloc: Global) -> Result<Bytes, AllocError> {
     Ok(Bytes::from_vec(Vec::from_elem(alloc, 0x5a, 64)?))
 }
 
-/// A name of its own for each number, without `/` and NUL.
+/// Returns a name for each number, different from those of other numbers, without `/` and NUL.
 pub(crate) fn name_of(number: u16) -> [u8; 5] {
     let [high, low] = number.to_be_bytes();
     [

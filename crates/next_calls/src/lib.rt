@@ -1,4 +1,4 @@
-//! What a caller of a script asks for next, after the replies so far: each command is run on a port that
+//! The next call of a caller of a script, after the replies so far: each command is run on a port that
 //! answers exactly with those.
 #![tactic(auto)]
 

@@ -1,4 +1,4 @@
-//! What a command asks for next.
+//! The next step of a command.
 
 ghost use Rattle.std.specs.Prelude.{◌≡◌, ◌+◌, ◌≤◌, length, take, drop, reverse, IfOk, OnOk};
 ghost use Rattle.script_lang.specs.Asked.{IsAskable};

@@ -101,7 +101,7 @@ impl<V: Drop> NumberMap<V> {
     /// Puts `value` at `number`, replacing the value that is there, if any.
     ///
     /// The only error is out of memory, and only if the number has no value. The map is then unchanged,
-    /// and `value` is dropped.
+    /// and no slot stores `value`.
     pub fn set(&mut self, number: u32, value: V) -> Result<(), AllocError>
         ensures put { OnOk result (self.new ≡ map.insert self.old number value) }
         ensures kept { OnErr result (self.new ≡ self.old) }

@@ -30,6 +30,7 @@ pub struct LoadedProtector {
 
 /// Returns the policy of this label, by the reply to loading its record. Ends with `BadRecord` if the
 /// record can't be read or has another name, and with the outcome of the reply if that isn't a record.
+/// Otherwise its only error is `NoMemory`.
 pub fn policy_loaded(alloc: Global, label: &Label, reply: &Reply) -> Result<LoadedPolicy, Stop>
     ensures { Gives result (spec.policy_loaded label.now reply.now) }
 {

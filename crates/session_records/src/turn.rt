@@ -1,7 +1,6 @@
-//! Whose turn it is.
+//! The caller and the number of a command.
 
-/// The source of a command: the caller, the user for whom it calls, and the command's number in its
-/// section, from 0.
+/// The caller of a command, the user for whom it calls, and the command's number in its section, from 0.
 #[derive(Clone, Copy)]
 pub struct Turn {
     pub caller: u32,

@@ -33,8 +33,8 @@ pub(crate) fn made_wrap(protector: &Label, key: &[u8; 32], iv: [u8; 16], policy_
     }
 }
 
-/// Returns whether the protector of this label can be given a wrap: `Listed` if it has one already,
-/// otherwise `Full` if there are `MOST_WRAPS`.
+/// Checks whether the protector of this label can be given a wrap. Returns `Listed` if it has one
+/// already, and otherwise `Full` if there are `MOST_WRAPS` wraps.
 pub fn room_for(protector: &Label, wraps: &WrapList) -> Result<(), Outcome>
     ensures { result ≡ spec.room_for protector.now wraps.now }
 {
