@@ -16,7 +16,7 @@ xor_zeros [] (suc n) few = refl
 xor_zeros (y ∷ ys) zero few = absurd (omega arith)
 xor_zeros (y ∷ ys) (suc n) few = (λ i. xor_zero_l y i ∷ xor_zeros ys n (omega arith) i)
 
--- past the piece that was filled stand the bytes of the mask
+-- past the piece that was filled are the bytes of the mask
 pub drop_filled : (piece mask : List ℕ) (n : ℕ) → length mask ≤ length piece + n → drop (length piece) (xor_bytes (piece ++ replicate n 0) mask) ≡ drop (length piece) mask
 unfolding xor_bytes
 drop_filled [] mask n few = xor_zeros mask n (omega arith)

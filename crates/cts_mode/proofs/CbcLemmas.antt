@@ -23,7 +23,7 @@ cbc_block_same encipher iv xs ys zero same = refl
 cbc_block_same encipher iv xs ys (suc n) same =
     (λ i. encipher (xor_bytes (same n (omega arith) i) (cbc_block_same encipher iv xs ys n (λ j low. same j (omega arith)) i)))
 
--- a block that lies in the front of a list is a block of the front
+-- a block in the front of a list is a block of the front
 pub block_at_front : (xs : List ℕ) (at j : ℕ) → 16 * j + 16 ≤ at → block_at 16 (take at xs) j ≡ block_at 16 xs j
 unfolding block_at
 block_at_front xs at j within =

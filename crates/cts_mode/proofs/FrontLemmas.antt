@@ -1,4 +1,4 @@
--- An in-place loop over blocks, where only the blocks within the text are known to be whole.
+-- An in-place loop over blocks, if only the blocks within the text are known to be whole.
 use Rattle.std.proofs.Common.{◌≡◌, ℕ, zero, suc, ◌+◌, ◌*◌, ◌<◌, List, ◌++◌, length, take, drop, ap, sym, ◌∙◌, arith, length-append, append_assoc, mul-zero}
 use Rattle.std.proofs.lemmas.List.{take_at, drop_at, drop-drop}
 use Rattle.std.proofs.Math.Nat.{mul-suc}

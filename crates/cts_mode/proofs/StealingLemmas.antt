@@ -138,7 +138,7 @@ completed piece deciphered = piece ++ drop (length piece) deciphered
 pub length-completed : (piece deciphered : List ℕ) → length piece ≤ 16 → length deciphered ≡ 16 → length (completed piece deciphered) ≡ 16
 length-completed piece deciphered few whole = length-append piece (drop (length piece) deciphered) ∙ omega (arith, length-drop (length piece) deciphered)
 
--- what the deciphered text is, by the whole blocks and the last piece
+-- what the decrypted text is, by the whole blocks and the last piece
 pub unstealing_is : (decipher : List ℕ → List ℕ) (iv text : List ℕ) (r : ℕ) → unstealing decipher iv text (r + 2) ≡ first_blocks (plain_block decipher iv (take (16 * r) text ++ completed (drop (16 * (r + 1)) text) (decipher (block_at 16 text r)))) (r + 1) ++ xor_bytes (decipher (block_at 16 text r)) (drop (16 * (r + 1)) text)
 unstealing_is decipher iv text r =
     let two : r + 2 - 2 ≡ r = omega arith in

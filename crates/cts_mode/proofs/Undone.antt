@@ -35,7 +35,7 @@ module _ (encipher decipher : List ℕ → List ℕ) (cipher : IsCipher encipher
           cipher.bytes (xor_bytes (block_at 16 xs n) (cbc_block encipher iv xs n)) masked (xor_bytes-lt (block_at 16 xs n) (cbc_block encipher iv xs n) (AreBytes-block_at 16 xs n xs_bytes) before.1),
         )
 
-    -- a block, deciphered and xored with the one before, is the block of the text
+    -- a block, decrypted and xored with the one before, is the block of the text
     plain : (j : ℕ) → 16 * j + 16 ≤ length xs → xor_bytes (decipher (cbc_block encipher iv xs (suc j))) (cbc_block encipher iv xs j) ≡ block_at 16 xs j
     plain j within =
         let before = sound j (omega arith) in
@@ -47,7 +47,7 @@ module _ (encipher decipher : List ℕ → List ℕ) (cipher : IsCipher encipher
         ∙ cipher.undone (xor_bytes (block_at 16 xs j) (cbc_block encipher iv xs j)) masked (xor_bytes-lt (block_at 16 xs j) (cbc_block encipher iv xs j) (AreBytes-block_at 16 xs j xs_bytes) before.1) in
         ap (λ b. xor_bytes b (cbc_block encipher iv xs j)) back ∙ xor_bytes_twice (block_at 16 xs j) (cbc_block encipher iv xs j) (here ∙ sym before.0)
 
-    -- all blocks of CBC, deciphered, are the whole blocks of the text
+    -- all blocks of CBC, decrypted, are the whole blocks of the text
     chained : (n : ℕ) → length xs ≡ 16 * n → first_blocks (plain_block decipher iv (first_blocks (λ j. cbc_block encipher iv xs (suc j)) n)) n ≡ xs
     unfolding plain_block cbc_block
     chained n whole =
@@ -149,7 +149,7 @@ module _ (encipher decipher : List ℕ → List ℕ) (cipher : IsCipher encipher
         (cipher.bytes (xor_bytes (zero_filled 16 piece) previous) masked_size masked_bytes))
         (AreBytes-take (length piece) previous previous_sound.1)
 
-    -- deciphered, it is masked again
+    -- decrypted, it is masked again
     unmasked : decipher (block_at 16 stolen r) ≡ xor_bytes (zero_filled 16 piece) previous
     unmasked = ap decipher middle ∙ cipher.undone (xor_bytes (zero_filled 16 piece) previous) masked_size masked_bytes
 
@@ -188,7 +188,7 @@ module _ (encipher decipher : List ℕ → List ℕ) (cipher : IsCipher encipher
         | inr long ↦ undone_long text text_bytes ((length text - 1) / 16 - 1) (pieces text some long)
       ]
 
-  -- a text of bytes is enciphered to bytes
+  -- a text of bytes is encrypted to bytes
   pub cs3_encrypted-AreBytes : (text : List ℕ) → AreBytes text → 16 ≤ length text → AreBytes (cs3_encrypted encipher iv text)
   cs3_encrypted-AreBytes text text_bytes some =
       elim (cases_eq (length text) 16) [

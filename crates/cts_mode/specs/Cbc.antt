@@ -3,16 +3,16 @@ use Rattle.std.specs.Prelude.{ℕ, zero, suc, List}
 use Rattle.byte_words.specs.Xor.{xor_bytes}
 use Rattle.byte_words.specs.Blocks.{block_at}
 
--- C_0 is the iv, and C_j the enciphered xor of P_j with C_(j-1)
+-- C_0 is the iv, and C_j the encrypted xor of P_j with C_(j-1)
 unfoldable pub cbc_block : (List ℕ → List ℕ) → List ℕ → List ℕ → ℕ → List ℕ
 cbc_block encipher iv text zero = iv
 cbc_block encipher iv text (suc j) = encipher (xor_bytes (block_at 16 text j) (cbc_block encipher iv text j))
 
--- the block before block j of a ciphertext; before the first one stands the iv
+-- the block before block j of a ciphertext; before the first one is the iv
 abbrev pub block_before : List ℕ → List ℕ → ℕ → List ℕ
 block_before iv text zero = iv
 block_before iv text (suc j) = block_at 16 text j
 
--- block j of the plain text: the deciphered block xor the block before it
+-- block j of the plain text: the decrypted block xor the block before it
 unfoldable pub plain_block : (List ℕ → List ℕ) → List ℕ → List ℕ → ℕ → List ℕ
 plain_block decipher iv text j = xor_bytes (decipher (block_at 16 text j)) (block_before iv text j)

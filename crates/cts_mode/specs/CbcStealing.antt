@@ -16,14 +16,14 @@ abbrev pub stealing : (List ℕ → List ℕ) → List ℕ → List ℕ → ℕ 
 stealing encipher iv text m =
     swapped_and_cut (cbc_block encipher iv (zero_filled (16 * m) text)) m (length text)
 
--- one block is one block of CBC; of more, the last two are swapped, also where the last one is whole
+-- one block is one block of CBC; of more, the last two are swapped, also if the last one is whole
 unfoldable pub cs3_encrypted : (List ℕ → List ℕ) → List ℕ → List ℕ → List ℕ
 cs3_encrypted encipher iv text =
     if length text == 16 then cbc_block encipher iv text 1
     else stealing encipher iv text (div_ceil (length text) 16)
 
--- The last piece is what is left of C_(m-1). Its other bytes stand at the end of the deciphered C_m,
--- since the last block of the text was filled with zeros.
+-- The last piece is what is left of C_(m-1). Its other bytes are at the end of the decrypted C_m, since the
+-- last block of the text was filled with zeros.
 abbrev pub unstealing : (List ℕ → List ℕ) → List ℕ → List ℕ → ℕ → List ℕ
 unstealing decipher iv text m =
     let piece = drop (16 * (m - 1)) text in

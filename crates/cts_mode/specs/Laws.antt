@@ -4,7 +4,7 @@ use Rattle.byte_words.specs.Bytes.{AreBytes}
 use Rattle.aes_core.specs.Laws.{IsBlock}
 use Rattle.cts_mode.specs.Cts.{cts_encrypted, cts_decrypted}
 
--- decryption gives back each text of at least 16 bytes that was encrypted
+-- decryption returns each text of at least 16 bytes that was encrypted
 abbrev pub DecryptionUndoes : Type 0
 DecryptionUndoes =
     (key iv text : List ℕ) → AreBytes key → IsBlock iv → AreBytes text → 16 ≤ length text

@@ -5,7 +5,7 @@ ghost use Rattle.byte_words.specs.Xor.{xor_bytes, zero_filled};
 
 use byte_words::xor_into;
 
-// The 16 bytes of the text from `at` on.
+// Returns the 16 bytes of the text from `at` on.
 pub(crate) fn block_from(text: &[u8], at: usize) -> [u8; 16]
     requires { at + 16 ≤ length text.now }
     ensures { result ≡ between at (at + 16) text.now }
@@ -15,7 +15,7 @@ pub(crate) fn block_from(text: &[u8], at: usize) -> [u8; 16]
     block
 }
 
-// The piece with zeros after it.
+// Returns the piece with zeros after it.
 pub(crate) fn filled(piece: &[u8]) -> [u8; 16]
     requires { length piece.now ≤ 16 }
     ensures { result ≡ zero_filled 16 piece.now }
@@ -23,7 +23,7 @@ pub(crate) fn filled(piece: &[u8]) -> [u8; 16]
     whole(piece, [0; 16])
 }
 
-// The piece with the rest of the block after it.
+// Returns the piece with the rest of the block after it.
 pub(crate) fn whole(piece: &[u8], mut block: [u8; 16]) -> [u8; 16]
     requires { length piece.now ≤ 16 }
     ensures { result ≡ piece.now ++ drop (length piece.now) block }

@@ -7,7 +7,7 @@ ghost use Rattle.cts_mode.specs.Cbc.{cbc_block, plain_block};
 use crate::blocks::{block_from, xor};
 use aes_core::Aes256;
 
-// Enciphers the text, and tells the last block, or the iv where there is none.
+// Encrypts the text in place. Returns the last block, or the iv if there is none.
 pub(crate) fn chain(key: &Aes256, iv: [u8; 16], text: &mut [u8]) -> [u8; 16]
     requires whole_blocks { length text.old % 16 ≡ 0 }
     ensures blocks { text.new ≡ first_blocks
@@ -22,7 +22,7 @@ pub(crate) fn chain(key: &Aes256, iv: [u8; 16], text: &mut [u8]) -> [u8; 16]
     previous
 }
 
-// Deciphers the text.
+// Decrypts the text in place.
 pub(crate) fn unchain(key: &Aes256, iv: [u8; 16], text: &mut [u8])
     requires whole_blocks { length text.old % 16 ≡ 0 }
     ensures { text.new

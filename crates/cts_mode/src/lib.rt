@@ -13,7 +13,7 @@ use blocks::{block_from, filled, whole, xor};
 use byte_words::xor_into;
 use chain::{chain, unchain};
 
-/// Enciphers `text`, of at least 16 bytes, in place; its length stays.
+/// Encrypts `text`, of at least 16 bytes, in place; its length stays.
 pub fn cts_encrypt(key: &Aes256, iv: [u8; 16], text: &mut [u8])
     requires one_block { 16 ≤ length text.old }
     ensures { text.new ≡ cts_encrypted key.now iv text.old }
@@ -30,7 +30,7 @@ pub fn cts_encrypt(key: &Aes256, iv: [u8; 16], text: &mut [u8])
     blocks[end - 16..].copy_from_slice(&final_block);
 }
 
-/// Deciphers `text`, of at least 16 bytes, in place: the inverse of `cts_encrypt`, for every text.
+/// Decrypts `text`, of at least 16 bytes, in place: the inverse of `cts_encrypt`, for every text.
 pub fn cts_decrypt(key: &Aes256, iv: [u8; 16], text: &mut [u8])
     requires one_block { 16 ≤ length text.old }
     ensures { text.new ≡ cts_decrypted key.now iv text.old }
@@ -48,8 +48,8 @@ pub fn cts_decrypt(key: &Aes256, iv: [u8; 16], text: &mut [u8])
     unchain(key, iv, blocks);
 }
 
-/// Does nothing. Its contract is the law that decryption undoes encryption, for every key, iv and
-/// text of at least 16 bytes, that encryption makes bytes of bytes, and that both keep the length.
+/// Does nothing. Its contract is the law that decryption undoes encryption, for every key, iv and text of
+/// at least 16 bytes, that encryption makes bytes of bytes, and that neither changes the length.
 pub fn decryption_undoes_encryption()
     ensures decrypted { DecryptionUndoes }
     ensures bytes { EncryptsToBytes }

@@ -1,4 +1,4 @@
--- Lists of blocks of which some are made anew, and the stored blocks after a piece was written.
+-- Lists of blocks of which some are made again, and the stored blocks after a piece was written.
 use Rattle.std.proofs.Common.{◌≡◌, ◌⊎◌, ℕ, zero, suc, ◌+◌, ◌-◌, ◌*◌, ◌<◌, ◌≤◌, ◌&&◌, Bool, true, false, cond, List, [], ◌++◌, length, get_or, set, replicate, inl, inr, refl, ap, sym, ◌∙◌, arith, length-append}
 use Rattle.std.specs.Prelude.{max, nat_le, nat_lt, Option}
 use Rattle.std.proofs.lemmas.Bool.{cases_lt, cases_eq, le-ltb, lt-ltb, le-leb, lt-leb}
@@ -17,7 +17,7 @@ either : {A : Type 0} (b : Bool) (x y : A) → cond (b && false) x y ≡ y
 either true x y = refl
 either false x y = refl
 
--- ---- some blocks made anew
+-- ---- some blocks made again
 
 module _ (made : ℕ → List ℕ → List ℕ) (first : ℕ) where
   pub length-edited : (end : ℕ) (blocks : List (List ℕ)) → length (edited made first end blocks) ≡ length blocks
@@ -55,7 +55,7 @@ module _ (made : ℕ → List ℕ → List ℕ) (first : ℕ) where
         | inr behind ↦ edited_after first blocks j low behind
       ])
 
-  -- the next block is made anew
+  -- the next block is made again
   pub edited_more : (j : ℕ) (blocks : List (List ℕ)) (block : List ℕ) → first ≤ j → j < length blocks → block ≡ made j (get_or (edited made first j blocks) j []) →
       set (edited made first j blocks) j block ≡ edited made first (j + 1) blocks
   edited_more j blocks block from low is =

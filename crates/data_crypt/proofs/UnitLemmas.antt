@@ -64,7 +64,7 @@ module _ (unit : DataUnit) (block : List ℕ) (size : length block ≡ 4096) whe
   length-by_units cipher first sizes =
       length-first_blocks_below (unit_bytes unit) (unit_by cipher unit first block) (unit_count unit) (length-unit_by cipher first sizes) ∙ units_whole unit
 
-  -- one more unit is passed and written over; its size is told by a call
+  -- one more unit is passed and replaced; a call returns its size
   pub one_more_unit : (cipher : ℕ → List ℕ → List ℕ) (first : ℕ) → ((index : ℕ) (x : List ℕ) → length x % 16 ≡ 0 → length (cipher index x) ≡ length x) →
       (now made : List ℕ) (width i : ℕ) → width ≡ unit_bytes unit → i < 4096 / width →
       now ≡ first_blocks (unit_by cipher unit first block) i ++ drop (unit_bytes unit * i) block → made ≡ cipher (first + i) (between (width * i) (width * i + width) now) →

@@ -80,7 +80,7 @@ plain_block-with_bytes at bytes contents j =
     sym (same_plain (with_bytes at bytes contents) (block_with at bytes j (plain_block contents j)) j (length-block_with at bytes j (plain_block contents j) (length-plain_block contents j))
     (λ i low. each_byte at bytes contents j i low))
 
--- a block before the bytes, and one behind them, is as it was
+-- a block before the bytes, and one after them, is as it was
 pub plain_untouched : (at : ℕ) (bytes contents : List ℕ) (j : ℕ) → (4096 * j + 4096 ≤ at) ⊎ (at + length bytes ≤ 4096 * j) → plain_block contents j ≡ plain_block (with_bytes at bytes contents) j
 plain_untouched at bytes contents j apart =
     same_plain (with_bytes at bytes contents) (plain_block contents j) j (length-plain_block contents j)

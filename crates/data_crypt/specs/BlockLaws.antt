@@ -1,4 +1,4 @@
--- What holds of sealed blocks for every key and unit.
+-- What holds of encrypted blocks for every key and unit.
 use Rattle.std.specs.Prelude.{◌≡◌, ℕ, List, length}
 use Rattle.mount_limits.specs.declared.TheConstants.{BLOCK_SIZE}
 use Rattle.byte_words.specs.Bytes.{AreBytes}
@@ -10,13 +10,13 @@ pub record IsContentsBlock (block : List ℕ) : Type 0 where
   pub size : length block ≡ BLOCK_SIZE
   pub bytes : AreBytes block
 
--- opening gives back each block that was sealed
+-- opening returns each block that was sealed
 abbrev pub OpeningUndoes : Type 0
 OpeningUndoes =
     (key : List ℕ) (unit : DataUnit) (first : ℕ) (block : List ℕ) → AreBytes key → IsContentsBlock block →
     opened_block key unit first (sealed_block key unit first block) ≡ block
 
--- sealing gives back each block that was opened
+-- sealing returns each block that was opened
 abbrev pub SealingUndoes : Type 0
 SealingUndoes =
     (key : List ℕ) (unit : DataUnit) (first : ℕ) (block : List ℕ) → AreBytes key → IsContentsBlock block →

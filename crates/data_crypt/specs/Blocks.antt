@@ -8,18 +8,18 @@ use Rattle.byte_words.specs.Xor.{zero_filled}
 use Rattle.policy_ctx.specs.declared.policy.Unit.{Unit as DataUnit}
 use Rattle.data_crypt.specs.Units.{unit_count, sealed_block, opened_block}
 
--- what a file's contents are sealed with: the bytes of a key, the index at which its units start,
--- and their size
+-- what a file's contents are encrypted with: the bytes of a key, the index at which its units start, and
+-- their size
 pub record Seal : Type 0 where
   pub key : List ℕ
   pub start : ℕ
   pub unit : DataUnit
 
--- what is left of it where it stands, once its key is overwritten with zeros
+-- what is left of it in place once its key is wiped with zeros
 abbrev pub wiped : Seal → Seal
 wiped seal = record { key = replicate 64 0; start = seal.start; unit = seal.unit }
 
--- nothing, where there was none
+-- nothing, if there was none
 unfoldable pub wiped_seal : Option Seal → Option Seal
 wiped_seal None = None
 wiped_seal (Some seal) = Some (wiped seal)
@@ -36,7 +36,7 @@ block_count contents = div_ceil (length contents) BLOCK_SIZE
 unfoldable pub plain_block : List ℕ → ℕ → List ℕ
 plain_block contents j = zero_filled BLOCK_SIZE (block_at BLOCK_SIZE contents j)
 
--- what is stored of block j: under a key it is sealed, without one it stays plain
+-- what is stored of block j: under a key it is encrypted, without one it stays plain
 unfoldable pub stored_block : Option Seal → ℕ → List ℕ → List ℕ
 stored_block None j block = block
 stored_block (Some seal) j block = sealed_block seal.key seal.unit (first_index seal j) block

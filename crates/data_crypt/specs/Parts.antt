@@ -11,7 +11,7 @@ use Rattle.data_crypt.specs.Blocks.{Seal, read_block}
 abbrev pub place_in : ℕ → ℕ → ℕ
 place_in at j = min BLOCK_SIZE (at - BLOCK_SIZE * j)
 
--- those of them that fall into the block
+-- the part of the bytes that is in the block
 abbrev pub part_in : ℕ → List ℕ → ℕ → List ℕ
 part_in at bytes j = take (BLOCK_SIZE - place_in at j) (drop (BLOCK_SIZE * j - at) bytes)
 
@@ -19,24 +19,24 @@ part_in at bytes j = take (BLOCK_SIZE - place_in at j) (drop (BLOCK_SIZE * j - a
 unfoldable pub block_with : ℕ → List ℕ → ℕ → List ℕ → List ℕ
 block_with at bytes j block = spliced block (place_in at j) (part_in at bytes j)
 
--- the blocks from `first` on and before `end` made anew, each with its number; the others stay
+-- the blocks from `first` on and before `end` made again, each with its number; the others stay
 unfoldable pub edited : (ℕ → List ℕ → List ℕ) → ℕ → ℕ → List (List ℕ) → List (List ℕ)
 edited made first end blocks =
     map (λ j. if nat_le first j && nat_lt j end then made j (slice_index_or blocks j [])
     else slice_index_or blocks j []) (range_with_len 0 (length blocks))
 
--- block j stored anew with its part of the bytes, where the file had so many blocks before: one of
--- those is read first, and a new one is plain zeros
+-- block j stored again with its part of the bytes, if the file had `had` blocks before: one of those is
+-- read first, and a new one is plain zeros
 unfoldable pub rewritten : (ℕ → List ℕ → List ℕ) → (ℕ → List ℕ → List ℕ) → ℕ → ℕ → List ℕ → ℕ → List ℕ
     → List ℕ
 rewritten store read had at bytes j block =
     store j (block_with at bytes j (if nat_lt j had then read j block else block))
 
--- so many stored blocks from one on, side by side
+-- `count` stored blocks from block `from` on, side by side
 unfoldable pub blocks_joined : List (List ℕ) → ℕ → ℕ → List ℕ
 blocks_joined blocks from count = first_blocks (λ i. slice_index_or blocks (from + i) []) count
 
--- what such blocks hide
+-- the plain text of such blocks
 unfoldable pub opened_text : Option Seal → ℕ → List ℕ → List ℕ
 opened_text seal from text =
     first_blocks (λ i. read_block seal (from + i) (block_at BLOCK_SIZE text i)) (length text / BLOCK_SIZE)

@@ -1,4 +1,4 @@
--- A block of contents in data units: each is enciphered by itself, under an index of its own.
+-- A block of contents in data units: each is encrypted on its own, under an index of its own.
 use Rattle.std.specs.Prelude.{ℕ, ◌+◌, ◌/◌, List}
 use Rattle.mount_limits.specs.declared.TheConstants.{BLOCK_SIZE}
 use Rattle.byte_words.specs.Blocks.{block_at, first_blocks}
@@ -10,12 +10,12 @@ use Rattle.policy_ctx.specs.Policy.{unit_bytes}
 abbrev pub unit_count : DataUnit → ℕ
 unit_count unit = BLOCK_SIZE / unit_bytes unit
 
--- a block of which unit i is passed through the cipher with index first + i
+-- a block whose unit i is passed through the cipher with index first + i
 unfoldable pub by_units : (ℕ → List ℕ → List ℕ) → DataUnit → ℕ → List ℕ → List ℕ
 by_units cipher unit first block =
     first_blocks (λ i. cipher (first + i) (block_at (unit_bytes unit) block i)) (unit_count unit)
 
--- a block under a key, by XTS-AES-256, and the block that such a block hides
+-- a block encrypted under a key, by XTS-AES-256, and the decrypted block
 abbrev pub sealed_block : List ℕ → DataUnit → ℕ → List ℕ → List ℕ
 sealed_block key unit first block = by_units (xts_encrypted key) unit first block
 

@@ -10,7 +10,8 @@ use policy_ctx::Unit;
 use xts_mode::XtsKey;
 
 impl FileCipher {
-    /// Room for round keys: those of 64 zeros, with units of a block that start at 0.
+    /// Returns a buffer for round keys: it has those of 64 zeros, and units of one block that start at
+    /// index 0.
     pub fn zeros() -> FileCipher
         ensures { cipher_seal result ≡ record { key = replicate 64 0; start = 0; unit = Unit.Block } }
     {
@@ -21,7 +22,7 @@ impl FileCipher {
         }
     }
 
-    // The index of the first unit of the block. No file reaches the next multiple of 2^32.
+    // Returns the index of the first unit of the block. No file reaches the next multiple of 2^32.
     fn first_index(&self, index: u32) -> u64
         requires { index < 2 ^ 20 }
         ensures value { result ≡ first_index (cipher_seal self.now) index }
@@ -31,8 +32,8 @@ impl FileCipher {
     }
 }
 
-/// Stores a plain block of 4,096 bytes as block `index` of the file, in place. Without a cipher it stays
-/// plain. `index` is below 2^20.
+/// Encrypts a plain block of 4,096 bytes in place, as block `index` of the file is stored. Without a cipher
+/// it stays plain. `index` is below 2^20.
 #[tactic(auto, unfolding(crate::specs::Blocks::stored_block))]
 pub fn store_block(cipher: &Option<FileCipher>, index: u32, block: &mut [u8])
     requires block_size { length block.old ≡ BLOCK_SIZE }
@@ -44,8 +45,8 @@ pub fn store_block(cipher: &Option<FileCipher>, index: u32, block: &mut [u8])
     }
 }
 
-/// Reads what is stored as block `index` of the file, 4,096 bytes, in place. Without a cipher it is plain.
-/// `index` is below 2^20.
+/// Decrypts in place what is stored as block `index` of the file, 4,096 bytes. Without a cipher it is
+/// plain. `index` is below 2^20.
 #[tactic(auto, unfolding(crate::specs::Blocks::read_block))]
 pub fn read_block(cipher: &Option<FileCipher>, index: u32, block: &mut [u8])
     requires block_size { length block.old ≡ BLOCK_SIZE }
@@ -57,7 +58,7 @@ pub fn read_block(cipher: &Option<FileCipher>, index: u32, block: &mut [u8])
     }
 }
 
-/// Overwrites the round keys where they stand, where there are any. They are then those of 64 zeros.
+/// Wipes the round keys in place, if there are any. They are those of 64 zeros afterwards.
 #[tactic(auto, unfolding(crate::specs::Blocks::wiped_seal))]
 pub fn wipe_cipher(cipher: &mut Option<FileCipher>)
     ensures { seal_by cipher.new ≡ wiped_seal (seal_by cipher.old) }

@@ -1,5 +1,5 @@
-//! Blocks of file contents: sealed and opened under a file's key, stored and read by a file's cipher, and
-//! changed in a part.
+//! Blocks of file contents: encrypted and decrypted under a file's key, stored and read by a file's cipher,
+//! and changed in a part.
 #![tactic(auto)]
 
 mod cipher;
@@ -18,8 +18,8 @@ pub use mount_limits::BLOCK_SIZE;
 use policy_ctx::Unit;
 use xts_mode::XtsKey;
 
-/// Encrypts a block of 4,096 bytes in place, by XTS-AES-256, in data units. Unit i of the block has
-/// the index `first` + i; `first` is at most 2^64 - 8.
+/// Encrypts a block of 4,096 bytes in place, by XTS-AES-256, in data units. Unit i of the block has the
+/// index `first` + i; `first` is at most 2^64 - 8.
 pub fn seal_block(key: &XtsKey, unit: Unit, first: u64, block: &mut [u8])
     requires block_size { length block.old ≡ BLOCK_SIZE }
     requires room { first ≤ 2 ^ 64 - 8 }
@@ -44,7 +44,7 @@ pub fn open_block(key: &XtsKey, unit: Unit, first: u64, block: &mut [u8])
     }
 }
 
-/// Puts `piece` at byte `at` of a plain block of 4,096 bytes. All else stays.
+/// Writes `piece` at byte `at` of a plain block of 4,096 bytes. The other bytes stay.
 pub fn splice(block: &mut [u8], at: usize, piece: &[u8])
     requires block_size { length block.old ≡ BLOCK_SIZE }
     requires fits { at + length piece.now ≤ BLOCK_SIZE }
@@ -53,8 +53,8 @@ pub fn splice(block: &mut [u8], at: usize, piece: &[u8])
     block[at..at + piece.len()].copy_from_slice(piece);
 }
 
-/// Puts that part of `bytes` into the plain block which falls into it: `bytes` are written from byte
-/// `offset` of the file on, and the block is its block `index`. All else stays.
+/// Writes into block `index` of a file, in plain, its part of `bytes`, which are written from byte `offset`
+/// of the file on. The other bytes stay.
 #[tactic(auto, unfolding(crate::specs::Parts::block_with))]
 pub fn put_part(block: &mut [u8], index: u32, offset: u32, bytes: &[u8])
     requires block_size { length block.old ≡ BLOCK_SIZE }

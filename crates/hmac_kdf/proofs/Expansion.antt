@@ -10,13 +10,13 @@ use Rattle.byte_words.specs.Xor.{zero_filled}
 use Rattle.hmac_kdf.specs.Hkdf.{salt_or_zeros, extracted, okm_block, okm_blocks}
 use lib.Seq.{paste, take-length, take-append-add, drop-append-add, take-append_seam, drop-drop}
 
--- (i + 1) * n, and the part of it that lies below len
+-- (i + 1) * n, and the part of it that is below len
 pub piece_end : (len n i at : ℕ) → at ≡ i * n → at < len → min len ((i + 1) * n) ≡ at + min n (len - at)
 piece_end len n i at e room =
     let more : (i + 1) * n ≡ i * n + n = rw (add-one, suc-mul) refl in
     omega arith
 
--- a piece written behind what stands already
+-- a piece written after what is there already
 pub pasted-next : (d s t : List ℕ) (k : ℕ)
     → paste (paste d 0 s (length s)) (length s) t k ≡ paste d 0 (s ++ t) (length s + k)
 pasted-next d s t k =
@@ -28,7 +28,7 @@ pasted-next d s t k =
     ∙ sym (ap (λ n. take (length s + k) (s ++ t) ++ drop n d) (zero-add (length s + k))
     ∙ ap (λ l. l ++ drop (length s + k) d) (take-append-add s t k))
 
--- the next piece, cut where the output ends
+-- the next piece, cut at the end of the output
 pub written-more : (d s t : List ℕ) (n i : ℕ) → length s ≡ i * n → length t ≡ n → i * n < length d
     → paste (paste d 0 s (min (length d) (i * n))) (i * n) t (min (length t) (length d - i * n))
     ≡ paste d 0 (s ++ t) (min (length d) ((i + 1) * n))
@@ -87,7 +87,7 @@ pub okm_blocks-next : (h : Hash) (key info : List ℕ) (i : ℕ)
 unfolding okm_blocks
 okm_blocks-next h key info i = rw add-one refl
 
--- the rest of a block is the rest behind its first part
+-- the rest of a block is the rest after its first part
 sub-zero_sum : (size block len : ℕ) → len ≡ size → size ≤ block → block - 0 ≡ size + (block - len)
 sub-zero_sum size block len e h = omega arith
 
@@ -105,7 +105,7 @@ block_key-salt h [] small =
     ∙ filled ∙ ap (λ b. zero_filled h.block (if b then h.digest zeros else zeros)) (sym short)
 block_key-salt h (x ∷ xs) small = refl
 
--- a key drawn under no salt is that under a salt of zeros
+-- a key extracted under no salt is that under a salt of zeros
 pub extracted-salt : (h : Hash) (salt ikm : List ℕ) → h.size ≤ h.block → hmac_with h salt ikm ≡ extracted h salt ikm
 unfolding hmac_with extracted
 extracted-salt h salt ikm small =
@@ -115,7 +115,7 @@ extracted-salt h salt ikm small =
 pub extracted-alone : (h : Hash) (salt ikm : List ℕ) → h.size ≤ h.block → hmac_with h salt (ikm ++ []) ≡ extracted h salt ikm
 extracted-alone h salt ikm small = ap (hmac_with h salt) (append-nil ikm) ∙ extracted-salt h salt ikm small
 
--- what stands after the first i pieces of n bytes: the last block, and the blocks written over the start
+-- the state after the first i pieces of n bytes: the last block, and the blocks written over the start
 pub record IsExpanding (h : Hash) (key info start out block : List ℕ) (filled i n : ℕ) : Type 0 where
   pub last : take filled block ≡ okm_block h key info i
   pub whole : length (okm_blocks h key info i) ≡ i * n

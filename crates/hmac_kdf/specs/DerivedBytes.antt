@@ -1,4 +1,4 @@
--- That all that a hash function derives is bytes, whatever it is derived from.
+-- Everything that a hash function derives is bytes, whatever it is derived from.
 use Rattle.std.specs.Prelude.{ℕ, List}
 use Rattle.byte_words.specs.Bytes.{AreBytes}
 use Rattle.hmac_kdf.specs.Hmac.{Hash, hmac_with}

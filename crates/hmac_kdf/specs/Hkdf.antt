@@ -3,7 +3,7 @@ use Rattle.std.specs.Prelude.{ℕ, zero, suc, List, [], ◌∷◌, ◌++◌, tak
 use Rattle.std.specs.Int.{div_ceil}
 use Rattle.hmac_kdf.specs.Hmac.{Hash, hmac_with, hash_sha256, hash_sha512}
 
--- the salt; where none is given, it is as many zeros as a digest has bytes (2.2)
+-- the salt; if none is given, it is as many zeros as a digest has bytes (2.2)
 abbrev pub salt_or_zeros : Hash → List ℕ → List ℕ
 salt_or_zeros h [] = replicate h.size 0
 salt_or_zeros h (s ∷ salt) = s ∷ salt
@@ -17,13 +17,12 @@ unfoldable pub okm_block : Hash → List ℕ → List ℕ → ℕ → List ℕ
 okm_block h prk info zero = []
 okm_block h prk info (suc i) = hmac_with h prk (okm_block h prk info i ++ info ++ suc i ∷ [])
 
--- T(1), T(2), up to T(n), one behind the other (2.3)
+-- T(1), T(2), up to T(n), one after the other (2.3)
 unfoldable pub okm_blocks : Hash → List ℕ → List ℕ → ℕ → List ℕ
 okm_blocks h prk info zero = []
 okm_blocks h prk info (suc n) = okm_blocks h prk info n ++ okm_block h prk info (suc n)
 
--- HKDF-Expand: the first len bytes of T(1) to T(N), where N is len over the digest's length, rounded
--- up (2.3)
+-- HKDF-Expand: the first len bytes of T(1) to T(N); N is len over the digest's length, rounded up (2.3)
 unfoldable pub expanded : Hash → List ℕ → List ℕ → ℕ → List ℕ
 expanded h prk info len = take len (okm_blocks h prk info (div_ceil len h.size))
 

@@ -30,7 +30,7 @@ block_key h key = zero_filled h.block (if nat_lt h.block (length key) then h.dig
 abbrev pub xor_each : ℕ → List ℕ → List ℕ
 xor_each byte bytes = map (λ b. bit_xor b byte) bytes
 
--- H(K xor opad, H(K xor ipad, message)), where ipad is the byte 0x36 and opad the byte 0x5c
+-- H(K xor opad, H(K xor ipad, message)); ipad is the byte 0x36 and opad the byte 0x5c
 unfoldable pub hmac_with : Hash → List ℕ → List ℕ → List ℕ
 hmac_with h key message =
     h.digest (xor_each 0x5c (block_key h key) ++ h.digest (xor_each 0x36 (block_key h key) ++ message))

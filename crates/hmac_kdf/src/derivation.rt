@@ -1,4 +1,4 @@
-//! HKDF: a short key drawn from the key material, and stretched to any length.
+//! HKDF: a short key extracted from the key material, and expanded to up to 255 digests.
 
 ghost use Rattle.std.specs.Prelude.{◌≡◌, ◌++◌, ◌*◌, ◌<◌, ◌≤◌, ◌^◌, ◌-◌, ◌∷◌, [], ℕ, List, length, min};
 ghost use Rattle.hmac_kdf.specs.Hmac.{block_key, hash_of, xor_each};
@@ -9,7 +9,7 @@ use crate::hash::BlockHash;
 use crate::keyed::{Keyed, mac};
 use byte_words::wipe;
 
-// HKDF: extract, then expand, into the whole of `out`.
+// HKDF: extracts, then expands into the whole of `out`.
 #[tactic(auto, unfolding(crate::specs::Hkdf::hkdf_with))]
 pub(crate) fn derive<H, const B: usize, const N: usize>(
     salt: &[u8],
@@ -31,7 +31,7 @@ where
     expand::<H, B, N>(&keyed, info, out);
 }
 
-// HKDF-Extract. An empty salt stands for none.
+// HKDF-Extract. An empty salt means none.
 pub(crate) fn extract<H, const B: usize, const N: usize>(salt: &[u8], ikm: &[u8]) -> [u8; N]
 where
     H: BlockHash<B, N>,
@@ -42,8 +42,8 @@ where
     mac::<H, B, N>(salt, ikm, &[])
 }
 
-// HKDF-Expand under the key that the two hashers have taken: the blocks T(1), T(2) and so on, the
-// last of them cut where `out` ends.
+// HKDF-Expand under the key that the two hashers have taken: the blocks T(1), T(2) and so on, the last of
+// them cut at the end of `out`.
 pub(crate) fn expand<H, const B: usize, const N: usize>(
     keyed: &Keyed<H>,
     info: &[u8],
@@ -72,7 +72,7 @@ where
     wipe(&mut block);
 }
 
-// T(i), from T(i-1) and the number i.
+// Returns T(i), from T(i-1) and the number i.
 fn next_block<H, const B: usize, const N: usize>(
     keyed: &Keyed<H>,
     previous: &[u8],
@@ -93,7 +93,7 @@ where
     mac.finish::<B, N>()
 }
 
-// Writes the bytes at the place, as far as there is room.
+// Writes the bytes at the place, as far as `out` has space.
 fn write_at(out: &mut [u8], at: usize, bytes: &[u8])
     requires { at ≤ length out.old }
     ensures { out.new ≡ paste out.old at bytes.now (min (length bytes.now) (length out.old - at)) }

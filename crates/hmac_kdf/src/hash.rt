@@ -1,5 +1,5 @@
-//! What HMAC asks of a hash function: its digests are arrays of `N` bytes, and it takes its
-//! message in blocks of `B`.
+//! What HMAC needs of a hash function: its digests are arrays of `N` bytes, and it takes its message in
+//! blocks of `B`.
 
 ghost use Rattle.std.specs.Prelude.{◌≡◌, ℕ, List};
 ghost use Rattle.sha2.specs.Sha256.{sha256};
@@ -12,8 +12,8 @@ pub(crate) trait BlockHash<const B: usize, const N: usize>: Digest<Output = [u8;
     // The digest of a message.
     ghost digest_bytes: { List ℕ → List ℕ };
 
-    // What a hasher gives is that digest, and a hasher's copy is the same hasher: HKDF keys two
-    // hashers once, and copies them for each block of its output.
+    // A hasher returns that digest, and a hasher's copy is the same hasher: HKDF keys two hashers once, and
+    // copies them for each block of its output.
     ghost computes: { (m d : List ℕ) → Self.digest_of m d → d ≡ digest_bytes m };
 
     ghost clones_exactly: { (s t : Self) → Self.is_clone s t → t ≡ s };

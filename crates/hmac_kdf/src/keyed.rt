@@ -12,7 +12,7 @@ const INNER_PAD: u8 = 0x36;
 
 const OUTER_PAD: u8 = 0x5c;
 
-// HMAC of the message `first ++ second`.
+// Returns the HMAC of the message `first ++ second`.
 #[tactic(auto, unfolding(crate::specs::Hmac::hmac_with))]
 pub(crate) fn mac<H, const B: usize, const N: usize>(
     key: &[u8],
@@ -31,7 +31,7 @@ where
     keyed.finish::<B, N>()
 }
 
-// A key's block, each byte xored with one byte of padding. The key has at most `B` bytes.
+// Returns a key's block, each byte xored with one byte of padding. The key has at most `B` bytes.
 fn padded_key<const B: usize>(key: &[u8], byte: u8) -> [u8; B]
     requires { length key.now ≤ B }
     ensures { result ≡ xor_each byte (zero_filled B key.now) }
@@ -43,8 +43,8 @@ fn padded_key<const B: usize>(key: &[u8], byte: u8) -> [u8; B]
     pad
 }
 
-// A hasher that has taken the key's block under this padding, which is overwritten. The key has at most
-// `B` bytes.
+// Returns a hasher that has taken the key's block under this padding. Wipes the padded block. The key has
+// at most `B` bytes.
 fn padded_hasher<H, const B: usize, const N: usize>(key: &[u8], byte: u8) -> H
 where
     H: BlockHash<B, N>,
@@ -66,7 +66,7 @@ pub(crate) struct Keyed<H> {
 }
 
 impl<H> Keyed<H> {
-    // An HMAC that has taken its key, and nothing of a message.
+    // Returns an HMAC that has taken its key, and nothing of a message.
     pub(crate) fn new<const B: usize, const N: usize>(key: &[u8]) -> Keyed<H>
     where
         H: BlockHash<B, N>,
@@ -112,7 +112,7 @@ impl<H> Keyed<H> {
         self.inner.update(piece);
     }
 
-    // The HMAC of the message.
+    // Returns the HMAC of the message.
     pub(crate) fn finish<const B: usize, const N: usize>(self) -> [u8; N]
     where
         H: BlockHash<B, N>,
@@ -124,7 +124,7 @@ impl<H> Keyed<H> {
         outer.finalize()
     }
 
-    // A second HMAC with the same key and message so far.
+    // Returns a second HMAC with the same key and message so far.
     pub(crate) fn copy<const B: usize, const N: usize>(&self) -> Keyed<H>
     where
         H: BlockHash<B, N>,
@@ -137,7 +137,7 @@ impl<H> Keyed<H> {
     }
 }
 
-// A hasher's copy. It lies in place, so that there is no want of memory.
+// Returns a copy of a hasher. The copy is in the value, so memory can't run out.
 fn copied<H, const B: usize, const N: usize>(hasher: &H) -> H
 where
     H: BlockHash<B, N>,

@@ -1,9 +1,9 @@
-//! A law of what is derived. The function does nothing: its contract is the law.
+//! A law of what is derived; the function does nothing, since its contract is the law.
 
 ghost use Rattle.hmac_kdf.specs.DerivedBytes.{DerivesBytes};
 ghost use Rattle.hmac_kdf.specs.Hmac.{hash_sha256, hash_sha512};
 
-/// Digests, HMACs and derived keys are bytes: so each key that is drawn is one.
+/// Digests, HMACs and derived keys are bytes: so each derived key is one.
 pub fn derived_keys_are_bytes()
     ensures sha256 { DerivesBytes hash_sha256 }
     ensures sha512 { DerivesBytes hash_sha512 }

@@ -1,4 +1,4 @@
-//! HKDF-SHA512 in its two halves, for whoever draws much from one secret.
+//! HKDF-SHA512 in its two halves, for callers that derive much from one secret.
 
 ghost use Rattle.std.specs.Prelude.{◌≡◌, ◌≤◌, ◌*◌, ℕ, List, length};
 ghost use Rattle.hmac_kdf.specs.Hmac.{hash_sha512};
@@ -11,9 +11,9 @@ use byte_words::wipe;
 use sha2::Sha512;
 use std::marker::Model;
 
-/// The pseudorandom key of HKDF-SHA512 (RFC 5869, 2.2), with the two hashers of an HMAC that have
-/// taken it. To draw up to 64 bytes then hashes two blocks in place of eight. It is as secret as what it
-/// was extracted from.
+/// The pseudorandom key of HKDF-SHA512 (RFC 5869, 2.2), with the two hashers of an HMAC that have taken it.
+/// Deriving up to 64 bytes then hashes two blocks in place of eight. It is as secret as the key material
+/// that it was extracted from.
 #[derive(Drop)]
 pub struct Prk512 {
     key: [u8; 64],
@@ -29,7 +29,7 @@ impl Model for Prk512 {
 }
 
 impl Prk512 {
-    /// HKDF-Extract (RFC 5869, 2.2). An empty salt stands for none.
+    /// HKDF-Extract (RFC 5869, 2.2): returns the pseudorandom key. An empty salt means none.
     pub fn extract(salt: &[u8], ikm: &[u8]) -> Prk512
         ensures { result ≡ extracted hash_sha512 salt.now ikm.now }
     {
@@ -40,7 +40,7 @@ impl Prk512 {
         prk
     }
 
-    /// The same in place: the key before is overwritten where it stands.
+    /// The same in place: wipes the key before and replaces it.
     pub fn replace(&mut self, salt: &[u8], ikm: &[u8])
         ensures { self.new ≡ extracted hash_sha512 salt.now ikm.now }
     {

@@ -13,12 +13,12 @@ use std::slice;
 /// A list of bytes.
 pub type Bytes = Items<u8>;
 
-/// A list, which grows and shrinks at its end. In clauses it is the list of its items.
+/// A list that grows and shrinks at its end. In clauses it is the list of its items.
 pub struct Items<T: Drop> {
     items: Vec<T>,
 }
 
-// Written, and not derived, so that a crate that lets one go needn't prove how that is done.
+// Written, and not derived, so that a crate that drops a list needn't prove how that is done.
 impl<T: Drop> Drop for Items<T> {
     fn drop(self) {
         let Items { items: _ } = self;
@@ -32,7 +32,7 @@ impl<T: Drop> Model for Items<T> {
 }
 
 impl<T: Drop> Items<T> {
-    /// The empty list. It takes no memory before the first push.
+    /// Returns the empty list. Allocates nothing before the first push.
     pub fn new(alloc: Global) -> Self
         ensures { result ≡ [] }
     {
@@ -41,14 +41,14 @@ impl<T: Drop> Items<T> {
         }
     }
 
-    /// The items of the vector, in its own memory.
+    /// Returns a list of the items of the vector, in its own memory.
     pub fn from_vec(items: Vec<T>) -> Self
         ensures { result ≡ items.items }
     {
         Items { items }
     }
 
-    /// The vector of the items, in the list's own memory.
+    /// Returns the vector of the items, in the list's own memory.
     pub fn into_vec(self) -> Vec<T>
         ensures { result.items ≡ self }
     {
@@ -56,7 +56,7 @@ impl<T: Drop> Items<T> {
         items
     }
 
-    /// Puts the item behind the others. After want of memory the list is as before.
+    /// Appends the item. After an error, which is out of memory, the list is as before.
     pub fn push(&mut self, item: T) -> Result<(), AllocError>
         ensures appended { OnOk result (self.new ≡ self.old ++ item ∷ []) }
         ensures kept { OnErr result (self.new ≡ self.old) }
@@ -65,7 +65,7 @@ impl<T: Drop> Items<T> {
         Ok(())
     }
 
-    /// Takes the last item away; `None` where there is none.
+    /// Removes the last item and returns it, or returns `None` if there is none.
     pub fn pop(&mut self) -> Option<T>
         ensures last { IfSome result (λ item. self.old ≡ self.new ++ item ∷ []) }
         ensures empty { IfNone result ((self.old ≡ []) × (self.new ≡ [])) }
@@ -73,35 +73,35 @@ impl<T: Drop> Items<T> {
         self.items.pop()
     }
 
-    /// How many items the list has.
+    /// Returns how many items the list has.
     pub fn len(&self) -> usize
         ensures { result ≡ length self.now }
     {
         self.items.len()
     }
 
-    /// Whether the list has no item.
+    /// Returns whether the list has no item.
     pub fn is_empty(&self) -> bool
         ensures { IsTrue result ↔ (self.now ≡ []) }
     {
         self.items.is_empty()
     }
 
-    /// The item at the index, counted from 0; `None` from the length on.
+    /// Returns the item at the index, counted from 0, or `None` from the length on.
     pub fn get(&self, index: usize) -> Option<&T>
         ensures { option_copied result ≡ slice_get self.now index }
     {
         self.items.get(index)
     }
 
-    /// The items as a slice.
+    /// Returns the items as a slice.
     pub fn as_slice(&self) -> &[T]
         ensures { result.now ≡ self.now }
     {
         self.items.as_slice()
     }
 
-    /// Goes over the items, the first one first.
+    /// Returns an iterator over the items, the first one first.
     pub fn iter(&self) -> slice::Iter<'_, T>
         ensures rest { iter_rest result ≡ self.now }
         ensures bound { length (iter_rest result) < 2 ^ 64 }
@@ -112,7 +112,7 @@ impl<T: Drop> Items<T> {
 }
 
 impl Items<u8> {
-    /// A list of the same bytes, in memory of its own.
+    /// Returns a list of the same bytes, in memory of its own.
     pub fn copy(&self, alloc: Global) -> Result<Bytes, AllocError>
         ensures { IfOk result (λ copy. copy ≡ self.now) }
     {

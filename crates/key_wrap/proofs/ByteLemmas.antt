@@ -20,7 +20,7 @@ spelled xs = omega arith
 pub from_be_bytes-value : (xs : List ℕ) → length xs ≡ 16 → from_be_bytes w128 xs ≡ big_endian_value xs
 from_be_bytes-value xs size = spelled xs ∙ ap big_endian_value (listed xs size)
 
--- what stands past the length of the first list does not matter
+-- the bytes past the length of the first list make no difference
 pub xor_bytes-longer : (xs ys zs : List ℕ) → length xs ≤ length ys → xor_bytes xs (ys ++ zs) ≡ xor_bytes xs ys
 unfolding xor_bytes
 xor_bytes-longer [] ys zs long = refl

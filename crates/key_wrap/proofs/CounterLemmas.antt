@@ -16,7 +16,7 @@ keystream-long encipher iv len sizes =
     length-first_blocks 16 (λ j. encipher (counter_block iv j)) (div_ceil len 16) (λ j. sizes (counter_block iv j)) in
     omega (arith, div_ceil_times len 16 (omega arith))
 
--- a longer stream, cut where the text ends, does the same
+-- a longer stream, cut at the end of the text, does the same
 pub counter_mode-cut : (encipher : List ℕ → List ℕ) (iv text rest : List ℕ) → ((x : List ℕ) → length (encipher x) ≡ 16) →
     xor_bytes text (take (length text) (keystream encipher iv (length text) ++ rest)) ≡ counter_mode encipher iv text
 unfolding counter_mode

@@ -10,7 +10,7 @@ use Rattle.key_wrap.specs.CounterMode.{counter_mode}
 unfoldable pub stretched_key : List ℕ → List ℕ
 stretched_key key = hkdf_sha256 [] key [] 64
 
--- the first 32 bytes encipher
+-- the first 32 bytes encrypt
 unfoldable pub cipher_key : List ℕ → List ℕ
 cipher_key key = take 32 (stretched_key key)
 
@@ -18,12 +18,12 @@ cipher_key key = take 32 (stretched_key key)
 unfoldable pub tag_key : List ℕ → List ℕ
 tag_key key = drop 32 (stretched_key key)
 
--- room for both keys, as the code holds them: other bytes may stand in it too, such as zeros
+-- a buffer for both keys, as the code holds them: it may contain other bytes too, such as zeros
 pub record TwoKeys : Type 0 where
   pub cipher : List ℕ
   pub tag_key : List ℕ
 
--- AES-256 in counter mode, which enciphers and deciphers
+-- AES-256 in counter mode, which encrypts and decrypts
 unfoldable pub ciphered : List ℕ → List ℕ → List ℕ → List ℕ
 ciphered key iv text = counter_mode (encrypted_block (cipher_key key)) iv text
 
@@ -35,7 +35,7 @@ tag_of key iv ciphertext = hmac_sha256 (tag_key key) (iv ++ ciphertext)
 unfoldable pub wrapped_secret : List ℕ → List ℕ → List ℕ → List ℕ × List ℕ
 wrapped_secret key iv secret = (ciphered key iv secret, tag_of key iv (ciphered key iv secret))
 
--- the secret, where the tag is that of the iv and the ciphertext; else nothing
+-- the secret, if the tag is that of the iv and the ciphertext; else nothing
 unfoldable pub opened_secret : List ℕ → List ℕ → List ℕ → List ℕ → Option (List ℕ)
 opened_secret key iv ciphertext tag =
     if bytes_eq tag (tag_of key iv ciphertext) then Some (ciphered key iv ciphertext) else None

@@ -9,7 +9,7 @@ ghost use Rattle.key_wrap.specs.CounterMode.{counter_mode};
 use aes_core::Aes256;
 use byte_words::{wipe, xor_into};
 
-// Enciphers the text, or deciphers it, which is the same.
+// Encrypts the text in place, or decrypts it, which is the same.
 pub(crate) fn xor_keystream(cipher: &Aes256, iv: &[u8; 16], text: &mut [u8])
     requires { length text.old ≤ 64 }
     ensures { text.new ≡ counter_mode (encrypted_block cipher.now) iv.now text.old }
@@ -21,7 +21,7 @@ pub(crate) fn xor_keystream(cipher: &Aes256, iv: &[u8; 16], text: &mut [u8])
     wipe(&mut stream);
 }
 
-// Writes the enciphered counters, from the first one on, over the first blocks of the stream.
+// Writes the encrypted counters, from the first one on, over the first blocks of the stream.
 fn fill_keystream(cipher: &Aes256, first: u128, stream: &mut [u8; 64], blocks: usize)
     requires { blocks ≤ 4 }
     ensures { stream.new ≡ first_blocks

@@ -1,5 +1,5 @@
-//! Wrapping: a short secret enciphered and authenticated under a key of 32 bytes, as the fscrypt tool
-//! does for the keys that its protectors hold. Nothing here takes memory.
+//! Wrapping: a short secret encrypted and authenticated under a key of 32 bytes, without allocation, as the
+//! fscrypt tool does for the keys that its protectors hold.
 #![tactic(auto)]
 
 mod counter;
@@ -15,14 +15,14 @@ use byte_words::is_same;
 use hmac_kdf::hmac256;
 use thiserror::Error;
 
-/// The tag of a wrapped secret is not the one that its key, iv and ciphertext have: the key is
-/// another, or something was changed.
+/// The tag of a wrapped secret is not that of its key, iv and ciphertext: the key is another, or something
+/// was changed.
 #[derive(Clone, Copy, Debug, PartialEq, Eq, Error)]
 #[error("the tag differs")]
 pub struct TagDiffers;
 
-/// Wraps a secret of at most 64 bytes: writes its ciphertext into `out`, which has the same length,
-/// and gives the tag of 32 bytes. The same iv under the same key must not wrap two secrets.
+/// Wraps a secret of at most 64 bytes. Writes its ciphertext into `out`, which has the same length, and
+/// returns the tag of 32 bytes. The same iv under the same key must not wrap two secrets.
 pub fn wrap(key: &[u8; 32], iv: &[u8; 16], secret: &[u8], out: &mut [u8]) -> [u8; 32]
     requires fits { length secret.now ≤ 64 }
     requires same_length { length out.old ≡ length secret.now }
@@ -39,9 +39,9 @@ pub fn wrap(key: &[u8; 32], iv: &[u8; 16], secret: &[u8], out: &mut [u8]) -> [u8
     tag
 }
 
-/// Writes the secret that was wrapped into `out`, which has the same length, at most 64 bytes. Where
-/// the tag differs from that of the iv and the ciphertext, nothing is deciphered and `out` stays as
-/// it is. The tags are compared whole, whichever byte differs first.
+/// Writes the secret that was wrapped into `out`, which has the same length, at most 64 bytes. If the tag
+/// differs from that of the iv and the ciphertext, returns `TagDiffers`, decrypts nothing, and leaves `out`
+/// as it is. The tags are compared whole, whichever byte differs first.
 pub fn unwrap(
     key: &[u8; 32],
     iv: &[u8; 16],
@@ -69,8 +69,8 @@ pub fn unwrap(
     Ok(())
 }
 
-/// Does nothing. Its contract is the law that what was wrapped opens, under the same key and iv, to
-/// the secret, and that the ciphertext has the secret's length.
+/// Does nothing. Its contract is the law that what was wrapped opens, under the same key and iv, to the
+/// secret, and that the ciphertext has the secret's length.
 pub fn unwrapping_undoes_wrapping()
     ensures opens { OpensAgain }
     ensures length { LengthStays }

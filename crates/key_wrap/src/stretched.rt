@@ -1,4 +1,4 @@
-//! The two keys that a wrapping key is stretched to: one enciphers, the other authenticates.
+//! The two keys that a wrapping key is stretched to: one encrypts, the other authenticates.
 
 ghost use Rattle.std.specs.Prelude.{◌≡◌, take, drop, replicate};
 ghost use Rattle.key_wrap.specs.Wrapping.{TwoKeys, cipher_key, stretched_key, tag_key};
@@ -8,8 +8,8 @@ use byte_words::wipe;
 use hmac_kdf::hkdf256;
 use std::marker::Model;
 
-/// The two keys, made and wiped where they stand. There is no way to let them go but `end`, which asks
-/// that they were wiped.
+/// The two keys, made and wiped in place. The only way to drop them is `end`, which requires that they were
+/// wiped.
 pub(crate) struct StretchedKey {
     cipher: Aes256,
     tag_key: [u8; 32],
@@ -24,7 +24,7 @@ impl Model for StretchedKey {
 }
 
 impl StretchedKey {
-    // Room for the keys: those of zeros.
+    // Returns a buffer for the keys: those of zeros.
     pub(crate) fn zeros() -> StretchedKey
         ensures cipher { result.cipher ≡ replicate 32 0 }
         ensures tag_key { result.tag_key ≡ replicate 32 0 }
@@ -54,14 +54,14 @@ impl StretchedKey {
         self.tag_key.copy_from_slice(&stretched[32..]);
     }
 
-    // The first: it enciphers.
+    // Returns the first key, which encrypts.
     pub(crate) fn cipher(&self) -> &Aes256
         ensures { result.now ≡ self.now.cipher }
     {
         &self.cipher
     }
 
-    // The second: it authenticates.
+    // Returns the second key, which authenticates.
     pub(crate) fn tag_key(&self) -> &[u8; 32]
         ensures { result.now ≡ self.now.tag_key }
     {
@@ -77,7 +77,7 @@ impl StretchedKey {
         wipe(&mut self.tag_key);
     }
 
-    // Lets the keys go, which are zeros by then.
+    // Drops the keys, which are zeros by then.
     pub(crate) fn end(self)
         requires cipher { self.cipher ≡ replicate 32 0 }
         requires tag_key { self.tag_key ≡ replicate 32 0 }
@@ -89,7 +89,7 @@ impl StretchedKey {
     }
 }
 
-// HKDF without salt and info.
+// Writes HKDF of the key, without salt and info.
 fn stretch(key: &[u8; 32], out: &mut [u8; 64])
     ensures { out.new ≡ stretched_key key.now }
 {

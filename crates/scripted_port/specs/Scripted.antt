@@ -1,5 +1,5 @@
--- A port that answers listed replies, one after another. Behind them it refuses each call for want of memory,
--- and keeps the first of these calls.
+-- A port that answers listed replies, one after another; after them it refuses each call as out of memory,
+-- and stores the first of these calls.
 use Rattle.std.specs.Prelude.{◌≡◌, ℕ, ◌+◌, ◌-◌, Bool, List, [], ◌∷◌, drop}
 use Rattle.mount_model.specs.declared.call.Call.{Call}
 use Rattle.mount_model.specs.declared.reply.Reply.{Reply}
@@ -11,7 +11,7 @@ use Rattle.scripted_port.specs.declared.port.Further.{Further}
 use Rattle.scripted_port.specs.FurtherCalls.{further_behind}
 
 -- the caller, its calls that are left, the place of the next one, the replies that are left, the next one
--- first, and what was asked behind them
+-- first, and the first call after them
 pub record ScriptedView : Type 0 where
   pub caller : ℕ
   pub left : ℕ
@@ -28,7 +28,7 @@ abbrev pub next_reply : List Reply → Reply
 next_reply [] = Refused NoMemory
 next_reply (reply ∷ more) = reply
 
--- the port behind a call
+-- the port after a call
 abbrev pub after_call : ScriptedView → Call → Bool → ScriptedView
 after_call port call lost =
     scripted port.caller (port.left - 1) (port.place + 1) (drop 1 port.replies)
@@ -40,7 +40,7 @@ pub record IsAnswered (port : ScriptedView) (placed : ℕ × MountEntry) : Type 
   pub who : placed.1.who ≡ port.caller
   pub reply : placed.1.reply ≡ next_reply port.replies
 
--- the one port has become the other by these calls
+-- the port went from `old` to `new` by these calls
 abbrev pub ScriptedCame : ScriptedView → PlacedCalls → ScriptedView → Type 0
 ScriptedCame old [] new = new ≡ old
 ScriptedCame old (x ∷ xs) new =

@@ -1,4 +1,4 @@
-//! A port that answers listed replies, and keeps the first call behind them.
+//! A port that answers listed replies, and stores the first call after them.
 #![tactic(auto)]
 
 mod port;

@@ -12,7 +12,7 @@ use std::alloc::Global;
 use std::marker::Model;
 use std::mem;
 
-/// What was asked behind the listed replies: nothing, a call, or one that there was no memory to keep.
+/// The first call after the listed replies: none, a call, or one that there was no memory to store.
 #[derive(Drop)]
 pub enum Further {
     Unasked,
@@ -20,15 +20,15 @@ pub enum Further {
     Lost,
 }
 
-/// A caller's port that answers listed replies, one after another. Behind them it refuses each call for want
-/// of memory, and keeps the first of these calls. In clauses it is a `ScriptedView`.
+/// A caller's port that answers listed replies, one after another. After them it refuses each call as out
+/// of memory, and stores the first of these calls. In clauses it is a `ScriptedView`.
 #[derive(Drop)]
 pub struct ScriptedPort {
     alloc: Global,
     caller: u32,
     left: u64,
     place: u64,
-    // The next reply last.
+    // The next reply is the last.
     replies: Vec<Reply>,
     further: Further,
 }
@@ -47,8 +47,8 @@ impl Model for ScriptedPort {
 }
 
 impl ScriptedPort {
-    /// The port of the caller, with so many calls and these replies, the last of the list first. Places count
-    /// from 0.
+    /// Returns the port of the caller, with `left` calls and these replies, the last of the list first.
+    /// Places count from 0.
     pub fn new(alloc: Global, caller: u32, left: u64, replies: Vec<Reply>) -> ScriptedPort
         ensures { result ≡ scripted caller left 0 (reverse replies.items) Unasked }
     {
@@ -62,7 +62,7 @@ impl ScriptedPort {
         }
     }
 
-    /// What was asked behind the replies: a call that a mount may be asked.
+    /// Returns the first call after the replies, which is one that a mount may be asked.
     pub fn into_further(self) -> Further
         ensures further { result ≡ self.further }
         ensures fits { FurtherFits result }
@@ -71,7 +71,7 @@ impl ScriptedPort {
     }
 }
 
-/// It comes by the calls that it was asked, whose replies are the listed ones and then want of memory.
+/// Its calls have the listed replies, and `NoMemory` after them.
 impl MountPort for ScriptedPort {
     ghost who = { λ port. port.caller };
 
@@ -112,7 +112,7 @@ impl MountPort for ScriptedPort {
     ghost one_caller = { ScriptedCame-caller };
 }
 
-// Keeps the call where none was asked before it.
+// Stores the call if none was asked before it.
 fn kept(alloc: Global, before: Further, call: &Call) -> Further
     requires before { FurtherFits before }
     requires fits { Fits call.now }
@@ -128,5 +128,5 @@ fn kept(alloc: Global, before: Further, call: &Call) -> Further
     }
 }
 
-// Lets it go: in a function of its own, since one with branches would let go of each variant in each of them.
+// Drops it, in a function of its own: one with branches would drop each variant in each of them.
 fn leave(_further: Further) {}

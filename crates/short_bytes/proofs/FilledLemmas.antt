@@ -1,4 +1,4 @@
--- An array that begins with some bytes and is zero behind them.
+-- An array that begins with some bytes and is zero after them.
 use Rattle.std.proofs.Common.{◌≡◌, sym, ◌∙◌, ap, subst, arith, ℕ, List, ◌++◌, length, take, drop, replicate, ◌+◌, ◌-◌, ◌≤◌}
 use Rattle.std.proofs.lemmas.List.{take_at, drop_at, drop-drop, take-append-drop, length-append, length-drop, length-replicate, length-take-le, drop-replicate, take-replicate}
 use Rattle.std.proofs.lemmas.Slice.{take-put_mid, drop-put_mid}
@@ -6,7 +6,7 @@ use borrow.Rule.Slice.PartMut.{put_mid}
 use Rattle.byte_words.specs.Bytes.{AreBytes}
 use Rattle.byte_words.proofs.AreBytesLemmas.{AreBytes-append, AreBytes-take, AreBytes-drop, AreBytes-zeros}
 
--- what the type of such arrays says of its fields, once the bytes are written over zeros
+-- what the type of such arrays requires of its fields, once the bytes are written over zeros
 pub filled : (n len : ℕ) (bytes : List ℕ) → length bytes ≡ len → len ≤ n → AreBytes bytes
     → (len ≤ n) × (length (bytes ++ drop len (replicate n 0)) ≡ n)
     × (bytes ++ drop len (replicate n 0) ≡ take len (bytes ++ drop len (replicate n 0)) ++ replicate (n - len) 0)
@@ -29,13 +29,13 @@ wiped n len fits =
     sym (take-append-drop len (replicate n 0)) ∙ ap (λ l. take len (replicate n 0) ++ l) back in
     (fits, length-replicate {A = ℕ} n 0, joined, AreBytes-zeros n)
 
--- the places behind the bytes are zero
+-- the places after the bytes are zero
 zeros_behind : (n len : ℕ) (places : List ℕ) → len ≤ n → length places ≡ n → places ≡ take len places ++ replicate (n - len) 0
     → drop len places ≡ replicate (n - len) 0
 zeros_behind n len places fits size same =
     ap (λ l. drop len l) same ∙ drop_at (take len places) (replicate (n - len) 0) len (length-take-le len places (omega arith))
 
--- the array after more bytes were written behind the others
+-- the array after more bytes were appended
 pub appended_front : (len k more : ℕ) (places ys : List ℕ) → len ≤ length places → length ys ≡ more
     → take (len + more) (put_mid len k places ys) ≡ take len places ++ ys
 appended_front len k more places ys fits size = take-put_mid len k places ys (len + more) (omega (arith, size)) fits

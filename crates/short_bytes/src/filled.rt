@@ -1,4 +1,4 @@
-//! At most `N` bytes in the value: no memory is taken, and a copy is a copy of the bytes.
+//! At most `N` bytes in the value: nothing is allocated, and a copy is a copy of the bytes.
 
 ghost use Rattle.std.specs.Prelude.{◌≡◌, ℕ, ◌+◌, ◌≤◌, [], ◌++◌, length, drop, replicate};
 ghost use Rattle.std.specs.Prelude.{nat_eq, IsSome, IfSome, IsTrue, ◌↔◌};
@@ -14,7 +14,7 @@ use std::fmt;
 use std::hash::{Hash, Hasher};
 use std::marker::Model;
 
-/// At most `N` bytes. The places behind them are zero, so that nothing of longer bytes is left there.
+/// At most `N` bytes. The places after them are zero, so that nothing of longer bytes is left there.
 #[derive(Clone, Copy)]
 pub struct Filled<const N: usize> {
     places: [u8; N],
@@ -47,7 +47,7 @@ impl<const N: usize> Model for Filled<N> {
 }
 
 impl<const N: usize> Filled<N> {
-    /// No bytes.
+    /// Returns a value without bytes.
     pub fn new() -> Self
         ensures { result ≡ [] }
     {
@@ -57,7 +57,7 @@ impl<const N: usize> Filled<N> {
         }
     }
 
-    /// The bytes, of which there are at most `N`.
+    /// Returns a value of these bytes, of which there are at most `N`.
     pub fn of(bytes: &[u8]) -> Self
         requires fits { length bytes.now ≤ N }
         ensures { result ≡ bytes.now }
@@ -68,7 +68,7 @@ impl<const N: usize> Filled<N> {
         Filled { places, len }
     }
 
-    /// The bytes, where there are at most `N`; `None` for more.
+    /// Returns a value of these bytes, or `None` if there are more than `N`.
     pub fn read(bytes: &[u8]) -> Option<Self>
         ensures value { IfSome result (λ filled. filled ≡ bytes.now) }
         ensures fits { IsSome result ↔ (length bytes.now ≤ N) }
@@ -79,7 +79,7 @@ impl<const N: usize> Filled<N> {
         Some(Filled::of(bytes))
     }
 
-    /// Puts more bytes behind the others. Together they are at most `N`.
+    /// Appends more bytes. Together they are at most `N`.
     pub fn append(&mut self, more: &[u8])
         requires fits { length self.old + length more.now ≤ N }
         ensures { self.new ≡ self.old ++ more.now }
@@ -91,7 +91,7 @@ impl<const N: usize> Filled<N> {
         self.len = end;
     }
 
-    /// These bytes in place of the others, which are overwritten where they stand. They are at most `N`.
+    /// Wipes the bytes in place and replaces them by these, which are at most `N`.
     pub fn set(&mut self, bytes: &[u8])
         requires fits { length bytes.now ≤ N }
         ensures { self.new ≡ bytes.now }
@@ -100,14 +100,14 @@ impl<const N: usize> Filled<N> {
         self.len = bytes.len();
     }
 
-    /// Writes a zero over each byte where it stands. There are as many as before.
+    /// Writes a zero over each byte in place. There are as many as before.
     pub fn wipe(&mut self)
         ensures { self.new ≡ replicate (length self.old) 0 }
     {
         wipe(&mut self.places);
     }
 
-    /// How many bytes there are.
+    /// Returns how many bytes there are.
     pub fn len(&self) -> usize
         ensures value { result ≡ length self.now }
         ensures bound { result ≤ N }
@@ -115,14 +115,14 @@ impl<const N: usize> Filled<N> {
         self.len
     }
 
-    /// Whether there are none.
+    /// Returns whether there are none.
     pub fn is_empty(&self) -> bool
         ensures { IsTrue result ↔ (self.now ≡ []) }
     {
         self.bytes().is_empty()
     }
 
-    /// The bytes.
+    /// Returns the bytes.
     pub fn bytes(&self) -> &[u8]
         ensures value { result.now ≡ self.now }
         ensures bound { length result.now ≤ N }
@@ -132,7 +132,7 @@ impl<const N: usize> Filled<N> {
     }
 }
 
-// Overwrites the places with the bytes, and with zeros behind them.
+// Wipes the places, then writes the bytes at their beginning; the places after them are zeros.
 fn write_over<const N: usize>(places: &mut [u8; N], bytes: &[u8])
     requires fits { length bytes.now ≤ N }
     ensures { places.new ≡ bytes.now ++ drop (length bytes.now) (replicate N 0) }

@@ -8,7 +8,7 @@ ghost use Rattle.short_bytes.specs.Label.{IsLabel, is_label, is_label_character,
 use crate::filled::Filled;
 use std::marker::Model;
 
-/// The most bytes that a label has.
+/// The maximum number of bytes of a label.
 pub const MOST_LABEL_BYTES: usize = 32;
 
 /// 1 to 32 of the characters `a` to `z`, `0` to `9`, `_` and `-`.
@@ -28,7 +28,7 @@ impl Model for Label {
 }
 
 impl Label {
-    /// The label of these bytes; `None` where they are none.
+    /// Returns the label of these bytes, or `None` if they are no label.
     pub fn read(bytes: &[u8]) -> Option<Label>
         ensures value { result ≡ label_of bytes.now }
         ensures label { IsSome result ↔ IsLabel bytes.now }
@@ -41,7 +41,7 @@ impl Label {
         })
     }
 
-    /// The bytes of the label.
+    /// Returns the bytes of the label.
     pub fn bytes(&self) -> &[u8]
         ensures value { result.now ≡ self.now }
         ensures label { IsLabel result.now }

@@ -1,4 +1,4 @@
-//! Bytes of bounded number that lie in the value itself, and the labels that are made of them.
+//! Bytes of bounded number, stored in the value itself, and the labels that are made of them.
 #![tactic(auto)]
 
 mod filled;

@@ -144,7 +144,7 @@ without_id-without_claim cs id user = same_claims _ _ (λ q other.
     absorbed true t h = refl
     absorbed false t h = refl
 
--- where no user holds the key
+-- if no user holds the key
 pub without_id-none : (cs : ClaimSet) (id : KeyId) → ((user : ℕ) → has_claim cs id user ≡ false)
     → without_id cs id ≡ cs
 without_id-none cs id none = same_claims _ _ (λ q other. has_claim-without_id cs id (q, other) ∙ ⊎_elim
@@ -227,7 +227,7 @@ pub count_of_id-without_claim : (cs : ClaimSet) (id : KeyId) (user : ℕ) (other
 count_of_id-without_claim cs id user other held =
     part-without_claim cs id user (λ claim. same_id claim.0 other) held
 
--- a limit on each user's claims is kept where it is looked at before a new claim
+-- a limit on each user's claims is preserved if it is checked before a new claim
 pub count_of_user-with_claim-le : (cs : ClaimSet) (id : KeyId) (user other limit : ℕ)
     → (has_claim cs id user ≡ false → count_of_user cs user + 1 ≤ limit)
     → count_of_user cs other ≤ limit → count_of_user (with_claim cs id user) other ≤ limit

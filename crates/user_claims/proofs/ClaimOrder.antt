@@ -1,4 +1,4 @@
--- The orders of identifiers and of claims are total, and tell all of them apart.
+-- The orders of identifiers and of claims are total, and separate all of them.
 use Rattle.std.proofs.Common.{◌≡◌, sym}
 use Rattle.std.specs.Ordering.{nat_cmp, eq_by_cmp}
 use Rattle.std.specs.Cmp.{IsTotalOrder, nat_cmp_total, on_total, then_total, unsigned_tied}

@@ -1,4 +1,4 @@
--- The first claim at or behind (id, 0): where it isn't on the key, no claim is.
+-- The first claim at or after (id, 0): if it isn't on the key, no claim is.
 use Rattle.std.proofs.Common.{◌≡◌, ℕ, true, false, List, [], ◌∷◌, sym, refl, ap, ◌∙◌, subst, ⊎_elim, arith}
 use Rattle.std.proofs.Common.{◌<◌}
 use Rattle.std.specs.declared.cmp.Ordering.{Ordering}

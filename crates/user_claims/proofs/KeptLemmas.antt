@@ -1,4 +1,4 @@
--- The set that is kept, and its counts, when a claim comes or goes.
+-- The stored set, and its counts, when a claim is made or removed.
 use Rattle.std.proofs.Common.{◌≡◌, ℕ, ◌+◌, ◌-◌, ◌<◌, Bool, true, false, cond, not, ◌&&◌, ◌||◌, List, [], ◌∷◌}
 use Rattle.std.proofs.Common.{Some, unwrap_or, is_some, sym, refl, ap, ap₂, ◌∙◌, arith}
 use Rattle.std.proofs.Common.{Result, Ok, Err, is_err, OnOk, OnErr}
@@ -33,7 +33,7 @@ contains-set_of (k ∷ ks) q =
     ∙ (some_or (eq_by_cmp claim_cmp q k) _ ∙ ap (λ b. eq_by_cmp claim_cmp q k || b)
     (contains-set_of ks q))
 
--- what the kept set answers
+-- what the stored set answers
 pub has_kept : (s : sorted.BTreeSet Claim) (id : KeyId) (user : ℕ) (b : Bool)
     → b ≡ sorted.contains claim_cmp s (id, user) → b ≡ has_claim (set_of s.keys) id user
 has_kept s id user b is = is ∙ sym (contains-set_of s.keys (id, user))

@@ -42,7 +42,7 @@ is_present-some cs id some = ⊎_elim
 pub is_present-none : (id : KeyId) → is_present no_claims id ≡ false
 is_present-none id = ap (λ n. not (eqb n 0)) (count_of_id-none id)
 
--- ---- keys and those who hold them
+-- ---- keys and the users with a claim on them
 
 pub is_present-held : (cs : ClaimSet) (id : KeyId) (user : ℕ) → has_claim cs id user ≡ true
     → is_present cs id ≡ true
@@ -55,7 +55,7 @@ has_claim-absent cs id user absent = ⊎_elim
     (λ none. none)
     (cases_Bool (has_claim cs id user))
 
--- a key that is present has a user who holds it
+-- a key that is present has a user with a claim on it
 pub holder : (cs : ClaimSet) (id : KeyId) → is_present cs id ≡ true
     → (user : ℕ) × (has_claim cs id user ≡ true)
 holder cs id there = first (entries (claims_on_id cs id)) refl
@@ -145,7 +145,7 @@ is_present-without_id_other cs id other apart = ap (λ m. not (eqb (len m) 0)) (
 
 -- ---- what a user is left with
 
--- where a key is cleared, each user who held it has one claim less
+-- if a key is cleared, each user with a claim on it has one claim less
 pub count_of_user-without_id : (cs : ClaimSet) (id : KeyId) (user : ℕ)
     → count_of_user (without_id cs id) user + cond (has_claim cs id user) 1 0 ≡ count_of_user cs user
 count_of_user-without_id cs id user =

@@ -1,4 +1,4 @@
--- Parts of a finite map: the entries whose keys pass a test, when an entry comes or goes.
+-- Parts of a finite map: the entries whose keys pass a test, when an entry is inserted or removed.
 use Rattle.std.proofs.Common.{◌≡◌, Bool, true, false, cond, ◌&&◌, Option, Some, None, is_some, sym, refl, ap}
 use Rattle.std.proofs.Common.{◌∙◌, subst, ⊎_elim}
 use Rattle.std.specs.declared.cmp.Ordering.{Ordering}
@@ -9,7 +9,7 @@ use Rattle.std.proofs.lemmas.Bool.{cases_Bool, cond-true}
 use Rattle.std.specs.FinMap.{FinMap, IsAntisymmetric, get, contains_key, insert, remove, retain_keys}
 use Rattle.std.specs.FinMap.{get-insert, get-remove, get-retain_keys, same_map}
 
--- one test after another, where the inner one is decided by the outer
+-- one test after another, if the outer one decides the inner one
 inside : {X : Type 0} (s t : Bool) (x y z : X) → (s ≡ true → t ≡ true)
     → cond t (cond s x y) z ≡ cond s x (cond t y z)
 inside true true x y z both = refl
@@ -39,7 +39,7 @@ module _ {K X : Type 0} {R : K → K → Ordering} (o : IsTotalOrder R) (same : 
   pub get-part : (m : FinMap R X) (p : K → Bool) (q : K) → get (retain_keys m p) q ≡ cond (p q) (get m q) None
   get-part m p q = get-retain_keys m p q (alike same p q)
 
-  -- the part once an entry came that is of it, or that isn't
+  -- the part after an entry is inserted that is of it, or that isn't
   pub part-insert : (m : FinMap R X) (p : K → Bool) (k : K) (v : X) → p k ≡ true
       → retain_keys (insert m k v) p ≡ insert (retain_keys m p) k v
   part-insert m p k v of = same_map o same _ _ (λ q.

@@ -1,5 +1,5 @@
--- Claims: which users hold which keys. They are a finite set of pairs; in what order they were made
--- is not told.
+-- Claims: which users hold which keys, as a finite set of pairs; the order in which they were made is not
+-- observable.
 use Rattle.std.specs.Prelude.{ℕ, Bool, not}
 use Rattle.std.specs.declared.cmp.Ordering.{Ordering}
 use Rattle.std.specs.Ordering.{nat_cmp, ordering_then}
@@ -8,7 +8,7 @@ use Rattle.std.specs.FinMap as map
 use Rattle.policy_ctx.specs.declared.policy.KeyId.{KeyId}
 use Rattle.policy_ctx.specs.KeyIds.{same_id}
 
--- the identifier of a key, and the user who holds it
+-- the identifier of a key, and a user that holds it
 abbrev pub Claim : Type 0
 Claim = KeyId × ℕ
 
@@ -30,7 +30,7 @@ no_claims = map.empty
 abbrev pub has_claim : ClaimSet → KeyId → ℕ → Bool
 has_claim claims id user = map.contains_key claims (id, user)
 
--- the claims once this user holds the key; where it is held already they are as before
+-- the claims once this user holds the key; if it is held already they are as before
 abbrev pub with_claim : ClaimSet → KeyId → ℕ → ClaimSet
 with_claim claims id user = map.insert claims (id, user) tt
 

@@ -1,4 +1,4 @@
--- How claims are kept: the set, and beside it the count of each user and of each key.
+-- How claims are stored: the set, and beside it the count of each user and of each key.
 use Rattle.std.specs.Prelude.{◌≡◌, ℕ, List, map}
 use Rattle.std.specs.FinMap as finite
 use Rattle.std.specs.Ordering.{nat_cmp}

@@ -1,4 +1,4 @@
-//! The set of claims. Only making one takes memory.
+//! The set of claims; only making one allocates memory.
 
 ghost use Rattle.std.specs.Prelude.{◌≡◌, ◌+◌, ◌<◌, ◌^◌, ℕ, true, false, IsTrue, ◌↔◌};
 ghost use Rattle.std.specs.Prelude.{IsOk, IsErrOf, IfErr, IfSome, IfNone, OnOk, OnErr};
@@ -11,13 +11,13 @@ use std::alloc::Global;
 use std::collections::{BTreeMap, BTreeSet};
 use std::marker::Model;
 
-/// The most claims that a user may have.
+/// The maximum number of claims of a user.
 pub const MOST_CLAIMS: u32 = 64;
 
 /// The claims of all users, seen as the finite set of (identifier, user).
 ///
-/// Finding, making and taking a claim, and each count, take a time that grows with the logarithm
-/// of how many there are.
+/// Finding, making and removing a claim, and each count, take a time that grows with the logarithm of the
+/// number of claims.
 #[derive(Drop)]
 pub struct Claims {
     claims: BTreeSet<(KeyId, u32)>,
@@ -42,7 +42,7 @@ impl Model for Claims {
 }
 
 impl Claims {
-    /// No claims. It takes no memory before the first one is made.
+    /// Returns a set without claims. Allocates nothing before the first claim is made.
     pub fn new(alloc: Global) -> Claims
         ensures { result ≡ no_claims }
     {
@@ -53,9 +53,9 @@ impl Claims {
         }
     }
 
-    /// Makes the user's claim on the key. A claim that is held already stays, also where the user
-    /// has 64 of them, and takes no memory; a new one is refused there, to user 0 too. After a
-    /// refusal all claims are as before.
+    /// Makes the user's claim on the key. A claim that is held already stays, even if the user has 64 of
+    /// them, and needs no memory. If the user has 64, a new one is refused with `Quota`, for user 0 too.
+    /// After a refusal all claims are as before.
     pub fn claim(&mut self, id: &KeyId, uid: u32) -> Result<(), ClaimFault>
         ensures made { OnOk result (self.new ≡ with_claim self.old id.now uid) }
         ensures kept { OnErr result (self.new ≡ self.old) }
@@ -68,14 +68,14 @@ impl Claims {
         if self.count_of_uid(uid) >= MOST_CLAIMS {
             return Err(ClaimFault::Quota);
         }
-        // So that each count fits 32 bits; so many users aren't met in practice.
+        // So each count fits 32 bits; no key has that many users in practice.
         if self.count_of_id(id) == u32::MAX {
             return Err(ClaimFault::NoMemory);
         }
         self.insert(id, uid)
     }
 
-    // Puts a new claim beside the others, with its counts.
+    // Inserts a new claim, with its counts.
     fn insert(&mut self, id: &KeyId, uid: u32) -> Result<(), ClaimFault>
         requires new { has_claim self.old id.now uid ≡ false }
         requires of_user { count_of_user self.old uid + 1 < 2 ^ 32 }
@@ -96,7 +96,7 @@ impl Claims {
         Ok(())
     }
 
-    /// Takes the user's claim on the key away, and tells whether there was one.
+    /// Removes the user's claim on the key. Returns whether there was one.
     pub fn unclaim(&mut self, id: &KeyId, uid: u32) -> bool
         ensures held { result ≡ has_claim self.old id.now uid }
         ensures gone { self.new ≡ without_claim self.old id.now uid }
@@ -109,7 +109,7 @@ impl Claims {
         held
     }
 
-    /// Takes away every claim on the key, one after another.
+    /// Removes every claim on the key, one after another.
     pub fn clear(&mut self, id: &KeyId)
         ensures { self.new ≡ without_id self.old id.now }
     {
@@ -118,7 +118,7 @@ impl Claims {
         }
     }
 
-    // The first user with a claim on the key, if there is one.
+    // Returns the first user with a claim on the key, if there is one.
     fn holder_of(&self, id: &KeyId) -> Option<u32>
         ensures some { IfSome result (λ uid. has_claim self.now id.now uid ≡ true) }
         ensures none { IfNone result ((uid : ℕ) → has_claim self.now id.now uid ≡ false) }
@@ -129,21 +129,21 @@ impl Claims {
         }
     }
 
-    /// Whether the user has a claim on the key.
+    /// Returns whether the user has a claim on the key.
     pub fn has(&self, id: &KeyId, uid: u32) -> bool
         ensures { result ≡ has_claim self.now id.now uid }
     {
         self.claims.contains(&(*id, uid))
     }
 
-    /// How many claims the user has.
+    /// Returns how many claims the user has.
     pub fn count_of_uid(&self, uid: u32) -> u32
         ensures { result ≡ count_of_user self.now uid }
     {
         counts::count_of(&self.by_user, &uid)
     }
 
-    /// How many users have a claim on the key.
+    /// Returns how many users have a claim on the key.
     pub fn count_of_id(&self, id: &KeyId) -> u32
         ensures { result ≡ count_of_id self.now id.now }
     {

@@ -6,7 +6,7 @@ ghost use Rattle.user_claims.specs.declared.fault.ClaimFault.TheVariants.{NoMemo
 use std::alloc::AllocError;
 use thiserror::Error;
 
-/// Why a claim wasn't made. Whichever it is, all claims are as before.
+/// Why a claim wasn't made. All claims are as before then.
 #[derive(Clone, Copy, Debug, PartialEq, Eq, Error)]
 pub enum ClaimFault {
     /// The user has `MOST_CLAIMS` claims.

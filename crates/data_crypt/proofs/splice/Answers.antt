@@ -1,4 +1,4 @@
--- The piece stands between what was before it and what was after it.
+-- The piece is between what was before it and what was after it.
 use Rattle.std.proofs.Common.{◌≡◌, ◌+◌, ◌-◌, ◌++◌, take, drop, length, ap, ◌∙◌, arith}
 use Rattle.std.proofs.lemmas.List.{drop-drop}
 use Rattle.byte_words.specs.Contents.{spliced}

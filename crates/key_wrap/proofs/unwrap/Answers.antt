@@ -1,4 +1,4 @@
--- The tag is compared before anything is deciphered.
+-- The tag is compared before anything is decrypted.
 use Rattle.std.proofs.Common.{◌≡◌, true, false, Some, None, rules, ◌++◌, ap, sym, ◌∙◌}
 use Rattle.std.specs.Prelude.{if◌then◌else◌}
 use Rattle.std.specs.Str.{bytes_eq}

@@ -1,4 +1,4 @@
--- The first half of the stretched key enciphers, the second authenticates.
+-- The first half of the stretched key encrypts, the second authenticates.
 use Rattle.std.proofs.Common.{◌≡◌, ◌++◌, ◌∙◌}
 use Rattle.aes_core.specs.Aes.{encrypted_block}
 use Rattle.hmac_kdf.specs.Hmac.{hmac_sha256}

@@ -1,4 +1,4 @@
--- The blocks before the next one are CBC's, and the last of them is kept.
+-- The blocks before the next one are CBC's, and `previous` is the last of them.
 use Rattle.std.proofs.Common.{◌≡◌, ◌*◌, ◌++◌, suc, drop}
 use Rattle.aes_core.specs.Aes.{encrypted_block}
 use Rattle.byte_words.specs.Blocks.{first_blocks}

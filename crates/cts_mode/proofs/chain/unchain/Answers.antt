@@ -1,4 +1,4 @@
--- The next block is deciphered and xored with the one before, which was kept.
+-- The next block is decrypted and xored with the stored one before it.
 use Rattle.std.proofs.Common.{◌≡◌, ℕ, List, ◌+◌, ◌*◌, ◌-◌, ◌/◌, suc, length, refl, ap, ◌∙◌, arith}
 use Rattle.aes_core.specs.Aes.{decrypted_block}
 use Rattle.aes_core.proofs.RoundLemmas.{length-decrypted_block}

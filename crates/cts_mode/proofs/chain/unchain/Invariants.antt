@@ -1,4 +1,4 @@
--- The blocks before the next one are deciphered, and the last of them is kept as it was.
+-- The blocks before the next one are decrypted, and `previous` is the last of them as it was.
 use Rattle.std.proofs.Common.{◌≡◌, ◌*◌, ◌++◌, drop}
 use Rattle.aes_core.specs.Aes.{decrypted_block}
 use Rattle.byte_words.specs.Blocks.{first_blocks}

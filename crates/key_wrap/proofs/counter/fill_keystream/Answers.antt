@@ -1,4 +1,4 @@
--- The next block is written behind those that stand.
+-- The next block is written after those that are there.
 use Rattle.std.proofs.Common.{◌≡◌, ℕ, List, ◌+◌, ◌-◌, ◌*◌, ◌%◌, ◌^◌, length, refl, ap, ◌∙◌, arith}
 use Rattle.aes_core.specs.Aes.{encrypted_block}
 use Rattle.aes_core.proofs.RoundLemmas.{length-encrypted_block}

@@ -1,4 +1,4 @@
--- The first blocks are enciphered counters.
+-- The first blocks are encrypted counters.
 use Rattle.std.proofs.Common.{◌≡◌, ◌+◌, ◌*◌, ◌%◌, ◌^◌, ◌++◌, drop}
 use Rattle.aes_core.specs.Aes.{encrypted_block}
 use Rattle.byte_words.specs.Blocks.{first_blocks}

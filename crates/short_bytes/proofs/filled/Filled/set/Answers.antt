@@ -1,4 +1,4 @@
--- The bytes stand before zeros.
+-- The bytes are before zeros.
 use Rattle.std.proofs.Common.{ℕ, ◌≤◌, ◌-◌, ◌++◌, length, take, drop, replicate, refl, sym, subst, arith, ◌≡◌, ◌∙◌, ap}
 use Rattle.std.proofs.lemmas.List.{take_at}
 use Rattle.byte_words.specs.Bytes.{AreBytes}

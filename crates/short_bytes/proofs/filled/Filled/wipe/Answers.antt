@@ -1,4 +1,4 @@
--- An array of zeros is zeros up to the length and behind it.
+-- An array of zeros is zeros up to the length and after it.
 use Rattle.std.proofs.Common.{◌≤◌, ◌-◌, ◌++◌, length, take, replicate, ap, sym, subst, arith, ◌≡◌, ◌∙◌}
 use Rattle.std.proofs.lemmas.List.{length-take-le, take-replicate}
 use Rattle.byte_words.specs.Bytes.{AreBytes}
