@@ -1,4 +1,4 @@
-//! The tag by lanes at the same time.
+//! The tag, with the lanes filled at the same time.
 
 ghost use Rattle.std.specs.Prelude.{◌≡◌, ◌≤◌, length, OnOk, OnErr, Ok};
 ghost use Rattle.argon_kdf.specs.CostLimits.{checked_costs};

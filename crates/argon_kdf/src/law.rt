@@ -1,4 +1,4 @@
-//! What the definition's table is besides being filled in order.
+//! What holds of the definition's table, besides that it is filled in order.
 
 ghost use Rattle.std.specs.Prelude.{◌≡◌, ◌≢◌, ◌⊎◌, ℕ, ◌+◌, ◌*◌, ◌/◌, ◌%◌, ◌^◌, ◌<◌, ◌≤◌, List};
 ghost use Rattle.argon_kdf.specs.declared.layout.Place.{Place};

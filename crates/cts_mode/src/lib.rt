@@ -48,8 +48,8 @@ pub fn cts_decrypt(key: &Aes256, iv: [u8; 16], text: &mut [u8])
     unchain(key, iv, blocks);
 }
 
-/// Does nothing. Its contract is the law that decryption undoes encryption, for every key, iv and text of
-/// at least 16 bytes, that encryption makes bytes of bytes, and that neither changes the length.
+/// Does nothing. Its contract is three laws, for every key, iv and text of at least 16 bytes: decryption
+/// undoes encryption, encryption makes bytes of bytes, and neither changes the length.
 pub fn decryption_undoes_encryption()
     ensures decrypted { DecryptionUndoes }
     ensures bytes { EncryptsToBytes }

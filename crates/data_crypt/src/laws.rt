@@ -16,8 +16,8 @@ pub fn contents_come_back()
     ensures { ContentsComeBack }
 {}
 
-/// Bytes that are written into contents change each block by their part in it, and only the stored blocks
-/// that they touch.
+/// Bytes that are written into contents change each block by their part in it, and replace the stored
+/// blocks that cover them.
 pub fn pieces_are_written()
     ensures plain { PiecesFallIntoBlocks }
     ensures stored { WritesBlocks }

@@ -1,4 +1,4 @@
--- The words of a call are read as the call, but for what no line shows.
+-- The words of a call are read as the call, apart from what no line contains.
 use Rattle.std.proofs.Common.{◌≡◌, ℕ, zero, suc, ◌<◌, ◌≤◌, ◌^◌, List, [], ◌∷◌, ◌++◌, length, replicate, codes, Some, Option, refl, ap, ap₂, sym, ◌∙◌, subst, arith}
 use Rattle.std.specs.Prelude.{slice_index}
 use Rattle.std.specs.List.{All}
@@ -209,7 +209,7 @@ zeros_are_bytes n i = below n i
     below (suc n) zero = omega arith
     below (suc n) (suc i) = below n i
 
--- as few zeros as there were bytes
+-- as many zeros as there were bytes, in range
 zeros_fit : (most : ℕ) (bytes : List ℕ) → most < 2 ^ 32 → length bytes ≤ most
     → (length (zeros_in most (decimal_of (length bytes))) ≡ length bytes) × IsBytes (zeros_in most (decimal_of (length bytes)))
 zeros_fit most bytes small few = (

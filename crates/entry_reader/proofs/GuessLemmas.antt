@@ -91,7 +91,7 @@ line_words place e small is =
 
 -- ---- what is read
 
--- what was read of an entry's line: the entry but for what no line shows
+-- what was read of an entry's line: the entry apart from what no line contains
 pub record EntryRead (place : ℕ) (e : MountEntry) : Type 0 where
   pub made : LogEntry
   pub reads : guess_of (entry_text place e) ≡ Some made
@@ -141,7 +141,7 @@ told_line place e f same =
     ap₂ (λ (w u : ℕ). line_of place w u (call_text e.call.op) (reply_text e.reply)) who uid
     ∙ ap₂ (λ (c : List ℕ) (r : Reply). line_of place f.who f.call.uid c (reply_text r)) asked reply
 
--- the line of an entry isn't read as none
+-- the line of an entry is read as some entry
 pub never_unread : (line : List ℕ) (place : ℕ) (e : MountEntry) → place < 2 ^ 64 → IsEntry e → line ≡ entry_text place e → guess_of line ≡ None → ⊥
 never_unread line place e small is same none =
     let both = sym none ∙ ap guess_of same ∙ (entry_read place e small is).reads in absurd (cc both)

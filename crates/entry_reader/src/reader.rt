@@ -1,5 +1,5 @@
-//! Reads a line of a log: each word is first taken for what the line of an entry has at its position, and
-//! the line is an entry's exactly when the result, written, is the line again.
+//! Reads a line of a log: each word is first taken for what an entry's line has at its position; the line
+//! is an entry's exactly when the result, written, is the line again.
 
 ghost use Rattle.std.specs.Prelude.{◌≡◌, ◌↔◌, ◌-◌, ◌<◌, ◌^◌, IfOk, IfSome, IsTrue, Some, length, take};
 ghost use Rattle.mount_model.specs.Fits.{Fits};

@@ -1,4 +1,4 @@
--- What was made of a port is a beginning too.
+-- Calls that complete the steps are a beginning of them too.
 use Rattle.std.proofs.Common.{ℕ}
 use Rattle.mount_model.specs.Port.{PlacedCalls}
 use Rattle.reply_text.specs.Shown.{PlacedShown}

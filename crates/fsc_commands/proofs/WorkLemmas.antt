@@ -182,7 +182,7 @@ stops_now by_none caller steps = record {
   same = record { number = refl; port = refl; entries = refl };
 }
 
--- few calls are no more than this
+-- a bound on the number of calls may be raised
 pub by_more_calls : {P : Type 0} {came : P → PlacedCalls → P → Type 0} {who left : P → ℕ} {old new : Caller P} {most : ℕ} {steps : CommandSteps}
     (all : ℕ) (result : Result (Option Outcome) Stop) → most ≤ all → Worked came who left old new most steps result → Worked came who left old new all steps result
 by_more_calls all (Ok outcome) low work =

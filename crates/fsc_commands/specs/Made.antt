@@ -1,4 +1,4 @@
--- What a command, or a part of it, makes of its port.
+-- What a command, or a part of it, does to its port.
 use Rattle.std.specs.Prelude.{◌≡◌, ℕ, ◌+◌, ◌≤◌, ◌++◌, length, Result}
 use Rattle.call_history.specs.Entries.{entry}
 use Rattle.call_history.specs.Placed.{entries_of}
@@ -11,8 +11,8 @@ use Rattle.fsc_commands.specs.Steps.{Steps, Reaches}
 use Rattle.fsc_commands.specs.Steps.Steps.{Done}
 use Rattle.fsc_commands.specs.CommandSteps.{CommandSteps, when_ok}
 
--- the port is as it is after at most `most` calls, which are these steps and leave this value, and the list
--- has the shown entries of these calls after its others
+-- the port is as it is after at most `most` calls, which are these steps and leave this value; the list has
+-- the shown entries of these calls after its others
 pub record Made {P A : Type 0} (came : PlacedCalls → P → Type 0) (port : P) (left before_left most : ℕ)
     (steps : Steps A) (value : A) (old new : PlacedShown) : Type 0 where
   pub made : PlacedCalls

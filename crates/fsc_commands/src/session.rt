@@ -50,7 +50,7 @@ impl<'a, S: Stretch> Work<'a, S> {
             | Verb::PolicyNew { .. }
             | Verb::PolicyAdd { .. }
             | Verb::Unlock { .. } => self.run_opening(caller, verb),
-            // (a single call is none)
+            // (a single call, which is no session's work)
             _ => unreachable!(),
         }
     }

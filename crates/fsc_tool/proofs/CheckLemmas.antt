@@ -87,7 +87,7 @@ module _ (strict : Bool) (seed : List ℕ) (Came : List ReadCall → Type 0) (a 
       → certificate_read bytes ≡ certificate_read input
   read_so input bytes told read = ap certificate_read (same input bytes told read)
 
-  -- too long is none that is within the limits
+  -- the status isn't `TooLong` for a known input within the limits
   not_too_long : (input : List ℕ) → Told a b input → length input ≤ MOST_CERTIFICATE_BYTES → IsWithin input_limits (script_part input)
       → EndsChecking strict seed Came a b TooLong → ⊥
   not_too_long input told most within h = elim h [

@@ -1,4 +1,4 @@
--- What is listed of a dump.
+-- What the listing of a dump contains.
 use Rattle.std.proofs.Common.{◌≡◌, ◌⊎◌, ℕ, List, Option, option_map, inl, inr, refl, sym, ap, ◌∙◌, subst, ⊎_elim, arith}
 use Rattle.std.specs.Prelude.{Ok, length}
 use Rattle.fsc_keys.specs.Keys.{key_id_of}

@@ -1,4 +1,4 @@
--- What an image is of.
+-- Which run an image is of.
 use Rattle.std.proofs.Common.{◌≡◌, ℕ, false, List, sym, ap, ◌∙◌, subst}
 use Rattle.std.specs.List.{list_any}
 use Rattle.call_history.specs.Placed.{entries_of}

@@ -1,4 +1,4 @@
--- What a summary is of.
+-- Which run a summary is of.
 use Rattle.std.proofs.Common.{◌≡◌, ◌≢◌, ℕ, ◌+◌, Bool, true, false, ◌||◌, List, [], ◌∷◌, ◌++◌, codes, refl, sym, ap, ap₂, ◌∙◌, subst}
 use Rattle.std.specs.Prelude.{count_by, length, if◌then◌else◌}
 use Rattle.std.proofs.lemmas.List.{length-map}

@@ -138,7 +138,7 @@ module _ (raw : Option (List ℕ)) (Came : List ReadCall → Type 0) (a b : Outs
     | inr lines ↦ absurd (few_lines Came a.source b.source h.bytes lines)
   ]
 
-  -- an input that is read whole, for which there was no memory then
+  -- an input that is read whole, after which there was no memory
   pub want_ends : (input : List ℕ) → ReadWhole image_limits Came a.source b.source input → b.sink ≡ a.sink → b.seeds ≡ a.seeds
       → EndsInspection raw Came a b NoMemory
   want_ends input read unwritten unasked =

@@ -1,4 +1,4 @@
--- Each call of a run that brings a nonce brings 16 bytes.
+-- Each nonce that a call of a run passes has 16 bytes.
 use Rattle.std.proofs.Common.{◌≡◌, ℕ, ◌+◌, ◌==◌, Bool, true, false, cond, List, [], ◌∷◌, ◌++◌, Option, Some, None, Result, Ok, Err, refl, sym, subst}
 use Rattle.std.specs.Prelude.{⊤, All}
 use Rattle.std.proofs.lemmas.Bool.{eq-eqb}

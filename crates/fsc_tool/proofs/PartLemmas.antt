@@ -20,7 +20,7 @@ unfolding bytes_before
 behind_line line [] some = absurd (some refl)
 behind_line line (next ∷ more) some = refl
 
--- a line that parts
+-- a line that separates
 pub parts_here : (line text : List ℕ) → bytes_eq line parting ≡ true → bytes_before (line ∷ pieces_of text) ≡ Some 0
 parts_here line text is =
     behind_line line (pieces_of text) (some_piece text)
@@ -33,7 +33,7 @@ parts_behind line text is =
     behind_line line (pieces_of text) (some_piece text)
     ∙ ap (λ (b : Bool). if b then Some 0 else option_map (λ (bytes : ℕ). length line + 1 + bytes) (bytes_before (pieces_of text))) is
 
--- a piece that nothing ended
+-- a last piece without a line feed
 pub parts_nothing : (last : List ℕ) → bytes_before (last ∷ []) ≡ None
 unfolding bytes_before
 parts_nothing last = refl

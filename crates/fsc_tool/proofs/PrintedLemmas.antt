@@ -75,7 +75,7 @@ IsPlain b = is_line_feed b ≡ false
 abbrev AreFeedless : List ℕ → Type 0
 AreFeedless line = All IsPlain line
 
--- nor is a piece left that nothing ended
+-- nor is a piece without a line feed left
 unended : (b : ℕ) (line : List ℕ) → statements_in ((b ∷ line) ∷ []) ≡ None ∷ []
 unfolding statements_in
 unended b line = grind arith

@@ -58,7 +58,7 @@ not_too_much Came old new input bytes told (inr more) within =
     let lines : input_limits.lines < line_count input = subst (λ (xs : List ℕ). input_limits.lines < line_count xs) whole more.lines in
     omega (arith, lines, within.lines)
 
--- nor just what is within them of a text that isn't
+-- nor a part within the limits of a text that is beyond them
 not_short : (old new : SourceState) (input bytes : List ℕ) → old.left ≡ Some input → GaveWhole old new bytes
     → IsWithin input_limits bytes → IsLong input → ⊥
 not_short old new input bytes told gave short long =
@@ -72,7 +72,7 @@ same_script : (old new : SourceState) (input bytes : List ℕ) → old.left ≡ 
     → parsed_script bytes ≡ parsed_script input
 same_script old new input bytes told gave = ap parsed_script (gave_told old new input bytes told gave)
 
--- ---- a seed of the words' own
+-- ---- a seed that the arguments give
 
 own_seed : (seeding : Seeding) (old new : SeedState) (seed own : List ℕ) → seeding ≡ Given own → IsSeedOf seeding old new seed → new ≡ old
 own_seed seeding old new seed own is taken = (subst (λ (s : Seeding). ComesFrom s old new seed) is taken.given).1

@@ -17,7 +17,7 @@ use Rattle.fsc_tool.specs.CertificateEnds.{certificate_limits, IsChecked, IsAtFa
 use Rattle.fsc_tool.specs.CertificateEnds.{EndsCertificateTooLong, EndsCertificateNoMemory}
 use Rattle.fsc_tool.specs.CheckStatus.{IsVerdict}
 
--- what the status means; it is none of the others
+-- what the status means; no other status is possible
 abbrev pub EndsChecking : Bool → List ℕ → (List ReadCall → Type 0) → Outside → Outside → Status → Type 0
 EndsChecking strict seed Came a b Done = EndsRead (IsChecked (IsCertified strict seed)) Came a b
 EndsChecking strict seed Came a b (Refused place) =

@@ -36,7 +36,7 @@ pub record EndsNoMemory (Came : List ReadCall → Type 0) (seeding : Seeding) (a
   pub seeds : (b.seeds ≡ a.seeds) ⊎ ((seed : List ℕ) × IsSeedOf seeding a.seeds b.seeds seed)
   pub unwritten : b.sink ≡ a.sink
 
--- what the status means of a run that reads a script; it is never Usage or Refused
+-- what the status means for a run that reads a script; it is never `Usage` or `Refused`
 abbrev pub Ends : (List ℕ → Type 0) → (List ReadCall → Type 0) → Seeding → Outside → Outside → Status → Type 0
 Ends IsText Came seeding a b Done = EndsDone IsText a.sink b.sink
 Ends IsText Came seeding a b Usage = ⊥

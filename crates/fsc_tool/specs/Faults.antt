@@ -1,4 +1,4 @@
--- How a run ends that has no script.
+-- The statuses of runs whose input could not be read.
 use Rattle.fsc_outside.specs.declared.input.InputFault.{InputFault}
 use Rattle.fsc_outside.specs.declared.input.InputFault.TheVariants as input
 use Rattle.script_lang.specs.declared.reader.ScriptFault.{ScriptFault}

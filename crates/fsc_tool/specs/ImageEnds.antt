@@ -17,8 +17,8 @@ use Rattle.fsc_tool.specs.Outside.{Outside}
 abbrev pub image_limits : InputLimits
 image_limits = record { bytes = MOST_IMAGE_BYTES; lines = MOST_IMAGE_BYTES + 1 }
 
--- the source gave the text of an image within the limit, by calls of which `Came` holds, and the text is
--- the listing of this image with the raw key, or with none
+-- the source gave the text of an image within the limit, by calls of which `Came` holds; the text is the
+-- listing of this image with the raw key, or with none
 pub record HasListing (raw : Option (List ℕ)) (Came : List ReadCall → Type 0) (source source' : SourceState)
     (text : List ℕ) : Type 0 where
   pub input : List ℕ

@@ -32,12 +32,12 @@ pub record IsImageAfter (seed : List ℕ) (script : List Section) (history : His
   pub run : IsSerialRun IsLawful seed script history
   pub no_want : NeverWantsMemory history
   pub image : text ≡ image_after history
-  -- the mount is one, as the laws of listings ask for
+  -- the mount is well-formed, as the laws of listings require
   pub well : IsWellFormed (mount_after history)
   pub nonces : HasNonces (mount_after history).nodes
 
--- the text is the image that the script's own history leaves, a function of script and seed, if no two different
--- raw keys that this history adds share an identifier
+-- the text is the image that the script's own history leaves, a function of script and seed, if no two
+-- different raw keys that this history adds share an identifier
 abbrev pub IsImageOfRun : List ℕ → List Section → List ℕ → Type 0
 IsImageOfRun seed script text =
     KeysAgree (serial_history seed script) → IsImageAfter seed script (serial_history seed script) text

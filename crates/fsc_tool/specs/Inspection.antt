@@ -21,7 +21,7 @@ use Rattle.fsc_tool.specs.ImageEnds.{image_limits, HasListing, EndsImageTooLong,
 abbrev pub wiped_key : Option (List ℕ) → Option (List ℕ)
 wiped_key raw = option_map (λ key. replicate (length key) 0) raw
 
--- what the status means; it is none of the others
+-- what the status means; no other status is possible
 abbrev pub EndsInspection : Option (List ℕ) → (List ReadCall → Type 0) → Outside → Outside → Status → Type 0
 EndsInspection raw Came a b Done = EndsDone (HasListing raw Came a.source b.source) a.sink b.sink
 EndsInspection raw Came a b WriteFault = EndsWriteFault (HasListing raw Came a.source b.source) a.sink b.sink

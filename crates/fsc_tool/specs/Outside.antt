@@ -1,4 +1,4 @@
--- What the tool meets outside: the source, the sink and the seed source, as they are at one time.
+-- The state outside the tool at one time: the source, the sink and the seed source.
 use Rattle.fsc_outside.specs.States.{SourceState, SinkState, SeedState}
 
 pub record Outside : Type 0 where

@@ -11,13 +11,13 @@ pub record EndsDone (IsText : List ℕ → Type 0) (old new : SinkState) : Type 
   pub right : IsText text
   pub written : GotWhole old new text
 
--- the sink failed short of the text's end
+-- the sink failed before the text's end
 pub record EndsWriteFault (IsText : List ℕ → Type 0) (old new : SinkState) : Type 0 where
   pub text : List ℕ
   pub right : IsText text
   pub written : GotPart old new text
 
--- what the status means of a run that reads nothing
+-- what the status means for a run that reads nothing
 abbrev pub EndsUnread : (List ℕ → Type 0) → SinkState → SinkState → Status → Type 0
 EndsUnread IsText old new Done = EndsDone IsText old new
 EndsUnread IsText old new WriteFault = EndsWriteFault IsText old new

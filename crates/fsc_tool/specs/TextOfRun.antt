@@ -1,4 +1,4 @@
--- The text of a run of a script, from what the run met outside.
+-- The text of a run of a script, from the source's input and the seed.
 use Rattle.std.specs.Prelude.{◌≡◌, ℕ, List, Ok}
 use Rattle.script_lang.specs.declared.commands.Section.{Section}
 use Rattle.script_lang.specs.Script.{parsed_script}

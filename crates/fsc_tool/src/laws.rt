@@ -12,8 +12,9 @@ pub fn logs_are_parted_from_scripts()
     ensures { LogsArePartedFromScripts }
 {}
 
-/// The log of a run of the one-thread mount is never refused after its script, if no two different raw keys that
-/// were added share an identifier; nor is it strictly, if nothing in the run was out of memory.
+/// The log of a run of the one-thread mount is never refused after its script, if no two different raw keys
+/// that were added share an identifier. A strict check doesn't refuse it either, if nothing in the run was
+/// out of memory.
 pub fn printed_logs_are_not_refused()
     ensures { PrintedLogsAreNotRefused }
 {}

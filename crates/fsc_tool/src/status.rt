@@ -17,9 +17,9 @@ pub enum Status {
     /// This line, counted from 1, is the first outside the grammar, or the line of an image that is at
     /// fault.
     BadLine { line: u32 },
-    /// The input failed.
+    /// Reading the input failed.
     ReadFault,
-    /// The output failed, after a beginning of the text.
+    /// Writing the output failed, after a beginning of the text.
     WriteFault,
     /// The seed source failed. Nothing is written.
     SeedFault,

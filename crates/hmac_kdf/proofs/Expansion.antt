@@ -42,7 +42,7 @@ written-more d s t n i whole one room =
     ∙ sym (piece_end (length d) n i (length s) whole (rw whole room)
     ∙ ap (λ at. length s + min n (length d - at)) whole))
 
--- the first block ends nowhere before its length
+-- before the first block nothing is written
 pub written-none : (d s : List ℕ) (n : ℕ) → d ≡ paste d 0 s (min (length d) (0 * n))
 written-none d s n =
     let none : 0 ≡ min (length d) (0 * n) = rw zero-mul (omega arith) in

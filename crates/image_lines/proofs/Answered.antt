@@ -1,4 +1,4 @@
--- What reading answers, of the places of nodes and of the image.
+-- What reading returns: the places of nodes, and the image.
 use Rattle.std.proofs.Common.{◌≡◌, ℕ, List, [], ◌∷◌, map, Some, None, Result, Ok, Err, refl, sym, ap, ◌∙◌, subst, ◌⊎◌, inr}
 use Rattle.std.specs.List.Sorted.{IsStrictlySortedBy}
 use Rattle.std.specs.Ordering.{nat_cmp}
@@ -58,7 +58,7 @@ found_image text image h = (images_are_texts text image).0 h
 same_image : (x y : Image) → (let r : Result Image ℕ = Ok x in r ≡ Ok y) → x ≡ y
 same_image x y h = cc h
 
--- the image of a text that is one's, and no other, unless there is no memory
+-- for the text of an image, exactly that image, unless there is no memory
 pub every_found : (text : List ℕ) (read : Image) → image_read text ≡ Ok read → (image : Image) → IsImage image → text ≡ image_text image
     → (let r : Result Image ImageFault = Ok read in r ≡ Ok image)
 every_found text read ok image is own = ap Ok (same_image read image (sym ok ∙ (images_are_texts text image).1 (is, own)))

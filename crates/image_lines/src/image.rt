@@ -120,8 +120,8 @@ fn from_index(text: &[u8], at: usize) -> &[u8]
 /// text, or one of these errors:
 /// - `BadLine` with the first line that may not be at its place, that no line feed ended, or that is
 ///   missing
-/// - if there is no such line, `BadLine` with the first entry line whose child is the root, has no node
-///   line, or is the child of an earlier entry line
+/// - without such a line, `BadLine` with the first entry line whose child is the root, has no node line, or
+///   is the child of an earlier entry line
 /// - `NoMemory`
 pub fn read_image(alloc: Global, text: &[u8]) -> Result<Image<'_>, ImageFault>
     requires short { length text.now ≤ MOST_IMAGE_BYTES }

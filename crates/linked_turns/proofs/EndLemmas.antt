@@ -61,7 +61,7 @@ fresh_steps k zero (section ∷ more) (c ∷ cs) caller is here =
 fresh_steps k (suc j) (section ∷ more) (c ∷ cs) caller is here =
     let rest : map view_of cs ≡ fresh_views (k + 1) more = cc is in fresh_steps (k + 1) j more cs caller rest here
 
--- no call has no part
+-- without calls there are no parts
 pub none_parts : (b : Bool) → HasParts b [] [] [] []
 none_parts true = (refl, refl)
 none_parts false = (tt, refl, refl)

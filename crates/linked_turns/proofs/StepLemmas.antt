@@ -1,4 +1,4 @@
--- What a command of a caller makes of the mounts.
+-- What a command of a caller does to the mounts.
 use Rattle.std.proofs.Common.{◌≡◌, ℕ, ◌≤◌, Bool, true, false, List, [], ◌∷◌, ◌++◌, length, refl, ap, sym, ◌∙◌, subst, Result, Ok, Err, IfOk, OnOk, ⊎_elim, arith, append-nil}
 use Rattle.std.proofs.lemmas.Bool.{cases_eq}
 use Rattle.std.proofs.lemmas.List.Elements.{All-nil}
@@ -56,7 +56,7 @@ own_tells c (NotMade label ∷ steps) (x ∷ xs) are all =
     let first = first_own c _ (own_parts load_call steps xs) all in
     by-cons_own c x xs first.0 ∙ ap (λ (l : PlacedCalls). x ∷ l) (own_tells c steps xs are.1 first.1)
 
--- nothing but the calls themselves became of calls on mount 0
+-- calls on mount 0 went there as they are
 abbrev alone : PlacedCalls → List LinkStep
 alone [] = []
 alone (x ∷ xs) = Alone ∷ alone xs
@@ -94,7 +94,7 @@ of_odd c (step ∷ steps) (x ∷ xs) odd own are =
       odd_is = ap (λ (l : PlacedCalls). own_part load_call step x ++ l) rest.odd_is ∙ ap (λ b. part_1 b step x ++ parts_1 steps xs) (sym here);
     }
 
--- ---- what they make of the mounts
+-- ---- what they do to the mounts
 
 goes_nowhere : {M : Type 0} (leads : History → M → Type 0) (caller : ℕ) (mount : At M) → Goes leads caller mount [] mount
 goes_nowhere leads caller mount = record {

@@ -1,4 +1,4 @@
--- What callers need that run in threads, and how their pass to a shared mount is cut in two.
+-- What callers in threads need, and how their pass to a shared mount is cut in two.
 use Rattle.std.specs.Prelude.{◌≡◌, ℕ, ◌+◌, ◌*◌, ◌<◌, ◌≤◌, List, [], ◌++◌, length, sum_by, slice_get, All}
 use Rattle.call_history.specs.Entries.{by}
 use Rattle.mount_model.specs.Port.{PlacedCalls}

@@ -1,4 +1,5 @@
--- Calls in range after calls in range are in range, and none are: the laws of a port over another.
+-- Calls in range after calls in range are in range, and so is an empty list: the laws of a port over
+-- another.
 use Rattle.std.proofs.Common.{◌≡◌, ℕ, [], ◌++◌, sym, subst}
 use Rattle.std.specs.Prelude.{All}
 use Rattle.std.proofs.lemmas.List.{map-append}

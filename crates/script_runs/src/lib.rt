@@ -1,5 +1,5 @@
-//! Runs a script on one mount, whose callers take turns or run in threads of their own; and what a run on one mount
-//! has in common with one on two.
+//! Runs a script on one mount, whose callers take turns or run in threads of their own; and what a run on
+//! one mount has in common with one on two.
 #![tactic(auto)]
 
 mod passes;

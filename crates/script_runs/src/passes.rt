@@ -56,7 +56,8 @@ pub fn cut<M: MountMachine>(
     Ok(upper)
 }
 
-/// Ends the sharing of a mount, with the pass that has all numbers again: its entries make one lawful history.
+/// Ends the sharing of a mount, with the pass that has all numbers again. Its entries make one lawful
+/// history.
 pub fn end<M: MountMachine>(shared: Shared<M>, pass: Pass<M>)
     requires belongs { pass.table ≡ shared.table }
     requires all { (pass.who ≡ 0) × (pass.high ≡ shared.numbers) }

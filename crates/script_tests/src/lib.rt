@@ -1,4 +1,4 @@
-//! Scripts, sessions, and runs of the tool over fakes. This crate has tests alone.
+//! Scripts, sessions, and runs of the tool over fakes; this crate has only tests.
 #![tactic(auto)]
 
 #[cfg(test)]

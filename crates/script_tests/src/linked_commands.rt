@@ -8,7 +8,7 @@ use mount_model::{Refusal, Reply};
 use std::alloc::{AllocError, Global};
 use std::process::Abort;
 
-// Three protectors on mount 0 with their links on mount 1, which also has one that is no link, a policy
+// Three protectors on mount 0 with their links on mount 1, which also has one that is no link. A policy
 // that two of the linked ones open, a policy of the first version, and an empty directory.
 const BEFORE: &str = "\
 caller 0
@@ -175,8 +175,8 @@ fn ends_at<A: Abort>(
     got.as_slice() == wanted.as_slice()
 }
 
-// Returns the first of a command's calls, line 14 of its script, that doesn't end the command when it is
-// out of memory, after the calls before it and no other.
+// Returns the first of a command's calls for which `ends_at` doesn't hold. The command is on line 14 of its
+// script.
 pub(crate) fn first_wrong<A: Abort>(
     rt: &A,
     alloc: Global,

@@ -6,7 +6,7 @@ use Rattle.mount_model.specs.Fits.{Fits}
 use Rattle.scripted_port.specs.declared.port.Further.{Further}
 use Rattle.scripted_port.specs.declared.port.Further.TheVariants.{Unasked, Asked, Lost}
 
--- a mount may be asked what was asked
+-- a mount may be asked the stored call
 abbrev pub FurtherFits : Further → Type 0
 FurtherFits (Asked call) = Fits call
 FurtherFits other = ⊤

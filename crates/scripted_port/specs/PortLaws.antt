@@ -1,4 +1,4 @@
--- Calls after calls are calls, and none are none.
+-- The laws of a port: calls after calls are its calls, and no calls leave it as it is.
 use Rattle.std.proofs.Common.{◌≡◌, [], ◌∷◌, ◌++◌, refl, ap, subst}
 use Rattle.mount_model.specs.Port.{PlacedCalls}
 use Rattle.scripted_port.specs.Scripted.{ScriptedView, ScriptedCame, after_call}

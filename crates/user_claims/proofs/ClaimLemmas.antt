@@ -1,4 +1,4 @@
--- What making one claim, and taking some away, does to the other claims and to the counts.
+-- What making one claim, and removing some, does to the other claims and to the counts.
 use Rattle.std.proofs.Common.{◌≡◌, ℕ, ◌+◌, ◌-◌, ◌≤◌, ◌<◌, Bool, true, false, cond, eqb, not, ◌&&◌, ◌||◌}
 use Rattle.std.proofs.Common.{Option, Some, None, is_some, sym, refl, ap, ap₂, ◌∙◌, subst, ⊎_elim, arith}
 use Rattle.std.specs.Ordering.{nat_cmp, eq_by_cmp}
@@ -36,7 +36,7 @@ same_claim-eq a b e =
 pub same_claim-symm : (a b : Claim) → same_claim a b ≡ same_claim b a
 same_claim-symm a b = ap₂ (λ x y. x && y) (same_id-symm a.0 b.0) (nat_eq_equiv.symm a.1 b.1)
 
--- the order ties just the same claims
+-- claims are equal in the order exactly when they are the same
 pub ties : (a b : Claim) → eq_by_cmp claim_cmp a b ≡ same_claim a b
 ties a b = sym (both_tied (same_id a.0 b.0) (eqb a.1 b.1) (slice_cmp nat_cmp a.0.0 b.0.0) (nat_cmp a.1 b.1)
     (lists_ties nat_cmp (λ x y. sym (unsigned_tied x y)) a.0.0 b.0.0) (sym (unsigned_tied a.1 b.1)))
@@ -107,7 +107,7 @@ with_claim-held cs id user held =
     (λ apart. ap (λ b. b || has_claim cs q other) apart)
     (cases_Bool (same_claim (q, other) (id, user))))
 
--- a claim that isn't held is taken away from nowhere
+-- removing a claim that isn't held changes nothing
 pub without_claim-absent : (cs : ClaimSet) (id : KeyId) (user : ℕ) → has_claim cs id user ≡ false
     → without_claim cs id user ≡ cs
 without_claim-absent cs id user absent =
@@ -118,7 +118,7 @@ without_claim-absent cs id user absent =
     (λ apart. ap (λ b. not b && has_claim cs q other) apart)
     (cases_Bool (same_claim (q, other) (id, user))))
 
--- a claim made and taken back
+-- a claim made and removed again
 pub without-with_claim : (cs : ClaimSet) (id : KeyId) (user : ℕ) → has_claim cs id user ≡ false
     → without_claim (with_claim cs id user) id user ≡ cs
 without-with_claim cs id user new = same_claims _ _ (λ q other.
@@ -131,7 +131,7 @@ without-with_claim cs id user new = same_claims _ _ (λ q other.
     (λ apart. ap (λ b. not b && (b || has_claim cs q other)) apart)
     (cases_Bool (same_claim (q, other) (id, user)))))
 
--- one claim on a key taken away first
+-- one claim on a key removed first
 pub without_id-without_claim : (cs : ClaimSet) (id : KeyId) (user : ℕ)
     → without_id (without_claim cs id user) id ≡ without_id cs id
 without_id-without_claim cs id user = same_claims _ _ (λ q other.
@@ -187,7 +187,7 @@ module _ (cs : ClaimSet) (id : KeyId) (user : ℕ) (p : Claim → Bool) where
         (cases_Bool (p (id, user)))
 
   module _ (held : has_claim cs id user ≡ true) where
-    -- so does one that is taken away
+    -- so does one that is removed
     part-without_claim : len (retain_keys (without_claim cs id user) p) + cond (p (id, user)) 1 0
         ≡ len (retain_keys cs p)
     part-without_claim = ⊎_elim
@@ -215,7 +215,7 @@ pub count_of_id-with_claim : (cs : ClaimSet) (id : KeyId) (user : ℕ) (other : 
     ≡ count_of_id cs other + cond (same_id id other) 1 0
 count_of_id-with_claim cs id user other new = part-with_claim cs id user (λ claim. same_id claim.0 other) new
 
--- and so does one that goes
+-- and so does one that is removed
 pub count_of_user-without_claim : (cs : ClaimSet) (id : KeyId) (user other : ℕ) → has_claim cs id user ≡ true
     → count_of_user (without_claim cs id user) other + cond (eqb user other) 1 0 ≡ count_of_user cs other
 count_of_user-without_claim cs id user other held =
@@ -270,7 +270,7 @@ count_of_user-none user = ap len (part_none (λ claim. eqb claim.1 user)) ∙ le
 pub count_of_id-none : (id : KeyId) → count_of_id no_claims id ≡ 0
 count_of_id-none id = ap len (part_none (λ claim. same_id claim.0 id)) ∙ len-empty claim_cmp (Unit {0})
 
--- with each claim on the key that goes there is one less
+-- with each claim on the key that is removed there is one less
 pub count_of_id-fewer : (cs : ClaimSet) (id : KeyId) (user : ℕ) → has_claim cs id user ≡ true
     → count_of_id (without_claim cs id user) id < count_of_id cs id
 count_of_id-fewer cs id user held =

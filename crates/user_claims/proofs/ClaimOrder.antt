@@ -15,7 +15,7 @@ id_cmp_total = on_total (λ (k : KeyId). k.0) nat_list_cmp_total
 pub id_cmp-IsAntisymmetric : IsAntisymmetric id_cmp
 id_cmp-IsAntisymmetric a b e = let same = exact_bytes a.0 b.0 e in λ i. record { 0 = same i }
 
--- the order ties just the same identifiers
+-- identifiers are equal in the order exactly when they are the same
 pub id_ties : (a b : KeyId) → same_id a b ≡ eq_by_cmp id_cmp a b
 id_ties a b = lists_ties nat_cmp (λ x y. sym (unsigned_tied x y)) a.0 b.0
 

@@ -21,7 +21,7 @@ not_above Less n e = refl
 not_above Equal n e = refl
 not_above Greater n e = let below : n < 0 = ranked 0 n Greater e in absurd (omega arith)
 
--- identifiers that differ don't come in both orders
+-- two identifiers that differ are not each before the other
 clash : (o p q : Ordering) → is_eq o ≡ false → is_gt (ordering_then o p) ≡ false
     → is_gt (ordering_then (ordering_reverse o) q) ≡ false → ⊥
 clash Less p q apart low high = true≢false high

@@ -1,4 +1,4 @@
--- Which keys are present, and how many claims a user is left with, when claims come and go.
+-- Which keys are present, and how many claims a user is left with, when claims are made and removed.
 use Rattle.std.proofs.Common.{◌≡◌, ℕ, ◌+◌, ◌-◌, ◌≤◌, Bool, true, false, cond, eqb, not, ◌&&◌, ◌||◌, List, []}
 use Rattle.std.proofs.Common.{◌∷◌, length, sym, refl, ap, ◌∙◌, subst, ⊎_elim, arith}
 use Rattle.std.specs.List.{list_any}
@@ -84,7 +84,7 @@ holder cs id there = first (entries (claims_on_id cs id)) refl
         ∙ or_left (eq_by_cmp claim_cmp e.0 e.0) (list_any (eq_by_cmp claim_cmp e.0) (keys_of es))
         (ap is_eq (tied_itself claim_cmp_total e.0))))
 
--- ---- claims made and taken away
+-- ---- claims made and removed
 
 or-false : (b : Bool) → (b || false) ≡ b
 or-false true = refl

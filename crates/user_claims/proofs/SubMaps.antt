@@ -55,7 +55,7 @@ module _ {K X : Type 0} {R : K → K → Ordering} (o : IsTotalOrder R) (same : 
       ∙ (outside (eq_by_cmp R q k) (p q) (Some v) (get m q) None (λ tie. ap p (tied same q k tie) ∙ of)
       ∙ sym (get-part m p q))))
 
-  -- and once an entry went
+  -- and after an entry is removed
   pub part-remove : (m : FinMap R X) (p : K → Bool) (k : K) → p k ≡ true
       → retain_keys (remove m k) p ≡ remove (retain_keys m p) k
   part-remove m p k of = same_map o same _ _ (λ q.
