@@ -1,5 +1,5 @@
 -- The visible parts of the cache and of a cached key are all that there is of keys. With any other part
--- the definitions here would not hold.
+-- the laws here would not hold.
 use Rattle.std.specs.Prelude.{◌≡◌}
 use Rattle.inode_refs.specs.Kept.{IsCipherIn}
 use Rattle.inode_refs.specs.declared.cache.InodeCache.TheInside as cache

@@ -132,7 +132,7 @@ pub(crate) fn give_in(
 }
 
 // Pins the node once more, and caches `key` if the node has none. It takes no memory if the node has pins
-// and no key is cached.
+// and no key is added.
 pub(crate) fn pin_in(
     keys: &mut Keys,
     pins: &mut BTreeMap<u32, u32>,

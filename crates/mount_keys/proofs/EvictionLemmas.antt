@@ -1,4 +1,4 @@
--- What an eviction leaves of the cached keys, and that what must be dropped is not cached again.
+-- What an eviction leaves of the cached keys, and that what must be forgotten still is.
 use Rattle.std.proofs.Common.{◌≡◌, ℕ, ◌≤◌, Bool, true, false, cond, not, ◌&&◌, ◌||◌, nat_lt, Option, Some}
 use Rattle.std.proofs.Common.{None, is_some, Result, Ok, Err, OnOk, OnErr, inl, inr, refl, sym, ap, subst}
 use Rattle.std.proofs.Common.{◌∙◌, arith}

@@ -25,8 +25,9 @@ use std::alloc::Global;
 /// on, whatever it was before, and all that is cached remains.
 ///
 /// Refused with Inval for fewer than `LEAST_RAW_KEY_BYTES` or more than `MOST_RAW_KEY_BYTES`. Then
-/// refused with Quota if the claim would be a new one and the user has `MOST_CLAIMS`. After a refusal the
-/// state is as before. The copy that the call makes of the bytes is wiped; the caller's own is not.
+/// refused with Quota if the claim would be a new one and the user has `MOST_CLAIMS`. Else it may be out
+/// of memory. After a refusal the state is as before. The copy that the call makes of the bytes is wiped;
+/// the caller's own is not.
 pub fn add_key(alloc: Global, state: &mut MountState, uid: u32, raw: &Bytes) -> Reply
     ensures refused { IfSome (add_fault state.old.ring.claims uid raw.now)
         (λ refusal. result ≡ Reply.Refused refusal) }

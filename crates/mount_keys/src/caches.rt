@@ -1,4 +1,4 @@
-//! Dropping all that is cached.
+//! Dropping what is cached for speed alone.
 
 ghost use Rattle.std.specs.Prelude.{◌≡◌, []};
 ghost use Rattle.dentry_cache.specs.Names.{with_pairs};

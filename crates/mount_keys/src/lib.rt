@@ -1,5 +1,5 @@
 //! The calls on the keys of a mount: add one, remove a claim, remove every claim, return a key's status,
-//! drop what is cached. Each replies as the one-thread mount that the state represents.
+//! drop what is cached for speed alone. Each replies as the one-thread mount that the state represents.
 #![tactic(auto)]
 
 mod additions;

@@ -1,5 +1,5 @@
--- What the calls on keys reply by the claims alone, whatever raw keys were added. The claims don't
--- determine whether some open handle needs the key, which is `busy` here.
+-- The replies of the calls on keys, which the claims alone determine, whatever raw keys were added: all
+-- but whether some open handle needs the key, which is `busy` here.
 use Rattle.std.specs.Prelude.{◌≡◌, ℕ, Bool, false, List, Option, Some, None, ◌⊎◌}
 use Rattle.policy_ctx.specs.declared.policy.KeyId.{KeyId}
 use Rattle.fsc_keys.specs.Keys.{key_id_of}

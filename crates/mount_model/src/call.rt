@@ -110,13 +110,13 @@ pub enum Op {
     Close {
         handle: u32,
     },
-    /// Drop all that is cached.
+    /// Drop all that is cached for speed alone.
     DropCaches,
     /// Return a record.
     MetaLoad {
         name: Bytes,
     },
-    /// Store a record, in place of the version that is expected: 0 if there is no record.
+    /// Store a record, in place of the version that is expected; 0 expects that there is no record.
     MetaStore {
         name: Bytes,
         expected: u32,

@@ -100,8 +100,8 @@ pub fn locked_nodes_show_texts()
     ensures keyed { KeysOrHandlesKeyNodes }
 {}
 
-/// A read returns the contents that were last written, whatever calls were made between, a lock and an
-/// unlock too, as long as none of them writes to the file.
+/// Contents that were written are read back, whatever calls are made between, a lock and an unlock too,
+/// as long as none of them writes to the file.
 pub fn written_contents_are_read()
     ensures { WrittenIsRead }
 {}

@@ -124,7 +124,7 @@ pub enum Refusal {
     NoKeyClash,
     /// The record has another version, 0 if there is no record.
     Changed { version: u32 },
-    /// The mount is out of memory.
+    /// The call was out of memory.
     NoMemory,
 }
 

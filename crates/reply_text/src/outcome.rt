@@ -26,7 +26,7 @@ pub enum Outcome {
     Full,
     /// The wrap is the policy's only one.
     LastOne,
-    /// A call or the session was out of memory.
+    /// The command was out of memory.
     NoMemory,
     /// A call returned a reply that no such call has.
     OddReply,

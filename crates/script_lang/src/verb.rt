@@ -22,7 +22,7 @@ pub enum Verb {
         key: KeyRef,
         settings: Settings,
     },
-    /// The same by the bytes of a policy, which may be invalid.
+    /// The same by the bytes of a policy, which may be no valid one.
     SetPolicyBytes {
         path: ScriptPath,
         policy: [u8; 24],
@@ -80,7 +80,7 @@ pub enum Verb {
         len: u32,
         byte: u8,
     },
-    /// To drop all that is cached.
+    /// To drop all that is cached for speed alone.
     DropCaches,
     /// To return a record.
     MetaGet(Record),

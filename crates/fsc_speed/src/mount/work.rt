@@ -13,7 +13,7 @@ pub(crate) enum Step {
     Name(OnPath),
     /// A name is looked up, another one for each of the first numbers.
     LookUp,
-    /// All that is cached is dropped.
+    /// All that is cached for speed alone is dropped.
     DropCaches,
     /// The name with the number becomes another one.
     MoveThere,
