@@ -30,7 +30,7 @@ abbrev pub mount_uuid : List ℕ
 mount_uuid = codes "fsc-memory-mount"
 
 -- the key that all files, or all directories and symlinks, of a policy with flag 8 (IV_INO_LBLK_64)
--- share, in context 4: the number of the mode in policies and the UUID are added
+-- share, in context 4. The number of the mode in policies and the UUID are added
 abbrev pub mode_key_of : List ℕ → KeyKind → FileKey
 mode_key_of raw Contents = key.Contents (derived raw 4 (1 ∷ mount_uuid) 64)
 mode_key_of raw Names = key.Names (derived raw 4 (4 ∷ mount_uuid) 32)

@@ -9,7 +9,7 @@ use Rattle.fsc_session.specs.Session.{IsRunSoFar}
 use Rattle.fsc_session.specs.Rotation.{Waiting, waiting}
 
 -- a caller with its section, the number of its next command, what is shown of its calls so far with the
--- replies, and its notes; it is spent once a step was out of memory
+-- replies, and its notes. It is spent once a step was out of memory
 pub record RunnerView : Type 0 where
   pub caller : ℕ
   pub section : Section

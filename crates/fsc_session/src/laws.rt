@@ -29,7 +29,8 @@ pub fn answers_determine_the_run()
         → history ≡ serial_history seed script }
 {}
 
-/// So is a lawful one, if no two different raw keys that this function's calls add share an identifier.
+/// A lawful history in rotation in which no call is out of memory is the same function of script and
+/// seed. No two different raw keys that this function's calls add may share an identifier.
 pub fn lawful_runs_are_one()
     ensures { (seed : List ℕ) (script : List Section) (history : History) (after : List Waiting)
         → Reaches (rotation_steps seed script) history (Done after) → IsLawful history
@@ -43,7 +44,7 @@ pub fn what_is_told_determines_the_history()
     ensures { WhatIsToldDeterminesTheHistory }
 {}
 
-/// So a log, with its notes, is the log of one run of a script with a seed and of no other.
+/// A log with its notes is the log of at most one run of a script with a seed.
 pub fn logs_have_one_meaning()
     ensures { LogsHaveOneMeaning }
 {}

@@ -1,4 +1,4 @@
--- The visible parts of the cache and of a cached key are all that there is of keys. With any other part
+-- The visible parts of the cache and of a cached key are all that there is of keys: with any other part
 -- the laws here would not hold.
 use Rattle.std.specs.Prelude.{◌≡◌}
 use Rattle.inode_refs.specs.Kept.{IsCipherIn}

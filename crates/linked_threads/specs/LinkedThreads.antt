@@ -10,7 +10,7 @@ use Rattle.fsc_session.specs.ScriptRun.{notes_by}
 use Rattle.linked_turns.specs.LinkedRuns.{HaveLinkedCalls}
 
 -- there are two histories that have the callers' calls, each caller's those of its section, and no other
--- calls; the entries are their shown form, each in order of place; and these are the notes
+-- calls. The entries are their shown form, each in order of place; and these are the notes
 pub record TellsLinkedCalls (lawful_0 lawful_1 : History → Type 0) (seed : List ℕ) (script : List Section)
     (even_shown odd_shown : PlacedShown) (notes : List Note) : Type 0 where
   pub told : PlacedCalls

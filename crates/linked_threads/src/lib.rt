@@ -1,5 +1,5 @@
-//! Runs a script on two mounts, its callers in threads of their own. Callers with an even number are on
-//! mount 0, the others on mount 1, from which they reach protectors on mount 0 through links.
+//! Runs a script on two mounts, its callers in threads of their own: those with an even number on mount
+//! 0, the others on mount 1, from which they reach protectors on mount 0 through links.
 #![tactic(auto)]
 
 mod cut;

@@ -37,7 +37,7 @@ abbrev pub is_link : List ℕ → Reply → Bool
 is_link label (Held version bytes) = bytes_eq bytes (link_text label)
 is_link label other = false
 
--- the possible steps of loading a protector's record with this reply: if the own mount's record is a
+-- the possible steps of loading a protector's record with this reply. If the own mount's record is a
 -- link, it is loaded on the far mount, once; whatever is there is the answer
 abbrev pub IsLoaded : List ℕ → Reply → LinkStep → Type 0
 IsLoaded label reply Alone = is_link label reply ≡ false

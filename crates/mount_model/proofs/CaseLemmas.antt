@@ -1,5 +1,5 @@
--- Each answer, case by case: a property of every refusal, of every reply that changes nothing, and of the
--- mount once the call is done is a property of the answer.
+-- Each answer, case by case: a property of each refusal, of each reply that changes nothing, and of the
+-- mount after the call is one of the answer.
 use Rattle.std.proofs.Common.{nat_lt, ◌≡◌, ℕ, Bool, true, false, cond, not, ◌&&◌, List, [], ◌∷◌, length, eqb, Option, Some, None, is_some, Ok, Err, refl, sym}
 use Rattle.std.proofs.lemmas.Bool.{cond_both}
 use Rattle.policy_ctx.specs.declared.policy.KeyId.{KeyId}

@@ -32,15 +32,15 @@ pub fn refusals_change_nothing()
         → IsMountStep m caller call (Reply.Refused refusal) after → after ≡ m }
 {}
 
-/// Only calls that may take memory can be out of memory: never removing keys, a status, closing or
-/// dropping caches.
+/// Only calls that may take memory can be out of memory. Removing keys, a status, closing and dropping
+/// caches never are.
 pub fn some_calls_never_want_memory()
     ensures { (m : PlainMount) (caller : ℕ) (call : Call) (after : PlainMount)
         → IsMountStep m caller call (Reply.Refused Refusal.NoMemory) after → takes_memory call.op ≡ true }
 {}
 
-/// The claims of the mount that a legal history leaves follow from its entries alone: from each caller's
-/// call, and which calls were refused.
+/// The claims of the mount that a legal history leaves follow from its entries alone: from each call with
+/// its caller, and from which calls were refused.
 pub fn claims_come_from_calls()
     ensures { (history : History) → IsLegal history → (mount_after history).claims ≡ claims_after history }
 {}
@@ -93,8 +93,9 @@ pub fn refusals_come_in_their_order()
     ensures encrypt { OnlyEmptyOnesAreEncrypted }
 {}
 
-/// Of a node that isn't keyed a listing shows no-key texts alone, opening is NoKey, and a symlink shows the text of its
-/// target. A node under a policy is keyed exactly if its policy's key is present or a handle is open on it.
+/// Of a node that isn't keyed a listing shows no-key texts alone, opening is NoKey, and a symlink shows
+/// the text of its target. A node under a policy is keyed exactly if its policy's key is present or a
+/// handle is open on it.
 pub fn locked_nodes_show_texts()
     ensures shown { LockedNodesShowTexts }
     ensures keyed { KeysOrHandlesKeyNodes }

@@ -14,13 +14,13 @@ pub fn lines_tell_their_entries()
     ensures { LinesTellTheirEntries }
 {}
 
-/// So a log determines them for each of its entries, in order of place.
+/// A log determines caller, user, text of the call and reply of each of its entries, in order of place.
 pub fn logs_tell_their_entries()
     ensures { LogsTellTheirEntries }
 {}
 
-/// So do its beginnings: a text that begins with two logs of equally many entries has one log there, and
-/// one rest after it.
+/// So does a beginning of a text: if it is the log of two histories of equally many entries, they have
+/// the same values, and the same rest follows.
 pub fn beginnings_tell_their_entries()
     ensures { BeginningsTellTheirEntries }
 {}

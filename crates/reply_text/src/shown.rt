@@ -8,8 +8,8 @@ use item_list::Bytes;
 use mount_model::Call;
 use std::alloc::{AllocError, Global};
 
-/// The form of a call in a log: the user for whom it was made, and its text. The text has only the length
-/// of a raw key and the number of written bytes, and no nonce.
+/// The form of a call in a log: its user and its text. The text has only the length of a raw key and the
+/// number of written bytes, and no nonce.
 pub struct Shown {
     pub uid: u32,
     pub words: Bytes,

@@ -30,8 +30,8 @@ spelling_fault line =
 abbrev pub word_fault : LineFault → List ℕ → LineFault
 word_fault otherwise word = if length word == 0 then fault.SpareSpace else otherwise
 
--- the fault of words that must be of these kinds, the first of them word n after the name: the first that
--- is not of its kind; if each is, that they are too few or too many
+-- the fault of words that must be of these kinds, the first of them word n after the name. It is the
+-- first word that is not of its kind; if each is, that they are too few or too many
 abbrev pub words_fault : ℕ → List WordKind → List (List ℕ) → LineFault
 words_fault n [] [] = fault.TooManyWords
 words_fault n [] (word ∷ words) = word_fault fault.TooManyWords word

@@ -90,7 +90,7 @@ with_commands-new (first ∷ next ∷ more) uid commands = ap (λ ss. first ∷ 
 
 -- ---- from line to line
 
--- the number of the first line that is not allowed after those before it; `callers` is the number of
+-- the number of the first line that is not allowed after those before it. `callers` is the number of
 -- callers before the lines, and n the number of the first line
 unfoldable pub first_bad_from : ℕ → ℕ → List (Option Statement) → Option ℕ
 first_bad_from n callers [] = None

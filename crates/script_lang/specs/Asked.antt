@@ -15,7 +15,7 @@ use Rattle.script_lang.specs.declared.verb.Verb.{Verb}
 use Rattle.script_lang.specs.declared.verb.Verb.TheVariants as verb
 
 -- whatever the command, a key to be added has 1 to 128 bytes, a write at most 4,096, what is filled at
--- most 65,536, a record at most 9,000; a number is below 2^32
+-- most 65,536, a record at most 9,000. A number is below 2^32
 abbrev pub IsAskable : Verb → Type 0
 IsAskable (verb.AddKey bytes) = (1 ≤ length bytes) × ((length bytes ≤ MOST_ADDED_BYTES) × IsBytes bytes)
 IsAskable (verb.RemoveKey key) = IsKey key

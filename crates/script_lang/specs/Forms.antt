@@ -40,7 +40,7 @@ abbrev pub whole : {A : Type 0} → Form A → List (List ℕ) → Option A
 whole form words = option_and_then if_read (form words)
 
 -- the reader returns the form's value and leaves the words that the form leaves, or returns that they are
--- outside the grammar; it may be out of memory at any time
+-- outside the grammar. It may be out of memory at any time
 abbrev pub Takes : {A : Type 0} → Result A Unread → Option (A × List (List ℕ)) → List (List ℕ) → Type 0
 Takes (Ok a) read left = read ≡ Some (a, left)
 Takes (Err OutsideGrammar) read left = read ≡ None

@@ -11,14 +11,14 @@ pub fn what_is_written_is_a_script()
     ensures { (script : List Section) → IsSpelled script → parsed_script (script_text script) ≡ Ok script }
 {}
 
-/// Two scripts are never written as one text.
+/// Two different scripts have different texts.
 pub fn distinct_scripts_have_distinct_texts()
     ensures { (one other : List Section) → IsSpelled one → IsSpelled other
         → script_text one ≡ script_text other → one ≡ other }
 {}
 
-/// A script is spelled by some text exactly when it is writable: at most eight callers, keys and users
-/// that words can spell, and line numbers that leave a line for each caller and command.
+/// A script is spelled by some text exactly when it has at most eight callers, keys and users that words
+/// can spell, and a line for each caller and command.
 pub fn spelled_scripts_are_the_writable_ones()
     ensures { (script : List Section) → IsSpelled script ↔ IsWritable script }
 {}

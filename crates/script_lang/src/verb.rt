@@ -141,7 +141,7 @@ pub enum Verb {
     },
     /// To give a policy of the first version options of its own.
     Migrate(Label),
-    /// To let the caller's turn pass: no call is made.
+    /// To skip the caller's turn: no call is made.
     Pause,
 }
 

@@ -33,7 +33,7 @@ fn references<'a>(
     Ok(all)
 }
 
-// Puts entries in order. By name alone two of one name would come in any order.
+// Sorts entries. By name alone, two of one name could be in either order.
 fn sort(entries: &mut [&(Bytes, u32)])
     ensures { map (λ e. e.now) entries.new ≡ in_order (map (λ e. e.now) entries.old) }
 {

@@ -4,8 +4,10 @@ use Rattle.hex.specs.Hex.{encode_lower}
 use Rattle.text_words.specs.Numbers.{decimal_of}
 use Rattle.image_lines.specs.ImageText.{ended}
 
--- a directory with its number of entries; a file with its size, and the digest of its contents if they
--- can be read; a link with the word of its target
+-- a body as it is listed:
+-- - a directory with its number of entries;
+-- - a file with its size, and the digest of its contents if they can be read;
+-- - a link with the word of its target
 pub data ListedBody : Type 0 where
   Dir : ℕ → ListedBody
   File : ℕ → Option (List ℕ) → ListedBody
