@@ -1,4 +1,4 @@
--- What a look at each byte, or at each pair of bytes, shows of the basis. The facts are computed.
+-- Facts of the basis for each byte, or for each pair of bytes. They are proved by computation.
 use Rattle.std.proofs.Common.{◌≡◌, ℕ, ◌<◌, List, true, refl, ap, ◌∙◌, arith}
 use Rattle.std.proofs.lemmas.Bool.{eqb-true}
 use Rattle.std.specs.Prelude.{bit_xor, nat_eq}
@@ -21,7 +21,7 @@ pub in_basis-xor : (a b : ℕ) → a < 256 → b < 256 → in_basis (bit_xor a b
 unfolding all_from in_basis half_bytes found_in low_half high_half
 in_basis-xor = of_pairs _ _ refl
 
--- a byte in the basis of the inverse, but for the constant of the change
+-- a byte in the basis of the inverse, without the constant of the change
 unfoldable pub linear_part : ℕ → ℕ
 linear_part b = bit_xor (in_inverse_basis b) 0xe8
 
@@ -33,9 +33,9 @@ pub linear_part-xor : (a b : ℕ) → a < 256 → b < 256 → linear_part (bit_x
 unfolding linear_part
 linear_part-xor a b small low = ap (λ z. bit_xor z 0xe8) (in_inverse_basis-xor a b small low) ∙ xor_assoc (linear_part a) (in_inverse_basis b) 0xe8
 
--- ---- what the tables find
+-- ---- the results of the tables
 
--- the S-box but for its constant, and its double, in the basis
+-- the S-box without its constant, and its double, in the basis
 unfoldable pub once_byte : ℕ → ℕ
 once_byte b = in_basis (bit_xor (substitute_byte b) AFFINE_CONSTANT)
 
@@ -46,7 +46,7 @@ twice_byte b = in_basis (times_x (bit_xor (substitute_byte b) AFFINE_CONSTANT))
 unfoldable pub inverse_product : ℕ → ℕ → ℕ
 inverse_product k b = linear_part (field_product k (inverse_substitute_byte b))
 
--- what is found by both parts of the inverse of a byte, which is given in some basis
+-- the xor of what two tables have at the two parts of the inverse of a byte, which is given in some basis
 unfoldable pub by_both : (ℕ → ℕ) → List ℕ → List ℕ → ℕ → ℕ
 by_both basis of_first of_second b =
     bit_xor (found_in of_first (first_part INVERSES SCALED_INVERSES (basis b))) (found_in of_second (second_part INVERSES SCALED_INVERSES (basis b)))

@@ -1,5 +1,5 @@
--- What a look at each byte shows of the field and the S-boxes. The facts over all bytes, or all pairs
--- of bytes, are computed.
+-- Facts of the field and the S-boxes for each byte. The facts over all bytes, or all pairs of bytes, are
+-- proved by computation.
 use Rattle.std.proofs.Common.{◌≡◌, ℕ, ◌<◌, refl, arith}
 use Rattle.std.proofs.lemmas.Bool.{eqb-true, ltb-true}
 use Rattle.std.specs.Prelude.{true, cond, ◌+◌, ◌%◌, ◌^◌, bit_xor, nat_eq, nat_lt, nat_le}

@@ -23,7 +23,7 @@ pub plane_plus_constant : (k table : ℕ) (s : ℕ → List ℕ) → AllBlocks s
     plane (λ x. bit_at x k) (λ b. state_map plus_constant (s b)) ≡ plane (bit_at table) s
 plane_plus_constant k table s blocks all = sym (plane_of_state_map plus_constant k s) ∙ plane_same (λ x. bit_at (plus_constant x) k) (bit_at table) s blocks all
 
--- the plane of a bit of the S-box, but for its constant
+-- the plane of a bit of the S-box without its constant
 pub plane_without_constant : (k table : ℕ) (s : ℕ → List ℕ) → AllBlocks s → all_from (λ x. nat_eq (bit_at table x) (bit_at (substitute_without_constant x) k)) 0 256 ≡ true →
     plane (bit_at table) s ≡ plane (λ x. bit_at x k) (λ b. state_map substitute_without_constant (s b))
 plane_without_constant k table s blocks all = plane_same (bit_at table) (λ x. bit_at (substitute_without_constant x) k) s blocks all ∙ plane_of_state_map substitute_without_constant k s

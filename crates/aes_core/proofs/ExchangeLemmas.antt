@@ -5,14 +5,14 @@ use Rattle.std.specs.Simd.Lanes.{Each1, zip2}
 use Rattle.byte_words.specs.Tables.{all_from}
 use Rattle.aes_core.proofs.BasisTables.{of_pairs}
 
--- what stays and what comes, of two bytes, by the sum of what differs
+-- the results of an exchange of two bytes, by xoring the bits that differ
 unfoldable pub low_by_sum : ℕ → ℕ → ℕ → ℕ → ℕ
 low_by_sum n low a b = bit_xor a (bit_and (bit_xor (a / 2 ^ n) b) low * 2 ^ n % 2 ^ 8)
 
 unfoldable pub high_by_sum : ℕ → ℕ → ℕ → ℕ → ℕ
 high_by_sum n low a b = bit_xor b (bit_and (bit_xor (a / 2 ^ n) b) low)
 
--- and by masks
+-- and the same by masks
 unfoldable pub low_by_masks : ℕ → ℕ → ℕ → ℕ → ℕ
 low_by_masks n low a b = bit_or (bit_and a low) (bit_and b low * 2 ^ n % 2 ^ 8)
 

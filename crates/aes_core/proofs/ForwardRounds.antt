@@ -28,7 +28,7 @@ pub last_shift : (s : List ℕ) → rotated_rows 2 (map substitute_byte (rotated
 unfolding rotated_rows shift_rows substitute_bytes
 last_shift s = refl
 
--- ---- what is found by the parts of the inverses
+-- ---- look-ups by the parts of the inverses
 
 block-fits : (s : List ℕ) → IsBlock s → Each1 (Fits w8) s
 block-fits s block = Each1-from_get_or (Fits w8) s 0 (λ i low. record { fits = block.bytes i })
@@ -53,7 +53,7 @@ mixed-xor k0 k1 k2 k3 a b c d e f g h p q r s t u v w =
     (λ i. sum4 (product-xor k0 a e p t i) (product-xor k1 b f q u i) (product-xor k2 c g r v i) (product-xor k3 d h s w i))
     ∙ sym (sum4-xor (field_product k0 a) (field_product k1 b) (field_product k2 c) (field_product k3 d) (field_product k0 e) (field_product k1 f) (field_product k2 g) (field_product k3 h))
 
--- the constant of the S-box comes through the mixing of columns
+-- mixing columns doesn't change the constant of the S-box
 pub constant_mixed : mixed 0x02 0x03 0x01 0x01 AFFINE_CONSTANT AFFINE_CONSTANT AFFINE_CONSTANT AFFINE_CONSTANT ≡ AFFINE_CONSTANT
 unfolding field_product sum_with_product times_x
 constant_mixed = refl
@@ -104,7 +104,7 @@ lane a b c d k p q r s t =
 
 -- ---- a round
 
--- what the code sums up, from what the S-box gives, and the round
+-- the sum that the code computes from the values of the S-box, and the round
 abbrev round_sum : ℕ → List ℕ → List ℕ → List ℕ → List ℕ
 round_sum n once twice key =
     let sum = zip2 bit_xor twice (unshifted_row 1 n once) in

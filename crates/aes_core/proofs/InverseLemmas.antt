@@ -43,7 +43,7 @@ unfolding add_round_key
 add_round_key-IsBlock w n s keys block =
     state_of-IsBlock (λ r c. bit_xor (cell s r c) (get_or w (16 * n + (r + 4 * c)) 0)) (λ r c. xor_of_8 (cell s r c) (get_or w (16 * n + (r + 4 * c)) 0) (block.bytes _) (keys _))
 
--- a round key added twice falls out
+-- a round key added twice cancels
 pub add_round_key_twice : (w : List ℕ) (n : ℕ) (s : List ℕ) → IsBlock s → add_round_key w n (add_round_key w n s) ≡ s
 unfolding add_round_key
 add_round_key_twice w n s block =
@@ -52,7 +52,7 @@ add_round_key_twice w n s block =
     xor_twice (get_or s 8 0) (get_or w (16 * n + 8) 0) j ∷ xor_twice (get_or s 9 0) (get_or w (16 * n + 9) 0) j ∷ xor_twice (get_or s 10 0) (get_or w (16 * n + 10) 0) j ∷ xor_twice (get_or s 11 0) (get_or w (16 * n + 11) 0) j ∷
     xor_twice (get_or s 12 0) (get_or w (16 * n + 12) 0) j ∷ xor_twice (get_or s 13 0) (get_or w (16 * n + 13) 0) j ∷ xor_twice (get_or s 14 0) (get_or w (16 * n + 14) 0) j ∷ xor_twice (get_or s 15 0) (get_or w (16 * n + 15) 0) j ∷ []) ∙ state_of-cell s block.size
 
--- what one function of bytes did to each, another undoes
+-- one function of bytes is undone by another, for each byte of a state
 each_back : (f g : ℕ → ℕ) → ((b : ℕ) → b < 256 → g (f b) ≡ b) → (s : List ℕ) → IsBlock s → state_of (λ r c. g (cell (state_of (λ r c. f (cell s r c))) r c)) ≡ s
 each_back f g back s block =
     (λ j. back (get_or s 0 0) (block.bytes _) j ∷ back (get_or s 1 0) (block.bytes _) j ∷ back (get_or s 2 0) (block.bytes _) j ∷ back (get_or s 3 0) (block.bytes _) j ∷
@@ -84,7 +84,7 @@ mixing : Undo 0x02 0x03 0x01 0x01 0x0e 0x0b 0x0d 0x09
 unfolding all_from times_x sum_with_product field_product
 mixing = record { first = byte_equal _ _ refl; second = byte_equal _ _ refl; third = byte_equal _ _ refl; fourth = byte_equal _ _ refl }
 
--- and what the columns were mixed by
+-- and mixing columns is undone by the inverse polynomial
 columns_back : (k0 k1 k2 k3 l0 l1 l2 l3 : ℕ) → Undo k0 k1 k2 k3 l0 l1 l2 l3 → (s : List ℕ) → IsBlock s → state_of (mixed_cell k0 k1 k2 k3 (state_of (mixed_cell l0 l1 l2 l3 s))) ≡ s
 columns_back k0 k1 k2 k3 l0 l1 l2 l3 undo s block =
     let mix : (a b c d : ℕ) → ℕ = λ a b c d. mixed l0 l1 l2 l3 (get_or s a 0) (get_or s b 0) (get_or s c 0) (get_or s d 0) in

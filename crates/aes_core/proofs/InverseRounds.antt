@@ -61,7 +61,7 @@ lane a b c d e f g h p q r s t u v w =
 
 -- ---- a round
 
--- what the code sums up, from the products of what the inverse S-box gives, and the round
+-- the sum that the code computes from the products of the inverse S-box's values, and the round
 abbrev round_sum : ℕ → List ℕ → List ℕ → List ℕ → List ℕ → List ℕ → List ℕ
 round_sum n by_14 by_11 by_13 by_9 key =
     zip2 bit_xor (zip2 bit_xor by_14 key) (unshifted_row 1 n (zip2 bit_xor by_11 (unshifted_row 1 n (zip2 bit_xor by_13 (unshifted_row 1 n by_9)))))

@@ -86,8 +86,8 @@ mixed k0 k1 k2 k3 a b c d = sum4 (field_product k0 a) (field_product k1 b) (fiel
 pub mixed-lt : (k0 k1 k2 k3 a b c d : ℕ) → a < 256 → b < 256 → c < 256 → d < 256 → mixed k0 k1 k2 k3 a b c d < 256
 mixed-lt k0 k1 k2 k3 a b c d p q r s = sum4-lt (field_product k0 a) (field_product k1 b) (field_product k2 c) (field_product k3 d) (product-lt k0 a p) (product-lt k1 b q) (product-lt k2 c r) (product-lt k3 d s)
 
--- The coefficients k undo the coefficients l: a byte comes back, and the other three of its column
--- fall out.
+-- The coefficients k undo the coefficients l: a byte is restored, and the other three of its column
+-- cancel.
 pub record Undo (k0 k1 k2 k3 l0 l1 l2 l3 : ℕ) : Type 0 where
   pub first : (b : ℕ) → b < 256 → sum4 (field_product k0 (field_product l0 b)) (field_product k1 (field_product l3 b)) (field_product k2 (field_product l2 b)) (field_product k3 (field_product l1 b)) ≡ b
   pub second : (b : ℕ) → b < 256 → sum4 (field_product k0 (field_product l1 b)) (field_product k1 (field_product l0 b)) (field_product k2 (field_product l3 b)) (field_product k3 (field_product l2 b)) ≡ 0

@@ -1,4 +1,4 @@
--- The rounds in planes of bits, and what comes before and after them.
+-- The rounds in planes of bits, and the steps before and after them.
 use Rattle.std.proofs.Common.{◌≡◌, ℕ, zero, suc, ◌-◌, List, refl, ap, ◌∙◌}
 use Rattle.byte_words.specs.Bytes.{AreBytes}
 use Rattle.aes_core.specs.Aes.{state_after, encrypted_with, decrypted_with}
@@ -49,14 +49,14 @@ unfolding inverse_middle_rounds
 inverse_middle_rounds-IsBlock w s keys is = inverse_substitute_bytes-IsBlock (rotated_rows 3 (inverse_rounds_from w (rotated_rows 2 (state_map plus_constant s)) 13))
     (rotated_rows-IsBlock 3 (inverse_rounds_from w (rotated_rows 2 (state_map plus_constant s)) 13) (inverse_rounds_from-IsBlock w (rotated_rows 2 (state_map plus_constant s)) 13 keys (rotated_constant-IsBlock s is)))
 
--- encryption with its end
+-- encryption with its last steps
 pub encryption_whole : (w block : List ℕ) → add_round_key w 14 (rotated_rows 2 (state_map plus_constant (middle_rounds w (add_round_key w 0 block)))) ≡ encrypted_with w block
 unfolding middle_rounds encrypted_with
 encryption_whole w block =
     let state : List ℕ = rounds_from w (add_round_key w 0 block) 13 in
     ap (λ s. add_round_key w 14 s) (last_round_whole state ∙ ap (λ s. shift_rows (substitute_bytes s)) (from_first w block 13))
 
--- decryption with its beginning and its end
+-- decryption with its first and last steps
 pub decryption_whole : (w block : List ℕ) → add_round_key w 0 (inverse_middle_rounds w (state_map plus_constant (rotated_rows 2 (add_round_key w 14 block)))) ≡ decrypted_with w block
 unfolding inverse_middle_rounds add_round_key
 decryption_whole w block =

@@ -34,7 +34,7 @@ pub xor_functions : (f g : ℕ → ℕ) (s : ℕ → List ℕ) (r a b : List ℕ
     r ≡ zip2 bit_xor a b → a ≡ plane f s → b ≡ plane g s → r ≡ plane (λ x. bit_xor (f x) (g x)) s
 xor_functions f g s r a b fb gb made left right = planes_joined bit_xor xor_Bitwise f g s r a b fb gb made left right
 
--- ---- a gate, by the truth tables of what comes in: bit x of a table is its value at the byte x
+-- ---- a gate, by the truth tables of its inputs: bit x of a table is its value at the byte x
 
 xor_of_bits : (u v : ℕ) → u < 2 → v < 2 → bit_xor u v ≡ (u + v) % 2
 xor_of_bits zero zero low small = refl
@@ -58,7 +58,7 @@ xor_bit t u x = xor_of_bits (bit_at t x) (bit_at u x) (bit_at-lt t x) (bit_at-lt
 and_bit : (t u x : ℕ) → bit_and (bit_at t x) (bit_at u x) ≡ bit_at (bit_and t u) x
 and_bit t u x = and_of_bits (bit_at t x) (bit_at u x) (bit_at-lt t x) (bit_at-lt u x) ∙ sym (bit_at_and t u x)
 
--- a vector carries a truth table: a record, so that the arguments of a gate are found
+-- a vector has a truth table: a record, so that the arguments of a gate are found
 pub record Carries (s : ℕ → List ℕ) (table : ℕ) (v : List ℕ) : Type 0 where
   pub is : v ≡ plane (bit_at table) s
 

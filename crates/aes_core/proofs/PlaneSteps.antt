@@ -1,5 +1,5 @@
--- What a round does to planes: rows, sums, products by x and round keys, each the same on all
--- eight blocks.
+-- The steps of a round on planes: rows, sums, products by x and round keys, each the same on all eight
+-- blocks.
 use Rattle.std.proofs.Common.{◌≡◌, ℕ, zero, suc, ◌+◌, ◌*◌, ◌%◌, ◌^◌, ◌<◌, true, cond, List, [], ◌∷◌, map, get_or, length, replicate, refl, ap, sym, ◌∙◌, arith, Fits, w8}
 use Rattle.std.proofs.lemmas.List.{length-map}
 use Rattle.std.proofs.lemmas.Bool.{eqb-true}
@@ -86,7 +86,7 @@ unshifted_mix-IsBlock n s block =
     let sum_block : IsBlock sum = xor-IsBlock s next block next_block in
     xor-IsBlock (zip2 bit_xor (map times_x sum) next) (unshifted_row 2 n sum) (xor-IsBlock (map times_x sum) next (times_x-IsBlock sum sum_block) next_block) (unshifted_row-IsBlock 2 n sum sum_block)
 
--- ---- the product by x: a plane comes from the one below, or from it and the highest
+-- ---- the product by x: a plane is the one below, or its xor with the highest
 
 product_at : (xs : List ℕ) (p : ℕ) → times_x (get_or xs p 0) ≡ get_or (map times_x xs) p 0
 unfolding times_x

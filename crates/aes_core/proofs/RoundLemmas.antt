@@ -122,7 +122,7 @@ moved-moved_back : (s : List ℕ) → IsBlock s → shift_rows (substitute_bytes
 moved-moved_back s is =
     ap shift_rows (substitute_bytes-inverse_substitute_bytes (inverse_shift_rows s) (inverse_shift_rows-IsBlock s is)) ∙ shift_rows-inverse_shift_rows s is
 
--- what is left after n rounds, undone, is the block
+-- undoing n rounds, on their result, gives the block
 undone-state_after : (w block : List ℕ) (n : ℕ) → AreBytes w → IsBlock block → rounds_undone w (shift_rows (substitute_bytes (state_after w block n))) n ≡ block
 unfolding rounds_undone state_after
 undone-state_after w block zero keys is =
@@ -145,7 +145,7 @@ decrypted-encrypted key block bytes is =
     ap (λ s. rounds_undone (round_keys key) s 13) (add_round_key_twice (round_keys key) 14 (shift_rows (substitute_bytes (state_after (round_keys key) block 13))) last)
     ∙ undone-state_after (round_keys key) block 13 keys is
 
--- n rounds over what was undone come to the state before it, moved back
+-- n rounds, on what was undone, give the state before undoing, with the bytes and rows moved back
 state_after-undone : (w s : List ℕ) (n : ℕ) → AreBytes w → IsBlock s → state_after w (rounds_undone w s n) n ≡ inverse_substitute_bytes (inverse_shift_rows s)
 unfolding rounds_undone state_after
 state_after-undone w s zero keys is = add_round_key_twice w 0 (inverse_substitute_bytes (inverse_shift_rows s)) (moved_back-IsBlock s is)

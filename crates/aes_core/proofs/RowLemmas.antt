@@ -1,4 +1,4 @@
--- Rows that are not shifted yet: what the tables of places find, and what rotations do.
+-- Rows that are not shifted yet: look-ups by the tables of places, and the effect of rotations.
 use Rattle.std.proofs.Common.{◌≡◌, ℕ, zero, suc, ◌+◌, ◌*◌, ◌<◌, true, List, [], map, length, get_or, refl, arith}
 use Rattle.std.proofs.lemmas.Simd.{Each1-from_get_or}
 use Rattle.std.specs.Simd.Lanes.{Each1}

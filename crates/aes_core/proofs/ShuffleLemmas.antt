@@ -1,4 +1,4 @@
--- Look-ups lane by lane: what a shuffle finds, and facts of every byte that a table shows.
+-- Look-ups lane by lane: the results of a shuffle, and facts of every byte that a table shows.
 use Rattle.std.proofs.Common.{◌≡◌, ℕ, suc, ◌+◌, ◌*◌, ◌/◌, ◌<◌, ◌≤◌, true, List, [], ◌∷◌, map, length, get_or, refl, ap, ◌∙◌, arith, Fits, w8}
 use Rattle.std.proofs.lemmas.Bool.{eqb-true}
 use Rattle.std.proofs.lemmas.Simd.{swz_l, SwzOk, SwzOk-from_Each1, Each1-weaker, map-map}
@@ -8,7 +8,7 @@ use Rattle.byte_words.specs.Tables.{all_from}
 use Rattle.byte_words.proofs.TableLemmas.{all_from-at}
 use Rattle.aes_core.specs.Shuffles.{is_place, IsPlace, found_in}
 
--- ---- what a shuffle finds
+-- ---- the results of a shuffle
 
 pub places_fit : (js : List ℕ) → length js ≡ 16 → Each1 IsPlace js → SwzOk w8 16 16 0 js
 places_fit js size places = SwzOk-from_Each1 w8 16 1 16 0 js refl (omega arith) (Each1-weaker IsPlace (λ j. T (is_place j)) (λ j h. rw h tt) js places)

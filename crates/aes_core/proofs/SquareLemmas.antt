@@ -51,7 +51,8 @@ pub row_is : (s : ℕ → List ℕ) (b : ℕ) → b < 8 → IsBlock (s b) → ge
 unfolding square_of
 row_is s b low block = get_or-map-range_with_len (λ r. vector_of (λ k p. bit_at (slice_index (s r) p) k)) 0 8 b b [] low (omega arith) ∙ sym (block_is (s b) block)
 
--- what a cipher makes of eight blocks, by way of the square of their bits, turned before it and after it
+-- the result of a cipher on eight blocks, computed on the square of their bits, which is transposed
+-- before it and after it
 pub by_planes : (made : List ℕ → List ℕ) (blocks bits rounds back : List (List ℕ)) → length blocks ≡ 8 → ((x : List ℕ) → IsBlock x → IsBlock (made x)) → ((r : ℕ) → r < 8 → IsBlock (get_or blocks r [])) →
     ((bit : ℕ → ℕ → ℕ → ℕ) → ((r : ℕ) → AllBits (bit r)) → blocks ≡ square_of bit → bits ≡ square_of (λ k r p. bit r k p)) →
     ((s : ℕ → List ℕ) → AllBlocks s → bits ≡ planes s → rounds ≡ planes (λ b. made (s b))) →

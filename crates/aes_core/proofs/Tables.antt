@@ -1,4 +1,4 @@
--- What is known by a look at each byte. The facts over all bytes are computed.
+-- Facts for each byte. They are proved by computation.
 use Rattle.std.proofs.Common.{◌≡◌, ℕ, ◌*◌, ◌%◌, ◌^◌, ◌<◌, refl, arith}
 use Rattle.std.proofs.lemmas.Bool.{eqb-true}
 use Rattle.std.specs.Prelude.{true, nat_eq}

@@ -26,7 +26,7 @@ pub plus_constant-lt : (b : ℕ) → b < 256 → plus_constant b < 256
 unfolding plus_constant
 plus_constant-lt b low = xor_of_8 b AFFINE_CONSTANT low (omega arith)
 
--- the constant falls out of a sum with a key that has it too
+-- the constant cancels in a sum with a key that has it too
 constant_out : (m k : ℕ) → bit_xor (bit_xor m AFFINE_CONSTANT) (bit_xor k AFFINE_CONSTANT) ≡ bit_xor m k
 constant_out m k = xor_swap m AFFINE_CONSTANT k AFFINE_CONSTANT ∙ ap (λ z. bit_xor (bit_xor m k) z) (xor_self AFFINE_CONSTANT) ∙ xor_zero_r (bit_xor m k)
 
@@ -94,7 +94,7 @@ unshifted_round_on = of_four (λ n. (s k : List ℕ) → IsBlock s → length k 
 twice : (b : ℕ) → bit_xor (bit_xor (substitute_byte b) AFFINE_CONSTANT) AFFINE_CONSTANT ≡ substitute_byte b
 twice b = xor_twice (substitute_byte b) AFFINE_CONSTANT
 
--- the last round, whose constant and shifts come at the end
+-- the last round, whose constant and shifts are applied at the end
 pub last_round_whole : (s : List ℕ) → rotated_rows 2 (state_map plus_constant (state_map substitute_without_constant (rotated_rows 3 s))) ≡ shift_rows (substitute_bytes s)
 unfolding rotated_rows state_map plus_constant substitute_without_constant shift_rows substitute_bytes
 last_round_whole s = λ i.

@@ -1,4 +1,4 @@
--- What is known of contents into which bytes were written, and of bytes read from them: by bytes, by length.
+-- Lemmas on contents into which bytes were written, and on bytes read from them: by bytes, by length.
 use Rattle.std.proofs.Common.{◌≡◌, ℕ, zero, suc, ◌+◌, ◌-◌, ◌≤◌, ◌<◌, List, [], ◌∷◌, ◌++◌, length, take, drop, get_or, replicate, refl, ap, ◌∙◌, arith, length-append, length-drop}
 use Rattle.std.proofs.lemmas.List.{get_or-drop, get_or-take, get_or-append_right, get_or_append_left, length-take, length-take-le, length-replicate, take_at, drop_at}
 use Rattle.std.specs.Prelude.{min, max}
@@ -7,7 +7,7 @@ use Rattle.byte_words.specs.Contents.{spliced, with_bytes, bytes_from}
 use Rattle.byte_words.specs.Xor.{zero_filled}
 use Rattle.byte_words.proofs.AreBytesLemmas.{AreBytes-append, AreBytes-take, AreBytes-drop, AreBytes-zero_filled}
 
--- ---- a list that is read past its end gives zeros
+-- ---- reading a list past its end gives zeros
 
 zeros_are_zeros : (n i : ℕ) → get_or {A = ℕ} (replicate n 0) i 0 ≡ 0
 zeros_are_zeros zero i = refl
@@ -69,18 +69,18 @@ AreBytes-spliced xs at piece bytes others = AreBytes-append (take at xs) (piece 
 
 -- ---- bytes written into contents
 
--- the place where they begin is within the contents, once a gap is filled
+-- the place at which they begin is within the contents, once a gap is filled
 reached : (at : ℕ) (contents : List ℕ) → at ≤ length (zero_filled at contents)
 reached at contents = omega (arith, length-filled at contents)
 
--- they have no byte less than the contents, and reach as far as the last byte that was written
+-- they are no shorter than the contents, and reach to the last byte that was written
 pub length-with_bytes : (at : ℕ) (bytes contents : List ℕ) → 0 < length bytes → length (with_bytes at bytes contents) ≡ max (length contents) (at + length bytes)
 unfolding with_bytes
 length-with_bytes at [] contents some = absurd (omega arith)
 length-with_bytes at (b ∷ bs) contents some =
     length-spliced (zero_filled at contents) at (b ∷ bs) (reached at contents) ∙ omega (arith, length-filled at contents)
 
--- a byte before them is as it was
+-- a byte before them is unchanged
 pub with_bytes_before : (at : ℕ) (bytes contents : List ℕ) (i : ℕ) → i < at → get_or (with_bytes at bytes contents) i 0 ≡ get_or contents i 0
 unfolding with_bytes
 with_bytes_before at [] contents i before = refl

@@ -1,4 +1,4 @@
--- What is known of numbers written as bytes.
+-- Lemmas on numbers written as bytes.
 use Rattle.std.proofs.Common.{◌≡◌, ℕ, zero, suc, ◌+◌, ◌*◌, ◌-◌, ◌/◌, ◌%◌, ◌^◌, ◌<◌, List, [], ◌∷◌, ◌++◌, length, take, get_or, refl, ap, sym, ◌∙◌, arith}
 use Rattle.std.proofs.lemmas.List.{reverse-append, reverse-reverse, take_all, take_more, length-take-le}
 use Rattle.std.proofs.lemmas.Nat.{mod_below, shr-shr, mod-pow-add, pow-add}

@@ -1,4 +1,4 @@
--- What is known of `xor_bytes` and `zero_filled`.
+-- Lemmas on `xor_bytes` and `zero_filled`.
 use Rattle.std.proofs.Common.{◌≡◌, ℕ, zero, suc, ◌+◌, ◌-◌, ◌≤◌, ◌<◌, List, [], ◌∷◌, ◌++◌, length, take, drop, get_or, set, replicate, refl, ap, ◌∙◌, arith, add-one, length-append}
 use Rattle.std.proofs.lemmas.List.{append-nil, length-replicate, take_at}
 use Rattle.std.proofs.lemmas.Nat.{xor_comm, xor_of_8}

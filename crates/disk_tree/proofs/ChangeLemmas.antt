@@ -16,7 +16,7 @@ module _ {V : Type 0} (m : Numbered V) (k : ℕ) where
   alike_by_case f g None is same = changed_None m k f is ∙ sym (changed_None m k g is)
   alike_by_case f g (Some v) is same = changed_Some m k f v is ∙ ap (insert m k) (same v refl) ∙ sym (changed_Some m k g v is)
 
-  -- two changes that make the same of the value that is there
+  -- two changes that give the same result for the value that is there
   pub changed_alike : (f g : V → V) → ((v : V) → get m k ≡ Some v → f v ≡ g v) → changed m k f ≡ changed m k g
   changed_alike f g same = alike_by_case f g (get m k) refl same
 

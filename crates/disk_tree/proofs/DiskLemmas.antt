@@ -1,4 +1,4 @@
--- What each change of the disk makes of the count of its blocks, and of its entries.
+-- How each change of the disk changes the count of its blocks, and its entries.
 use Rattle.std.proofs.Common.{◌≡◌, ℕ, ◌+◌, ◌-◌, Option, Some, None, List, [], ◌∷◌, length, replicate, inl, inr, refl, sym, ap, subst, ◌∙◌, arith, length-append, true, ◌≢◌}
 use Rattle.std.proofs.lemmas.List.{length-replicate, length-set}
 use Rattle.std.proofs.lemmas.Bool.{cases_eq}
@@ -56,7 +56,7 @@ unfolding block_total
 removed_by_case disk k None is = let same : block_total (remove disk k) ≡ block_total disk = ap block_total (remove_same disk k is) in omega arith
 removed_by_case disk k (Some node) is = total_removed count_of disk k node is
 
--- the blocks of a node that is removed go
+-- the blocks of a node that is removed are no longer counted
 pub removed_total : (disk : Disk) (k : ℕ) → block_total (remove disk k) + length (blocks_in (get disk k)) ≡ block_total disk
 removed_total disk k = removed_by_case disk k (get disk k) refl
 

@@ -1,4 +1,4 @@
--- The entry of a name is taken out of a list.
+-- The entry of a name is removed from a list.
 use Rattle.std.proofs.Common.{◌≡◌, Bool, true, false, cond, Some, None, List, [], ◌∷◌, ◌++◌, refl, ap}
 use Rattle.std.specs.Map.{lookup, remove_entry}
 

@@ -1,4 +1,4 @@
--- What holds of a result that is known to be no error.
+-- Facts of a result that is known to be no error.
 use Rattle.std.proofs.Common.{◌≡◌, false, Result, Ok, Err, OnOk, OnErr}
 use Rattle.std.specs.Result.{is_err}
 
@@ -14,7 +14,7 @@ pub on_err_so : {T E : Type 0} (r : Result T E) (P Q : Type 0) → (P → Q) →
 on_err_so (Ok x) P Q so holds = tt
 on_err_so (Err e) P Q so holds = so holds
 
--- what holds whether it is an error or not
+-- facts that hold with or without an error
 pub either_way : {T E : Type 0} (r : Result T E) (P : Type 0) → OnOk r P → OnErr r P → P
 either_way (Ok x) P fine wrong = fine
 either_way (Err e) P fine wrong = wrong

@@ -1,4 +1,4 @@
--- What is left of a list after its first items.
+-- The rest of a list after its first items.
 use Rattle.std.proofs.Common.{◌≡◌, ℕ, ◌<◌, ◌≤◌, ◌+◌, ◌-◌, min, List, [], ◌++◌, length, take, drop, sym, ap}
 use Rattle.std.proofs.Common.{◌∙◌, arith, take_all, take-append-drop, length-drop, drop_of_length-le}
 use Rattle.std.proofs.lemmas.List.{drop-drop}

@@ -12,7 +12,7 @@ Appends-on (Some old) (Some mid) None xs ys first second = absurd second
 Appends-on (Some old) (Some mid) (Some new) xs ys first second =
     second ∙ ap (λ zs. zs ++ ys) first ∙ append_assoc old xs ys
 
--- after the bytes up to w it gets some of those from w on
+-- after the first w bytes it gets some of those from w on
 pub written_on : (a b c : Option (List ℕ)) (text : List ℕ) (w count : ℕ) → Appends a b (take w text)
     → Appends b c (take count (take (length text - w) (drop w text))) → Appends a c (take (w + count) text)
 written_on a b c text w count first second =

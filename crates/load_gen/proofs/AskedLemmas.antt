@@ -1,4 +1,4 @@
--- What a generated script asks for can be asked for.
+-- The calls of a generated script may be asked.
 use Rattle.std.proofs.Common.{◌≡◌, ℕ, zero, suc, ◌/◌, ◌%◌, ◌<◌, ◌==◌, Bool, true, false, ◌++◌, length, arith}
 use Rattle.std.specs.Prelude.{replicate, slice_index, if◌then◌else◌}
 use Rattle.std.specs.List.{All}

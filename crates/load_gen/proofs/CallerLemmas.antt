@@ -12,7 +12,7 @@ use Rattle.load_gen.specs.Operations.{operation}
 use Rattle.load_gen.specs.Words.{raw_key}
 use Rattle.load_gen.specs.Callers.{first_verbs, operations, last_verbs, verbs, in_lines}
 
--- ---- how many they are
+-- ---- the number of commands
 
 length-operations : (count c x : ℕ) → length (operations count c x) ≡ count
 unfolding operations

@@ -1,4 +1,4 @@
--- What holds of each of few commands.
+-- Facts of each of few commands.
 use Rattle.std.proofs.Common.{List, [], ◌∷◌}
 use Rattle.std.specs.List.{All}
 use Rattle.std.proofs.lemmas.List.Elements.{All-nil, All-cons}

@@ -16,7 +16,7 @@ use Rattle.std.specs.declared.alloc.Global.{Global}
 use Rattle.meta_files.specs.declared.files.Record.{Record}
 use Rattle.meta_files.specs.Indexed.{Index, indexed, place_in, IsIndexed}
 
--- ---- one name is put or taken out
+-- ---- one name is put or removed
 
 is_eq_bytes : (xs ys : List ℕ) → is_eq (slice_cmp nat_cmp xs ys) ≡ bytes_eq xs ys
 is_eq_bytes xs ys = sym (texts_ties xs ys)
@@ -35,7 +35,7 @@ other_entries eq test old new h = h
 abbrev pub vec_cmp : Vec ℕ Global → Vec ℕ Global → Ordering
 vec_cmp x y = slice_cmp nat_cmp x.items y.items
 
--- what an insertion or a removal leaves under each name
+-- the value under each name after an insertion or a removal
 pub index_updates : (m n : BTreeMap (Vec ℕ Global) ℕ) (name : List ℕ) (w : Option ℕ)
     → UpdatesBy vec_cmp (λ k. slice_cmp nat_cmp name k.items) m n w →
     (other : List ℕ) → indexed n.entries other ≡ cond (bytes_eq name other) w (indexed m.entries other)

@@ -103,7 +103,7 @@ module _ (name : List ℕ) (xs : List Record) (gone : position (λ kept. bytes_e
       ≡ with_record (pairs_of xs) name version bytes
   with_record_new version bytes = behind name version bytes xs (none_before name xs gone)
 
--- ---- which fault comes
+-- ---- which fault is returned
 
 pub store_fault_there : (rs : RecordList) (name : List ℕ) (expected : ℕ) (bytes : List ℕ) (r : ℕ × List ℕ)
     → length bytes ≤ MOST_RECORD_BYTES → record_of rs name ≡ Some r
@@ -119,7 +119,7 @@ store_fault_new xs name expected bytes fits gone =
     let small : nat_lt MOST_RECORD_BYTES (length bytes) ≡ false =
     le-ltb MOST_RECORD_BYTES (length bytes) fits in rw (small, gone, length-map) refl
 
--- ---- as the calls see it: rs is what clauses see of the records xs
+-- ---- as the calls see it: rs is the value in clauses of the records xs
 
 module _ (rs : RecordList) (xs : List Record) (name : List ℕ) (view : pairs_of xs ≡ rs) where
   pub seen_None : place_in xs name ≡ None → record_of rs name ≡ None

@@ -38,7 +38,7 @@ is_nul b = b == 0
 not_nul : (name : List ℕ) (k : ℕ) → IsPlain name → k < length name → (get_or name k 0 == 0) ≡ false
 not_nul name k plain low = ne_eqb (get_or name k 0) 0 (λ e. plain.2 (k, low, e))
 
--- a name comes back from its bytes filled with NULs
+-- a name is restored from its bytes filled with NULs
 pub before_nul-zero_filled : (name : List ℕ) (size : ℕ) → IsPlain name → before_nul (zero_filled size name) ≡ name
 unfolding zero_filled
 before_nul-zero_filled name size plain =

@@ -39,7 +39,7 @@ length-shown stored = elim (cases_lt 149 (length stored)) [
   | inr few ↦ rw (shown_whole stored few) (omega (arith, few))
 ]
 
--- ---- a text that nothing has
+-- ---- a text that no stored name has
 
 pub no_text : (text : List ℕ) → ((stored : List ℕ) → AreBytes stored → text ≢ nokey_text_of stored) → IsShownBy text None
 no_text text never stored bytes = (λ is. absurd (never stored bytes is), λ (bad : None ≡ Some (shown_bytes stored)). absurd (cc))

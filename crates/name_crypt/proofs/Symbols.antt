@@ -57,7 +57,7 @@ symbols_join text bytes g fits front back =
 pub symbols_fill : (text bytes : List ℕ) → 24 < length bytes → text ≡ symbols_of bytes → 32 ≤ length text
 symbols_fill text bytes more is = omega (arith, ap length is, length-symbols_of bytes, more)
 
--- one block of 24 bytes on, the answer for what is left is still the answer for the whole
+-- after one block of 24 bytes the result for the rest is still the result for the whole
 pub next_block : (whole_text whole text bytes later_text later : List ℕ) → 24 < length bytes
     → (whole_text ≡ symbols_of whole) ↔ (text ≡ symbols_of bytes) → take 32 text ≡ symbols_of (take 24 bytes)
     → later_text ≡ drop 32 text → later ≡ drop 24 bytes → (whole_text ≡ symbols_of whole) ↔ (later_text ≡ symbols_of later)
@@ -88,7 +88,7 @@ in_parts text front back xs ys size ef eb =
       reach = λ is. omega (arith, ap length is, length-symbols_of (xs ++ ys), length-append xs ys, size);
     }
 
--- what the no-key text of a long stored name encodes, cut after 52 groups
+-- the bytes that the no-key text of a long stored name encodes, divided after 52 groups
 pub long_source : (stored : List ℕ) → 149 < length stored
     → replicate 8 0 ++ (take 149 stored ++ sha256 (drop 149 stored))
     ≡ (replicate 8 0 ++ take 148 stored) ++ (take 1 (drop 148 stored) ++ sha256 (drop 1 (drop 148 stored)))

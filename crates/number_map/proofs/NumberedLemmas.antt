@@ -8,7 +8,7 @@ use Rattle.number_map.specs.Numbered.{Numbered, get, insert, remove, len, change
 use Rattle.number_map.proofs.NumberTests.{tied, untied}
 
 module _ {V : Type 0} where
-  -- maps that answer alike are one
+  -- maps with the same value at each number are equal
   pub same_numbered : (m n : Numbered V) → ((q : ℕ) → get m q ≡ get n q) → m ≡ n
   same_numbered = same_map nat_cmp_total nat_cmp-IsAntisymmetric
 
@@ -80,7 +80,7 @@ module _ {V : Type 0} where
         | inr differ ↦ remove_other m k q differ
       ])
 
-  -- a creation that is taken back leaves nothing
+  -- a value that is inserted and removed leaves the map unchanged
   pub removed_again : (m : Numbered V) (k : ℕ) (v : V) → get m k ≡ None → remove (insert m k v) k ≡ m
   removed_again m k v lacks =
       same_numbered _ _ (λ q. elim (cases_eq q k) [
@@ -100,7 +100,7 @@ module _ {V : Type 0} where
   pub changed_inserted : (m : Numbered V) (k : ℕ) (v : V) (f : V → V) → changed (insert m k v) k f ≡ insert m k (f v)
   changed_inserted m k v f = changed_Some (insert m k v) k f v (insert_here m k v) ∙ insert_again m k v (f v)
 
-  -- a change of another number comes before or after the insertion
+  -- a change at another number commutes with the insertion
   pub changed_through : (m : Numbered V) (k x : ℕ) (v : V) (f : V → V) → (k ≢ x) → changed (insert m x v) k f ≡ insert (changed m k f) x v
   changed_through m k x v f apart =
       same_numbered _ _ (λ q. elim (cases_eq q k) [
@@ -121,7 +121,7 @@ module _ {V : Type 0} where
             ]
       ])
 
-  -- a change of another number comes before or after the removal
+  -- a change at another number commutes with the removal
   pub removed_changed : (m : Numbered V) (k x : ℕ) (f : V → V) → (k ≢ x) → remove (changed m k f) x ≡ changed (remove m x) k f
   removed_changed m k x f apart =
       same_numbered _ _ (λ q. elim (cases_eq q k) [

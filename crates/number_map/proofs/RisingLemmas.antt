@@ -1,4 +1,4 @@
--- What a list of entries by rising number has, once a value was put or removed.
+-- The values in a list of entries by rising number, after a value was put or removed.
 use Rattle.std.proofs.Common.{◌≡◌, ◌≢◌, ℕ, ◌+◌, cond, List, [], ◌∷◌, length, Some, None, true, false, inl, inr, refl, sym, ap, ◌∙◌, arith, Less, Equal, Greater}
 use Rattle.std.proofs.lemmas.Bool.{cases_eq}
 use Rattle.std.proofs.lemmas.Map.Keys.{sorted_head, sorted_tail}

@@ -1,4 +1,4 @@
--- What a row of slots by rising number is seen as, and what each change leaves of it.
+-- The model of a row of slots by rising number, and how each change changes it.
 use Rattle.std.proofs.Common.{◌≡◌, ◌≢◌, ℕ, zero, suc, ◌+◌, ◌-◌, ◌<◌, ◌≤◌, Bool, true, false, cond, List, [], ◌∷◌, ◌++◌, length, set, get_or, Option, Some, None, is_some, inl, inr, refl, sym, ap, subst, ◌∙◌, arith, Less, Equal, Greater, filter}
 use Rattle.std.proofs.lemmas.Bool.{cases_lt}
 use Rattle.std.proofs.lemmas.Map.Keys.{sorted_head, sorted_tail, below_from_sorted}
@@ -136,7 +136,7 @@ module _ {V : Type 0} where
         | false ↦ λ h. ap (λ rest. e ∷ rest) (removed_absent number es h)
       ] absent
 
-  -- what isn't there is not taken out
+  -- a value that isn't there is not removed
   pub none_removed : (number : ℕ) (es : List (ℕ × V)) → value_at es number ≡ None → es ≡ remove_entry (eq_by_cmp nat_cmp number) es
   none_removed number es absent = sym (removed_absent number es absent)
 

@@ -31,7 +31,7 @@ module _ {V : Type 0} (count : V → ℕ) where
   abbrev value : ℕ × V → ℕ
   value e = count e.1
 
-  -- what a number's value counts; a number without one counts nothing
+  -- the count of a number's value; 0 for a number without one
   abbrev pub counted : Option V → ℕ
   counted None = 0
   counted (Some v) = count v

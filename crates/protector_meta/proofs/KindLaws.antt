@@ -1,4 +1,4 @@
--- The line of a protector's kind: it is read from what it is spelled as, and from nothing else.
+-- The line of a protector's kind: it is read from the text that spells it, and from no other text.
 use Rattle.std.proofs.Common.{◌≡◌, ℕ, ◌^◌, ◌≤◌, ◌*◌, ◌==◌, Bool, true, false, List, [], ◌∷◌, ◌++◌, length, Option, Some, None, Result, Ok, Err, refl, sym, ap, ◌∙◌, subst, arith}
 use Rattle.std.specs.Prelude.{nat_le, if◌then◌else◌, is_ok, slice_get, codes}
 use Rattle.std.specs.Option.{option_map}

@@ -64,7 +64,7 @@ pub value_again : {A : Type 0} (value : List ℕ → Option A) (number : ℕ) (l
     → value_at value number (line ++ 10 ∷ rest) ≡ Ok (x, rest)
 value_again value number line rest x plain h = rw (line_again number line rest plain, h) refl
 
--- what reading on found: the line, what follows it, the value of the line, and the rest
+-- the parts of a value that was read: the line, what follows it, the value of the line, and the rest
 pub record Found {A B : Type 0} (value : List ℕ → Option A) (text : List ℕ) (next : A → List ℕ → Result B MetaFault) (y : B) : Type 0 where
   pub line : List ℕ
   pub rest : List ℕ

@@ -1,4 +1,4 @@
--- The line of options: it is read from what it is spelled as, and from nothing else.
+-- The line of options: it is read from the text that spells it, and from no other text.
 use Rattle.std.proofs.Common.{◌≡◌, ℕ, ◌^◌, ◌<◌, ◌==◌, Bool, true, false, List, [], ◌∷◌, ◌++◌, Option, Some, None, refl, sym, ap, ◌∙◌, arith, ◌⊎◌, inl, inr, ⊎_elim, lit<}
 use Rattle.std.specs.Prelude.{codes, if◌then◌else◌}
 use Rattle.std.specs.List.{join_with_byte}

@@ -72,7 +72,7 @@ protector_again = record_again reads told whole
 pub protector_bad : (text : List ℕ) (e : MetaFault) → protector_read text ≡ Err e → TellsFirstBad IsProtectorRecord text e
 protector_bad = record_bad reads told whole
 
--- ---- what a reader answered
+-- ---- the result of a reader
 
 pub IfOk-found : (text : List ℕ) (r : Result Protector MetaFault) → r ≡ protector_read text → IfOk r (λ p. IsProtector p × (text ≡ protector_text p))
 IfOk-found text (Ok p) e = protector_found text p (sym e)

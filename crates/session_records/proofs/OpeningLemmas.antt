@@ -1,4 +1,4 @@
--- What a session makes opens again, since what was wrapped does.
+-- The records that a session makes open again, since wrapped keys do.
 use Rattle.std.proofs.Common.{◌≡◌, ℕ, Bool, true, false, List, [], Some, None, Ok, Err, refl, ap, sym, subst, ◌∙◌}
 use Rattle.std.specs.Prelude.{Option, Result, if◌then◌else◌}
 use Rattle.std.specs.Str.{bytes_eq}
@@ -52,7 +52,7 @@ found loaded key opened is =
     ap (λ (o : Option (List ℕ)). protector_with_key loaded (protector_key_found (descriptor_of key) o)) is
     ∙ ap (λ b. protector_with_key loaded (if b then Ok key else Err BadRecord)) (same_bytes (descriptor_of key))
 
--- ---- what is loaded of a text that was stored
+-- ---- the record that is loaded from a text that was stored
 
 named_again : (version : ℕ) (label : List ℕ) (p : Protector) → p.name ≡ label
     → protector_named label version (Ok p) ≡ Ok (record { version = version; protector = p })
@@ -108,7 +108,8 @@ changed_again opens version old key (new.Raw raw) iv salt same =
 changed_again opens version old key (new.Pass costs passphrase) iv salt same =
     changed (record { version = version; protector = changed_protector old key (new.Pass costs passphrase) iv salt }) (argon2id_tag costs passphrase salt [] []) iv key old.descriptor opens same
 
--- the key of a protector that was opened has the descriptor of its record, and the record the label that was asked
+-- the key of a protector that was opened has the descriptor of its record, and the record has the
+-- requested label
 record IsOpenedOf (label : List ℕ) (opened : OpenedProtector) : Type 0 where
   descriptor : descriptor_of opened.key ≡ opened.loaded.protector.descriptor
   name : opened.loaded.protector.name ≡ label

@@ -74,7 +74,7 @@ block_in_group xs g b low =
     ∙ take-take 16 (128 - 16 * b) (drop (16 * b) (drop (128 * g) xs)) (omega arith)
     ∙ ap (λ ys. take 16 ys) (drop-drop (16 * b) (128 * g) xs) ∙ ap (λ n. take 16 (drop n xs)) place
 
--- the tweaks of a group go on from its first
+-- the tweaks of a group continue from its first
 pub tweak_from_at : (key : List ℕ) (index m b : ℕ) → tweak_from (tweak_at key index m) b ≡ tweak_at key index (m + b)
 unfolding tweak_from tweak_at
 tweak_from_at key index m zero = let same : m ≡ m + 0 = omega arith in ap (λ n. tweak_at key index n) same
@@ -103,7 +103,7 @@ all_grouped f (suc g) =
     let next : 8 * g + 8 ≡ 8 * suc g = omega arith in
     ap (λ xs. xs ++ grouped f g) (all_grouped f g) ∙ sym (sum_of_blocks f (8 * g) 8) ∙ ap (λ k. first_blocks f k) next
 
--- what is made of a group is eight blocks of what is made of the unit
+-- the result for a group is eight blocks of the result for the unit
 pub group_of_unit : (cipher : List ℕ → List ℕ) (key : List ℕ) (index : ℕ) (unit : List ℕ) (g tweak : ℕ) (group : List ℕ) →
     tweak ≡ tweak_at key index (8 * g) → group ≡ block_at 128 unit g → group_of cipher tweak group ≡ grouped (tweaked_blocks cipher key index unit) g
 unfolding group_of

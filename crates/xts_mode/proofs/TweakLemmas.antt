@@ -50,7 +50,7 @@ unfolding tweaked
 tweaked-IsBlock cipher t b blocks is =
     masked-IsBlock t (cipher (xor_bytes b (little_endian_bytes 16 t))) (blocks (xor_bytes b (little_endian_bytes 16 t)) (masked-IsBlock t b is))
 
--- what one cipher did, another undoes
+-- the inverse undoes the cipher
 pub tweaked-tweaked : (f g : List ℕ → List ℕ) (t : ℕ) (b : List ℕ) → ((x : List ℕ) → IsBlock x → IsBlock (f x)) → ((x : List ℕ) → IsBlock x → g (f x) ≡ x) → IsBlock b →
     tweaked g t (tweaked f t b) ≡ b
 unfolding tweaked

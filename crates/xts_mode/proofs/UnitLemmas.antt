@@ -1,4 +1,4 @@
--- Units block by block: what a cipher did to a unit, its inverse undoes.
+-- Units block by block: the inverse of a cipher undoes it on a unit.
 use Rattle.std.proofs.Common.{◌≡◌, ℕ, zero, suc, ◌+◌, ◌*◌, ◌/◌, ◌%◌, ◌<◌, ◌≤◌, List, ◌++◌, length, take, drop, ap, sym, ◌∙◌, arith}
 use Rattle.byte_words.specs.Blocks.{block_at, first_blocks}
 use Rattle.byte_words.proofs.BlockLemmas.{length-first_blocks, first_blocks_same, block_at-first_blocks, length-block_at, first_blocks-whole}
@@ -15,7 +15,7 @@ use Rattle.xts_mode.proofs.TweakLemmas.{length-tweaked, tweaked-IsBlock, tweaked
 abbrev pub tweaked_blocks : (List ℕ → List ℕ) → List ℕ → ℕ → List ℕ → ℕ → List ℕ
 tweaked_blocks cipher key index unit j = tweaked cipher (tweak_at key index j) (block_at 16 unit j)
 
--- what is known of a cipher of blocks
+-- the facts of a cipher of blocks that are used
 pub record IsCipher (cipher : List ℕ → List ℕ) : Type 0 where
   pub sizes : (x : List ℕ) → length (cipher x) ≡ 16
   pub blocks : (x : List ℕ) → IsBlock x → IsBlock (cipher x)
@@ -108,7 +108,7 @@ pub xts_decrypted-IsUnit : (key : List ℕ) (index : ℕ) (unit : List ℕ) → 
 unfolding xts_decrypted
 xts_decrypted-IsUnit key index unit bytes is = unit_of-IsUnit (decrypted_block (take 32 key)) key index unit (decrypting key bytes) is
 
--- the loop has come to the end of the unit
+-- the loop has reached the end of the unit
 pub unit_done : (cipher : List ℕ → List ℕ) (key : List ℕ) (index : ℕ) (unit now : List ℕ) (j : ℕ) → length unit % 16 ≡ 0 → j ≡ length unit / 16 →
     now ≡ first_blocks (tweaked_blocks cipher key index unit) j ++ drop (16 * j) unit → now ≡ unit_of cipher key index unit
 unfolding unit_of

@@ -1,4 +1,4 @@
--- A look at each byte.
+-- By computation for each byte.
 use Rattle.aes_core.proofs.Tables.{product-inverse}
 use Rattle.aes_core.proofs.inverse_is_an_inverse.Goals as goal
 

@@ -1,4 +1,5 @@
--- Each gate by its truth table, a number of 256 bits; the last tables are those of the standard's bytes but for the constant.
+-- Each gate by its truth table, a number of 256 bits; the last tables are those of the standard's bytes
+-- without the constant.
 use Rattle.std.proofs.Common.{[], ◌∷◌, get_or, ap, refl, ◌∙◌}
 use Rattle.byte_words.specs.Tables.{all_from}
 use Rattle.aes_core.specs.Field.{times_x, sum_with_product, field_product, product_of_squares, field_inverse}

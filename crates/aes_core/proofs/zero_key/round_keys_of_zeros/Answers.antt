@@ -1,4 +1,4 @@
--- The table holds what the schedule makes.
+-- The table has the keys of the schedule.
 use Rattle.aes_core.proofs.ZeroKey.{zero_keys}
 use Rattle.aes_core.proofs.zero_key.round_keys_of_zeros.Goals as goal
 

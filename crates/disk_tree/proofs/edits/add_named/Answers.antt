@@ -1,4 +1,5 @@
--- The node is another than the directory, whose entries stay as they were; a node that is taken back leaves nothing.
+-- The node is not the directory, whose entries stay; a node that is added and removed again leaves the
+-- map unchanged.
 use Rattle.std.proofs.Common.{◌≤◌, length, true, sym, ap, subst, ◌∙◌}
 use Rattle.mount_limits.specs.declared.TheConstants.{MOST_CHILDREN}
 use Rattle.number_map.specs.Numbered.{changed, remove}

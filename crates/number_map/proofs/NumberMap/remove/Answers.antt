@@ -1,4 +1,4 @@
--- The number leaves the index, and its value the slot that was the number's own.
+-- The number is removed from the index, and its value from the slot, which no other number has.
 use Rattle.std.proofs.Common.{◌≡◌, length, ◌+◌, Option, Some, None, is_some, IsSome, OnSome, sym, ap, ◌∙◌, arith}
 use Rattle.slab.specs.Slab.{slab_len}
 use Rattle.number_map.specs.Numbered as map

@@ -1,4 +1,4 @@
--- A map is made of the entries, and answers as the other does.
+-- A map is made of its entries, and has the same values as the other.
 use Rattle.number_map.proofs.AgreementLemmas.{agree_entries, agree_entries_by}
 use Rattle.number_map.proofs.laws.entries_agree_where_maps_do.Goals as goal
 

@@ -1,4 +1,4 @@
--- The closure answers whether a slot has a value.
+-- The closure returns whether a slot has a value.
 use Rattle.std.proofs.Common.{rules}
 use Rattle.std.proofs.lemmas.Fn.{filter_same}
 use Rattle.number_map.proofs.RowLemmas.{is_filled}

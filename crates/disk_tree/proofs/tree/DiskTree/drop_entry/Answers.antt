@@ -1,4 +1,4 @@
--- An entry and a name are no blocks. Where the name is not there, nothing changes.
+-- An entry and a name are no blocks. If the name is not there, the tree is unchanged.
 use Rattle.std.proofs.Common.{◌≡◌, ℕ, Option, Some, IfSome, false, refl, sym, ap, subst, ◌∙◌}
 use Rattle.number_map.specs.Numbered.{changed}
 use Rattle.disk_tree.specs.Entries.{number_under, without_entry}

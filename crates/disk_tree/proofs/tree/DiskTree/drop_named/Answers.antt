@@ -1,4 +1,5 @@
--- An entry is no block, and the blocks of its node are no longer counted. Where the name is not there, nothing changes.
+-- An entry is no block, and the blocks of its node are no longer counted. If the name is not there, the
+-- tree is unchanged.
 use Rattle.std.proofs.Common.{◌≡◌, ℕ, Option, Some, IfSome, false, length, sym, ap, subst, ◌∙◌, arith}
 use Rattle.number_map.specs.Numbered.{changed, remove}
 use Rattle.number_map.proofs.NumberedLemmas.{removed_after_change}

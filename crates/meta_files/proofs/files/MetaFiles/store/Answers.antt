@@ -1,4 +1,4 @@
--- A record that the index has is written in its place; any other comes last.
+-- A record that the index has is replaced in its place; any other is appended.
 use Rattle.std.proofs.Common.{rules, ◌≡◌, ◌+◌, length, None, IfSome, IfNone, IfOk, Err, IsOkUnless, sym, ap}
 use Rattle.std.proofs.Common.{◌∙◌, subst}
 use Rattle.std.specs.Option.{option_map_or}
