@@ -1,5 +1,4 @@
-//! The laws of encrypted blocks and of files; no function here does anything, since its contract is the
-//! law.
+//! The laws of encrypted blocks and of files, each a function whose contract is the law.
 ghost use Rattle.data_crypt.specs.Laws.{ContentsComeBack, PiecesFallIntoBlocks, ReadsParts, WritesBlocks};
 ghost use Rattle.data_crypt.specs.BlockLaws.{MakesBlocks, OpeningUndoes, SealingUndoes};
 

@@ -1,4 +1,4 @@
-//! A law of what is derived; the function does nothing, since its contract is the law.
+//! A law of what is derived: a function without work whose contract is the law.
 
 ghost use Rattle.hmac_kdf.specs.DerivedBytes.{DerivesBytes};
 ghost use Rattle.hmac_kdf.specs.Hmac.{hash_sha256, hash_sha512};
