@@ -52,7 +52,8 @@ fn zero_blocks(alloc: Global, count: usize) -> Result<Vec<Block>, AllocError>
     Ok(memory)
 }
 
-/// Writes the 32-byte tag that Argon2id makes of a password, a salt, a secret and further bytes.
+/// Writes the 32-byte tag that Argon2id makes of a password, a salt, a secret and further bytes. The costs
+/// are in the ranges of [`Costs`], the texts have the lengths of [`Texts`].
 ///
 /// All memory, at most `kib` KiB, is allocated first. The only error is out of memory; the tag is unchanged
 /// then.

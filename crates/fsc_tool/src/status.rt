@@ -26,7 +26,8 @@ pub enum Status {
     /// The script has more than 1,048,576 bytes or 20,000 lines, the image has more than 268,435,456 bytes,
     /// or a script with a log after it has more than 67,108,864 bytes.
     TooLong,
-    /// There was no memory.
+    /// There was no memory. `dump` and `gen NUMBER --summary` return it also if a call of their run was out
+    /// of memory.
     NoMemory,
 }
 

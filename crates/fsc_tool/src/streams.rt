@@ -2,7 +2,7 @@
 
 use crate::difference::Difference;
 
-/// Where bytes come from, where bytes go, where seeds come from, and what a check finds of a refused log.
+/// The source of bytes, the sink, the source of seeds, and what a check finds of a refused log.
 #[derive(Drop)]
 pub struct Streams<S, K, E> {
     pub source: S,

@@ -24,8 +24,10 @@ use std::alloc::{AllocError, Global};
 /// Runs the script in rotation on two mounts. Returns what the logs show, the entries of each mount in
 /// order of place. Command 0 of each caller that has one runs, then command 1, and so on, each between the
 /// gate's two calls. Callers with an even number work on mount 0. The others work on mount 1; their calls
-/// for protectors that are links there go to mount 0. No call was made on either machine before. The only
-/// error is out of memory.
+/// for protectors that are links there go to mount 0. No call was made on either machine before.
+///
+/// The only error is out of memory, which is also returned before a history could have more than 2^40
+/// places.
 pub fn run_linked_in_rotation<G: Gate, S: Stretch, M: MountMachine, N: MountMachine>(
     alloc: Global,
     script: &Script,

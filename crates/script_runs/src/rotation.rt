@@ -25,7 +25,10 @@ use std::alloc::{AllocError, Global};
 
 /// Runs the script in rotation. Returns what a log shows of the run, its entries in order of place. Command
 /// 0 of each caller that has one runs, then command 1, and so on, each between the gate's two calls. No
-/// call was made on the machine before. The only error is out of memory.
+/// call was made on the machine before.
+///
+/// The only error is out of memory, which is also returned before the history could have more than 2^40
+/// places.
 pub fn run_in_rotation<G: Gate, S: Stretch, M: MountMachine>(
     alloc: Global,
     script: &Script,

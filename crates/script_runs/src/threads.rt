@@ -33,7 +33,9 @@ struct Callers<'a, M: MountMachine> {
 /// Runs the script in threads. Returns what a log shows of the run, its entries in order of place. Each
 /// caller runs its section in a thread of its own, each command between the gate's two calls, and waits for
 /// its turn on the machine at each call. No call was made on the machine before. Returns when all threads
-/// have ended. The only error is out of memory.
+/// have ended.
+///
+/// The only error is out of memory, which is also returned if the history could have more than 2^40 places.
 pub fn run_in_threads<
     R: Threads + Wait + Sync,
     G: Gate + Sync,
