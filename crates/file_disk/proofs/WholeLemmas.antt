@@ -14,7 +14,7 @@ use Rattle.disk_tree.proofs.ChangeLemmas.{changed_fixed, changed_alike, changed_
 use Rattle.file_disk.specs.Bodies.{end_block, blocks_with, body_written}
 use Rattle.file_disk.proofs.DiskLemmas.{size_stays}
 
--- no bytes change nothing
+-- without bytes nothing changes
 pub nothing_written : (seal : Option Seal) (at : ℕ) (bytes : List ℕ) → length bytes ≡ 0
     → (disk : Disk) (file : ℕ) → disk ≡ changed disk file (on_body (body_written seal at bytes))
 nothing_written seal at [] none disk file = sym

@@ -26,7 +26,7 @@ blocks_with seal at bytes blocks =
     edited (rewritten (stored_block seal) (read_block seal) (length blocks) at bytes)
     (min (length blocks) (at / BLOCK_SIZE)) (end_block at bytes) (grown (end_block at bytes) blocks)
 
--- the body after a write; no bytes change nothing
+-- the body after a write; without bytes nothing changes
 abbrev pub body_written : Option Seal → ℕ → List ℕ → Body → Body
 body_written seal at [] body = body
 body_written seal at (b ∷ bs) body =

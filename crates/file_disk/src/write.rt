@@ -15,7 +15,8 @@ use mount_limits::MOST_FILE_BYTES;
 use std::alloc::Global;
 
 /// Writes the bytes into the file from byte `offset` on. A gap before them is zeros, encrypted like the
-/// rest; no bytes change nothing. Only the blocks from the first that is touched or new on are written.
+/// rest. Without bytes nothing changes. Only the blocks from the first that is touched or new on are
+/// written.
 ///
 /// Returns `NoSpace` if there are bytes and all files would have more than 16,384 blocks. After a fault the
 /// disk is as before. A write that needs no new block allocates nothing. Wipes the key that is passed, and

@@ -33,7 +33,7 @@ pub fn runs_carry_nonces()
 /// The listing of a dump's text is what the mount, as the script's history leaves it, shows to a user with
 /// the given raw key or with none. If the source's bytes are known, the whole listing is written, unless
 /// the sink fails or there is no memory. Both hold if no two different raw keys of the script's history
-/// share an identifier, and the listing's raw key shares one with no other of them.
+/// share an identifier, and no other of them shares one with the listing's raw key.
 pub fn dumps_are_listed<S: Source>()
     ensures listing { DumpsAreListed S.came }
     ensures whole { DumpsAreListedWhole S.came }

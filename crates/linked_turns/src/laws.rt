@@ -2,7 +2,7 @@
 
 ghost use Rattle.linked_turns.specs.LinkedMeaning.{LinkedLogsHaveOneMeaning};
 
-/// The text of a run on two mounts, in turns or in threads, belongs to one run of a script with a seed and
+/// For one script and seed, the text of a run on two mounts, in turns or in threads, belongs to one run and
 /// to no other: it determines both histories and each caller's calls.
 pub fn linked_logs_have_one_meaning()
     ensures { LinkedLogsHaveOneMeaning }

@@ -115,7 +115,7 @@ impl<const N: usize> Filled<N> {
         self.len
     }
 
-    /// Returns whether there are none.
+    /// Returns whether there are no bytes.
     pub fn is_empty(&self) -> bool
         ensures { IsTrue result ↔ (self.now ≡ []) }
     {
