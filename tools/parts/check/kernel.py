@@ -1,0 +1,65 @@
+"""What Linux 6.1 answered, beside stored logs: no difference but those of docs/LINUX.md, and a changed refusal is found."""
+import collections
+import os
+import re
+import subprocess
+import tempfile
+
+
+from parts import PARTS
+from parts.linux.comparison import same, scripts_of, steps
+from parts.linux.kinds import kind_of
+from parts.linux.known import KNOWN, known_answer
+from parts.linux.report import read
+
+DATA = os.path.join(PARTS, "linux", "data")
+MANY = 10
+
+
+def unexplained(logs):
+    """The exit status and the last line of the comparison of these logs."""
+    with tempfile.NamedTemporaryFile("w", encoding="utf-8") as it:
+        it.write(logs)
+        it.flush()
+        ended = subprocess.run([os.path.join(PARTS, "linux", "compare"), it.name, os.path.join(DATA, "answers.txt")],
+                               check=False, capture_output=True)
+    return ended.returncode, ended.stdout.decode().splitlines()[-1:]
+
+
+def stored_answers(tally):
+    """Each kind of refusal is told as another one once, and each time the comparison finds just that."""
+    with open(os.path.join(DATA, "logs.txt"), encoding="utf-8") as it:
+        logs = it.read()
+    names = sorted(set(re.findall(r" = refused (\S+)\n", logs)))
+    tally.wants("the stored logs have many kinds of refusals", len(names) > MANY)
+    cases = [("the stored logs", logs, 0)]
+    for name in names:
+        other = "quota" if name != "quota" else "too-big"
+        cases.append((f"{name} told as {other}", logs.replace(f" = refused {name}\n", f" = refused {other}\n", 1), 1))
+    for what, text, wanted in cases:
+        status, last = unexplained(text)
+        tally.wants(f"{what}, beside the kernel's answers, has {wanted} unexplained",
+                    status == wanted and last and last[0].endswith(f" lines, {wanted} unexplained"), str(last))
+
+
+def known_answers(tally):
+    """What Linux is known to answer otherwise it answered, by the row that is told, in each of the stored calls.
+
+    With its last close a key stays in Linux only where user 0 does not remove it again, as in scripts of mode raw.
+    """
+    logs, answers = (read(os.path.join(DATA, it)) for it in ("logs.txt", "answers.txt"))
+    told = collections.Counter()
+    for log, answer in zip(scripts_of(logs), scripts_of(answers), strict=True):
+        for step in steps(log, answer):
+            known = known_answer(step)
+            if known is None or (known[1].startswith("the status after") and not step.raw):
+                continue
+            words, kind = known[0].split(" "), kind_of(step)
+            is_so = step.theirs.split(" ")[:len(words)] == words and not same(step) and kind and kind.row == known[1]
+            tally.wants(f"Linux answered {step.line} by {known[1]}", is_so, step.theirs)
+            told[known[1]] += 1
+    for it in KNOWN:
+        tally.wants(f"the stored calls have one of {it.row}", told[it.row] > 0)
+
+
+CHECKS = (stored_answers, known_answers)

@@ -1,0 +1,193 @@
+"""tools/transcript: the examples, and what it prints of expectations, bad lines, states and Linux."""
+import os
+import re
+import subprocess
+
+from parts import TOP
+from parts.common.running import PROGRAM, SECONDS, SERIAL, run
+
+FOLDER = os.path.join(TOP, "examples", "transcripts")
+TOOL = os.path.join(TOP, "tools", "transcript")
+DIFFERS, USAGE, BAD_LINES = 9, 2, 3
+EXPECTED = re.compile(r" = (.*)$", re.MULTILINE)
+SHARED = """\
+user anna 1000
+user bert 1001
+anna: add-key text:a-key-of-thirty-two-bytes-and-up
+anna: mkdir /e
+anna: set-policy /e raw:text:a-key-of-thirty-two-bytes-and-up 32
+anna: create /e/f
+anna: create /e/g
+bert: open /e/f
+bert: add-key text:a-key-of-thirty-two-bytes-and-up
+anna: remove-key raw:text:a-key-of-thirty-two-bytes-and-up
+bert: remove-key raw:text:a-key-of-thirty-two-bytes-and-up
+bert: list /e
+bert: open /e/f
+bert: open /e/g
+bert: close 0
+anna: key-status raw:text:a-key-of-thirty-two-bytes-and-up
+"""
+OPEN, OPEN_LOCKED = "; open: bert 0 on /e/f", "incomplete; open: bert 0 on /e/f"
+ANNA, BERT = "anna (1000)", "bert (1001)"
+# the states after the lines of SHARED, by docs/MODEL.md: the key's, and whether the directory is readable
+STATES = {
+    3: (f"present; claims of {ANNA}", None), 5: (f"present; claims of {ANNA}", "readable"),
+    8: (f"present; claims of {ANNA}{OPEN}", "readable"),
+    9: (f"present; claims of {ANNA}, {BERT}{OPEN}", "readable"),
+    10: (f"present; claims of {BERT}{OPEN}", "readable"), 11: (OPEN_LOCKED, "locked"),
+    15: ("absent", "locked"),
+}
+# Linux's answers to the lines of SHARED that it answers otherwise, with their rows of docs/LINUX.md
+IN_LINUX = {
+    12: ("names 2 more=0 f g", "what an open file keeps unlocked"),
+    13: ("handle", "what an open file keeps unlocked"),
+    14: ("refused no-key", "what an open file keeps unlocked"),
+    16: ("status incomplete self=0 users=0", "the status after the last close on a key without claims"),
+}
+# lines at fault behind `user a 1000`, each with a piece of what is reported
+FAULTS = [
+    ("user a 1001", "names a again"), ("user b 01000", "no number from 0 to 4294967295"),
+    ("user b 4294967296", "no number from 0 to 4294967295"), ("user c", "the form: user NAME UID"),
+    ("who: stat /", "begins with 'who'"), ("a stat /", "NAME: COMMAND [= EXPECTED]"),
+    ("a:", "has no command"), ("a: = ok", "has no command"), ("a: stat / =", "has nothing after ="),
+    ("a:\tstat /", "has a tab"),
+    ("a: stat /\r", "has a carriage return"), ("a: pause", '"pause" is no command of a transcript'),
+    ("a: caller 5", '"caller" is no command of a transcript'),
+    ("a: # none", "a comment is a line of its own"),
+    ("a: write 0 0 text:50%", "%XX is a byte"), ("a: add-key text:x = added text:%", "%XX is a byte"),
+    ("a: mkdri /a", '"mkdri" is no command'), ("a: read 0 0", "read HANDLE OFFSET LENGTH"),
+    ("a: unlock d p pass:x y", "unlock POLICY PROTECTOR SECRET"),
+    ("a: add-key text:" + "x" * 129, "add-key HEX"),
+    ("a: close x", "close HANDLE"),
+]
+
+
+def transcript(given, *words):
+    """The exit status, the lines and what was reported of a transcript."""
+    ended = subprocess.run([TOOL, "--program", PROGRAM, *words, "-"], input=given.encode(),
+                           capture_output=True, timeout=SECONDS, check=False)
+    return ended.returncode, ended.stdout.decode().splitlines(), ended.stderr.decode().splitlines()
+
+
+def examples_of_transcripts(tally):
+    """Each of examples/transcripts/ is answered as expected, and its output is such a transcript."""
+    names = sorted(os.listdir(FOLDER))
+    tally.wants("examples/transcripts/ has six transcripts", len(names) >= 6)
+    for name in names:
+        with open(os.path.join(FOLDER, name), encoding="utf-8") as it:
+            given = it.read()
+        count = len(EXPECTED.findall(given))
+        status, printed, told = transcript(given, "--strict")
+        tally.wants(f"{name} is answered as expected", (status, told) == (0, []), str(printed[-1:]))
+        tally.wants(f"{name} ends with its number of expectations",
+                    printed[-1:] == [f"# 0 of {count} expected answers differ, 0 unexpected refusals"])
+        again = transcript("\n".join(printed[:-1]) + "\n", "--strict")
+        tally.wants(f"what is printed of {name} is a transcript that is answered so", again[0] == 0)
+        _, tested, _ = transcript(given, "--tap")
+        tally.wants(f"{name} has a test for each expectation", tested[0] == f"1..{count}"
+                    and [it[:2] for it in tested[1:]] == ["ok"] * count)
+
+
+def scripts_of_transcripts(tally):
+    """The script of a transcript makes its calls in their order, whoever acts, with bytes for each text."""
+    given = "user a 1\nuser b 2\nuser c 3\n" + "".join(
+        f"{name}: mkdir /{name}{at}\n" for at, name in enumerate("abcacbbaccab"))
+    status, script, _ = transcript(given, "--script")
+    _, log, _ = run(SERIAL, "".join(it + "\n" for it in script).encode())
+    wanted = [f"{at} {'abc'.index(name)} {'abc'.index(name) + 1} mkdir /{name}{at} = ok"
+              for at, name in enumerate("abcacbbaccab")]
+    is_so = (status, log.decode().splitlines()) == (0, wanted)
+    tally.wants("a script of three users has the calls in their order", is_so)
+    _, script, _ = transcript("user a 1\na: write 0 0 text:a%20b\na: symlink /l text:x = ok\n", "--script")
+    tally.wants("a text is bytes where bytes stand, and no other word is",
+                script == ["caller 1", "write 0 0 612062", "symlink /l text:x"], str(script))
+
+
+def differing_answers(tally):
+    """Where an answer differs the transcript goes on, and its end says how many of how many do."""
+    given = ("user a 1\na: mkdir /a = ok\na: mkdir /a = ok\na: stat /a = stat dir\na: stat /a = stat di\n"
+             "a: open /none\na: lock none = refused\na: lock none = refused not-found\na: lock none = ok\n")
+    status, printed, _ = transcript(given)
+    differing = [at for at, line in enumerate(printed) if line.startswith("#     differs: ")]
+    tally.wants("answers that differ are told below their lines",
+                [" ".join(printed[at - 1 - (at > 8)].split()) for at in differing] ==
+                ["a: mkdir /a = refused exists", "a: stat /a = stat dir 1 0 enc=0 key=1",
+                 "a: lock none = refused"], str(printed))
+    counted = "# 3 of 7 expected answers differ"
+    tally.wants("the end counts them", (status, printed[-1]) == (DIFFERS, counted))
+    status, printed, _ = transcript(given, "--strict")
+    tally.wants("a strict run counts a refusal without an expectation",
+                (status, printed[-1]) == (DIFFERS, counted + ", 1 unexpected refusals"))
+    status, printed, _ = transcript(given, "--strict", "--tap")
+    results = [it.split(" - ")[0] for it in printed if " - " in it]
+    tally.wants("the lines of a test runner have the same",
+                (status, results) == (DIFFERS, ["ok 1", "not ok 2", "ok 3", "not ok 4", "not ok 5", "ok 6",
+                                                "ok 7", "not ok 8"]))
+    status, _, _ = transcript("user a 1\na: open /x\n")
+    tally.wants("a refusal without = is no failure of an ordinary run", status == 0)
+
+
+def bad_lines_of_transcripts(tally):
+    """All lines at fault are reported in one run, each with its number and a remedy, in their order."""
+    given = "user a 1000\n" + "".join(line + "\n" for line, _ in FAULTS)
+    status, printed, told = transcript(given)
+    tally.wants("a transcript with bad lines is not run", (status, printed) == (BAD_LINES, []))
+    tally.wants("each bad line is reported once", len(told) == len(FAULTS), str(told))
+    for number, ((line, wanted), said) in enumerate(zip(FAULTS, told), 2):
+        tally.wants(f"{line[:40]!r} is reported at its line",
+                    said.startswith(f"transcript: line {number}: ") and wanted in said, said)
+    for line, wanted in FAULTS[:-5]:
+        status, printed, told = transcript(f"user a 1000\n{line}\n", "--script")
+        is_so = (status, printed) == (BAD_LINES, []) and wanted in told[0]
+        tally.wants(f"no script is made of {line[:40]!r}", is_so)
+    ninth = "".join(f"user u{at} {at}\n" for at in range(9))
+    tally.wants("a ninth user is reported", "ninth" in "".join(transcript(ninth)[2]))
+    status, _, told = transcript("user a 1\n", "--seed", "00")
+    is_so = status == USAGE and "64 hexadecimal digits" in told[0]
+    tally.wants("a seed that is none is told", is_so, str(told))
+    ended = subprocess.run([TOOL, "/nowhere"], capture_output=True, timeout=SECONDS, check=False)
+    tally.wants("a missing file is told", ended.returncode == USAGE and b"can't be read" in ended.stderr
+                and b"Traceback" not in ended.stderr)
+
+
+def states_told(printed):
+    """What is printed of keys and directories, by the line of the transcript."""
+    found, line = {}, 0
+    for it in printed:
+        line += not it.startswith("#")
+        what = re.fullmatch(r"#     (key [0-9a-f]{8}: (.*)|directory /e under [0-9a-f]{8}: (.*))", it)
+        if what:
+            key, directory = found.get(line, (None, None))
+            found[line] = (what[2] or key, what[3] or directory)
+    return found
+
+
+def states_of_transcripts(tally):
+    """The state is told after each line that changed it, with --at after one line; of eight users too."""
+    found = states_told(transcript(SHARED, "--state")[1])
+    tally.wants("states are those of the model", found == STATES, str(found))
+    found = states_told(transcript(SHARED, "--state", "--at", "12")[1])
+    tally.wants("with --at one state is told", found == {12: STATES[11]}, str(found))
+    eight = SHARED.replace("bert 1001\n", "bert 1001\n" + "".join(f"user u{at} {at}\n" for at in range(6)))
+    found = states_told(transcript(eight, "--state", "--at", "17")[1])
+    tally.wants("states of eight users are told", found == {17: STATES[11]}, str(found))
+
+
+def linux_beside_transcripts(tally):
+    """With --linux each line that Linux answers otherwise has its answer and the row of docs/LINUX.md."""
+    with open(os.path.join(TOP, "docs", "LINUX.md"), encoding="utf-8") as it:
+        page = it.read().splitlines()
+    found, line = {}, 0
+    for it in transcript(SHARED, "--linux")[1]:
+        line += not it.startswith("#")
+        what = re.fullmatch(r"#     Linux: (.*) \(docs/LINUX\.md, line (\d+): (.*)\)", it)
+        if what:
+            found[line] = what[1], what[3]
+            row = page[int(what[2]) - 1]
+            tally.wants(f"docs/LINUX.md has the row of {what[3]} there", row.startswith(f"| {what[3]} |"))
+    tally.wants("Linux's answers are told where they differ", found == IN_LINUX, str(found))
+
+
+CHECKS = (examples_of_transcripts, scripts_of_transcripts, differing_answers, bad_lines_of_transcripts,
+          states_of_transcripts, linux_beside_transcripts)

@@ -1,0 +1,70 @@
+"""Has a kernel make the calls of scripts at once, and judges what it replied."""
+import os
+import sys
+
+from parts.linux.at_once.calls import AtOnce
+from parts.linux.at_once.draws import Draws
+from parts.linux.at_once.faults import faults
+from parts.linux.at_once.histories import read_answers
+from parts.linux.at_once.report import Tally
+
+MODES = ("free", "rounds")
+
+
+def drawn(count):
+    """The scripts of the numbers below a count."""
+    draws = [Draws(number) for number in range(count)]
+    return [(it.name, it.script()) for it in draws]
+
+
+def given(names):
+    """The names and texts of the scripts in files."""
+    found = []
+    for name in names:
+        with open(name, encoding="utf-8") as it:
+            found.append((os.path.basename(name).removesuffix(".fsc"), it.read()))
+    return found
+
+
+def checked(texts):
+    """The scripts of names and texts; none where one has a fault, each of which is printed."""
+    wrong = [it for name, text in texts for it in faults(name, text, AtOnce)]
+    names = [name for name, _ in texts]
+    wrong += [
+        f"{it}: two scripts have this name" for it in sorted({it for it in names if names.count(it) > 1})
+    ]
+    for it in wrong:
+        print(f"linux: {it}", file=sys.stderr)
+    return None if wrong else [AtOnce(name, text) for name, text in texts]
+
+
+def run_at_once(texts, repeats, program, folder, machine):
+    """Has `machine` make the calls of scripts, by the files of calls and answers, and reports; returns the
+    exit status."""
+    scripts = checked(texts)
+    if scripts is None:
+        return 2
+    calls, answers, orders = (os.path.join(folder, it) for it in ("calls.txt", "answers.txt", "orders"))
+    lines = [
+        line
+        for seed, it in enumerate(scripts)
+        for mode in MODES
+        for line in it.for_race(mode, repeats, seed)
+    ]
+    with open(calls, "w", encoding="utf-8") as it:
+        it.writelines(line + "\n" for line in [*lines, "END"])
+    status = machine("race", calls, answers)
+    if status not in (0, 3):
+        return status
+    histories, wrong = read_answers(answers, scripts)
+    if status:
+        wrong.append(
+            f"the machine ended early: {len(histories)} histories of {len(scripts) * len(MODES) * repeats}"
+        )
+    os.makedirs(orders, exist_ok=True)
+    tally = Tally(program, orders)
+    for history in histories:
+        tally.take(history)
+    tally.print_cores()
+    print(f"each order with its script is in {orders}, as fsc check reads it")
+    return tally.report(wrong)

@@ -1,0 +1,202 @@
+"""Asks the mount, after a step of a transcript, who holds what.
+
+The script is cut after the step, and then the callers ask: each user for the status of each key, each caller
+whether its handles are open, and caller 0 for the directories, level by level from the root. None of it
+changes what the mount answers.
+"""
+import dataclasses
+
+from parts.transcript.script import script_of
+
+CHANGING = ("add-key", "remove-key", "remove-key-all", "set-policy", "open", "close", "rename", "unlink",
+            "rmdir")
+PAGE = 128
+SHORT = 8
+
+
+@dataclasses.dataclass(frozen=True)
+class Directory:
+    """An encrypted directory: its path as it is shown, its number, its key, and whether it is readable."""
+    path: str
+    number: str
+    key: str
+    readable: bool
+
+
+@dataclasses.dataclass(frozen=True)
+class Handle:
+    """A handle that was opened: its caller and number, the path, the node's number and its key."""
+    caller: int
+    number: str
+    path: str
+    node: str
+    key: str
+
+
+class Asking:
+    """Questions to the mount after the first steps of a transcript."""
+
+    def __init__(self, program, transcript, steps):
+        self.program, self.transcript, self.steps = program, transcript, steps
+
+    def replies(self, questions):
+        """The entry of each question, a caller and a command, asked in this order by each caller."""
+        script = script_of(self.transcript.users, self.steps)
+        script.level()
+        places = [(caller, script.ask(caller, command)) for caller, command in questions]
+        log = self.program.log(script)
+        return [log[caller][at].entries[-1] for caller, at in places]
+
+
+def is_change(entries):
+    """Whether a call that was not refused may have changed keys, handles or directories."""
+    return any(it.verb in CHANGING and not it.refusal() for it in entries)
+
+
+def key_of_policy(reply):
+    """The identifier of the key that a policy names, or nothing."""
+    return reply.split(" ")[1][16:] if reply.startswith("policy ") else ""
+
+
+def opened(program, transcript, found):
+    """The handles that these answers gave, each with the node and key that its path had then."""
+    for at, answer in enumerate(found, 1):
+        entry = answer.made.entries[-1]
+        if entry.verb == "open" and not entry.refusal():
+            asking = Asking(program, transcript, [it.step for it in found[:at]])
+            caller, path = entry.caller, entry.words[0]
+            node, policy = asking.replies([(caller, f"stat {path}"), (caller, f"get-policy {path}")])
+            yield Handle(caller, entry.answer[1], path, node.answer[2], key_of_policy(policy.reply))
+
+
+def questions_of(path, size):
+    """What is asked of a directory: its policy, and each of its entries by its number in a listing."""
+    found = [(0, f"get-policy {path}")]
+    for start in range(0, size, PAGE):
+        found.append((0, f"list {path} {start}"))
+        found += [(0, f"stat {path.rstrip('/')}/*{at}") for at in range(min(PAGE, size - start))]
+    return found
+
+
+@dataclasses.dataclass
+class Level:
+    """A directory whose entries are asked for: its entry of `stat`, and whether the one above is readable.
+
+    None stands for a directory without a policy.
+    """
+    stat: object
+    above: object
+
+    @property
+    def path(self):
+        """The path by which it was asked for."""
+        return self.stat.words[0]
+
+    def readable(self):
+        """Whether its names are shown in plain, or None of a directory without a policy."""
+        return self.stat.answer[5] == "key=1" if self.stat.answer[4] == "enc=1" else None
+
+
+def encrypted(asking, root, is_mixed):
+    """The encrypted directories in plain ones, and those below of which one is readable and the other not.
+
+    The mount is asked for what is below an encrypted directory only if that may be so.
+    """
+    level, found = [Level(root, None)], []
+    while level:
+        asked = [(it, questions_of(it.path, int(it.stat.answer[3]))) for it in level]
+        entries = iter(asking.replies([question for _, questions in asked for question in questions]))
+        level = []
+        for it, questions in asked:
+            policy, *rest = (next(entries) for _ in questions)
+            key = key_of_policy(policy.reply)
+            if key and it.readable() != it.above:
+                found.append(Directory(it.path, it.stat.answer[2], key, it.readable()))
+            if not key or is_mixed(key):
+                level += [Level(one, it.readable()) for one in rest if one.answer[:2] == ["stat", "dir"]]
+    return found
+
+
+def keys_named(found):
+    """The identifiers of the keys that the answers name, and the label of each policy that a record has."""
+    keys, labels = {}, {}
+    for entry in (it for answer in found for it in answer.made.entries):
+        if entry.answer[0] == "added":
+            keys[entry.answer[1]] = True
+        if entry.verb == "set-policy" and not entry.refusal():
+            keys[entry.words[1][16:]] = True
+        if entry.answer[0] == "record" and entry.words[0].startswith("policy/"):
+            lines = bytes.fromhex(entry.answer[2]).split(b"\n")
+            ids = [it[3:].decode("latin-1") for it in lines if it.startswith(b"id ")]
+            labels.update({it: entry.words[0].removeprefix("policy/") for it in ids[:1]})
+    return list(keys), labels
+
+
+def user_text(users, uid):
+    """A user with the names of its callers."""
+    return f"{' and '.join(it.name for it in users if it.uid == uid)} ({uid})"
+
+
+class State:
+    """What the mount says of keys, handles and directories after the first steps."""
+
+    def __init__(self, program, transcript, found):
+        self.users = transcript.users
+        asking = Asking(program, transcript, [it.step for it in found])
+        self.keys, self.labels = keys_named(found)
+        if not self.users:
+            self.handles, self.directories = [], []
+            return
+        given = list(opened(program, transcript, found))
+        callers = {it.uid: at for at, it in reversed(list(enumerate(self.users)))}
+        asked = [(at, f"key-status id:{key}") for key in self.keys for at in callers.values()]
+        asked += [(it.caller, f"read {it.number} 0 0") for it in given]
+        *entries, root = asking.replies([*asked, (0, "stat /")])
+        self.statuses = {(it.words[0], int(it.user)): it.answer for it in entries if it.verb == "key-status"}
+        reads = [it for it in entries if it.verb == "read"]
+        self.handles = [it for it, read in zip(given, reads) if read.refusal() != "bad-handle"]
+        self.directories = encrypted(asking, root, lambda key: self.state_of(key) == "incomplete")
+
+    def state_of(self, key):
+        """The state of a key, as every user is told it; absent if nothing named it."""
+        return next((told[1] for (name, _), told in self.statuses.items() if name == key), "absent")
+
+    def key_of(self, handle):
+        """The key of a handle's node; a directory may have got its policy after it was opened."""
+        return next((it.key for it in self.directories if it.number == handle.node), handle.key)
+
+    def key_line(self, key):
+        """A key with its state, claims and open handles."""
+        claims = [uid for (name, uid), told in self.statuses.items() if name == key and told[2] == "self=1"]
+        label = f" ({self.labels[key]})" if key in self.labels else ""
+        text = f"key {key[:SHORT]}{label}: {self.state_of(key)}"
+        if claims:
+            text += "; claims of " + ", ".join(user_text(self.users, it) for it in sorted(claims))
+        handles = [it for it in self.handles if self.key_of(it) == key]
+        if handles:
+            named = (f"{self.users[it.caller].name} {it.number} on {it.path}" for it in handles)
+            text += "; open: " + ", ".join(named)
+        return text
+
+    def lines(self):
+        """The state, a line for each key and each encrypted directory."""
+        found = [self.key_line(it) for it in self.keys]
+        for it in self.directories:
+            shown = "readable" if it.readable else "locked"
+            found.append(f"directory {it.path} under {it.key[:SHORT]}: {shown}")
+        return found or ["no key and no encrypted directory"]
+
+
+def told_states(program, transcript, found, at):
+    """The state after each step that changed it, or after the last step up to line `at` alone."""
+    if at is not None:
+        count = sum(it.step.line <= at for it in found)
+        yield at, State(program, transcript, found[:count]).lines()
+        return
+    last = None
+    for count, answer in enumerate(found, 1):
+        if is_change(answer.made.entries):
+            lines = State(program, transcript, found[:count]).lines()
+            if lines != last:
+                yield answer.step.line, lines
+            last = lines
