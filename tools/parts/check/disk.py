@@ -6,22 +6,12 @@ from urllib.parse import unquote_to_bytes
 
 from parts.check.aes import from_cts, in_cts, in_xts
 from parts.common.ciphers import expanded, extracted
+from parts.common.command_calls import begins, calls_of
 
 BLOCK, MOST_NAME, LEAST_STORED = 4_096, 255, 16
 IDENTIFIER, OWN_KEY, MODE_KEY = 1, 2, 4
 CONTENTS, NAMES = 1, 4
 UUID = b"fsc-memory-mount"
-# The calls of each command of a session, in order, by their first words and the record that they are about.
-SESSION = {
-    "protector": ("meta-put protector/{1}",), "protector-link": ("meta-put protector/{1}",),
-    "protector-change": ("meta-get protector/{1}", "meta-put protector/{1}"),
-    "policy-new": ("meta-get protector/{2}", "meta-put policy/{1}"),
-    "policy-add": ("meta-get protector/{2}", "meta-get policy/{1}", "meta-get protector/{4}", "meta-put policy/{1}"),
-    "policy-drop": ("meta-get policy/{1}", "meta-put policy/{1}"),
-    "unlock": ("meta-get protector/{2}", "meta-get policy/{1}", "add-key"), "lock": ("meta-get policy/{1}", "remove-key"),
-    "status": ("meta-get policy/{1}", "key-status"), "encrypt": ("meta-get policy/{2}", "set-policy"),
-    "migrate": ("meta-get policy/{1}", "meta-put policy/{1}"),
-}
 
 
 @lru_cache(maxsize=None)
@@ -159,8 +149,8 @@ class Turns:
         """The number and the words of the command that made this call."""
         while True:
             words = self.commands[self.number]
-            wanted = SESSION.get(words[0], (words[0],))
-            if self.made < len(wanted) and begins(call, wanted[self.made].format(*words)):
+            wanted = calls_of(words)
+            if self.made < len(wanted) and begins(" ".join(call), wanted[self.made]):
                 break
             self.number, self.made = self.number + 1, 0
         found = self.number, words
@@ -168,12 +158,6 @@ class Turns:
         if self.made == len(wanted) or reply[0] == "refused":
             self.number, self.made = self.number + 1, 0
         return found
-
-
-def begins(call, wanted):
-    """Whether a call has these first words. Some commands ask for a call of another name."""
-    name = {"fill": "write", "set-policy-bytes": "set-policy"}.get(wanted, wanted)
-    return call[:len(name.split(" "))] == name.split(" ")
 
 
 def disk_behind(script, log, seed):

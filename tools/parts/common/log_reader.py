@@ -6,24 +6,10 @@ import dataclasses
 import re
 from typing import Optional
 
+from parts.common.command_calls import calls_of, is_session
+
 LINE = re.compile(r"(\d+) (\d+) (\d+) (\S+(?: \S+)*) = (\S.*)")
 NOTE = re.compile(r"note (\d+) (\d+) ([a-z-]+)")
-# the calls of each session command (docs/FORMATS.md, Scripts); a digit is the word with the record's label
-SESSIONS = {
-    "protector": ["meta-put protector 1"],
-    "protector-change": ["meta-get protector 1", "meta-put protector 1"],
-    "protector-link": ["meta-put protector 1"],
-    "policy-new": ["meta-get protector 2", "meta-put policy 1"],
-    "policy-add": ["meta-get protector 2", "meta-get policy 1", "meta-get protector 4", "meta-put policy 1"],
-    "policy-drop": ["meta-get policy 1", "meta-put policy 1"],
-    "unlock": ["meta-get protector 2", "meta-get policy 1", "add-key"],
-    "lock": ["meta-get policy 1", "remove-key"],
-    "status": ["meta-get policy 1", "key-status"],
-    "encrypt": ["meta-get policy 2", "set-policy"],
-    "migrate": ["meta-get policy 1", "meta-put policy 1"],
-}
-# plain commands whose call has another name
-CALL_NAMES = {"set-policy-bytes": "set-policy", "fill": "write"}
 PAUSE = "pause"
 ENDED_BY_REFUSAL = ("refused", "conflict", "no-memory")
 
@@ -45,17 +31,15 @@ class Command:
 
     def is_session(self):
         """Whether it is a session command, which has a note."""
-        return self.name in SESSIONS
+        return is_session(self.name)
 
     def calls(self):
         """The calls that it makes unless one ends it: the verb and, of a call on a record, the record."""
         words = self.text.split(" ")
-        if not self.is_session():
-            verb = CALL_NAMES.get(self.name, self.name)
-            return [(verb, words[1] if verb.startswith("meta-") and len(words) > 1 else "")]
-        steps = (it.split(" ") for it in SESSIONS[self.name])
-        return [(verb, f"{kind[0]}/{''.join(words[int(kind[1]):int(kind[1]) + 1])}" if kind else "")
-                for verb, *kind in steps]
+        if self.is_session():
+            return [(verb, record) for verb, _, record in (call.partition(" ") for call in calls_of(words))]
+        verb, = calls_of(words)
+        return [(verb, words[1] if verb.startswith("meta-") and len(words) > 1 else "")]
 
 
 @dataclasses.dataclass

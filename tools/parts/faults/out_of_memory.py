@@ -7,26 +7,13 @@ which had memory then.
 """
 import collections
 
+from parts.common.command_calls import begins, calls_of, is_session
+
 REFUSED = "refused no-memory"
 IDLE = "drop-caches"
 
 # Calls that take no memory, and so are never refused for want of it.
 FREE = {"remove-key", "remove-key-all", "key-status", "close", IDLE}
-
-# What the calls of each session command begin with, from its words.
-SHAPES = {
-    "protector": ["meta-put protector/{1} "],
-    "protector-change": ["meta-get protector/{1}", "meta-put protector/{1} "],
-    "protector-link": ["meta-put protector/{1} "],
-    "policy-new": ["meta-get protector/{2}", "meta-put policy/{1} "],
-    "policy-add": ["meta-get protector/{2}", "meta-get policy/{1}", "meta-get protector/{4}", "meta-put policy/{1} "],
-    "policy-drop": ["meta-get policy/{1}", "meta-put policy/{1} "],
-    "unlock": ["meta-get protector/{2}", "meta-get policy/{1}", "add-key "],
-    "lock": ["meta-get policy/{1}", "remove-key "],
-    "status": ["meta-get policy/{1}", "key-status "],
-    "encrypt": ["meta-get policy/{2}", "set-policy "],
-    "migrate": ["meta-get policy/{1}", "meta-put policy/{1} "],
-}
 
 # Outcomes that come with a refused call.
 REFUSALS = {"refused", "conflict", "no-memory"}
@@ -114,21 +101,21 @@ def counts_of(command, entries, outcome):
     """
     if command.words[0] == "pause":
         return [0]
-    shape = SHAPES.get(command.words[0], [""])
+    calls = calls_of(command.words)
     count = 0
-    for head, entry in zip(shape, entries):
-        if entry.caller != command.caller or not entry.call.startswith(head.format(*command.words)):
+    for call, entry in zip(calls, entries):
+        if entry.caller != command.caller or not begins(entry.call, call):
             break
         count += 1
         if entry.reply.startswith("refused "):
             break
-    if not count or command.words[0] not in SHAPES:
+    if not count or not is_session(command.words[0]):
         return [count] if count else []
     is_refused = entries[count - 1].reply.startswith("refused ")
     if outcome in REFUSALS:
         return [count] if is_refused else []
     if outcome == "ok":
-        return [count] if count == len(shape) and not is_refused else []
+        return [count] if count == len(calls) and not is_refused else []
     return list(range(count - is_refused, 0, -1))
 
 
@@ -182,7 +169,7 @@ class Judge:
     def check_notes(self, notes, refused):
         """Each note is as in the run without the refused commands, and theirs tell the want of memory."""
         due = dict(self.without(refused)[1])
-        due |= {(it.caller, it.line): "no-memory" for it in self.order if it.line in refused and it.words[0] in SHAPES}
+        due |= {(it.caller, it.line): "no-memory" for it in self.order if it.line in refused and is_session(it.words[0])}
         if notes != due:
             raise Wrong(f"the notes are {notes} in place of {due}")
 
@@ -197,7 +184,7 @@ class Judge:
             for command in section:
                 outcome = notes.get((caller, command.line))
                 mine = [it for owner, it in zip(owners, own) if owner is command]
-                if (outcome is None) == (command.words[0] in SHAPES):
+                if (outcome is None) == is_session(command.words[0]):
                     raise Wrong(f"the note of line {command.line}")
                 if any(it.reply == REFUSED and it.call.split(" ")[0] in FREE for it in mine):
                     raise Wrong(f"the calls of line {command.line} are {mine}")

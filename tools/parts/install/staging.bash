@@ -3,7 +3,7 @@
 
 # The scripts that are given along, with their parts.
 TOOLS="tools/transcript tools/picture tools/parts/__init__.py tools/parts/common/log_reader.py
-tools/parts/install/fsc.bash tools/parts/transcript/*.py tools/parts/picture/*.py
+tools/parts/common/command_calls.py tools/parts/install/fsc.bash tools/parts/transcript/*.py tools/parts/picture/*.py
 tools/parts/linux/bookkeeping.py tools/parts/linux/comparison.py tools/parts/linux/kinds.py
 tools/parts/linux/known.py tools/parts/linux/refusals.py tools/parts/linux/scripts.py"
 

@@ -2,6 +2,7 @@
 import hmac
 import subprocess
 
+from parts.common.command_calls import begins, calls_of
 from parts.linux.bookkeeping import Bookkeeping, CREATIONS, parts_of
 
 SEED = "0" * 64
@@ -92,26 +93,6 @@ def names_of(reply):
     return reply.split(" ")[3:]
 
 
-def steps_of(command):
-    """The calls that a command of a session asks for, in their order (docs/FORMATS.md, Scripts)."""
-    word, first, second, _, fourth = (command.split(" ") + [""] * 4)[:5]
-    steps = {
-        "protector": "put protector/1",
-        "protector-change": "get protector/1, put protector/1",
-        "protector-link": "put protector/1",
-        "policy-new": "get protector/2, put policy/1",
-        "policy-add": "get protector/2, get policy/1, get protector/4, put policy/1",
-        "policy-drop": "get policy/1, put policy/1",
-        "unlock": "get protector/2, get policy/1, add-key",
-        "lock": "get policy/1, remove-key",
-        "status": "get policy/1, key-status",
-        "encrypt": "get policy/2, set-policy",
-        "migrate": "get policy/1, put policy/1",
-    }.get(word, word)
-    labels = {"/1": f"/{first}", "/2": f"/{second}", "/4": f"/{fourth}"}
-    return ["meta-" * it.startswith(("get", "put")) + it[:-2] + labels.get(it[-2:], it[-2:]) for it in steps.split(", ")]
-
-
 def drawn_key(caller, number):
     """The key of 64 bytes that a caller's command of this number draws (docs/FORMATS.md, Draws)."""
     info = b"fsc draw" + bytes([caller]) + (16 * number).to_bytes(8, "little")
@@ -125,14 +106,13 @@ def commands_of(script, log):
     waiting = [[] for _ in script.users]
     for line in log:
         caller, _, verb, words, _ = fields(line)
-        call = " ".join([verb, *words]) + " "
-        if waiting[caller] and call.startswith(waiting[caller][0] + " "):
+        if waiting[caller] and begins(" ".join([verb, *words]), waiting[caller][0]):
             waiting[caller].pop(0)
         else:
             at[caller] += 1
             while script.commands[caller][at[caller]] == "pause":
                 at[caller] += 1
-            waiting[caller] = steps_of(script.commands[caller][at[caller]])[1:]
+            waiting[caller] = calls_of(script.commands[caller][at[caller]].split(" "))[1:]
         if " = refused" in line:
             waiting[caller] = []
         yield script.commands[caller][at[caller]], at[caller]

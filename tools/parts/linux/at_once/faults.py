@@ -2,7 +2,9 @@
 machine boots."""
 import re
 
+from parts.common.command_calls import is_session
 from parts.linux.at_once.calls import BEFORE, PADS, TOGETHER
+from parts.linux.scripts import NOT_IN_LINUX
 
 MAX_CALLERS, MAX_WITH_KEYS, MAX_CALLS, MAX_KEYS = 8, 7, 256, 16
 MAX_NAME, MAX_TARGET, MAX_READ, MAX_FILE, MAX_FILL = 20, 255, 4_096, 1_048_576, 65_536
@@ -33,7 +35,6 @@ FORMS = {
     "close": (NUMBER,),
     "drop-caches": (),
 }
-SESSION = re.compile("protector|policy-|unlock |lock |status |encrypt |migrate |meta-")
 LINK_VERBS = ("symlink", "readlink", "unlink", "stat", "list")
 
 
@@ -51,7 +52,7 @@ def faults_of_lines(text):
                 yield number, "names no user"
             elif int(words[0]) in OWN_USERS:
                 yield number, f"has the user {words[0]}, which the tool needs"
-        elif SESSION.match(line):
+        elif is_session(verb) or verb in NOT_IN_LINUX:
             yield number, "is of a session or a record, which no kernel has"
         elif forms is None:
             yield number, f"has {verb}, which is no call of the mount"
