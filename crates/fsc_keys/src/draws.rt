@@ -33,7 +33,7 @@ pub(crate) fn extract(raw: &RawKey) -> Prk512
     Prk512::extract(&[], raw.bytes())
 }
 
-// The identifier of the raw key that was extracted from.
+// The identifier of the raw key from which `prk` was extracted.
 #[tactic(auto, unfolding(crate::specs::Keys::derived, crate::specs::Keys::key_id_of, hmac_kdf::specs::Hkdf::hkdf_with))]
 pub(crate) fn draw_id(prk: &Prk512) -> KeyId
     ensures { (raw : List ℕ) → prk.now ≡ extracted hash_sha512 [] raw → result ≡ key_id_of raw }

@@ -75,7 +75,7 @@ not_exchanged users older newer alike f g kept same whole q =
     let count : f q ≡ g q = omega arith in
     kept whole q ∙ ap counted count
 
--- ---- maps but for one node
+-- ---- maps that differ in one node
 
 len_apart : (m : KeyMap) (n : ℕ) → map.len (map.remove m n) + cond (is_some (map.get m n)) 1 0 ≡ map.len m
 len_apart m n = elim (cases_Bool (is_some (map.get m n))) [

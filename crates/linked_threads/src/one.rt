@@ -53,7 +53,7 @@ pub(crate) fn run_one<R: Wait, G: Gate, S: Stretch, M: MountMachine, N: MountMac
     }
 }
 
-// That of a caller with an even number.
+// Runs the section of a caller with an even number.
 fn run_on_mount_0<R: Wait, G: Gate, S: Stretch, M: MountMachine, N: MountMachine>(
     rt: &R,
     alloc: Global,
@@ -88,7 +88,7 @@ fn run_on_mount_0<R: Wait, G: Gate, S: Stretch, M: MountMachine, N: MountMachine
     Ok((Passes { even, odd }, told))
 }
 
-// That of a caller with an odd number.
+// Runs the section of a caller with an odd number.
 fn run_on_both<R: Wait, G: Gate, S: Stretch, M: MountMachine, N: MountMachine>(
     rt: &R,
     alloc: Global,

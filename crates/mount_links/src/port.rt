@@ -1,4 +1,4 @@
-//! The port.
+//! The port of a caller on two mounts.
 
 ghost use Rattle.std.specs.Prelude.{◌≡◌, ◌*◌, ◌≤◌, [], IfOk};
 ghost use Rattle.std.specs.Vec.{vec_len};

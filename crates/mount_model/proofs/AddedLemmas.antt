@@ -33,7 +33,7 @@ module _ (raws : Raws) (raw : List ℕ) (agrees : AgreesWith raws raw) where
   same_raw q None is there named = absurd (true≢false (sym there))
   same_raw q (Some old) is there named = ap (λ r. Some r) (sym (agrees old (ap (raw_in raws) (sym named) ∙ is)))
 
-  -- what was added stays under its identifier
+  -- what was added remains under its identifier
   kept_raw : (q : KeyId) → is_some (raw_in raws q) ≡ true → raw_in (with_raw raws (key_id_of raw) raw) q ≡ raw_in raws q
   kept_raw q there = raw_in-with_raw raws (key_id_of raw) raw q ∙ ⊎_elim
       (λ same. cond-true (same_id q (key_id_of raw)) (Some raw) (raw_in raws q) same ∙ same_raw q (raw_in raws q) refl there (same_id-eq q (key_id_of raw) same))

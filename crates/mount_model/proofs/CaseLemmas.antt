@@ -29,7 +29,7 @@ use Rattle.mount_model.specs.FileAnswers.{at_handle}
 use Rattle.mount_model.specs.History.{is_want_of_memory}
 use Rattle.mount_model.specs.ClaimHistory.{is_refused}
 
--- ---- what is asked of a property of answers
+-- ---- requirements on a property of answers
 
 pub is_so : (b : Bool) → not b ≡ false → b ≡ true
 is_so true e = refl

@@ -28,7 +28,7 @@ openable_in o = is_some o && not (link_in o)
 -- ---- handles remain well formed after the nodes change
 
 module _ (nodes : Nodes) (handles : HandleList) (opened : Numbered ℕ) (well : HasHandles nodes handles opened) where
-  -- what is asked of the nodes after a change
+  -- requirements on the nodes after a change
   pub on_after : (after : Nodes) → ((n : ℕ) → has_handle handles n ≡ true → is_openable after n ≡ is_openable nodes n)
       → ((n : ℕ) → is_some (get after n) ≡ true → is_named after n ≡ false → has_handle handles n ≡ true) → HasHandles after handles opened
   on_after after same nameless = record {

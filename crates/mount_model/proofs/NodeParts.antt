@@ -76,7 +76,7 @@ total_dropped nodes d name x = total_named (name_taken nodes d name) x false ∙
 pub total_moved : (nodes : Nodes) (d : ℕ) (name : Name) (to : ℕ) (new_name : Name) (x : ℕ) → block_total (moved nodes d name to new_name x) ≡ block_total nodes
 total_moved nodes d name to new_name x = total_edited (name_taken nodes d name) to (with_child new_name x) ∙ total_edited nodes d (without_child name)
 
--- a node without contents comes
+-- a node without contents is made
 pub total_made : (nodes : Nodes) (d : ℕ) (name : Name) (x : ℕ) (v : Node) → get nodes x ≡ None → is_dir_at nodes d ≡ true → contents_of v.body ≡ []
     → block_total (made nodes d name x v) ≡ block_total nodes
 unfolding block_total

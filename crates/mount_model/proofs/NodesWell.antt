@@ -43,7 +43,7 @@ policies_alone : (raws : Raws) → IsOfBodies (λ n v. HasRaw raws v.context)
 policies_alone raws = record { children = λ x g v is. is; named = λ x named v is. is }
 
 module _ (raws : Raws) (nodes : Nodes) (next : ℕ) (well : HasNodes raws nodes next) where
-  -- a node that comes
+  -- a node that is made
   pub record IsComing (d : ℕ) (name : Name) (v : Node) : Type 0 where
     pub can : CanBeMade nodes d name
     pub new : IsNew v

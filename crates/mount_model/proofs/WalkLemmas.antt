@@ -24,7 +24,7 @@ same_end x y is = cc
 no_end : (r : Refusal) (y : ℕ) → Err r ≡ ok_at y → ⊥
 no_end r y is = absurd (cc)
 
--- a walk that goes on went so far
+-- a walk that continues has reached a node
 went_on : (f : ℕ → Walked) (w : Walked) (y : ℕ) → walked_on f w ≡ ok_at y → (n : ℕ) × (w ≡ ok_at n) × (f n ≡ ok_at y)
 went_on f (Err r) y is = absurd (no_end r y is)
 went_on f (Ok n) y is = (n, refl, is)

@@ -47,8 +47,8 @@ pub record Reads (m : PlainMount) (n start len : ℕ) (got : List ℕ) (e : Moun
   pub told : e.reply ≡ Content got
   pub on : node_of m.handles e.who number ≡ Some n
 
--- a read returns the contents that the write left, as long as no call between writes to the node. These
--- may be any others: keys are removed and added again, handles are closed and opened, names move
+-- a read returns the contents that the write left, as long as no call between writes to the node. Any
+-- other calls are allowed: keys are removed and added again, handles are closed and opened, names move
 abbrev pub WrittenIsRead : Type 0
 WrittenIsRead =
     (before between : History) (write read : MountEntry) (n offset start len : ℕ) (bytes contents got : List ℕ)

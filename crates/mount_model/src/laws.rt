@@ -107,12 +107,13 @@ pub fn written_contents_are_read()
     ensures { WrittenIsRead }
 {}
 
-/// The policy that a call's bytes spell is the one whose bytes they are: what `policy_ctx` decodes.
+/// The bytes of a policy spell that policy: it is the one that `policy_ctx` decodes.
 pub fn policies_are_read_back()
     ensures { PoliciesAreReadBack }
 {}
 
-/// The last handle, target and name of a record that pass, and the first ones that don't.
+/// The limits of handles, targets and names of records are exact: the last one passes, the next one
+/// doesn't.
 pub fn limits_are_exact()
     ensures { LimitsAreExact }
 {}

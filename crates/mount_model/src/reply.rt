@@ -65,7 +65,7 @@ pub struct Placed {
     pub reply: Reply,
 }
 
-/// What a node is.
+/// The kind of a node.
 #[derive(Clone, Copy, Debug, PartialEq, Eq)]
 pub enum NodeKind {
     /// A directory.
@@ -76,7 +76,7 @@ pub enum NodeKind {
     Link,
 }
 
-/// Whether a mount holds a key.
+/// The state of a key in a mount.
 #[derive(Clone, Copy, Debug, PartialEq, Eq)]
 pub enum KeyState {
     /// No part of the key is held.
@@ -87,7 +87,7 @@ pub enum KeyState {
     Incomplete,
 }
 
-/// Why a call did nothing.
+/// Why a call was refused.
 #[derive(Clone, Copy, Debug, PartialEq, Eq)]
 pub enum Refusal {
     /// There is no such key, the user has no claim on it, or it is not available.
@@ -98,19 +98,19 @@ pub enum Refusal {
     Quota,
     /// An argument is invalid.
     Inval,
-    /// The name is there already, or the policy is another one.
+    /// The name exists already, or the directory has another policy.
     Exists,
     /// There is no such name.
     NotFound,
-    /// That is no directory.
+    /// The node is not a directory.
     NotDir,
-    /// That is a directory.
+    /// The node is a directory.
     IsDir,
     /// The directory has entries.
     NotEmpty,
     /// The directory has a policy, and the node to be moved hasn't the same one.
     XDev,
-    /// There is no policy.
+    /// The node has no policy.
     NoData,
     /// The caller has no such handle open.
     BadHandle,

@@ -4,7 +4,7 @@ ghost use Rattle.std.specs.Prelude.{◌≡◌, ◌↔◌, IsTrue};
 ghost use Rattle.policy_ctx.specs.Settings.{pad_of_size, unit_of_log2};
 ghost use Rattle.policy_ctx.specs.Policy.{pad_size, unit_bytes, unit_log2};
 
-/// The identifier of a master key, made from the key by derivation.
+/// The identifier of a master key, derived from the key.
 #[derive(Clone, Copy, Debug, PartialEq, Eq, PartialOrd, Ord, Hash)]
 pub struct KeyId(pub [u8; 16]);
 

@@ -12,7 +12,7 @@ pub enum Outcome {
     Refused,
     /// A record has another version than the one that was loaded.
     Conflict,
-    /// A record can't be read, is another's, or holds another key than its identifier names.
+    /// A record can't be read, is another's, or holds another key than it names.
     BadRecord,
     /// A passphrase was given for a raw protector, or a raw secret for one with a passphrase.
     WrongKind,

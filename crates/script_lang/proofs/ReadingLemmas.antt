@@ -1,4 +1,4 @@
--- The reader goes from line to line, and has the sections so far. Here: what that makes of a text.
+-- What the reader makes of a text: it goes from line to line, and has the sections so far.
 use Rattle.std.proofs.Common.{◌≡◌, ℕ, suc, ◌<◌, ◌≤◌, ◌+◌, ◌-◌, ◌==◌, Bool, true, false, cond, inl, inr, List, [], ◌∷◌, ◌++◌, length, Option, Some, None, Result, Ok, Err, refl, sym, ap, ◌∙◌, arith, append-nil, append_assoc, subst, length-append}
 use Rattle.std.specs.Prelude.{slice_set, slice_index_or, nat_lt, count_by, IfOk, if◌then◌else◌}
 use Rattle.std.specs.Option.{option_map, option_map_or}

@@ -1,4 +1,4 @@
--- The words that are written of a command are that command's, and have no byte that parts words.
+-- The words that are written of a command are that command's, and have no byte that separates words.
 use Rattle.std.proofs.Common.{◌≡◌, ℕ, ◌<◌, ◌≤◌, ◌^◌, List, Option, Some, None, refl, arith}
 use Rattle.std.specs.Prelude.{IfSome}
 use Rattle.text_words.specs.Numbers.{decimal_of}

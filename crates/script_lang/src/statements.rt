@@ -14,7 +14,7 @@ use text_words::decimal_value;
 /// The statement of a line.
 #[derive(Drop)]
 pub enum Statement {
-    /// It is empty, or a comment.
+    /// The line is empty, or a comment.
     Nothing,
     /// The commands from here on are this user's.
     Caller(u32),

@@ -13,7 +13,7 @@ use item_list::Bytes;
 use percent_encoding::{AsciiSet, NON_ALPHANUMERIC, ascii_set, percent_decode, percent_encode};
 use std::alloc::{AllocError, Global};
 
-/// What is escaped: all but letters, digits, `-`, `.`, `_` and `~`.
+/// The bytes that are escaped: all but letters, digits, `-`, `.`, `_` and `~`.
 const ESCAPED: AsciiSet = ascii_set!(
     NON_ALPHANUMERIC
         .remove(b'-')

@@ -15,9 +15,9 @@ use std::alloc::{AllocError, Global};
 /// How a node was found.
 #[derive(Clone, Copy)]
 pub(crate) enum Way {
-    /// It wasn't.
+    /// The node was not found.
     Nowhere,
-    /// It is the root.
+    /// The node is the root.
     AtRoot,
     /// By the entry whose line begins at this index of the text, in the directory of this number.
     By { parent: u32, at: u32 },

@@ -1,4 +1,4 @@
--- What is put, and the parts of the calls that are left, are the parts of all.
+-- What is appended, and the parts of the calls that are left, are the parts of all.
 use Rattle.std.proofs.Common.{◌≡◌, ◌++◌}
 use Rattle.mount_links.specs.ShownParts.{load_shown}
 use Rattle.mount_links.specs.Linked as spec
