@@ -1,4 +1,4 @@
--- What a mount holds of a key, and which nodes have their keys available.
+-- What a mount holds of a key, and which nodes are keyed.
 use Rattle.std.specs.Prelude.{ℕ, Bool, true, false, ◌||◌, Option, Some, None, if◌then◌else◌}
 use Rattle.std.specs.List.{list_any}
 use Rattle.policy_ctx.specs.declared.policy.KeyId.{KeyId}

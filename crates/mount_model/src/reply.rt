@@ -33,7 +33,7 @@ pub enum Reply {
     },
     /// The node's kind and number; `size` is a file's length in bytes, a directory's number of entries,
     /// or the length in bytes of what reading a symlink returns. `encrypted`: the node has a policy.
-    /// `keyed`: its key is available.
+    /// `keyed`: it has none, its key is present, or a handle is open on it.
     Stat {
         kind: NodeKind,
         node: u32,
@@ -118,7 +118,7 @@ pub enum Refusal {
     NameTooLong,
     /// More bytes are read, written or stored than are allowed.
     TooBig,
-    /// A limit of the mount is reached.
+    /// A limit of entries, nodes, blocks, handles or records is reached.
     NoSpace,
     /// Only the key would distinguish the name from another one.
     NoKeyClash,

@@ -25,7 +25,7 @@ abbrev pub listing_text : List (List ℕ) → Bool → List ℕ
 listing_text names more =
     codes "names " ++ (decimal_of (length names) ++ (flag_text (codes " more=") more ++ names_text names))
 
--- a node's kind, number, size, whether it has a policy and whether its key is available
+-- a node's kind, number, size, whether it has a policy and whether it is keyed
 abbrev pub stat_text : NodeKind → ℕ → ℕ → Bool → Bool → List ℕ
 stat_text kind node size encrypted keyed =
     codes "stat " ++ (kind_text kind ++ (codes " " ++ (decimal_of node ++ (codes " " ++ (decimal_of size
