@@ -1,5 +1,5 @@
--- The meaning of a log: a reader with the script and the seed of a run can say from the log alone what
--- each caller called and which reply it got.
+-- The meaning of a log: a reader with a run's script and seed can say from the log alone what each caller
+-- called and which reply it got.
 use Rattle.std.specs.Prelude.{◌≡◌, ◌<◌, ◌^◌, ℕ, List, [], ◌++◌, length, map, All, slice_get, Option, Some, None}
 use Rattle.call_history.specs.Placed.{entries_of}
 use Rattle.mount_model.specs.Port.{PlacedCalls}

@@ -1,5 +1,5 @@
-//! Runs a script on two mounts, its callers in threads of their own: those with an even number on mount
-//! 0, the others on mount 1, from which they reach protectors on mount 0 through links.
+//! Runs a script on two mounts, each caller in its own thread: even callers on mount 0, odd ones on mount
+//! 1, with links to protectors on mount 0.
 #![tactic(auto)]
 
 mod cut;

@@ -1,6 +1,6 @@
--- How a caller's calls become calls on two mounts: on its own one, whose record of a protector may be a
--- link, and on the far one, with the linked protector. `load` makes of a call that of loading a
--- protector's record for the same user, for calls and for their shown form.
+-- How a caller's calls become calls on two mounts: on its own, whose record of a protector may be a link,
+-- and on the far one, with that protector. `load` makes of a call that of loading a protector's record
+-- for the same user, for calls and for their shown form.
 use Rattle.std.specs.Prelude.{ℕ, List, [], ◌∷◌, ◌++◌}
 use Rattle.call_history.specs.Entries.{PlacedList, entry}
 use Rattle.call_history.specs.declared.entry.Entry.{Entry}
