@@ -1,4 +1,4 @@
--- The disk goes on lying as the mount's nodes do, after each kind of change of the tree.
+-- After each kind of change of the tree, the disk still has the stored form of the mount's nodes.
 use Rattle.std.proofs.Common.{◌≡◌, ◌≢◌, ℕ, Bool, true, false, List, Option, Some, option_map, refl, sym, ap, subst, ◌∙◌}
 use Rattle.policy_ctx.specs.declared.policy.Context.{Context}
 use Rattle.policy_ctx.specs.Context.{context_bytes}
@@ -25,7 +25,7 @@ use Rattle.mount_state.specs.Stored.{stored_form, stored_body, stored_node}
 
 -- ---- one node
 
--- two names of the children are stored alike only where they are one
+-- two names of the children are stored alike only if they are the same
 abbrev pub StoredApart : Raws → ℕ → Option Context → Name → Children → Type 0
 StoredApart raws d context name cs =
     (other : Name) → IsNameOf cs other → stored_form raws d context name ≡ stored_form raws d context other → name ≡ other
@@ -79,7 +79,7 @@ named_agrees : (raws : Raws) (nodes : Nodes) (on_disk : Disk) → AgreesBy (stor
 named_agrees raws nodes on_disk agree x named =
     agree_edited (stored_node raws) nodes on_disk agree x (named_as named) (stored.named_as named) (λ v there. refl)
 
--- a new node, and the name that leads to it
+-- a new node, and the name that resolves to it
 module _ (raws : Raws) (nodes : Nodes) (on_disk : Disk) (agree : AgreesBy (stored_node raws) nodes on_disk) (d : ℕ) (name : Name) (x : ℕ) (v : Node) (apart : d ≢ x) where
   made_so : v.named ≡ true → changed (name_put (insert nodes x v) d name x) x (named_as true) ≡ made nodes d name x v
   made_so named =

@@ -111,6 +111,6 @@ module _ (disk : Disk) (claims : ClaimSet) (names : NameList) (live : HandleList
     ],
   ))
 
--- the same of parts that are told by equations
+-- the same of parts that are given by equations
 pub names_on : (disk new : Disk) (claims : ClaimSet) (names : NameList) (live : HandleList) → new ≡ disk → NamesForget disk claims names live → NamesForget new claims names live
 names_on disk new claims names live is rule = subst (λ (x : Disk). NamesForget x claims names live) (sym is) rule

@@ -1,4 +1,4 @@
--- Cached names lead where the mount's entries do, after each kind of change of the tree.
+-- After each kind of change of the tree, cached names resolve as the mount's entries do.
 use Rattle.std.proofs.Common.{◌≡◌, ◌≢◌, ℕ, true, false, cond, Contains, Option, Some, None, is_some, refl, sym, ap, ◌∙◌}
 use Rattle.std.proofs.lemmas.Bool.{true≢false, eq-eqb}
 use Rattle.std.proofs.lemmas.Slice.Eq.{bytes_eq-Decides}

@@ -51,7 +51,7 @@ module _ (m : PlainMount) (n : ℕ) (c : Context) (here : context_at m.nodes n �
         | inr held ↦ absurd (true≢false (sym held ∙ unheld_link handles names other))
       ]
 
-  -- ---- a key that is drawn
+  -- ---- a derived key
 
   module _ (ring : Holding) (stands : KeysStand ring m) where
     pub secret_there : HoldsClaimedSecrets ring → is_present m.claims c.policy.id ≡ true → drawn_key ring c ≡ None → ⊥

@@ -1,4 +1,4 @@
--- What each state keeps goes on holding after each kind of change of the stored tree.
+-- The invariants of a state hold after each kind of change of the stored tree.
 use Rattle.std.proofs.Common.{◌≡◌, ◌≢◌, ℕ, ◌+◌, Bool, true, false, List, Option, Some, None, is_some, inl, inr, refl, sym, ap, ◌∙◌, arith}
 use Rattle.std.proofs.lemmas.Bool.{cases_eq, or_cases, true≢false}
 use Rattle.number_map.specs.Numbered.{get, insert, remove, changed}

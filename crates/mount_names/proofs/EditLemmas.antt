@@ -1,4 +1,4 @@
--- What is read of a map by number after each edit of it, where the edit leaves what is read.
+-- What is read of a map by number is the same after each edit that doesn't change it.
 use Rattle.std.proofs.Common.{◌≡◌, ◌≢◌, ℕ, Option, Some, None, option_map, inl, inr, refl, sym, ap, ◌∙◌}
 use Rattle.std.proofs.lemmas.Bool.{cases_eq}
 use Rattle.number_map.specs.Numbered.{Numbered, get, insert, remove, changed}

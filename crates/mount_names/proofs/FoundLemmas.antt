@@ -84,7 +84,7 @@ module _ (disk : Disk) (next : ℕ) (m : PlainMount) (well : IsWellFormed m) (tr
           let seals : sealed_name m.raws d c name ≡ sealed_name m.raws d c other = sym (form_at (Some c) here name) ∙ (same ∙ form_at (Some c) here other) in
           well.nodes.sealed.apart d name other one.0 two.0 c here one.1 two.1 (text_is c name ∙ ap nokey_text_of seals ∙ sym (text_is c other))
 
-  -- the stored form of a name leads where the name does
+  -- the stored form of a name resolves as the name does
   pub form_leads : (name : Name) (x : ℕ) → entry m.nodes d name ≡ Some x → number_under (form_in m d name) (stored_entries disk d) ≡ Some x
   form_leads name x led =
       ap (lookup (bytes_eq (form_in m d name))) (children_stand disk next m well tree d)
@@ -115,7 +115,7 @@ module _ (disk : Disk) (next : ℕ) (m : PlainMount) (well : IsWellFormed m) (tr
         by None is = refl
         by (Some e) is = let bad : None ≡ Some (form_in m d e.0) = is in absurd (cc)
 
-    -- where the stored form leads, the part does
+    -- if the stored form resolves, the part resolves to the same node
     pub stored_led : (s : List ℕ) → IsStoredFor disk m d (found m d part) (Some s) → (n : Option ℕ) → n ≡ number_under s (stored_entries disk d)
         → option_map (λ (x : ℕ). let entry : Entry = record { dir = d; stored = s; number = x } in entry) n ≡ entry_found m d part
     stored_led s is n n_is = by (found m d part) refl is
@@ -133,7 +133,7 @@ module _ (disk : Disk) (next : ℕ) (m : PlainMount) (well : IsWellFormed m) (tr
             ap made (n_is ∙ ap (λ (b : List ℕ). number_under b (stored_entries disk d)) s_is ∙ form_leads e.0 e.1 (found_leads e here))
             ∙ ap (λ (b : List ℕ). let entry : Entry = record { dir = d; stored = b; number = e.1 } in Some entry) s_is
 
-    -- ---- the stored form of what is shown as the part
+    -- ---- the stored form of the name that is visible as the part
 
     shown_plain : is_keyed m d ≡ true → (n : Name) → shown m d n ≡ n
     shown_plain keyed n = by (context_at m.nodes d) refl
@@ -156,7 +156,7 @@ module _ (disk : Disk) (next : ℕ) (m : PlainMount) (well : IsWellFormed m) (tr
         by None here = tt
         by (Some e) here = absurd (other (subst IsPlain (sym (part_is keyed e here)) (name_plain e here)))
 
-    -- a name where the directory is keyed
+    -- a name in a keyed directory
     pub keyed_part : is_keyed m d ≡ true → is_dir_at m.nodes d ≡ true → NamesStayDistinct → HasByteKey m d → IsPlain part → AreBytes part → (s : List ℕ) → s ≡ form_in m d part
         → IsStoredFor disk m d (found m d part) (Some s)
     unfolding sealed_name
@@ -170,7 +170,7 @@ module _ (disk : Disk) (next : ℕ) (m : PlainMount) (well : IsWellFormed m) (tr
         by None none = ap (λ (b : List ℕ). number_under b (stored_entries disk d)) s_is ∙ leads (context_at m.nodes d) refl ∙ ap number_in none
         by (Some e) here = ap (λ (b : List ℕ). Some b) (s_is ∙ ap (form_in m d) (part_is keyed e here))
 
-    -- in a keyed directory the stored form leads where the name does
+    -- in a keyed directory the stored form resolves as the name does
     pub keyed_entry : is_keyed m d ≡ true → is_dir_at m.nodes d ≡ true → NamesStayDistinct → HasByteKey m d → IsPlain part → AreBytes part
         → number_under (form_in m d part) (stored_entries disk d) ≡ entry m.nodes d part
     unfolding sealed_name
@@ -180,7 +180,7 @@ module _ (disk : Disk) (next : ℕ) (m : PlainMount) (well : IsWellFormed m) (tr
         leads None none = plain_led disk next m well tree d part none
         leads (Some c) here = keyed_led m d c here disk next well tree is_dir distinct keyed (key c here) part plain bytes
 
-    -- a text where it is locked
+    -- a no-key text in a locked directory
     pub locked_part : StoredNamesFit → is_keyed m d ≡ false
         → IsStoredFor disk m d (found m d part) (option_map (λ (e : List ℕ × ℕ). e.0) (lookup_entry (is_text_of part) (stored_entries disk d)))
     locked_part fits locked = by (found m d part) refl
@@ -216,7 +216,7 @@ pub record IsAt (m : PlainMount) (path : PathParts) (by_name : Bool) (entry : En
   pub found_so : found m entry.dir (last_part path) ≡ Some (name, entry.number)
   pub of : IsEntryOf m name entry
 
--- whether it is asked for by its name where no name is told
+-- whether the entry is looked up by its name although no name is visible
 pub sought_so : (m : PlainMount) (part : Name) (d : ℕ) (by_name : Bool) (keyed : Bool) → keyed ≡ is_keyed m d → (barred : Bool) → (by_name && not keyed) ≡ barred
     → cond barred (no_entry NoKey) (or_not_found (entry_found m d part)) ≡ entry_sought by_name m part d
 sought_so m part d by_name keyed is barred told = ap (λ b. cond b (no_entry NoKey) (or_not_found (entry_found m d part))) (sym told ∙ ap (λ b. by_name && not b) is)
@@ -232,7 +232,7 @@ module _ (m : PlainMount) (path : PathParts) (by_name : Bool) where
   abbrev answer : Bool → Refusal → (ℕ → Name → ℕ → Answer) → Answer
   answer at_root root f = cond at_root (refused m root) (at_node m (parent m path) (on_entry f))
 
-  -- the same where there is no entry
+  -- the same if there is no entry
   pub end_refused : (r : Refusal) → Err r ≡ entry_end by_name m path → (at_root : Bool) → at_root ≡ false → (root : Refusal) (f : ℕ → Name → ℕ → Answer) → answer at_root root f ≡ refused m r
   end_refused r is at_root named root f = ap (λ b. answer b root f) named ∙ by (parent m path) is
     where

@@ -1,4 +1,4 @@
--- What a call answers at the node to which a walk led.
+-- What a call answers at the node that a walk reached.
 use Rattle.std.proofs.Common.{◌≡◌, ℕ, Ok, Option, Some, None, inl, inr, refl, sym, ap, subst, ◌∙◌}
 use Rattle.std.proofs.lemmas.Bool.{true≢false}
 use Rattle.plain_tree.specs.Nodes.{Node, Body, Dir, File, Link}
@@ -47,11 +47,11 @@ module _ (m : PlainMount) (f : ℕ → Answer) (leaves : (n : ℕ) → (f n).mou
     | inr wanting ↦ inr (wanting, stands)
   ]
 
--- what is due at the node is due
+-- what is expected at the node is expected of the call
 pub due_at : (m : PlainMount) (f : ℕ → Answer) (w : Walked) (n : ℕ) → Ok n ≡ w → (reply : Reply) → IsRefusedAsDue (f n) reply → IsRefusedAsDue (at_node m w f) reply
 due_at m f w n led reply due = subst (λ (x : Walked). IsRefusedAsDue (at_node m x f) reply) led due
 
--- what was answered to a node stands for the answer
+-- what was answered at the node is the call's answer
 pub answered_at : (m : PlainMount) (f : ℕ → Answer) (w : Walked) (n : ℕ) → Ok n ≡ w → (new : MountState) (reply : Reply) → IsGivenOrNoMemory m (f n) reply new
     → IsGivenOrNoMemory m (at_node m w f) reply new
 answered_at m f w n led new reply given = subst (λ (x : Walked). IsGivenOrNoMemory m (at_node m x f) reply new) led given

@@ -1,4 +1,4 @@
--- Maps that agree number by number have as many entries, also where what the one has depends on the
+-- Maps that agree number by number have the same number of entries, also if what the one has depends on the
 -- number.
 use Rattle.std.proofs.Common.{◌≡◌, ℕ, suc, Bool, true, false, cond, ◌&&◌, T, List, [], ◌∷◌, length, map, Option, Some, None, option_map, refl, sym, ap, subst, ◌∙◌}
 use Rattle.std.specs.Ordering.{nat_cmp, eq_by_cmp, is_lt}

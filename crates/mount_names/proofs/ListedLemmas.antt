@@ -72,10 +72,10 @@ order_count = orders.order_count (slice_cmp nat_cmp) nat_list_cmp_total same_nam
 pub order_rises : (xs : List Name) → Rises (in_order xs)
 order_rises = orders.order_rises (slice_cmp nat_cmp) nat_list_cmp_total same_names put_in_order (λ x. refl) (λ x y ys. refl) in_order refl (λ x xs. refl)
 
--- ---- the names as which entries are shown
+-- ---- the visible names of entries
 
 module _ (reading : Reading) where
-  -- with what the entries that are left are shown as, what is shown already is all
+  -- the names that are done already, with the visible names of the entries that are left, are all
   abbrev pub StillShown : Entries → List Name → List Name → Type 0
   StillShown left done all = (rest : List Name) × AllZip (λ e. ShowsAs reading e.0) left rest × (done ++ rest ≡ all)
 
@@ -110,7 +110,7 @@ module _ (reading : Reading) where
   each_shown store show (c ∷ cs) each =
       (each c.0 (name_front c cs), each_shown store show cs (λ name there. each name (name_behind c cs name there)))
 
--- read plain, entries are shown as they are stored
+-- read plain, the visible names of entries are their stored names
 pub stored_as_shown : (es : Entries) (ns : List Name) → AllZip (λ e. ShowsAs Plain e.0) es ns → ns ≡ map (λ e. e.0) es
 stored_as_shown [] [] shows = refl
 stored_as_shown [] (n ∷ ns) shows = absurd shows
@@ -120,7 +120,7 @@ stored_as_shown (e ∷ es) (n ∷ ns) shows =
     let rest : ns ≡ map (λ x. x.0) es = stored_as_shown es ns shows.1 in
     λ i. first i ∷ rest i
 
--- ---- what is told of a directory
+-- ---- what is returned of a directory
 
 pub page_leaves : (m : PlainMount) (start d : ℕ) → (page_at m start d).mount ≡ m
 page_leaves m start d = elim (is_dir_at m.nodes d) as (λ b. (let a : Answer = cond (not b) (refused m NotDir) (told m (page_of m d start)) in a.mount) ≡ m) [
@@ -135,7 +135,7 @@ module _ (m : PlainMount) (start d : ℕ) where
   pub at_dir : is_dir_at m.nodes d ≡ true → page_at m start d ≡ told m (page_of m d start)
   at_dir is = ap (λ b. cond (not b) (refused m NotDir) (told m (page_of m d start))) is
 
--- what tells the page of the directory's entries is what is answered there
+-- a page of the directory's entries is the page that the mount answers
 pub page_is : (disk : Disk) (next : ℕ) (m : PlainMount) → IsWellFormed m → TreeStands disk next m → (d start : ℕ) (reading : Reading)
     → ((name : Name) → IsPlain name → AreBytes name → ShowsAs reading (stored_form m.raws d (context_at m.nodes d) name) (shown m d name))
     → (reply : Reply) → TellsPage reading (stored_entries disk d) start reply → reply ≡ page_of m d start
@@ -145,7 +145,7 @@ page_is disk next m well tree d start reading reads reply tells =
     (each_shown reading (stored_form m.raws d (context_at m.nodes d)) (shown m d) (children m.nodes d)
     (λ name there. let is = name_there disk next m well tree d name there in reads name (name_plain name is) is.0.bytes)))
 
--- the directory whose entries lie on the disk
+-- the directory whose entries are on the disk
 module _ (disk : Disk) (d : ℕ) (w : StoredNode) (es : Entries) (there : Some w ≡ get disk d) (is : w.body ≡ stored.Dir es) where
   pub dir_there : IsDirAt disk d
   dir_there = subst (of_node ⊥ (λ node. IsDir node.body)) there (subst IsDir (sym is) tt)

@@ -1,4 +1,4 @@
--- A state in which a node was made stands for the mount in which it was.
+-- A state in which a node was made represents the mount in which it was.
 use Rattle.std.proofs.Common.{◌≡◌, ◌≢◌, ℕ, ◌+◌, true, false, List, [], Contains, Option, Some, None, option_map, inl, refl, sym, ap, subst, ◌∙◌}
 use Rattle.policy_ctx.specs.Context.{context_bytes}
 use Rattle.std.proofs.lemmas.Bool.{true≢false}
@@ -143,7 +143,7 @@ module _ (old : MountState) (m : PlainMount) (st : StandsFor old m) (path : Path
   pub made_given : is_long_target body ≡ false → (new : MountState) → StandsFor new after → IsGivenOrNoMemory m (answer_to_make m path nonce body) Done new
   made_given short new stands = given_by m _ _ Done new (answer_is short) (inl (refl, stands))
 
-  -- where it can be made it isn't refused
+  -- a creation that can be made isn't refused
   pub made_due : is_long_target body ≡ false → (reply : Reply) → IsRefusedAsDue (answer_to_make m path nonce body) reply
   made_due short reply = due_done after (answer_to_make m path nonce body) reply (answer_is short)
 

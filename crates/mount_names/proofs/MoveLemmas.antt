@@ -228,7 +228,7 @@ module _ (m : PlainMount) (e : Entry) (name : Name) (path : PathParts) where
   abbrev why_in : ℕ → Option Refusal
   why_in to = move_refusal m e.dir e.number to (is_at_or_above m e.number path) (last_part path)
 
-  -- in the directory to which the path leads
+  -- in the directory that the path resolves to
   abbrev move_in : ℕ → Answer
   move_in to = moved_unless to (why_in to)
 
@@ -252,7 +252,7 @@ why_there m e path to past part passed is = λ i. move_refusal m e.dir e.number 
 pub named_path : (path : PathParts) → 1 ≤ length path → is_root path ≡ false
 named_path path some = ne_eqb (length path) 0 (λ none. absurd (omega arith))
 
--- what is told at the place's own directory is told at this one
+-- what holds at the place's own directory holds at this one
 pub why_here : (m : PlainMount) (e : Entry) (to : ℕ) (past : Bool) (name : Name) (place : Place) → IsNewName m to name place → (r : Option Refusal)
     → (IsNewName m place.dir name place → r ≡ move_refusal m e.dir e.number place.dir past name)
     → move_refusal m e.dir e.number to past name ≡ r

@@ -1,4 +1,5 @@
--- A state whose disk lies as other nodes do, and that is the same else, stands for the mount with them.
+-- A state whose disk has other nodes in stored form, and that is the same otherwise, represents the mount
+-- with them.
 use Rattle.std.proofs.Common.{◌≡◌, ℕ, Bool, false, Option, Some, refl, sym, ap, subst, ◌∙◌}
 use Rattle.plain_tree.specs.Nodes.{Name, Children, Body, Dir, File, Link, Node, Nodes}
 use Rattle.plain_tree.specs.BodyChanges.{with_children, with_child, without_child}

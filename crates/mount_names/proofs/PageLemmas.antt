@@ -1,4 +1,4 @@
--- The names of a page are those that stand there when all are in order.
+-- The names of a page are the names at its positions when all are in order.
 use Rattle.std.proofs.Common.{◌≡◌, ℕ, ◌+◌, ◌-◌, suc, ◌<◌, min, nat_lt, length, take, drop, ◌++◌, Bool, true, false, cond, List, [], ◌∷◌, get_or, Bor, inl, inr, ◌⊎◌, refl, sym, ap, subst, ◌∙◌, arith}
 use Rattle.std.specs.Cmp.{IsStrictWeakOrder}
 use Rattle.std.specs.Cmp.Lexicographic.{slice_cmp, nat_list_cmp_total}
@@ -128,7 +128,7 @@ module _ (front back : List (Bor Name)) (x : Bor Name) (split : IsSplitAroundBy 
         = sym all ∙ (ap in_order parts ∙ order_joined (names_of front) (x.now ∷ names_of back) front_apart) in
         sym (ap (take n) ordered ∙ take_at (in_order (names_of front)) (in_order (x.now ∷ names_of back)) n (length_in_order (names_of front) ∙ (length_names front ∙ size)))
 
-    -- the back has those behind it
+    -- the back has the names after it
     pub back_is : (n : ℕ) → length front + 1 ≡ n → in_order (names_of back) ≡ drop n (in_order (names_of names))
     back_is n size =
         let parts : names_of (front ++ x ∷ back) ≡ (names_of front ++ x.now ∷ []) ++ names_of back

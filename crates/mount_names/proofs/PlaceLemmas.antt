@@ -1,4 +1,4 @@
--- What a creation is refused, cause by cause, and what the place of a name tells.
+-- What a creation is refused, cause by cause, and what the place of a name contains.
 use Rattle.std.proofs.Common.{◌≡◌, ℕ, Bool, true, false, cond, not, ◌||◌, List, [], ◌∷◌, length, Option, Some, None, option_map, is_some, Ok, Err, bytes_eq, refl, sym, ap, subst, ◌∙◌, arith, Result, IfOk, IfErr}
 use Rattle.std.specs.Map.{lookup, lookup_entry}
 use Rattle.std.proofs.lemmas.Bool.{true≢false, ne_eqb}
@@ -86,7 +86,7 @@ pub at_parent : (m : PlainMount) (path : PathParts) (nonce : List ℕ) (body : B
 at_parent m path nonce body d named led =
     λ i. cond (named i) (refused m Exists) (at_node m (sym led i) (answer_to_make_in m (last_part path) nonce body))
 
--- what is told in the directory is told at the path
+-- what holds in the directory holds at the path
 module _ (m : PlainMount) (path : PathParts) (d : ℕ) (part : Name) (named : is_root path ≡ false) (led : Ok d ≡ parent m path) (part_is : part ≡ last_part path) (fits : IsPath path) where
   pub dir_here : is_dir_at m.nodes d ≡ true
   dir_here = (parent_ok m path d (sym led)).dir
@@ -107,7 +107,7 @@ pub ok_then : {T E : Type 0} {P R Q : T → Type 0} (r : Result T E) → IfOk r 
 ok_then (Ok x) is too f = f x is too
 ok_then (Err e) is too f = is
 
--- ---- what the place of a name tells
+-- ---- what the place of a name contains
 
 pub name_plain : (name : Name) → IsName name → IsPlain name
 name_plain name is = (is.0.size.0, is.1, is.0.nul)

@@ -1,4 +1,4 @@
--- What each state keeps goes on holding once an empty directory has a policy.
+-- The invariants of a state hold once an empty directory has a policy.
 use Rattle.std.proofs.Common.{◌≡◌, ◌≢◌, ℕ, ◌+◌, ◌<◌, ◌^◌, Bool, true, false, cond, not, ◌&&◌, ◌||◌, List, [], ◌∷◌, length, Option, Some, None, option_map, is_some, eqb, inl, inr, refl, sym, ap, subst, ◌∙◌, arith}
 use Rattle.std.specs.Ordering.{eq_by_cmp}
 use Rattle.std.specs.FinMap as map
@@ -48,7 +48,7 @@ or_right : (b c : Bool) → c ≡ true → (b || c) ≡ true
 or_right true c is = refl
 or_right false c is = is
 
--- ---- users of nodes, where one node passes the test from now on
+-- ---- users of nodes, if one node passes the test from now on
 
 abbrev one : (ℕ → Bool) → Handle → ℕ
 one test h = cond (test h.node) 1 0
@@ -333,7 +333,7 @@ module _ (disk : Disk) (next : ℕ) (d : ℕ) (c : Context) (dir : IsDirAt disk 
           by_flag true is = shared_rule is handles count
           by_flag false is = own_rule is
 
--- so many users fit their number
+-- the number of users stays below 2^32
 pub users_fit : (disk : Disk) (claims : ClaimSet) (cache : Cache) (modes : Modes) (live : HandleList) → Forgets disk claims cache modes live
     → (id : KeyId) (d handles : ℕ) → handles ≡ handles_on live d → users_of modes id + handles < 2 ^ 32
 users_fit disk claims cache modes live rule id d handles count =
@@ -345,7 +345,7 @@ users_fit disk claims cache modes live rule id d handles count =
     let few = rule.pins.few in
     omega arith
 
--- the rule of parts that are told by equations
+-- the rule of parts that are given by equations
 pub rule_of : (disk new_disk : Disk) (cache new_cache : Cache) (modes new_modes : Modes) (claims : ClaimSet) (live : HandleList)
     → new_disk ≡ disk → new_cache ≡ cache → new_modes ≡ modes → Forgets disk claims cache modes live → Forgets new_disk claims new_cache new_modes live
 rule_of disk new_disk cache new_cache modes new_modes claims live disk_is cache_is modes_is rule =

@@ -1,4 +1,4 @@
--- A state in which a directory has a policy stands for the mount in which it has.
+-- A state in which a directory has a policy represents the mount in which it has.
 use Rattle.std.proofs.Common.{◌≡◌, ℕ, Bool, true, false, cond, length, [], ◌∷◌, Option, Some, None, option_map, unwrap_or, refl, sym, ap, subst, ◌∙◌}
 use Rattle.std.proofs.lemmas.Bool.{true≢false}
 use Rattle.policy_ctx.specs.declared.policy.KeyId.{KeyId}
@@ -86,7 +86,7 @@ module _ (old : MountState) (m : PlainMount) (st : StandsFor old m) (d : ℕ) (c
   kind_here : plain_kind (get after.nodes d) ≡ Names
   kind_here = read_changed plain_kind m.nodes d (with_context c) (λ v. refl) d ∙ names
 
-  -- ---- the key that is drawn is the directory's
+  -- ---- the derived key is the directory's
 
   pub key_is : (key : FileKey) → drawn_key old.ring c ≡ Some key → key ≡ node_key m.raws c Names
   key_is key drawn =
@@ -154,7 +154,7 @@ module _ (old : MountState) (m : PlainMount) (st : StandsFor old m) (d : ℕ) (c
     records = meta ∙ st.records;
   }
 
--- cached keys that are told by equations
+-- cached keys that are given by equations
 pub caches_of : (cache new_cache : Cache) (modes new_modes : Modes) (m : PlainMount) → new_cache ≡ cache → new_modes ≡ modes
     → CachesStand cache modes m → CachesStand new_cache new_modes m
 caches_of cache new_cache modes new_modes m cache_is modes_is stand =

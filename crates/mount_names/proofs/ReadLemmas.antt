@@ -1,4 +1,4 @@
--- What lies on the disk of a node is the mount's node in its stored form.
+-- What is on the disk of a node is the mount's node in its stored form.
 use Rattle.std.proofs.Common.{◌≡◌, ℕ, true, Option, Some, None, option_map, refl, sym, ap, subst, ◌∙◌}
 use Rattle.std.proofs.lemmas.Bool.{true≢false}
 use Rattle.policy_ctx.specs.declared.policy.Context.{Context}

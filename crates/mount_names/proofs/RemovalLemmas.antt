@@ -1,4 +1,4 @@
--- A state from which a name was taken stands for the mount without it.
+-- A state from which a name was removed represents the mount without it.
 use Rattle.std.proofs.Common.{◌≡◌, ◌≢◌, ℕ, Bool, true, false, cond, not, ◌==◌, ◌<◌, ◌≤◌, List, length, Option, Some, is_some, IfSome, inl, inr, refl, sym, ap, subst, ◌∙◌, arith}
 use Rattle.std.proofs.lemmas.Bool.{cases_Bool, lt-ltb, le-ltb, ne_eqb, eq-eqb}
 use Rattle.number_map.specs.Numbered.{remove}
@@ -107,7 +107,7 @@ module _ (old : MountState) (m : PlainMount) (st : StandsFor old m) (e : Entry) 
 -- ---- what the calls answer at the entry
 
 module _ (m : PlainMount) where
-  -- the name of the directory d leads to x
+  -- the name of the directory d resolves to x
   abbrev pub unlinked : ℕ → Name → ℕ → Answer
   unlinked d name x = cond (is_dir_at m.nodes x) (refused m IsDir) (done (without_name m d name x))
 
@@ -158,7 +158,7 @@ drop_is old new e bytes is there gone =
     subst (λ (o : Option ℕ). IfSome o (λ n. new ≡ disk.dropped old e.dir e.stored n)) there
     (subst (λ (b : List ℕ). IfSome (number_under b (stored_entries old e.dir)) (λ n. new ≡ disk.dropped old e.dir b n)) is gone)
 
--- the same where the node goes with its name
+-- the same if the node is removed with its name
 pub gone_is : (old new : Disk) (e : Entry) (bytes : List ℕ) → bytes ≡ e.stored → IsEntryOn old e
     → IfSome (number_under bytes (stored_entries old e.dir)) (λ n. new ≡ remove (disk.dropped old e.dir bytes n) n)
     → new ≡ remove (disk.dropped old e.dir e.stored e.number) e.number

@@ -52,7 +52,7 @@ module _ (s : MountState) (m : PlainMount) (st : StandsFor s m) (n : ℕ) where
       let plain : context_on_disk (get s.disk n) ≡ None = context_is s.disk s.next_node m st.well st.tree n ∙ ap (option_map context_bytes) (sym none) in
       true≢false (sym (ap is_none plain) ∙ other)
 
--- ---- where a policy stands
+-- ---- if there is a policy
 
 pub kept_gives : (m : PlainMount) (uid n : ℕ) (new old : Context) (new_state : MountState) → StandsFor new_state m
     → IsGivenOrNoMemory m (answer_to_encrypt m uid n new (Some old)) (cond (is_same_policy old.policy new.policy) Done (Refused Exists)) new_state
@@ -68,7 +68,7 @@ kept_due m uid n new old = elim (is_same_policy old.policy new.policy) as (λ b.
   | false ↦ λ _. refl
 ]
 
--- ---- where none stands
+-- ---- if there is none
 
 module _ (m : PlainMount) (uid d : ℕ) (c : Context) where
   pub set_done : eqb (length (children m.nodes d)) 0 ≡ true → may_use m uid c.policy.id ≡ true → answer_to_encrypt m uid d c None ≡ done (with_policy m d c)

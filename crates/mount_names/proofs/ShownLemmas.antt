@@ -1,4 +1,4 @@
--- A stored form that is read as the node's names are is shown as the mount shows the name.
+-- A stored form that is read as the node's names are has the visible name that the mount has.
 use Rattle.std.proofs.Common.{◌≡◌, ◌≢◌, ℕ, ◌≤◌, true, false, cond, List, [], length, Some, None, refl, sym, ap, subst, ◌∙◌, arith}
 use Rattle.byte_words.specs.Bytes.{AreBytes}
 use Rattle.policy_ctx.specs.declared.policy.Context.{Context}

@@ -25,7 +25,7 @@ keys_with cache dir c key =
     if c.policy.by_mode then cache
     else record cache { keys = insert cache.keys dir (record { id = c.policy.id; key = key }) }
 
--- the mode keys once the one of names has so many users more; without flag 8 it has none more
+-- the mode keys once the one of names has that many users more; without flag 8 it has none more
 abbrev pub modes_with : Modes → ℕ → Context → FileKey → Modes
 modes_with modes handles c key =
     if c.policy.by_mode then with_kind modes Names (with_users (of_kind modes Names) c.policy.id key handles)
@@ -47,7 +47,7 @@ EncryptsAt old new uid d c reply = (m : PlainMount) → StandsFor old m
 abbrev pub with_policy : PlainMount → ℕ → Context → PlainMount
 with_policy m d c = record m { nodes = encrypted m.nodes d c }
 
--- the same where nothing is in the way
+-- the same if nothing prevents it
 abbrev pub EncryptsOpen : MountState → MountState → ℕ → Context → Reply → Type 0
 EncryptsOpen old new d c reply = (m : PlainMount) → StandsFor old m → children m.nodes d ≡ []
     → is_present m.claims c.policy.id ≡ true → IsWellFormed (with_policy m d c)

@@ -13,7 +13,7 @@ use Rattle.mount_model.specs.EntryPaths.{last_part, parent}
 use Rattle.mount_state.specs.Stored.{stored_form}
 use Rattle.mount_names.specs.Places.{Entry}
 
--- on the disk the stored name leads to the node
+-- on the disk the stored name resolves to the node
 abbrev pub IsEntryOn : Disk → Entry → Type 0
 IsEntryOn disk entry = number_under entry.stored (children disk entry.dir) ≡ Some entry.number
 
@@ -30,7 +30,7 @@ entry_in m d e = record { dir = d; stored = form_in m d e.0; number = e.1 }
 abbrev pub entry_found : PlainMount → ℕ → Name → Option Entry
 entry_found m d part = option_map (entry_in m d) (found m d part)
 
--- the stored form of what was found; where nothing was, none or one that leads nowhere
+-- the stored form of what was found; if nothing was, none or one that resolves to no node
 abbrev pub IsStoredFor : Disk → PlainMount → ℕ → Option (Name × ℕ) → Option (List ℕ) → Type 0
 IsStoredFor disk m d None stored = IfSome stored (λ bytes. number_under bytes (children disk d) ≡ None)
 IsStoredFor disk m d (Some e) stored = stored ≡ Some (form_in m d e.0)
@@ -41,8 +41,8 @@ abbrev pub or_not_found : Option Entry → Result Entry Refusal
 or_not_found None = Err NotFound
 or_not_found (Some entry) = Ok entry
 
--- the entry of the directory that is found by the part, or why there is none; by its name alone where that is
--- asked for, and then a locked directory has none
+-- the entry of the directory that is found by the part, or why there is none; with `by_name` by its name
+-- alone, and then a locked directory has none
 abbrev pub entry_sought : Bool → PlainMount → Name → ℕ → Result Entry Refusal
 entry_sought by_name m part d =
     if by_name && not (is_keyed m d) then Err NoKey else or_not_found (entry_found m d part)

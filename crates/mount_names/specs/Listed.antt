@@ -21,7 +21,7 @@ page_from start names =
     Names (take MOST_LISTED (drop start (in_order names)))
     (nat_lt (start + MOST_LISTED) (length (in_order names)))
 
--- the reply is the page of the names as which the entries are shown
+-- the reply is the page of the visible names of the entries
 abbrev pub TellsPage : Reading → Entries → ℕ → Reply → Type 0
 TellsPage reading entries start reply =
     (names : List Name) → AllZip (λ e. ShowsAs reading e.0) entries names → reply ≡ page_from start names

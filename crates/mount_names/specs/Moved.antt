@@ -1,4 +1,4 @@
--- A name that moves: the place where it comes, and what is left.
+-- A name that moves: its new place, and what is left.
 use Rattle.std.specs.Prelude.{◌≡◌, None, Ok}
 use Rattle.plain_tree.specs.Nodes.{Name}
 use Rattle.mount_model.specs.declared.reply.Reply.{Reply}
@@ -17,7 +17,7 @@ use Rattle.mount_state.specs.Given.{IsGivenOrNoMemory, IsRefusedAsDue}
 use Rattle.mount_names.specs.NewPlaces.{IsNewName}
 use Rattle.mount_names.specs.Removed.{IsEntryOf, IsFoundBy}
 
--- ---- where it goes
+-- ---- its new place
 
 -- the place is the one of the path's last part, and nothing is against the entry's coming there
 pub record IsTargetAt (m : PlainMount) (e : Entry) (path : PathParts) (place : Place) : Type 0 where
@@ -41,7 +41,7 @@ Renames old new e part path reply = (m : PlainMount) (name : Name) → StandsFor
     → IsWellFormed (answer_to_move_from m path e.dir name e.number).mount
     → IsGivenOrNoMemory m (answer_to_move_from m path e.dir name e.number) reply new
 
--- where the mount refuses, the reply is that refusal
+-- if the mount refuses, the reply is that refusal
 abbrev pub RefusesAsDue : MountState → Entry → PathParts → Reply → Type 0
 RefusesAsDue old e path reply = (m : PlainMount) (name : Name) → StandsFor old m → IsPath path
     → IsEntryOf m name e

@@ -1,4 +1,4 @@
--- Where a creation puts its name.
+-- The place of the name that a creation makes.
 use Rattle.std.specs.Prelude.{◌≡◌, ℕ, true, false, Ok, Option, Some, is_some}
 use Rattle.byte_words.specs.Bytes.{AreBytes}
 use Rattle.policy_ctx.specs.declared.policy.Context.{Context}
@@ -29,7 +29,7 @@ pub record IsPlaceOf (m : PlainMount) (name : Name) (place : Place) : Type 0 whe
   pub apart : clashes m place.dir name ≡ false
   pub room : is_full m place.dir ≡ false
 
--- under its policy the names of the directory are enciphered by a key of bytes
+-- under its policy the names of the directory are encrypted by a key of bytes
 abbrev pub HasByteKey : PlainMount → ℕ → Type 0
 HasByteKey m n = (c : Context) → context_at m.nodes n ≡ Some c
     → AreBytes (key_bytes (node_key m.raws c Names))

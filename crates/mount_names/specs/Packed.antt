@@ -1,4 +1,4 @@
--- Names that lie one behind another in one run of bytes.
+-- Names stored one after another in one run of bytes.
 use Rattle.std.specs.Prelude.{ℕ, List, [], ◌∷◌, take, drop}
 use Rattle.plain_tree.specs.Nodes.{Name}
 

@@ -1,10 +1,9 @@
--- The entry that a call finds and the place where a name can be put, each with the name as it is stored, and
--- the room for one.
+-- The entry that a call finds and the place for a name, each with the stored name, and the buffer for one.
 use Rattle.std.specs.Prelude.{◌≡◌, ℕ, List, Option, replicate}
 use Rattle.name_crypt.specs.declared.limits.TheConstants.{MOST_NAME_BYTES}
 use Rattle.policy_ctx.specs.declared.policy.Context.{Context}
 
--- an entry: its directory, the stored name, and the node to which it leads
+-- an entry: its directory, the stored name, and the node that it resolves to
 pub record Entry : Type 0 where
   pub dir : ℕ
   pub stored : List ℕ
@@ -16,6 +15,6 @@ pub record Place : Type 0 where
   pub context : Option Context
   pub stored : List ℕ
 
--- no name is in the room yet: it is all zeros
+-- no name is in the buffer yet: it is all zeros
 abbrev pub IsBlank : List ℕ → Type 0
 IsBlank room = room ≡ replicate MOST_NAME_BYTES 0

@@ -21,11 +21,11 @@ pub record IsEntryOf (m : PlainMount) (name : Name) (e : Entry) : Type 0 where
   pub there : entry m.nodes e.dir name ≡ Some e.number
   pub stored : e.stored ≡ form_in m e.dir name
 
--- where the directory is keyed, the part by which its name was found is the name
+-- if the directory is keyed, the part by which its name was found is the name
 abbrev pub IsFoundBy : PlainMount → ℕ → Name → Name → Type 0
 IsFoundBy m dir part name = is_keyed m dir ≡ true → part ≡ name
 
--- the state stands for the mount without the name, which was found by this part
+-- the state represents the mount without the name, which was found by this part
 abbrev pub Drops : MountState → MountState → Entry → Name → Type 0
 Drops old new e part = (m : PlainMount) (name : Name) → StandsFor old m → IsEntryOf m name e
     → IsFoundBy m e.dir part name → IsWellFormed (without_name m e.dir name e.number)

@@ -1,4 +1,4 @@
--- How stored names and targets are read, and when a name must be enciphered to be found.
+-- How stored names and targets are read, and when a name must be encrypted to be found.
 use Rattle.std.specs.Prelude.{◌≡◌, ◌≢◌, ◌≤◌, ℕ, Bool, true, List, [], length, Option, Some, is_some, ◌&&◌}
 use Rattle.byte_words.specs.Bytes.{AreBytes}
 use Rattle.policy_ctx.specs.declared.policy.Context.{Context}
@@ -23,30 +23,31 @@ use Rattle.mount_names.specs.declared.reading.Reading.{Reading}
 use Rattle.mount_names.specs.declared.reading.Reading.TheVariants.{Plain, Keyed, Locked}
 use Rattle.mount_names.specs.NameCiphers.{names_cipher}
 
--- read so, the stored bytes are shown as the name
+-- read so, the visible name of the stored bytes is the name
 abbrev pub ShowsAs : Reading → List ℕ → Name → Type 0
 ShowsAs Plain stored name = (name ≡ stored) × (length stored ≤ MOST_NAME_BYTES)
 ShowsAs (Keyed cipher) stored name = (name ≡ plain_name cipher.key cipher.start stored) × (name ≢ [])
     × IsStored stored
 ShowsAs Locked stored name = (name ≡ nokey_text_of stored) × IsStored stored
 
--- a directory or a symlink of the mount: a node whose names or whose target are enciphered
+-- a directory or a symlink of the mount: a node whose names or whose target are encrypted
 abbrev pub HasNames : PlainMount → ℕ → Type 0
 HasNames m n = plain_kind (get m.nodes n) ≡ Names
 
--- in whatever mount the state stands for, the stored form of each name or target is shown as it is there
+-- in every mount that the state represents, the stored form of each name or target has the visible name of
+-- the mount
 abbrev pub ReadsAs : MountState → ℕ → Reading → Type 0
 ReadsAs s n reading = (m : PlainMount) (name : Name) → StandsFor s m → HasNames m n → IsPlain name
     → AreBytes name
     → ShowsAs reading (stored_form m.raws n (context_at m.nodes n) name) (shown m n name)
 
--- in whatever mount the state stands for, it is the cipher of the keyed node's names
+-- in every mount that the state represents, it is the cipher of the keyed node's names
 abbrev pub IsCipherOf : MountState → ℕ → Context → Option NameCipher → Type 0
 IsCipherOf s n c cipher = (m : PlainMount) → StandsFor s m → HasNames m n
     → context_at m.nodes n ≡ Some c → is_keyed m n ≡ true
     → cipher ≡ Some (names_cipher m.raws n c)
 
--- the directory has a policy and is keyed: then a name is enciphered to be found
+-- the directory has a policy and is keyed: then a name is encrypted to be found
 abbrev pub enciphers : MountState → ℕ → Bool
 enciphers s dir =
     is_some (context_on_disk (get s.disk dir)) && held.is_unlocked s.disk s.ring.claims s.handles.live dir

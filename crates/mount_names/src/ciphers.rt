@@ -16,8 +16,8 @@ use mount_state::{MountState, start_of};
 use name_crypt::NameCipher;
 use policy_ctx::Context;
 
-// The cipher of the names of the directory, or of the target of the symlink; none where its key is not
-// at hand.
+// Returns the cipher of the names of the directory, or of the target of the symlink. Returns `None` if its
+// key is not available.
 pub(crate) fn cipher_of(state: &MountState, number: u32, context: &Context) -> Option<NameCipher>
     ensures keyed { IsCipherOf state.now number context.now result }
     ensures ranged { IfSome result (λ cipher. AreBytes cipher.key) }
@@ -28,7 +28,7 @@ pub(crate) fn cipher_of(state: &MountState, number: u32, context: &Context) -> O
     drawn_cipher(state, number, context)
 }
 
-// That of a directory: under the key that is cached for it, else under one that is drawn.
+// Returns the cipher of a directory: under the key that is cached for it, else under a derived key.
 fn dir_cipher(state: &MountState, dir: u32, context: &Context) -> Option<NameCipher>
     requires { IsDirAt state.now.disk dir }
     ensures keyed { IsCipherOf state.now dir context.now result }
@@ -40,7 +40,7 @@ fn dir_cipher(state: &MountState, dir: u32, context: &Context) -> Option<NameCip
     }
 }
 
-// That under a key which is drawn from the secret; none where no user has a claim.
+// Returns the cipher under a key that is derived from the secret, or `None` if no user has a claim.
 pub(crate) fn drawn_cipher(state: &MountState, number: u32, context: &Context) -> Option<NameCipher>
     ensures value { result ≡ option_map (cipher_with number context.now)
         (drawn_key state.now.ring context.now) }
@@ -57,7 +57,7 @@ pub(crate) fn drawn_cipher(state: &MountState, number: u32, context: &Context) -
     }
 }
 
-// The key that is cached: the mode key under flag 8, else the node's own.
+// Returns the cached key: the mode key under flag 8, else the node's own.
 fn cached_key<'a>(state: &'a MountState, number: u32, context: &Context) -> Option<&'a FileKey>
     ensures { option_copied result ≡ cached_key state.now.inodes state.now.modes number context.now }
 {
@@ -67,7 +67,7 @@ fn cached_key<'a>(state: &'a MountState, number: u32, context: &Context) -> Opti
     state.inodes.key_of(number)
 }
 
-// The same key drawn from the secret, where a user has a claim.
+// Returns the same key, derived from the secret, if a user has a claim.
 pub(crate) fn drawn_key(state: &MountState, context: &Context) -> Option<FileKey>
     ensures value { result ≡ drawn_key state.now.ring context.now }
     ensures kind { IfSome result (λ key. is_of_kind Names key ≡ true) }
@@ -81,7 +81,7 @@ pub(crate) fn drawn_key(state: &MountState, context: &Context) -> Option<FileKey
     None
 }
 
-// The cipher under the key. A contents key enciphers no name.
+// Returns the cipher under the key, or `None` for a contents key, which encrypts no name.
 pub(crate) fn cipher_under(key: &FileKey, number: u32, context: &Context) -> Option<NameCipher>
     ensures value { is_of_kind Names key.now ≡ true
         → result ≡ Some (cipher_with number context.now key.now) }

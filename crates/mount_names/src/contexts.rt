@@ -10,7 +10,7 @@ use disk_tree::StoredNode;
 use mount_state::{MountState, context_of};
 use policy_ctx::Context;
 
-// The context of the node; none where it has no policy, or there is no such node.
+// Returns the context of the node, or `None` if it has no policy or doesn't exist.
 pub(crate) fn context_at(state: &MountState, number: u32) -> Option<Context>
     ensures { (m : PlainMount) → StandsFor state.now m → result ≡ context_at m.nodes number }
 {
@@ -20,7 +20,7 @@ pub(crate) fn context_at(state: &MountState, number: u32) -> Option<Context>
     }
 }
 
-// The same where the node was looked up.
+// The same if the node was looked up.
 pub(crate) fn context_told(state: &MountState, number: u32, node: &StoredNode) -> Option<Context>
     requires { get state.now.disk number ≡ Some node.now }
     ensures { (m : PlainMount) → StandsFor state.now m → result ≡ context_at m.nodes number }

@@ -1,4 +1,4 @@
-//! The entry of a directory that is shown as a part, or has it as its name: the name as it is stored, and its node.
+//! The entry of a directory whose visible name, or name, is a part: the stored name, and its node.
 
 ghost use Rattle.std.specs.Prelude.{◌≡◌, ◌+◌, ◌≤◌, ◌&&◌, not, true, Some, length, IfOk, OnOk};
 ghost use Rattle.std.specs.Prelude.{option_copied, option_map};
@@ -27,7 +27,7 @@ use std::alloc::Global;
 use std::marker::Model;
 use std::sync::ledger::Ledger;
 
-/// An entry: the directory, the name in its stored form, and the node to which it leads.
+/// An entry: the directory, the name in its stored form, and the node that it resolves to.
 #[derive(Drop)]
 pub(crate) struct Entry<'a> {
     pub dir: u32,
@@ -43,8 +43,8 @@ impl<'a> Model for Entry<'a> {
     ghost view = { λ e. record { dir = e.dir; stored = e.stored.now; number = e.number } };
 }
 
-// The entry at the end of the path. Refused as the walk to its directory is, then with NotFound; where it is
-// asked for `by_name`, a locked directory has none, and is refused with NoKey before that.
+// Returns the entry at the end of the path. Refused as the walk to its directory is, then with NotFound.
+// With `by_name`, a locked directory has no entry, and is refused with NoKey before NotFound.
 pub(crate) fn entry_at<'a, L: Ledger>(
     alloc: Global,
     state: &mut MountState,
@@ -68,7 +68,8 @@ pub(crate) fn entry_at<'a, L: Ledger>(
     }
 }
 
-// The entry of the directory that is shown as the part; `by_name` none but by its name.
+// Returns the entry of the directory whose visible name is the part; with `by_name`, whose name is the
+// part.
 fn entry_in<'a, L: Ledger>(
     state: &MountState,
     dir: u32,
@@ -83,7 +84,7 @@ fn entry_in<'a, L: Ledger>(
     ensures there { IfOk result (IsEntryOn state.now.disk) }
     ensures ticks { steps.new ≤ steps.old + 1 }
 {
-    // The directory is there, as the walk led to it.
+    // The directory exists, since the walk reached it.
     let Some(node) = state.disk.node(dir) else {
         return Err(Refusal::NotFound);
     };
@@ -104,16 +105,17 @@ fn entry_in<'a, L: Ledger>(
     }
 }
 
-// Whether an entry is asked for by its name where no name is told.
+// Whether an entry is looked up by its name although no name is visible.
 fn is_barred(by_name: bool, keyed: bool) -> bool
     ensures { result ≡ (by_name && not keyed) }
 {
     by_name && !keyed
 }
 
-// The stored form of the name that is shown as the part, in the directory that was looked up: by one encryption
-// where it is keyed, else by the no-key text, and then nothing is enciphered nor deciphered. Where no entry is
-// shown so, none or one that leads nowhere.
+// Returns the stored form of the name whose visible name is the part, in the directory that was looked up.
+// In a keyed directory it takes one encryption. Otherwise it goes by the no-key text, and nothing is
+// encrypted or decrypted. If no entry has this visible name, returns `None` or a form that resolves to no
+// node.
 fn stored_shown<'a, L: Ledger>(
     state: &MountState,
     dir: u32,
@@ -130,7 +132,7 @@ fn stored_shown<'a, L: Ledger>(
         → IsStoredFor state.now.disk m dir (found m dir part.now) (option_copied result) }
     ensures ticks { steps.new ≤ steps.old + 1 }
 {
-    // That names are stored alike only where they are the same, and in 16 to 255 bytes.
+    // That names are stored alike only if they are the same, and in 16 to 255 bytes.
     names_come_back();
     if !keyed {
         return stored_by_text(node, part, room);
@@ -142,8 +144,8 @@ fn stored_shown<'a, L: Ledger>(
     stored_as(state, dir, &context, part, room, steps)
 }
 
-// The first stored name of the directory that has the text.
-// Not inlined: the usual way would keep room for what it makes.
+// Returns the first stored name of the directory that has the text. Not inlined: the usual path would
+// reserve stack space for it.
 #[inline(never)]
 fn stored_by_text<'a>(node: &StoredNode, text: &[u8], room: &'a mut NameRoom) -> Option<&'a [u8]>
     ensures { option_copied result
@@ -160,7 +162,7 @@ fn name_by_text<'a>(entries: &DirEntries, text: &[u8], room: &'a mut NameRoom) -
     ensures { option_copied result
         ≡ option_map (λ e. e.0) (lookup_entry (is_text_of text.now) entries.now) }
 {
-    // That a text is told by what it shows, as stored names are bytes.
+    // That a text is found by the name that it spells, as stored names are bytes.
     entries.names_are_bytes();
     let Some(shown) = shown_by(text) else {
         return None;
@@ -171,7 +173,7 @@ fn name_by_text<'a>(entries: &DirEntries, text: &[u8], room: &'a mut NameRoom) -
     }
 }
 
-// The name, in the room.
+// Returns the name, copied to the buffer.
 fn put<'a>(name: &[u8], room: &'a mut NameRoom) -> &'a [u8]
     requires { length name.now ≤ MOST_NAME_BYTES }
     ensures { result.now ≡ name.now }

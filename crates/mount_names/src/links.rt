@@ -1,4 +1,4 @@
-//! What a symlink tells.
+//! What reading a symlink returns.
 
 ghost use Rattle.std.specs.Prelude.{◌+◌, ◌≤◌, length};
 ghost use Rattle.number_map.specs.Numbered.{get};
@@ -17,9 +17,9 @@ use name_crypt::Steps;
 use std::alloc::Global;
 use std::sync::ledger::Ledger;
 
-/// Answers the target of the symlink at the end of the path; where the symlink is locked, the no-key text
-/// of the target. Refused as the walk is, then Inval where the node is no symlink; NoMemory where there
-/// is no memory for the bytes.
+/// Returns the target of the symlink at the end of the path; if the symlink is locked, the no-key text of
+/// the target. Refused as the walk is, then with Inval if the node is no symlink, and with NoMemory if
+/// there is no memory for the bytes.
 pub fn read_link<L: Ledger>(
     alloc: Global,
     state: &mut MountState,
@@ -39,7 +39,7 @@ pub fn read_link<L: Ledger>(
     }
 }
 
-// What the node tells as a symlink.
+// Returns the reply to reading the node as a symlink.
 fn link_told(alloc: Global, state: &MountState, number: u32) -> Reply
     ensures told { (m : PlainMount) → StandsFor state.now m
         → IsToldOrNoMemory (target_told m number (get m.nodes number)).reply result }
@@ -60,7 +60,7 @@ fn link_told(alloc: Global, state: &MountState, number: u32) -> Reply
     }
 }
 
-// The bytes as a target.
+// Returns the bytes as a target, or NoMemory.
 fn copied(alloc: Global, bytes: &[u8]) -> Reply
     ensures { IsToldOrNoMemory (Reply.Target bytes.now) result }
 {

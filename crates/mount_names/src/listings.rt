@@ -21,13 +21,12 @@ use name_crypt::Steps;
 use std::alloc::{AllocError, Global};
 use std::sync::ledger::Ledger;
 
-/// Answers the names of the directory at the end of the path as they are shown, in the order of their
-/// bytes: at most `MOST_LISTED` from number `start` on, counted from 0, and whether further ones follow.
-/// Refused as the walk is, then NotDir; NoMemory where there is no memory for the names.
+/// Returns the visible names of the directory at the end of the path, in the order of their bytes: at most
+/// `MOST_LISTED` from number `start` on, counted from 0, and whether further ones follow. Refused as the
+/// walk is, then with NotDir, and with NoMemory if there is no memory for the names.
 ///
-/// No name is encrypted but on the walk. In a directory that is plain or locked nothing is deciphered;
-/// in a keyed one each name is, under a cipher that is made once, since they are ordered as they are
-/// shown.
+/// Names are encrypted only on the walk. In a directory that is plain or locked nothing is decrypted. In a
+/// keyed one each name is, under a cipher that is made once, since they are ordered by their visible names.
 pub fn list<L: Ledger>(
     alloc: Global,
     state: &mut MountState,
@@ -48,7 +47,7 @@ pub fn list<L: Ledger>(
     }
 }
 
-// The page of the directory's names.
+// Returns the page of the directory's names.
 fn page_told(alloc: Global, state: &MountState, dir: u32, start: u32) -> Reply
     ensures told { (m : PlainMount) → StandsFor state.now m
         → IsToldOrNoMemory (page_at m start dir).reply result }
@@ -69,7 +68,7 @@ fn page_told(alloc: Global, state: &MountState, dir: u32, start: u32) -> Reply
     }
 }
 
-// The page of the names as which the entries are shown. Those of a plain directory are its stored names.
+// Returns the page of the visible names of the entries. Those of a plain directory are its stored names.
 fn page_read(
     alloc: Global,
     reading: &Reading,
@@ -87,7 +86,7 @@ fn page_read(
     page_of(alloc, &mut names, start)
 }
 
-// The names as which the entries are stored, where they lie, in the order of the entries.
+// Returns references to the stored names of the entries, in the order of the entries.
 fn stored_names(alloc: Global, entries: &DirEntries) -> Result<Vec<&[u8]>, AllocError>
     ensures { IfOk result (λ names. names_of names.items ≡ map (λ e. e.0) entries.now) }
 {
@@ -98,7 +97,7 @@ fn stored_names(alloc: Global, entries: &DirEntries) -> Result<Vec<&[u8]>, Alloc
     Ok(names)
 }
 
-// The names as which the entries are shown, in the order of the entries.
+// Returns the visible names of the entries, in the order of the entries.
 fn shown_names(
     alloc: Global,
     reading: &Reading,

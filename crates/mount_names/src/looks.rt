@@ -24,11 +24,11 @@ use policy_ctx::encode_policy;
 use std::alloc::Global;
 use std::sync::ledger::Ledger;
 
-/// Answers what the node at the end of the path is: its kind, its number, its size (a directory's number
-/// of entries, a file's length, the length of what `read_link` tells), whether it has a policy, and
-/// whether its key is at hand. Refused as the walk is.
+/// Returns what the node at the end of the path is: its kind, its number, its size, whether it has a
+/// policy, and whether its key is available. The size is a directory's number of entries, a file's length
+/// in bytes, or the length of what `read_link` returns. Refused as the walk is.
 ///
-/// It takes no memory that can be wanting.
+/// Never fails for lack of memory.
 pub fn stat<L: Ledger>(
     alloc: Global,
     state: &mut MountState,
@@ -46,10 +46,10 @@ pub fn stat<L: Ledger>(
     }
 }
 
-/// Answers the policy of the node at the end of the path, in the 24 bytes that Linux has for it. Refused
-/// as the walk is, then NoData where there is no policy.
+/// Returns the policy of the node at the end of the path, in the 24 bytes of Linux's layout. Refused as the
+/// walk is, then with NoData if there is no policy.
 ///
-/// It takes no memory that can be wanting.
+/// Never fails for lack of memory.
 pub fn get_policy<L: Ledger>(
     alloc: Global,
     state: &mut MountState,
@@ -67,7 +67,7 @@ pub fn get_policy<L: Ledger>(
     }
 }
 
-// What is told of the policy of the node.
+// Returns the reply with the policy of the node.
 fn policy_told(state: &MountState, number: u32) -> Reply
     ensures { (m : PlainMount) → StandsFor state.now m
         → result ≡ (policy.policy_told m (context_at m.nodes number)).reply }
@@ -78,7 +78,7 @@ fn policy_told(state: &MountState, number: u32) -> Reply
     }
 }
 
-// What is told of the node.
+// Returns the reply of `stat` for the node.
 fn node_told(state: &MountState, number: u32) -> Reply
     ensures { (m : PlainMount) → StandsFor state.now m
         → result ≡ (look.node_told m number (get m.nodes number)).reply }
@@ -123,7 +123,7 @@ fn size_of(state: &MountState, number: u32, body: &Body) -> u32
     }
 }
 
-// A length, as it is told.
+// Returns a length as a number of 32 bits.
 fn told(length: usize) -> u32
     ensures { length < 2 ^ 32 → result ≡ length }
 {

@@ -17,13 +17,13 @@ use name_crypt::Steps;
 use std::alloc::Global;
 use std::sync::ledger::Ledger;
 
-/// The node of the directory's entry that is shown as the part: by its name where the directory is
-/// keyed, by its no-key text where it is locked. `None` exactly where no entry is shown so.
+/// Returns the node of the directory's entry whose visible name is the part: the name if the directory is
+/// keyed, the no-key text if it is locked. `None` exactly when no entry has this visible name.
 ///
-/// The part has at most `MOST_NAME_BYTES` bytes. At most one name is encrypted, and none where the
-/// name is cached, or the directory has no policy or is locked; nothing is deciphered. A name that led to a
-/// node in a keyed directory with a policy is cached from then on, unless there was no memory for it, which is
-/// counted.
+/// The part has at most `MOST_NAME_BYTES` bytes. At most one name is encrypted, and none if the name is
+/// cached, or the directory has no policy or is locked. Nothing is decrypted. A name that resolves to a
+/// node in a keyed directory with a policy is cached from then on. If there is no memory for that, the
+/// failure is counted.
 pub fn lookup<L: Ledger>(
     alloc: Global,
     state: &mut MountState,

@@ -25,11 +25,11 @@ use policy_ctx::{CONTEXT_LEN, Context, encode_context};
 use std::alloc::Global;
 use std::sync::ledger::Ledger;
 
-/// Makes an empty directory at the end of the path, which takes the policy of the directory that it is
-/// in, with this nonce.
+/// Makes an empty directory at the end of the path. The directory gets the policy of its parent, with this
+/// nonce.
 ///
-/// Refused as the walk to that directory is, and before it with Exists for the root; then NoKey where
-/// the key of the directory's policy isn't present, Exists, NoKeyClash, and NoSpace; NoMemory.
+/// Refused, in this order: with Exists for the root; as the walk to the parent is; NoKey if the key of the
+/// parent's policy isn't present; Exists; NoKeyClash; NoSpace; NoMemory.
 pub fn mkdir<L: Ledger>(
     alloc: Global,
     state: &mut MountState,
@@ -92,7 +92,7 @@ fn empty_file(alloc: Global) -> Body
     }
 }
 
-// Makes the node under the next number, and the name that leads to it.
+// Makes the node under the next number, and the name that resolves to it.
 pub(crate) fn make(
     alloc: Global,
     state: &mut MountState,
@@ -125,7 +125,7 @@ pub(crate) fn make(
     }
 }
 
-// The context that a node made there gets: the policy of the directory, and its own nonce.
+// Returns the context of a node that is made there: the policy of the directory, and its own nonce.
 pub(crate) fn context_of_new(place: &Place, nonce: &[u8; 16]) -> Option<Context>
     ensures { result ≡ inherited nonce.now place.now.context }
 {

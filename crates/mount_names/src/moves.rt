@@ -27,14 +27,19 @@ use name_crypt::{MOST_NAME_BYTES, Steps};
 use std::alloc::Global;
 use std::sync::ledger::Ledger;
 
-/// Gives the node at the end of the old path the name, and the place, that the new path tells. It keeps
-/// its number, its policy, its contents and what it holds, and its handles stay on it.
+/// Moves the node at the end of the old path to the name and place of the new path. The node retains its
+/// number, its policy, its contents and its entries, and its handles stay open on it.
 ///
-/// Refused, in this order: with Inval for the root in either path; as the walk to the old directory is;
-/// NoKey where that is locked; NotFound; as the walk to the new directory is; NoKey where that is locked;
-/// Exists; Inval where the node is a directory that would come to lie in itself; XDev where the new
-/// directory has a policy that the node has not; NoKeyClash; NoSpace where the new directory is another
-/// one and full; NoMemory, after which nothing is changed.
+/// Refused, in this order:
+/// - Inval for the root in either path;
+/// - as the walk to the old directory is, then NoKey if that directory is locked, then NotFound;
+/// - as the walk to the new directory is, then NoKey if that directory is locked;
+/// - Exists;
+/// - Inval if the node is a directory that would be moved into itself;
+/// - XDev if the new directory has a policy that the node has not;
+/// - NoKeyClash;
+/// - NoSpace if the new directory is another one and full;
+/// - NoMemory, after which nothing is changed.
 pub fn rename<L: Ledger>(
     alloc: Global,
     state: &mut MountState,
@@ -85,7 +90,7 @@ fn rename_entry<L: Ledger>(
     }
 }
 
-// The place of the new path's last part, where the entry can be moved to it.
+// Returns the place of the new path's last part, if the entry can be moved to it.
 fn target_at<'a, L: Ledger>(
     alloc: Global,
     state: &mut MountState,
@@ -112,8 +117,8 @@ fn target_at<'a, L: Ledger>(
     }
 }
 
-// Moves the entry, whose name was found by the part, to its new place, and forgets where the name led; or
-// leaves it where it is.
+// Moves the entry, whose name was found by the part, to its new place, and removes its cached name. On
+// failure the entry stays at its old place.
 fn move_to(
     alloc: Global,
     state: &mut MountState,

@@ -1,4 +1,4 @@
-//! Names one behind another in one run of bytes, so that they take no more memory than they have bytes.
+//! Names one after another in one run of bytes, so that they take no more memory than they have bytes.
 
 ghost use Rattle.std.specs.Prelude.{◌≡◌, ◌≢◌, ◌≤◌, ◌↔◌, [], ◌∷◌, ◌++◌, IfOk, IsTrue, OnOk};
 ghost use Rattle.std.specs.Prelude.{drop, length, take};
@@ -10,7 +10,7 @@ use name_crypt::NameCipher;
 use std::alloc::{AllocError, Global};
 use std::marker::Model;
 
-/// Names in the order in which they came. In contracts it is their list.
+/// Names in the order in which they were pushed. In contracts it is their list.
 #[derive(Drop)]
 pub(crate) struct PackedNames {
     bytes: Vec<u8>,
@@ -30,7 +30,7 @@ impl Model for PackedNames {
 }
 
 impl PackedNames {
-    /// No names, with room for the lengths of so many.
+    /// Returns an empty list, with capacity for the lengths of `count` names.
     pub(crate) fn new(alloc: Global, count: usize) -> Result<PackedNames, AllocError>
         ensures { IfOk result (λ names. names ≡ []) }
     {
@@ -40,7 +40,7 @@ impl PackedNames {
         })
     }
 
-    /// Puts a name behind the others.
+    /// Appends a name.
     pub(crate) fn push(&mut self, name: &[u8]) -> Result<(), AllocError>
         ensures { OnOk result (self.new ≡ self.old ++ name.now ∷ []) }
     {
@@ -76,7 +76,7 @@ impl PackedNames {
         Ok(true)
     }
 
-    /// References to the names, in their order.
+    /// Returns references to the names, in their order.
     pub(crate) fn references(&self, alloc: Global) -> Result<Vec<&[u8]>, AllocError>
         ensures { IfOk result (λ names. names_of names.items ≡ self.now) }
     {

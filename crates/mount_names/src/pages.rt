@@ -1,4 +1,4 @@
-//! A page of names, chosen from all of them; no more are put in order than are told.
+//! A page of names, chosen from all of them; only the names of the page are sorted.
 
 ghost use Rattle.std.specs.Prelude.{◌≡◌, ◌≤◌, length, take, drop, IfOk};
 ghost use Rattle.std.specs.Ordering.{nat_cmp};
@@ -12,8 +12,8 @@ use mount_model::{NameList, Reply};
 use std::alloc::{AllocError, Global};
 use std::cmp::Ordering;
 
-// The names from number `start` on in the order of their bytes, at most `MOST_LISTED`, and whether further
-// ones follow. It leaves the names in whatever order.
+// Returns the names from number `start` on in the order of their bytes, at most `MOST_LISTED`, and whether
+// further ones follow. The order in which it leaves `names` is not specified.
 pub(crate) fn page_of(alloc: Global, names: &mut [&[u8]], start: u32) -> Result<Reply, AllocError>
     ensures { IfOk result (λ told. told ≡ page_from start (names_of names.old)) }
 {
@@ -27,7 +27,7 @@ pub(crate) fn page_of(alloc: Global, names: &mut [&[u8]], start: u32) -> Result<
     Ok(Reply::Names { names, more })
 }
 
-// All names but so many that come first, in whatever order.
+// Returns all names but the first `from` in order. Their order in the slice is not specified.
 fn all_from<'n, 'b>(names: &'n mut [&'b [u8]], from: usize) -> &'n mut [&'b [u8]]
     requires { from ≤ length names.old }
     ensures { in_order (names_of result.now) ≡ drop from (in_order (names_of names.old)) }
@@ -40,7 +40,7 @@ fn all_from<'n, 'b>(names: &'n mut [&'b [u8]], from: usize) -> &'n mut [&'b [u8]
         .2
 }
 
-// So many of the names as come first, in whatever order.
+// Returns the first `count` names in order. Their order in the slice is not specified.
 fn least<'n, 'b>(names: &'n mut [&'b [u8]], count: usize) -> &'n mut [&'b [u8]]
     requires { count ≤ length names.old }
     ensures { in_order (names_of result.now) ≡ take count (in_order (names_of names.old)) }
@@ -66,7 +66,7 @@ fn in_byte_order(a: &[u8], b: &[u8]) -> Ordering
     a.cmp(b)
 }
 
-// The names in memory of their own.
+// Returns copies of the names.
 fn copied(alloc: Global, names: &[&[u8]]) -> Result<NameList, AllocError>
     ensures { IfOk result (λ list. list ≡ names_of names.now) }
 {

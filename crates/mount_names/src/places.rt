@@ -1,4 +1,4 @@
-//! Where a creation puts its name: the directory, its context, and the name's stored form.
+//! The place of a new name: the directory, its context, and the name's stored form.
 
 ghost use Rattle.std.specs.Prelude.{◌≡◌, ◌+◌, ◌<◌, ◌≤◌, ◌^◌, true, false, Some, is_some, length, nat_le, IfErr, IfOk};
 ghost use Rattle.disk_tree.specs.DiskTree.{IsDirAt};
@@ -44,8 +44,8 @@ impl<'a> Model for Place<'a> {
     ghost view = { λ p. record { dir = p.dir; context = p.context; stored = p.stored.now } };
 }
 
-// The place of the path's last part, where it can be made: refused as a creation is for every cause
-// but want of memory. `long` tells whether a target of too many bytes comes with it.
+// Returns the place of the path's last part, if a node can be made there. Refused as a creation is for
+// every cause but lack of memory. `long` is whether a target of too many bytes comes with it.
 pub(crate) fn place_at<'a, L: Ledger>(
     alloc: Global,
     state: &mut MountState,
@@ -74,7 +74,7 @@ pub(crate) fn place_at<'a, L: Ledger>(
     }
 }
 
-// The place of the name in the directory.
+// Returns the place of the name in the directory.
 fn place_in<'a, L: Ledger>(
     state: &MountState,
     dir: u32,
@@ -118,8 +118,8 @@ fn place_in<'a, L: Ledger>(
     Ok(place)
 }
 
-// The place of the name in the directory, which was looked up and has this context, where it is keyed: Exists
-// where there is such a name.
+// Returns the place of the name in the directory, which was looked up, is keyed and has this context.
+// Exists if there is such a name.
 pub(crate) fn free_place<'a, L: Ledger>(
     state: &MountState,
     dir: u32,
@@ -138,7 +138,7 @@ pub(crate) fn free_place<'a, L: Ledger>(
     ensures dir { IfOk result (λ place. place.dir ≡ dir) }
     ensures ticks { steps.new ≤ steps.old + 1 }
 {
-    // That two names are stored alike only where they are the same.
+    // That two names are stored alike only if they are the same.
     names_come_back();
     if !is_plain(part) {
         return Err(Refusal::Inval);

@@ -33,14 +33,14 @@ use policy_ctx::{Context, POLICY_LEN, Policy, decode_policy, encode_context, sam
 use std::alloc::{AllocError, Global};
 use std::sync::ledger::Ledger;
 
-/// Gives the empty directory at the end of the path the policy that these bytes spell, with this nonce,
-/// as Linux lays one out: from then on its names are stored enciphered.
+/// Gives the empty directory at the end of the path the policy that these bytes spell, in Linux's layout,
+/// with this nonce. From then on its names are stored encrypted.
 ///
-/// Refused as the walk is, then with NotDir, with Inval for the root and for bytes that are no policy.
-/// Where the directory has this very policy it is done, and the nonce stays; where it has another one,
-/// Exists. Then NotEmpty, and NoKey where the policy's key isn't present, or the user, who isn't user 0,
-/// has no claim on it. Last NoMemory, where there is no memory for the key that the handles on the
-/// directory need from then on; without handles it isn't wanting.
+/// Refused as the walk is, then with NotDir, then with Inval for the root and for bytes that are no policy.
+/// If the directory has this very policy, the call is done and the nonce stays. If it has another one,
+/// Exists. Then NotEmpty, and NoKey if the policy's key isn't present, or if the user isn't user 0 and has
+/// no claim on it. Last NoMemory, if there is no memory for the key that the handles on the directory need
+/// from then on. Without handles it never fails for lack of memory.
 pub fn set_policy<L: Ledger>(
     alloc: Global,
     state: &mut MountState,
@@ -108,7 +108,7 @@ fn is_plain(disk: &DiskTree, number: u32) -> bool
     }
 }
 
-// The policy that stands is kept: done where it is the one that is asked for.
+// Retains the directory's policy. Returns `Done` if it is the policy that was passed, else Exists.
 fn kept(old: &Policy, new: &Policy) -> Reply
     ensures { result ≡ (if is_same_policy old.now new.now then Reply.Done else Reply.Refused Refusal.Exists) }
 {
@@ -144,7 +144,7 @@ fn encrypt(alloc: Global, state: &mut MountState, uid: u32, dir: u32, context: &
     encrypt_open(alloc, state, dir, handles, context)
 }
 
-// The same where so many handles are on the directory: they need its key from then on.
+// The same if `handles` handles are open on the directory: they need its key from then on.
 fn encrypt_open(
     alloc: Global,
     state: &mut MountState,
@@ -206,7 +206,7 @@ fn hold_key(
     inodes.keep(alloc, dir, id, key)
 }
 
-// Whether the user may use the key: user 0 where it is present, another user by a claim.
+// Whether the user may use the key: user 0 if it is present, another user if they have a claim.
 fn may_use(state: &MountState, uid: u32, id: &KeyId) -> bool
     ensures stands { (m : PlainMount) → StandsFor state.now m → result ≡ policy.may_use m uid id.now }
     ensures present { result ≡ true → is_present state.now.ring.claims id.now ≡ true }

@@ -17,7 +17,7 @@ use name_crypt::{
 use short_bytes::Filled;
 use std::alloc::AllocError;
 
-/// How stored names are read: as they are, deciphered, or by their no-key texts.
+/// How stored names are read: as they are, decrypted, or by their no-key texts.
 #[derive(Drop)]
 pub(crate) enum Reading {
     Plain,
@@ -25,11 +25,11 @@ pub(crate) enum Reading {
     Locked,
 }
 
-// How the names of the directory, or the target of the symlink, are read.
+// Returns how the names of the directory, or the target of the symlink, are read.
 pub(crate) fn reading_of(state: &MountState, number: u32) -> Reading
     ensures { ReadsAs state.now number result }
 {
-    // That each stored name is deciphered to the name.
+    // That decrypting each stored name gives the name.
     names_come_back();
     let Some(context) = context_at(state, number) else {
         return Reading::Plain;
@@ -44,7 +44,7 @@ pub(crate) fn reading_of(state: &MountState, number: u32) -> Reading
 }
 
 impl Reading {
-    // Overwrites the key and its round keys, where there is one.
+    // Wipes the key and its round keys, if there is one.
     pub(crate) fn wipe(&mut self)
         ensures { self.new ≡ wiped self.old }
     {
@@ -53,8 +53,8 @@ impl Reading {
         }
     }
 
-    // The name as which stored bytes are shown, which some name is stored as. Of bytes that are no
-    // stored name none is left.
+    // Returns the visible name of stored bytes that are the stored form of some name. Bytes that are no
+    // stored name leave nothing in it.
     pub(crate) fn shown(&self, stored: &[u8]) -> Filled<MOST_NAME_BYTES>
         ensures { (name : List ℕ) → ShowsAs self.now stored.now name → result ≡ name }
     {
@@ -66,8 +66,8 @@ impl Reading {
     }
 }
 
-// Puts the name as which stored bytes are shown, which some name is stored as, behind the others. Of bytes that
-// are no stored name it puts none of their bytes.
+// Appends the visible name of stored bytes that are the stored form of some name. Bytes that are no stored
+// name are not copied.
 pub(crate) fn push_shown(
     names: &mut PackedNames,
     reading: &Reading,
@@ -83,7 +83,7 @@ pub(crate) fn push_shown(
     }
 }
 
-// Puts the name of a stored one behind the others; its no-key text where it is deciphered to none.
+// Appends the name of a stored one; its no-key text if decrypting it gives none.
 fn push_deciphered(
     names: &mut PackedNames,
     cipher: &NameCipher,
@@ -111,7 +111,7 @@ fn as_it_is(stored: &[u8]) -> Filled<MOST_NAME_BYTES>
     }
 }
 
-// The name of a stored one; its no-key text where it is deciphered to none.
+// Returns the name of a stored one; its no-key text if decrypting it gives none.
 fn deciphered(cipher: &NameCipher, stored: &[u8]) -> Filled<MOST_NAME_BYTES>
     ensures { IsStored stored.now → plain_name cipher.now.key cipher.now.start stored.now ≢ []
         → result ≡ plain_name cipher.now.key cipher.now.start stored.now }
@@ -125,7 +125,7 @@ fn deciphered(cipher: &NameCipher, stored: &[u8]) -> Filled<MOST_NAME_BYTES>
     }
 }
 
-// The no-key text of a stored name.
+// Returns the no-key text of a stored name.
 fn text_of(stored: &[u8]) -> Filled<MOST_NAME_BYTES>
     ensures { IsStored stored.now → result ≡ nokey_text_of stored.now }
 {

@@ -20,12 +20,12 @@ use name_crypt::{MOST_NAME_BYTES, Steps};
 use std::alloc::Global;
 use std::sync::ledger::Ledger;
 
-/// Takes the name of the file or the symlink at the end of the path away. The node goes with it where no
-/// handle is open on it; else it stays, without name, for those handles.
+/// Removes the name of the file or the symlink at the end of the path. If no handle is open on the node,
+/// the node is removed too; else it stays, without name, for those handles.
 ///
-/// Refused with IsDir for the root, then as the walk to the directory is, then NotFound, and IsDir for a
-/// directory. It takes no memory that can be wanting, and enciphers nothing but what the look-up of each
-/// part does.
+/// Refused with IsDir for the root, then as the walk to the directory is, then with NotFound, and with
+/// IsDir for a directory. Never fails for lack of memory, and encrypts only what the look-up of each part
+/// encrypts.
 pub fn unlink<L: Ledger>(
     alloc: Global,
     state: &mut MountState,
@@ -48,10 +48,10 @@ pub fn unlink<L: Ledger>(
     }
 }
 
-/// Takes the name of the empty directory at the end of the path away, as `unlink` does a file's.
+/// Removes the name of the empty directory at the end of the path, as `unlink` does a file's.
 ///
-/// Refused with Inval for the root, then as the walk to the directory that holds it is, then NotFound,
-/// NotDir for what is no directory, and NotEmpty. It takes no memory that can be wanting.
+/// Refused with Inval for the root, then as the walk to the parent directory is, then with NotFound, with
+/// NotDir for what is no directory, and with NotEmpty. Never fails for lack of memory.
 pub fn rmdir<L: Ledger>(
     alloc: Global,
     state: &mut MountState,
@@ -74,7 +74,7 @@ pub fn rmdir<L: Ledger>(
     }
 }
 
-// Drops the entry, where it leads to no directory.
+// Drops the entry, unless it resolves to a directory.
 fn unlink_entry(state: &mut MountState, entry: &Entry, part: &[u8]) -> Reply
     requires there { IsEntryOn state.old.disk entry.now }
     requires short { length part.now ≤ MOST_NAME_BYTES }
@@ -89,7 +89,7 @@ fn unlink_entry(state: &mut MountState, entry: &Entry, part: &[u8]) -> Reply
     Reply::Done
 }
 
-// Drops the entry, where it leads to an empty directory.
+// Drops the entry, if it resolves to an empty directory.
 fn remove_dir(state: &mut MountState, entry: &Entry, part: &[u8]) -> Reply
     requires there { IsEntryOn state.old.disk entry.now }
     requires short { length part.now ≤ MOST_NAME_BYTES }
@@ -111,8 +111,8 @@ fn remove_dir(state: &mut MountState, entry: &Entry, part: &[u8]) -> Reply
     Reply::Done
 }
 
-// Takes the name away, which was found by the part, and forgets where it led; where no handle is on the node,
-// its cached key goes, and then the node.
+// Removes the name, which was found by the part, and its cached name. If no handle is open on the node, its
+// cached key is removed, and then the node.
 fn drop_entry(state: &mut MountState, entry: &Entry, part: &[u8])
     requires there { IsEntryOn state.old.disk entry.now }
     requires short { length part.now ≤ MOST_NAME_BYTES }

@@ -1,4 +1,4 @@
-//! Names in their stored form, and whether two of them would be told apart only by the key.
+//! Names in their stored form, and whether two of them would differ only by what the key reveals.
 
 ghost use Rattle.std.specs.Prelude.{◌≡◌, ◌+◌, ◌≤◌, false, true, Some, is_some, option_copied};
 ghost use Rattle.byte_words.specs.Bytes.{AreBytes};
@@ -28,11 +28,11 @@ use policy_ctx::{Context, Pad};
 use short_bytes::Filled;
 use std::sync::ledger::Ledger;
 
-/// Room for the longest stored name.
+/// A buffer for the longest stored name.
 pub(crate) type NameRoom = [u8; MOST_NAME_BYTES];
 
-// The name of the directory, or the target of the symlink, as it is stored: itself where the node has
-// no context, else by one encryption, in the room; none where the key is not at hand.
+// Returns the stored form of the name in the directory, or of the target of the symlink: the name itself if
+// the node has no context, else its encryption, in the buffer. `None` if the key is not available.
 pub(crate) fn stored_as<'a, L: Ledger>(
     state: &MountState,
     number: u32,
@@ -59,8 +59,8 @@ pub(crate) fn stored_as<'a, L: Ledger>(
     }
 }
 
-// The same under this context, by a cipher that is made for this once. Apart from the way with a cached one,
-// which then keeps no room for round keys.
+// The same under this context, by a cipher that is made for this call alone. Separate from the path with a
+// cached cipher, which so reserves no stack space for round keys.
 #[inline(never)]
 fn sealed_anew<'a, L: Ledger>(
     state: &MountState,
@@ -115,15 +115,15 @@ pub(crate) fn enciphered<L: Ledger>(
     Filled::of(cipher.encrypt(pad, name, steps).bytes())
 }
 
-// Whether a name in the directory, which has a policy, has the no-key text of this stored one, which isn't there
-// itself. A text that spells the stored name whole is no other name's, and then nothing is looked at.
+// Whether a name in the directory, which has a policy, has the no-key text of this stored one, which isn't
+// there itself. A text that spells the whole stored name is no other name's, and then no name is read.
 pub(crate) fn shares_text(state: &MountState, dir: u32, stored: &[u8]) -> bool
     ensures { (m : PlainMount) (c : Context) (name : Name) → StandsFor state.now m
         → context_at m.nodes dir ≡ Some c → HasByteKey m dir → IsPlain name → AreBytes name
         → stored.now ≡ stored_form m.raws dir (context_at m.nodes dir) name
         → is_some (entry m.nodes dir name) ≡ false → result ≡ plain.clashes m dir name }
 {
-    // That short texts are told apart, and that each stored name has 16 to 255 bytes.
+    // That short texts are distinct, and that each stored name has 16 to 255 bytes.
     texts_stay_distinct();
     names_come_back();
     if stored.len() <= MOST_SPELLED_BYTES {
@@ -132,7 +132,7 @@ pub(crate) fn shares_text(state: &MountState, dir: u32, stored: &[u8]) -> bool
     shares_long_text(state, dir, stored)
 }
 
-// The same of a stored name of more bytes. Not inlined: the usual way would keep room for what it makes.
+// The same of a stored name of more bytes. Not inlined: the usual path would reserve stack space for it.
 #[inline(never)]
 fn shares_long_text(state: &MountState, dir: u32, stored: &[u8]) -> bool
     ensures { (m : PlainMount) (c : Context) (name : Name) → StandsFor state.now m

@@ -29,8 +29,8 @@ use short_bytes::Filled;
 use std::alloc::Global;
 use std::sync::ledger::Ledger;
 
-/// Makes a symlink to the target at the end of the path, as `mkdir` makes a directory. In a directory
-/// with a policy the target is stored enciphered.
+/// Makes a symlink to the target at the end of the path, as `mkdir` makes a directory. In a directory with
+/// a policy the target is stored encrypted.
 ///
 /// Refused as `mkdir` is, and with NameTooLong for a target of more than `MOST_NAME_BYTES` bytes, after
 /// Exists and before NoKeyClash.
@@ -93,8 +93,8 @@ fn link_at<L: Ledger>(
     }
 }
 
-// The target of the node that comes next, as it is stored under this context: under a key that is drawn
-// for it, none where no user has a claim.
+// Returns the target of the next node, as it is stored under this context: under a key that is derived for
+// it. `None` if no user has a claim.
 fn target_stored<L: Ledger>(
     state: &MountState,
     context: &Option<Context>,

@@ -1,4 +1,4 @@
-//! Where a moved name goes: whether the directory can get it, and the name's stored form.
+//! The new place of a moved name: whether the directory can get it, and the name's stored form.
 
 ghost use Rattle.std.specs.Prelude.{◌≡◌, ◌+◌, ◌≤◌, true, length, nat_le, None, Some, IfErr, IfOk};
 ghost use Rattle.disk_tree.specs.DiskTree.{IsDirAt};
@@ -23,7 +23,7 @@ use name_crypt::Steps;
 use policy_ctx::{Context, Policy, encode_policy};
 use std::sync::ledger::Ledger;
 
-// The place of the name in the directory, where the entry can be moved to it. `past` tells whether the
+// Returns the place of the name in the directory, if the entry can be moved to it. `past` is whether the
 // walk to the directory passed the entry's node.
 pub(crate) fn target_in<'a, L: Ledger>(
     state: &MountState,
@@ -64,7 +64,7 @@ pub(crate) fn target_in<'a, L: Ledger>(
     }
 }
 
-// Why the entry can't be moved to that place.
+// Returns why the entry can't be moved to that place, if it can't.
 fn why_not(state: &MountState, entry: &Entry, place: &Place, past: bool) -> Option<Refusal>
     ensures { (m : PlainMount) (old name : Name) → StandsFor state.now m → IsName name
         → IsEntryOf m old entry.now → IsNewName m place.now.dir name place.now
@@ -85,8 +85,8 @@ fn why_not(state: &MountState, entry: &Entry, place: &Place, past: bool) -> Opti
     None
 }
 
-// Whether the place's directory may hold the entry's node. It may where it holds it already: what a directory
-// with a policy holds has that policy, and one without may hold all.
+// Whether the place's directory may contain the entry's node. It may if it contains it already: what is in
+// a directory with a policy has that policy, and a directory without one may contain any node.
 fn may_come(state: &MountState, entry: &Entry, place: &Place) -> bool
     ensures { (m : PlainMount) (old : Name) → StandsFor state.now m → IsEntryOf m old entry.now
         → place.now.context ≡ context_at m.nodes place.now.dir
@@ -98,7 +98,7 @@ fn may_come(state: &MountState, entry: &Entry, place: &Place) -> bool
     may_hold(&place.context, &context_at(state, entry.number))
 }
 
-// Whether a directory of the one context may hold a node of the other.
+// Whether a directory of the one context may contain a node of the other.
 fn may_hold(dir: &Option<Context>, held: &Option<Context>) -> bool
     ensures { result ≡ plain.may_hold dir.now held.now }
 {
@@ -117,7 +117,7 @@ fn has_policy(policy: &Policy, held: &Option<Context>) -> bool
     }
 }
 
-// Whether the name would come to another directory, which is full.
+// Whether the name would be moved to another directory that is full.
 fn is_full_elsewhere(state: &MountState, from: u32, to: u32) -> bool
     ensures { (m : PlainMount) → StandsFor state.now m → result ≡ plain.is_full_elsewhere m from to }
 {

@@ -1,4 +1,4 @@
--- A text is told by what it shows.
+-- An entry with the text is the entry whose visible name it is.
 use Rattle.std.proofs.Common.{◌∙◌, ap, List, ℕ, Some, option_map}
 use Rattle.std.specs.Map.{lookup_entry}
 use Rattle.mount_state.specs.Led.{is_shown_as}

@@ -1,4 +1,5 @@
--- What is shown already, with what the entries that are left are shown as, is what all are shown as.
+-- The names that are done already, with the visible names of the entries that are left, are all visible
+-- names.
 use Rattle.std.proofs.Common.{List}
 use Rattle.std.specs.List.{AllZip}
 use Rattle.plain_tree.specs.Nodes.{Name}

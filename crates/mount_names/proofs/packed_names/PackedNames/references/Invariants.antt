@@ -1,4 +1,5 @@
--- The names that were taken already, with those that the other lengths make of the bytes behind them, are all.
+-- The names that were taken already, with those that the other lengths make of the bytes after them, are
+-- all.
 use Rattle.std.proofs.Common.{◌≡◌, ◌++◌, length, drop}
 use Rattle.std.specs.List.{sum}
 use Rattle.mount_names.specs.Listed.{names_of}
