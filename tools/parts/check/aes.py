@@ -11,18 +11,18 @@ ROUNDS = 14
 def tables():
     """What a byte of a column adds to it in a round: forwards and backwards, for each of its four rows."""
     box = substitution()
-    back = bytes(box.index(it) for it in range(256))
-    forward = [_column(box[it], (2, 1, 1, 3)) for it in range(256)]
-    backward = [_column(back[it], (14, 9, 13, 11)) for it in range(256)]
+    back = bytes(box.index(number) for number in range(256))
+    forward = [_column(box[number], (2, 1, 1, 3)) for number in range(256)]
+    backward = [_column(back[number], (14, 9, 13, 11)) for number in range(256)]
     return [_turned(forward, row) for row in range(4)], [_turned(backward, row) for row in range(4)], box, back
 
 
 def _column(byte, factors):
-    return int.from_bytes(bytes(times(byte, it) for it in factors), "big")
+    return int.from_bytes(bytes(times(byte, factor) for factor in factors), "big")
 
 
 def _turned(table, row):
-    return [(it >> 8 * row | it << 32 - 8 * row) & 0xFFFFFFFF for it in table]
+    return [(word >> 8 * row | word << 32 - 8 * row) & 0xFFFFFFFF for word in table]
 
 
 class Aes:
@@ -31,8 +31,8 @@ class Aes:
     def __init__(self, key):
         assert len(key) == 32
         self.words = struct.unpack(">60I", round_keys(key))
-        unmixed = [_unmixed(it) for it in self.words[4:-4]]
-        self.back = [*self.words[-4:], *(it for at in range(ROUNDS - 2, -1, -1) for it in unmixed[4 * at:4 * at + 4]), *self.words[:4]]
+        unmixed = [_unmixed(word) for word in self.words[4:-4]]
+        self.back = [*self.words[-4:], *(word for at in range(ROUNDS - 2, -1, -1) for word in unmixed[4 * at:4 * at + 4]), *self.words[:4]]
 
     def encrypted(self, block):
         """The block enciphered."""
@@ -54,10 +54,10 @@ def _through(block, words, table, box, step):
     one, two, three, four = table
     state = [x ^ y for x, y in zip(struct.unpack(">4I", block), words)]
     for at in range(4, 4 * ROUNDS, 4):
-        state = [one[state[it] >> 24] ^ two[state[(it + step) % 4] >> 16 & 255] ^ three[state[(it + 2) % 4] >> 8 & 255]
-                 ^ four[state[(it + 3 * step) % 4] & 255] ^ words[at + it] for it in range(4)]
-    last = [(box[state[it] >> 24] << 24 | box[state[(it + step) % 4] >> 16 & 255] << 16 | box[state[(it + 2) % 4] >> 8 & 255] << 8
-             | box[state[(it + 3 * step) % 4] & 255]) ^ words[4 * ROUNDS + it] for it in range(4)]
+        state = [one[state[number] >> 24] ^ two[state[(number + step) % 4] >> 16 & 255] ^ three[state[(number + 2) % 4] >> 8 & 255]
+                 ^ four[state[(number + 3 * step) % 4] & 255] ^ words[at + number] for number in range(4)]
+    last = [(box[state[number] >> 24] << 24 | box[state[(number + step) % 4] >> 16 & 255] << 16 | box[state[(number + 2) % 4] >> 8 & 255] << 8
+             | box[state[(number + 3 * step) % 4] & 255]) ^ words[4 * ROUNDS + number] for number in range(4)]
     return struct.pack(">4I", *last)
 
 

@@ -85,7 +85,7 @@ REPLIES = (
 
 def judged(answers, *words, scripts=None):
     """The exit status and the lines of the judge of these answers to some scripts, or to the stored ones."""
-    scripts = scripts or sorted(os.path.join(DATA, it) for it in os.listdir(DATA) if it.endswith(".fsc"))
+    scripts = scripts or sorted(os.path.join(DATA, name) for name in os.listdir(DATA) if name.endswith(".fsc"))
     ended = subprocess.run(
         [os.path.join(PARTS, "linux", "judge"), *words, "--program", PROGRAM, answers, *scripts],
         check=False,
@@ -104,19 +104,19 @@ def stored_histories(tally):
         lines[-1],
     )
     seen = {
-        it.group(2): int(it.group(1))
-        for it in (re.match(r" *(\d+)  histories, \d+ calls: (.*) \(docs", line) for line in lines)
-        if it
+        found.group(2): int(found.group(1))
+        for found in (re.match(r" *(\d+)  histories, \d+ calls: (.*) \(docs", line) for line in lines)
+        if found
     }
     for kind, count in seen.items():
         tally.wants(f"a stored history shows {kind}", count > 0 or kind == NOT_STORED)
     tally.wants("there are nine kinds", len(seen) == 9, str(seen))
-    with open(answers, encoding="utf-8") as it:
-        text = it.read()
-    with tempfile.NamedTemporaryFile("w", encoding="utf-8") as it:
-        it.write(text[: len(text) // 2])
-        it.flush()
-        status, lines = judged(it.name)
+    with open(answers, encoding="utf-8") as file:
+        text = file.read()
+    with tempfile.NamedTemporaryFile("w", encoding="utf-8") as file:
+        file.write(text[: len(text) // 2])
+        file.flush()
+        status, lines = judged(file.name)
     tally.wants(
         "answers that end early are reported",
         status == 1 and "fault: the answers end early" in lines,
@@ -128,14 +128,14 @@ def by_hand(tally):
     """A creation whose name comes after a removal is told from all other kinds."""
     with tempfile.TemporaryDirectory() as folder:
         script, answers = os.path.join(folder, "creation.fsc"), os.path.join(folder, "answers.txt")
-        with open(script, "w", encoding="utf-8") as it:
-            it.write(BY_HAND)
-        with open(answers, "w", encoding="utf-8") as it:
-            it.write("R\tcreation-free\t0\n")
-            it.writelines(
+        with open(script, "w", encoding="utf-8") as file:
+            file.write(BY_HAND)
+        with open(answers, "w", encoding="utf-8") as file:
+            file.write("R\tcreation-free\t0\n")
+            file.writelines(
                 f"{one}\t{two}\t{begin}\t{end}\t0\t0\t{told}\n" for one, two, begin, end, told in REPLIES
             )
-            it.write("END\n")
+            file.write("END\n")
         status, lines = judged(answers, scripts=[script])
     shown = any(line.startswith(f"      1  histories, 1 calls: {NOT_STORED}") for line in lines)
     tally.wants(
@@ -146,7 +146,7 @@ def by_hand(tally):
 def planted_replies(tally):
     """A changed reply leaves no order, or one that is certified."""
     _, lines = judged(os.path.join(DATA, "answers.txt"), "--plant", str(TIMES))
-    numbers = [int(it) for it in re.findall(r"\d+", lines[-1])]
+    numbers = [int(found) for found in re.findall(r"\d+", lines[-1])]
     made, none, found, certified, undecided = (numbers + [-1] * 5)[:5]
     tally.wants(
         "of each changed reply there is no order, or one that is certified",
@@ -160,8 +160,8 @@ def bad_scripts(tally):
     with tempfile.TemporaryDirectory() as folder:
         names = [os.path.join(folder, f"bad-{at}.fsc") for at in range(len(BAD))]
         for name, (_, text, _) in zip(names, BAD):
-            with open(name, "w", encoding="utf-8") as it:
-                it.write(text)
+            with open(name, "w", encoding="utf-8") as file:
+                file.write(text)
         kernel = os.path.join(folder, "none")
         command = [os.path.join(TOP, "tools", "linux"), "--kernel", kernel, "--threads", "0", "--program", PROGRAM]
         ended = subprocess.run([*command, *names], check=False, capture_output=True)

@@ -22,8 +22,8 @@ def checked(script, log, words=CHECK):
 
 def read(path):
     """The bytes of a file."""
-    with open(path, "rb") as it:
-        return it.read()
+    with open(path, "rb") as file:
+        return file.read()
 
 
 def row(name):
@@ -40,7 +40,7 @@ def examples_certified(tally):
         tally.wants(f"the log of {path} is one", checked(script, log) == (0, b"", None))
         for _ in range(CHANGES if len(log) < LONG_LOG else CHANGES // 10):
             place = draws.randrange(len(log) or 1)
-            byte = draws.choice([it for it in b"0123456789abcdef =\nx" if log[place:place + 1] != bytes([it])])
+            byte = draws.choice([byte for byte in b"0123456789abcdef =\nx" if log[place:place + 1] != bytes([byte])])
             changed = log[:place] + bytes([byte]) + log[place + 1:]
             status, got, at = checked(script, changed)
             well = (status, got) == (REFUSED, b"") and at is not None and at <= log[:place].count(b"\n")
@@ -69,15 +69,15 @@ def two_callers(tally):
     raw = bytes(range(64)).hex()
     script = f"caller 1000\nadd-key {raw}\ncaller 1001\nkey-status raw:{raw}\nkey-status raw:{raw}\n".encode()
     added, absent, present = f"0 1000 add-key 64 = added {IDENTIFIER}", "absent self=0 users=0", "present self=0 users=1"
-    told = [f"1 1001 key-status {IDENTIFIER} = status {it}" for it in (absent, present)]
+    told = [f"1 1001 key-status {IDENTIFIER} = status {state}" for state in (absent, present)]
     for what, lines, place in (("last", [told[0], told[0], added], None), ("between", [told[0], added, told[1]], None),
                                ("first", [added, told[1], told[1]], None), ("first, and gone then", [added, told[1], told[0]], 2)):
-        log = "".join(f"{at} {it}\n" for at, it in enumerate(lines)).encode()
+        log = "".join(f"{at} {line}\n" for at, line in enumerate(lines)).encode()
         wanted = (0, b"", None) if place is None else (REFUSED, b"", place)
         tally.wants(f"a log of two callers with the addition {what} ends so", checked(script, log) == wanted, str(checked(script, log)))
     path = os.path.join(TOP, "examples", "whole-session")
     script, log = read(path + ".fsc"), read(path + ".log")
-    entries = b"".join(it for it in log.splitlines(keepends=True) if not it.startswith(b"note "))
+    entries = b"".join(line for line in log.splitlines(keepends=True) if not line.startswith(b"note "))
     tally.wants("a session's log without its notes is refused behind its lines", checked(script, entries) == (REFUSED, b"", 27))
     status, _, place = checked(script, log, ["check", "--seed", "1" * 64])
     tally.wants("a session's log by another seed is refused", status == REFUSED and place is not None and place < 27, str((status, place)))
@@ -92,7 +92,7 @@ def sections(number):
         lines += [f"caller {1000 + caller % 3}", f"add-key {shared}", f"protector {name} pass:1:8:1:{secret[5:]}", f"policy-new {name} {name} {secret}",
                   f"unlock {name} {name} {secret}", f"mkdir /{name}", f"encrypt /{name} {name} 16", f"create /{name}/f", f"open /{name}/f",
                   f"fill 0 0 {1 + 700 * caller} {caller}", "read 0 0 64", f"lock {name}", f"list /{name}", "list /", f"remove-key raw:{shared}", f"unlock {name} {name} pass:wrong"]
-    return "".join(it + "\n" for it in lines).encode()
+    return "".join(line + "\n" for line in lines).encode()
 
 
 def threads_certified(tally):
@@ -178,7 +178,7 @@ def differences(tally):
     changed = lines[3].replace(b"absent", b"present")
     last = b"fsc: that is after the last entry of the log\n"
     session = os.path.join(TOP, "examples", "whole-session")
-    notes = [it for it in read(session + ".log").splitlines(keepends=True) if it.startswith(b"note ")]
+    notes = [line for line in read(session + ".log").splitlines(keepends=True) if line.startswith(b"note ")]
     entries = read(session + ".log")[:-len(b"".join(notes))]
     wrong = notes[0].rsplit(b" ", 1)[0] + b" wrong-key\n"
     for what, given, wanted in (

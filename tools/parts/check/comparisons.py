@@ -38,8 +38,8 @@ def sources():
             continue
         for name in sorted(os.listdir(src)):
             if name.endswith(".rt"):
-                with open(os.path.join(src, name), encoding="utf-8") as it:
-                    lines = [re.sub(r"//.*", "", line).rstrip() for line in it]
+                with open(os.path.join(src, name), encoding="utf-8") as file:
+                    lines = [re.sub(r"//.*", "", line).rstrip() for line in file]
                 yield f"crates/{crate}/src/{name}", [line for line in lines if "≡" not in line]
 
 
@@ -54,7 +54,7 @@ def no_secret_is_compared(tally):
         broken += [f"{path}: {line.strip()}" for line in lines if COMPARED.search(line)]
         text = "\n".join(lines)
         equal = DERIVED.findall(text) + WRITTEN.findall(text)
-        broken += [f"{path}: an equality of {it}" for it in equal if it in TYPES]
+        broken += [f"{path}: an equality of {name}" for name in equal if name in TYPES]
     tally.wants("no secret is compared by == in the sources", not broken, "; ".join(broken))
 
 

@@ -94,11 +94,11 @@ class Disk:
         """The plain name of an entry that a part of a path means: by that name, or by the text that stands for it."""
         if part in folder.body:
             return part
-        return next(it for it in folder.body if no_key_text(self.stored(folder, it)) == part)
+        return next(name for name in folder.body if no_key_text(self.stored(folder, name)) == part)
 
     def at(self, path):
         """The directory of a path's last part, and that part."""
-        parts, folder = [unquote_to_bytes(it) for it in path.split("/")[1:]], self.nodes[0]
+        parts, folder = [unquote_to_bytes(part) for part in path.split("/")[1:]], self.nodes[0]
         for part in parts[:-1]:
             folder = self.nodes[folder.body[self.found(folder, part)]]
         return folder, parts[-1]
@@ -163,7 +163,7 @@ class Turns:
 def disk_behind(script, log, seed):
     """The disk that a run of the script leaves whose log this is."""
     disk, commands = Disk(), commands_of(script)
-    turns = [Turns(it) for it in commands]
+    turns = [Turns(command) for command in commands]
     for raw in raw_keys(commands, seed):
         disk.raws[identifier(raw)] = raw
     for line in log.decode().splitlines():

@@ -12,11 +12,11 @@ SAFE = "-._~"
 
 def image_of(disk):
     """The image of a disk: of the root, and of each node to which a name leads."""
-    named = {0} | {it for node in disk.nodes.values() if node.kind == "dir" for it in node.body.values()}
+    named = {0} | {number for node in disk.nodes.values() if node.kind == "dir" for number in node.body.values()}
     lines = [HEADER]
     for number in sorted(named & reached(disk)):
         lines += lines_of(disk, disk.nodes[number])
-    return b"".join(it + b"\n" for it in lines)
+    return b"".join(line + b"\n" for line in lines)
 
 
 def reached(disk):
@@ -41,8 +41,8 @@ def lines_of(disk, node):
         return [f"{head} {target.hex()}".encode()]
     blocks = [node.body[at:at + BLOCK].ljust(BLOCK, b"\0") for at in range(0, len(node.body), BLOCK)]
     if node.context:
-        blocks = [in_units(raw, node.context, node.number, place, it) for place, it in enumerate(blocks)]
-    return [f"{head} {len(node.body)}".encode(), *(b"block " + it.hex().encode() for it in blocks)]
+        blocks = [in_units(raw, node.context, node.number, place, block) for place, block in enumerate(blocks)]
+    return [f"{head} {len(node.body)}".encode(), *(b"block " + block.hex().encode() for block in blocks)]
 
 
 # ---- reading
@@ -136,7 +136,7 @@ def entry_goes_on(folder, child, name):
 
 def with_children(nodes, pieces):
     """The nodes, unless an entry may not lead where it does: then its line."""
-    numbers, led = {it.number for it in nodes}, set()
+    numbers, led = {node.number for node in nodes}, set()
     for number, line in enumerate(pieces, 1):
         entry = LINES["entry"].fullmatch(line)
         if entry:
@@ -156,7 +156,7 @@ def escaped(name):
 
 def listing(nodes, raw=None):
     """The listing of an image's nodes with a raw key, or with none."""
-    at = {it.number: it for it in nodes}
+    at = {node.number: node for node in nodes}
     places = {child: (folder, name) for folder in nodes for name, child in folder.entries}
     lines = []
     for node in nodes:
@@ -208,5 +208,5 @@ def told(node, raw):
         return f"{node.more} -"
     blocks = node.blocks
     if node.context:
-        blocks = [in_units(raw, node.context, node.number, place, it, back=True) for place, it in enumerate(blocks)]
+        blocks = [in_units(raw, node.context, node.number, place, block, back=True) for place, block in enumerate(blocks)]
     return f"{node.more} {sha256(b''.join(blocks)[:node.more]).hexdigest()}"

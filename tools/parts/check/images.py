@@ -89,7 +89,7 @@ def worked_rows(tally):
     tally.wants("the empty script leaves a root", (status, got) == (0, b"fsc-image 1\nnode 0 dir -\n"), repr(got))
     status, got, _ = run(DUMP, b"caller 1000\ncreate /p\nopen /p\nwrite 0 0 6869\n")
     tally.wants("a file of two bytes has a block", (status, got) == (0, plain.encode()), repr(got[:200]))
-    opened = "caller 1000\n" + "".join(f"{it}\n" for it, _ in ENCRYPTED) + "create /e/f\nopen /e/f\nwrite 0 0 6869\n"
+    opened = "caller 1000\n" + "".join(f"{line}\n" for line, _ in ENCRYPTED) + "create /e/f\nopen /e/f\nwrite 0 0 6869\n"
     _, encrypted, _ = run(DUMP, opened.encode())
     shown = "AAAAAAAAAADt-toAXsOsC13lYD9Yl-SqNV1BITUGbWqvIA_UrJGWrQ"
     for what, words, image, wanted in (
@@ -122,7 +122,7 @@ def faulty_images(tally):
 
 def changed_images(tally):
     """An image with bytes changed at drawn places, cut within each line, and with two lines exchanged."""
-    with open(next(it for it in scripts() if "mode_keys_leave" in it), "rb") as script:
+    with open(next(script for script in scripts() if "mode_keys_leave" in script), "rb") as script:
         _, image, _ = run(DUMP, script.read())
     draws = random.Random(19)
     for _ in range(CHANGED):
@@ -131,13 +131,13 @@ def changed_images(tally):
         lists(tally, f"an image whose byte {place} is {byte}", changed, [RAW] if place % 5 == 0 else [])
     lines = image.split(b"\n")[:-1]
     for at in range(len(lines)):
-        front = b"".join(it + b"\n" for it in lines[:at])
+        front = b"".join(line + b"\n" for line in lines[:at])
         for what, text in (("that ends in front of", front), ("cut within", front + lines[at][:len(lines[at]) // 2]), ("cut at the end of", front + lines[at])):
             lists(tally, f"an image {what} line {at + 1}", text, [])
         for other in range(at):
             swapped = [*lines]
             swapped[at], swapped[other] = lines[other], lines[at]
-            lists(tally, f"an image with lines {other + 1} and {at + 1} exchanged", b"".join(it + b"\n" for it in swapped), [])
+            lists(tally, f"an image with lines {other + 1} and {at + 1} exchanged", b"".join(line + b"\n" for line in swapped), [])
 
 
 def linux_images(tally):

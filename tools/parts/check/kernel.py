@@ -18,18 +18,18 @@ MANY = 10
 
 def unexplained(logs):
     """The exit status and the last line of the comparison of these logs."""
-    with tempfile.NamedTemporaryFile("w", encoding="utf-8") as it:
-        it.write(logs)
-        it.flush()
-        ended = subprocess.run([os.path.join(PARTS, "linux", "compare"), it.name, os.path.join(DATA, "answers.txt")],
+    with tempfile.NamedTemporaryFile("w", encoding="utf-8") as file:
+        file.write(logs)
+        file.flush()
+        ended = subprocess.run([os.path.join(PARTS, "linux", "compare"), file.name, os.path.join(DATA, "answers.txt")],
                                check=False, capture_output=True)
     return ended.returncode, ended.stdout.decode().splitlines()[-1:]
 
 
 def stored_answers(tally):
     """Each kind of refusal is told as another one once, and each time the comparison finds just that."""
-    with open(os.path.join(DATA, "logs.txt"), encoding="utf-8") as it:
-        logs = it.read()
+    with open(os.path.join(DATA, "logs.txt"), encoding="utf-8") as file:
+        logs = file.read()
     names = sorted(set(re.findall(r" = refused (\S+)\n", logs)))
     tally.wants("the stored logs have many kinds of refusals", len(names) > MANY)
     cases = [("the stored logs", logs, 0)]
@@ -47,7 +47,7 @@ def known_answers(tally):
 
     With its last close a key stays in Linux only where user 0 does not remove it again, as in scripts of mode raw.
     """
-    logs, answers = (read(os.path.join(DATA, it)) for it in ("logs.txt", "answers.txt"))
+    logs, answers = (read(os.path.join(DATA, name)) for name in ("logs.txt", "answers.txt"))
     told = collections.Counter()
     for log, answer in zip(scripts_of(logs), scripts_of(answers), strict=True):
         for step in steps(log, answer):
@@ -58,8 +58,8 @@ def known_answers(tally):
             is_so = step.theirs.split(" ")[:len(words)] == words and not same(step) and kind and kind.row == known[1]
             tally.wants(f"Linux answered {step.line} by {known[1]}", is_so, step.theirs)
             told[known[1]] += 1
-    for it in KNOWN:
-        tally.wants(f"the stored calls have one of {it.row}", told[it.row] > 0)
+    for row in KNOWN:
+        tally.wants(f"the stored calls have one of {row.row}", told[row.row] > 0)
 
 
 CHECKS = (stored_answers, known_answers)

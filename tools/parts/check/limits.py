@@ -9,7 +9,7 @@ OPENED = [("create /f", "ok"), *(("open /f", f"handle {number}") for number in r
 
 # 64 files of 256 blocks each
 FILLED = [
-    *(it for number in range(FILES) for it in (
+    *(step for number in range(FILES) for step in (
         (f"create /f{number}", "ok"), (f"open /f{number}", f"handle {number}"),
         *((f"fill {number} {65_536 * at} 65536 7", "ok") for at in range(FILLS)))),
     ("create /more", "ok"), ("open /more", f"handle {FILES}"), (f"write {FILES} 0 61", NO_SPACE), ("write 0 4096 61", "ok"),
@@ -28,7 +28,7 @@ def used_up(tally):
     for what, cases in (("handles", OPENED), ("blocks", FILLED), ("records", STORED)):
         script = "caller 1000\n" + "".join(command + "\n" for command, _ in cases)
         status, log, _ = run(SERIAL, script.encode())
-        replies = [it.split(" = ")[1] for it in log.decode().splitlines()]
+        replies = [line.split(" = ")[1] for line in log.decode().splitlines()]
         wrong = [(command, due, told) for (command, due), told in zip(cases, replies) if due != told]
         tally.wants(f"a run that uses up {what} is answered so", status == 0 and len(replies) == len(cases) and not wrong, str(wrong[:1]))
 

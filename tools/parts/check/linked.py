@@ -11,7 +11,7 @@ APART = b"caller 0\nmkdir /a\nlist /\ncaller 1000\nmkdir /b\nmkdir /b\nlist /\n"
 
 def examples_linked(tally):
     """Each script of examples/linked/ prints the logs of both mounts that stand beside it."""
-    names = sorted(it[:-4] for it in os.listdir(FOLDER) if it.endswith(".fsc"))
+    names = sorted(name[:-4] for name in os.listdir(FOLDER) if name.endswith(".fsc"))
     tally.wants("examples/linked/ has scripts", bool(names))
     for name in names:
         with open(os.path.join(FOLDER, name + ".fsc"), "rb") as script, open(os.path.join(FOLDER, name + ".log"), "rb") as log:
@@ -27,7 +27,7 @@ def one_caller_linked(tally):
         with open(path, "rb") as script, open(path[:-4] + ".log", "rb") as log:
             given, lines = script.read(), log.read().splitlines(True)
         if given.startswith(b"caller ") + given.count(b"\ncaller ") == 1:
-            entries = [it for it in lines if not it.startswith(b"note ")]
+            entries = [line for line in lines if not line.startswith(b"note ")]
             wanted = b"".join([b"mount 0\n", *entries, b"mount 1\n", *lines[len(entries):]])
             status, got, _ = run(LINKED, given)
             tally.wants(f"{path} has its log on mount 0", (status, got) == (0, wanted), repr(got[:200]))
@@ -37,8 +37,8 @@ def one_caller_linked(tally):
 
 def of_caller_0(log):
     """The lines of caller 0 without their places."""
-    words = [it.split(b" ", 1) for it in log.splitlines(True)]
-    return [it[1] for it in words if it[0].isdigit() and it[1].startswith(b"0 ")]
+    words = [line.split(b" ", 1) for line in log.splitlines(True)]
+    return [word[1] for word in words if word[0].isdigit() and word[1].startswith(b"0 ")]
 
 
 def linked_in_threads(tally):

@@ -27,8 +27,8 @@ FILES = [
 
 def vectors(crate, file):
     """The text of a file of vectors, each text of it in one line."""
-    with open(os.path.join(TOP, "crates", crate, "src", file), encoding="utf-8") as it:
-        return re.sub(r"\\\n\s*", "", it.read())
+    with open(os.path.join(TOP, "crates", crate, "src", file), encoding="utf-8") as source:
+        return re.sub(r"\\\n\s*", "", source.read())
 
 
 def rows(text, record, *fields):
@@ -54,7 +54,7 @@ def stored_file(number, unit, nonce, digests):
     blocks = [in_units(RAW, its, number, at // BLOCK, text[at:at + BLOCK].ljust(BLOCK, b"\0")) for at in range(0, SIZE, BLOCK)]
     key, inode = node_key(RAW, its, CONTENTS).hex(), 0 if nonce else number
     told = [digests[key, inode, unit, at] for at in (0, 1)]
-    assert [sha256(it).hexdigest() for it in blocks[:2]] == told, number
+    assert [sha256(block).hexdigest() for block in blocks[:2]] == told, number
     return its, blocks
 
 
@@ -75,10 +75,10 @@ def nodes():
     text, digests = vectors("record_tests", "linux_vectors_by_mode.rt"), digests_of_blocks()
     names = rows(text, "StoredByMode", "directory", "pad", "plain", "stored", "listed")
     child, empty = FIRST_CHILD, sha256(b"").hexdigest()
-    for folder in sorted({int(it[0]) for it in names}):
-        own = sorted((it for it in names if int(it[0]) == folder), key=lambda it: it[3])
+    for folder in sorted({int(name[0]) for name in names}):
+        own = sorted((name for name in names if int(name[0]) == folder), key=lambda fields: fields[3])
         its = context(BY_MODE | PADS[own[0][1]])
-        entries = [f"entry {child + at} {it[3]}" for at, it in enumerate(own)]
+        entries = [f"entry {child + at} {child_fields[3]}" for at, child_fields in enumerate(own)]
         name = f"d{folder}"
         yield folder, [f"node {folder} dir {its.hex()}", *entries], *[f"0 {name} dir {len(own)}"] * 2
         for _, _, plain, _, listed in own:
@@ -88,18 +88,18 @@ def nodes():
     for link, pad, plain, stored in rows(text, "TargetByMode", "link", "pad", "plain", "stored"):
         line = f"node {link} link {context(BY_MODE | PADS[pad]).hex()} {stored}"
         texts = no_key_text(bytes.fromhex(stored)).decode(), quote_from_bytes(bytes.fromhex(plain), "-._~")
-        yield int(link), [line], *(f"0 l{link} link {it}" for it in texts)
+        yield int(link), [line], *(f"0 l{link} link {text}" for text in texts)
     for number, unit, nonce in FILES:
         its, blocks = stored_file(number, unit, nonce, digests)
-        lines = [f"node {number} file {its.hex()} {SIZE}", *(f"block {it.hex()}" for it in blocks)]
+        lines = [f"node {number} file {its.hex()} {SIZE}", *(f"block {block.hex()}" for block in blocks)]
         yield number, lines, f"0 f{number} file {SIZE} -", f"0 f{number} file {SIZE} {sha256(contents()).hexdigest()}"
 
 
 def linux_image():
     """The image, its listing without the key, and the one with it."""
     found = sorted(nodes())
-    tops = sorted((it[2].split(" ")[1], it[0]) for it in found if it[2].startswith("0 "))
+    tops = sorted((fields[2].split(" ")[1], fields[0]) for fields in found if fields[2].startswith("0 "))
     image = ["fsc-image 1", "node 0 dir -", *(f"entry {number} {name.encode().hex()}" for name, number in tops)]
-    image += [line for it in found for line in it[1]]
-    listings = [[f"0 - / dir {len(tops)}", *(f"{it[0]} {it[at]}" for it in found)] for at in (2, 3)]
-    return [("\n".join(it) + "\n").encode() for it in (image, *listings)]
+    image += [line for fields in found for line in fields[1]]
+    listings = [[f"0 - / dir {len(tops)}", *(f"{fields[0]} {fields[at]}" for fields in found)] for at in (2, 3)]
+    return [("\n".join(listing) + "\n").encode() for listing in (image, *listings)]

@@ -18,7 +18,7 @@ BAD = b"caller 0\nmkdri /a\n"
 
 def failing_allocations(tally):
     """Three scripts in turns and in threads, with each allocation failing; tools/faults tries all of them."""
-    tool = subprocess.run([f"{TOP}/tools/faults", "--program", PROGRAM, *(f"{TOP}/{it}" for it in SCRIPTS)],
+    tool = subprocess.run([f"{TOP}/tools/faults", "--program", PROGRAM, *(f"{TOP}/{script}" for script in SCRIPTS)],
                           stdout=subprocess.PIPE, stderr=subprocess.STDOUT, check=False)
     if tool.returncode == NO_TOOL:
         print("check: there is no cc, so no allocation was made to fail")
@@ -59,19 +59,19 @@ def bad_lines_without_memory(tally):
                 if status != NO_MEMORY:
                     reasons.add(told)
             head, parting = b"fsc: bad line 2\nfsc: ", b"no line --- stands between the script and its log\nfsc: "
-            wanted = {head + b"line 2: " + it + b"\n" for it in (known, no_room)}
+            wanted = {head + b"line 2: " + message + b"\n" for message in (known, no_room)}
             if words[0] == "check":
                 # of a text that isn't kept nobody knows whether such a line is there
-                wanted = {head + parting + b"line 2: " + it + b"\n" for it in (known, no_room)} | {head + b"line 2: " + no_room + b"\n"}
+                wanted = {head + parting + b"line 2: " + message + b"\n" for message in (known, no_room)} | {head + b"line 2: " + no_room + b"\n"}
             tally.wants(f"{words[0]} tells of a line as far as there is memory", reasons == wanted, repr(reasons))
 
 
 def judged_logs(tally):
     """What judges these runs refuses each log that was changed."""
-    with open(f"{TOP}/{SCRIPTS[0]}", encoding="ascii") as it:
-        script = it.read()
+    with open(f"{TOP}/{SCRIPTS[0]}", encoding="ascii") as file:
+        script = file.read()
     log = run(SERIAL, script.encode())[1].decode()
-    judge = Judge(script, lambda it: run(SERIAL, it.encode())[1].decode())
+    judge = Judge(script, lambda text: run(SERIAL, text.encode())[1].decode())
     lines = log.splitlines(True)
     for at, line in enumerate(lines):
         asked = line.split(" = ")[0]

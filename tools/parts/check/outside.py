@@ -20,8 +20,8 @@ FIRST = "examples/one-key"
 
 def whole(path):
     """The bytes of a file."""
-    with open(os.path.join(TOP, path), "rb") as it:
-        return it.read()
+    with open(os.path.join(TOP, path), "rb") as file:
+        return file.read()
 
 
 def broken_inputs(tally):
@@ -48,12 +48,12 @@ def full_files(tally):
 
     for words in (SERIAL, THREADED):
         for count in (*range(0, len(log), 16), len(log)):
-            with tempfile.TemporaryFile() as it:
+            with tempfile.TemporaryFile() as file:
                 limit = lambda most=count: resource.setrlimit(resource.RLIMIT_FSIZE, (most, most))
                 # with the signal ignored that else ends a process which writes more
-                status, _, told = run(words, script, stdout=it, restore_signals=False, preexec_fn=limit)
-                it.seek(0)
-                got = it.read()
+                status, _, told = run(words, script, stdout=file, restore_signals=False, preexec_fn=limit)
+                file.seek(0)
+                got = file.read()
             is_so = (status, told) == (0, b"") if count == len(log) else status == 5 and told.startswith(WRITE_FAULT)
             tally.wants(f"a file that takes {count} bytes has so many of the log", is_so and got == log[:count], f"{status}, {len(got)} bytes")
 
@@ -62,15 +62,15 @@ def slow_pipes(tally):
     """A script that comes by seven bytes, to a program that is stopped and goes on meanwhile, has its log."""
     script, log = whole(FIRST + ".fsc"), whole(FIRST + ".log")
     for words in (SERIAL, THREADED):
-        with subprocess.Popen([PROGRAM, *words], stdin=subprocess.PIPE, stdout=subprocess.PIPE, bufsize=0) as it:
+        with subprocess.Popen([PROGRAM, *words], stdin=subprocess.PIPE, stdout=subprocess.PIPE, bufsize=0) as process:
             for at in range(0, len(script), 7):
-                it.stdin.write(script[at:at + 7])
-                it.send_signal(signal.SIGSTOP if at % 14 else signal.SIGCONT)
+                process.stdin.write(script[at:at + 7])
+                process.send_signal(signal.SIGSTOP if at % 14 else signal.SIGCONT)
                 time.sleep(0.001)
-            it.send_signal(signal.SIGCONT)
-            it.stdin.close()
-            got = it.stdout.read()
-            status = it.wait(timeout=SECONDS)
+            process.send_signal(signal.SIGCONT)
+            process.stdin.close()
+            got = process.stdout.read()
+            status = process.wait(timeout=SECONDS)
         tally.wants("a script that comes by seven bytes has its log", (status, got) == (0, log), str(status))
 
 
@@ -82,7 +82,7 @@ def closed_pipes(tally):
         status, _, told = run(words, ONE_CALL, stdout=pipe)
         os.close(pipe)
         tally.wants(f"{' '.join(words[:2])} into a closed pipe ends with 5", status == 5 and told.startswith(WRITE_FAULT), str(status))
-    pages = b"".join(b"mkdir /%0250d\n" % it for it in range(128)) + b"list / 0\n" * 8
+    pages = b"".join(b"mkdir /%0250d\n" % number for number in range(128)) + b"list / 0\n" * 8
     ended = subprocess.Popen([PROGRAM, *SERIAL], stdin=subprocess.PIPE, stdout=subprocess.PIPE, stderr=subprocess.PIPE)
     ended.stdin.write(b"caller 0\n" + pages)
     ended.stdin.close()

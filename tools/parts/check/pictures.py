@@ -36,10 +36,10 @@ def drawn_commands(draws, count):
 
 def watched(first, second):
     """A script in which two callers act in turns, and after each command two others ask for both keys."""
-    asking = [f"key-status {it}" for it in RAW]
-    sections = [("0", first)] + [("5", [it] * len(first)) for it in asking]
-    sections += [("1000", second)] + [("5", [it] * len(second)) for it in asking]
-    return "".join(f"caller {user}\n" + "".join(it + "\n" for it in commands) for user, commands in sections)
+    asking = [f"key-status {key}" for key in RAW]
+    sections = [("0", first)] + [("5", [question] * len(first)) for question in asking]
+    sections += [("1000", second)] + [("5", [question] * len(second)) for question in asking]
+    return "".join(f"caller {user}\n" + "".join(command + "\n" for command in commands) for user, commands in sections)
 
 
 def parted(log):
@@ -59,7 +59,7 @@ def differing_states(first, second):
     """How many states were compared, and those in which the picture has another than the mount."""
     _, log, _ = run(SERIAL, watched(first, second).encode())
     text, states = parted(log)
-    script = "".join(it + "\n" for it in ("caller 0", *first, "caller 1000", *second))
+    script = "".join(line + "\n" for line in ("caller 0", *first, "caller 1000", *second))
     found = read_log(text)
     place_commands(script.encode(), found)
     lives, compared, wrong = history_of(found.entries).lives, 0, []
@@ -94,15 +94,15 @@ def shown(*words, given=b""):
 
 def pictures_of_two_mounts(tally):
     """Logs of two mounts are shown mount by mount, each call with its line."""
-    for name in sorted(it for it in os.listdir(LINKED_EXAMPLES) if it.endswith(".fsc")):
+    for name in sorted(name for name in os.listdir(LINKED_EXAMPLES) if name.endswith(".fsc")):
         script = os.path.join(LINKED_EXAMPLES, name)
         log = script[:-4] + ".log"
-        with open(log, encoding="utf-8") as it:
-            entries = sum(line[0].isdigit() for line in it)
+        with open(log, encoding="utf-8") as file:
+            entries = sum(line[0].isdigit() for line in file)
         status, text, _ = shown(script, log)
-        rows = [it for it in text.splitlines() if it[:5].strip().isdigit()]
+        rows = [line for line in text.splitlines() if line[:5].strip().isdigit()]
         tally.wants(f"{name} is shown on both mounts", (status, len(rows)) == (0, entries)
-                    and all(it[7:11].strip().isdigit() for it in rows) and "\nmount 1\n" in text)
+                    and all(row[7:11].strip().isdigit() for row in rows) and "\nmount 1\n" in text)
         status, svg, _ = shown("--svg", script, log)
         tally.wants(f"{name} is drawn on both mounts", (status, svg.count("<circle")) == (0, entries))
 
@@ -128,8 +128,8 @@ def causes_of_refusals(tally):
     """Each refusal of each call in the examples has one row of docs/ANSWERS.md, by the call."""
     rows, seen = list(refusal_rows()), {}
     for path in scripts():
-        with open(path[:-4] + ".log", encoding="utf-8") as it:
-            for entry in read_log(it.read()).entries:
+        with open(path[:-4] + ".log", encoding="utf-8") as file:
+            for entry in read_log(file.read()).entries:
                 if entry.refusal():
                     seen[entry.verb, entry.refusal()] = list(causes(rows, entry))
     for (verb, name), found in seen.items():

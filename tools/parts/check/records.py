@@ -12,14 +12,14 @@ LEAST_DIGITS = 16
 
 def last_record(lines):
     """The text of the record that is told last in a run of these lines."""
-    log = run(SERIAL, "".join(it + "\n" for it in lines).encode())[1].decode()
-    told = [it for it in log.splitlines() if " = record " in it]
+    log = run(SERIAL, "".join(line + "\n" for line in lines).encode())[1].decode()
+    told = [line for line in log.splitlines() if " = record " in line]
     return bytes.fromhex(told[-1].split(" ")[-1]).decode()
 
 
 def put_in(lines, at, *others):
     """The lines as a text, with others in place of the one of this number."""
-    return "".join(it + "\n" for it in (*lines[:at], *others, *lines[at + 1:]))
+    return "".join(line + "\n" for line in (*lines[:at], *others, *lines[at + 1:]))
 
 
 def other_digits(word):
@@ -73,9 +73,9 @@ def kinds_changed(lines):
 
 def wraps_changed(lines):
     """Policies with other wraps: a wrap under another label, fewer of them, and in another order, which still opens."""
-    wraps = [it for it in lines if it.startswith("wrap ")]
+    wraps = [line for line in lines if line.startswith("wrap ")]
     head = put_in(lines[:-len(wraps)], len(lines))
-    login, backup = (it + "\n" for it in wraps)
+    login, backup = (wrap + "\n" for wrap in wraps)
     yield "whose wrap has another label", head + login.replace(" login ", " other ") + backup, "not-listed"
     yield "whose wraps have changed their labels", head + login.replace(" login ", " backup ") + backup.replace(" backup ", " login "), "wrong-key"
     yield "whose wraps have changed places", head + backup + login, "ok"
@@ -88,7 +88,7 @@ def wraps_changed(lines):
 def changed_records(tally):
     """Each changed record is stored, and its policy is unlocked: the note tells why it opens or doesn't."""
     policy = last_record([*MADE, "meta-get policy/docs"])
-    older = "".join(it + "\n" for it in policy.replace("fsc-policy 2", "fsc-policy 1").splitlines() if not it.startswith("options "))
+    older = "".join(line + "\n" for line in policy.replace("fsc-policy 2", "fsc-policy 1").splitlines() if not line.startswith("options "))
     tried = [("protector/login", "login", PASS, ""), ("protector/backup", "backup", RAW, ""),
              ("policy/docs", "login", PASS, policy), ("policy/docs", "login", PASS, older)]
     for name, label, secret, text in tried:
@@ -98,8 +98,8 @@ def changed_records(tally):
         script = list(MADE)
         for version, (_, record, _) in enumerate(cases, first):
             script += [f"meta-put {name} {version} {record.encode().hex() or '-'}", f"unlock docs {label} {secret}"]
-        log = run(SERIAL, "".join(it + "\n" for it in script).encode())[1].decode()
-        notes = [it.split(" ")[3] for it in log.splitlines() if it.startswith("note ")][len(MADE) - 1:]
+        log = run(SERIAL, "".join(line + "\n" for line in script).encode())[1].decode()
+        notes = [line.split(" ")[3] for line in log.splitlines() if line.startswith("note ")][len(MADE) - 1:]
         tally.wants(f"each changed {name} is tried", len(notes) == len(cases), f"{len(notes)} of {len(cases)}")
         for (what, _, wanted), ended in zip(cases, notes):
             tally.wants(f"unlocking by {name} {what} ends with {wanted}", ended == wanted, ended)

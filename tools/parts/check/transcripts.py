@@ -75,8 +75,8 @@ def examples_of_transcripts(tally):
     names = sorted(os.listdir(FOLDER))
     tally.wants("examples/transcripts/ has six transcripts", len(names) >= 6)
     for name in names:
-        with open(os.path.join(FOLDER, name), encoding="utf-8") as it:
-            given = it.read()
+        with open(os.path.join(FOLDER, name), encoding="utf-8") as file:
+            given = file.read()
         count = len(EXPECTED.findall(given))
         status, printed, told = transcript(given, "--strict")
         tally.wants(f"{name} is answered as expected", (status, told) == (0, []), str(printed[-1:]))
@@ -86,7 +86,7 @@ def examples_of_transcripts(tally):
         tally.wants(f"what is printed of {name} is a transcript that is answered so", again[0] == 0)
         _, tested, _ = transcript(given, "--tap")
         tally.wants(f"{name} has a test for each expectation", tested[0] == f"1..{count}"
-                    and [it[:2] for it in tested[1:]] == ["ok"] * count)
+                    and [text[:2] for text in tested[1:]] == ["ok"] * count)
 
 
 def scripts_of_transcripts(tally):
@@ -94,7 +94,7 @@ def scripts_of_transcripts(tally):
     given = "user a 1\nuser b 2\nuser c 3\n" + "".join(
         f"{name}: mkdir /{name}{at}\n" for at, name in enumerate("abcacbbaccab"))
     status, script, _ = transcript(given, "--script")
-    _, log, _ = run(SERIAL, "".join(it + "\n" for it in script).encode())
+    _, log, _ = run(SERIAL, "".join(text + "\n" for text in script).encode())
     wanted = [f"{at} {'abc'.index(name)} {'abc'.index(name) + 1} mkdir /{name}{at} = ok"
               for at, name in enumerate("abcacbbaccab")]
     is_so = (status, log.decode().splitlines()) == (0, wanted)
@@ -120,7 +120,7 @@ def differing_answers(tally):
     tally.wants("a strict run counts a refusal without an expectation",
                 (status, printed[-1]) == (DIFFERS, counted + ", 1 unexpected refusals"))
     status, printed, _ = transcript(given, "--strict", "--tap")
-    results = [it.split(" - ")[0] for it in printed if " - " in it]
+    results = [text.split(" - ")[0] for text in printed if " - " in text]
     tally.wants("the lines of a test runner have the same",
                 (status, results) == (DIFFERS, ["ok 1", "not ok 2", "ok 3", "not ok 4", "not ok 5", "ok 6",
                                                 "ok 7", "not ok 8"]))
@@ -154,9 +154,9 @@ def bad_lines_of_transcripts(tally):
 def states_told(printed):
     """What is printed of keys and directories, by the line of the transcript."""
     found, line = {}, 0
-    for it in printed:
-        line += not it.startswith("#")
-        what = re.fullmatch(r"#     (key [0-9a-f]{8}: (.*)|directory /e under [0-9a-f]{8}: (.*))", it)
+    for text in printed:
+        line += not text.startswith("#")
+        what = re.fullmatch(r"#     (key [0-9a-f]{8}: (.*)|directory /e under [0-9a-f]{8}: (.*))", text)
         if what:
             key, directory = found.get(line, (None, None))
             found[line] = (what[2] or key, what[3] or directory)
@@ -176,12 +176,12 @@ def states_of_transcripts(tally):
 
 def linux_beside_transcripts(tally):
     """With --linux each line that Linux answers otherwise has its answer and the row of docs/LINUX.md."""
-    with open(os.path.join(TOP, "docs", "LINUX.md"), encoding="utf-8") as it:
-        page = it.read().splitlines()
+    with open(os.path.join(TOP, "docs", "LINUX.md"), encoding="utf-8") as file:
+        page = file.read().splitlines()
     found, line = {}, 0
-    for it in transcript(SHARED, "--linux")[1]:
-        line += not it.startswith("#")
-        what = re.fullmatch(r"#     Linux: (.*) \(docs/LINUX\.md, line (\d+): (.*)\)", it)
+    for text in transcript(SHARED, "--linux")[1]:
+        line += not text.startswith("#")
+        what = re.fullmatch(r"#     Linux: (.*) \(docs/LINUX\.md, line (\d+): (.*)\)", text)
         if what:
             found[line] = what[1], what[3]
             row = page[int(what[2]) - 1]

@@ -11,7 +11,7 @@ WORDS, SLICES = 128, 4
 
 def argon2id(password, salt, passes, kib):
     """The tag of 32 bytes, the first digest, and the blocks as they stand at the end."""
-    texts = b"".join(struct.pack("<I", len(it)) + it for it in (password, salt, b"", b""))
+    texts = b"".join(struct.pack("<I", len(field)) + field for field in (password, salt, b"", b""))
     digest = hashlib.blake2b(struct.pack("<6I", 1, 32, kib, passes, 0x13, 2) + texts).digest()
     count = kib // SLICES * SLICES
     memory = [[0] * WORDS for _ in range(count)]
@@ -20,7 +20,7 @@ def argon2id(password, salt, passes, kib):
     for number in range(passes):
         for part in range(SLICES):
             fill_segment(memory, number, part, passes)
-    blocks = [struct.pack("<128Q", *it) for it in memory]
+    blocks = [struct.pack("<128Q", *block) for block in memory]
     return long_hash(blocks[-1], 32), digest, blocks
 
 
@@ -69,9 +69,9 @@ def mixed(one, other):
     both = [x ^ y for x, y in zip(one, other)]
     words = list(both)
     for row in range(8):
-        permute(words, [16 * row + it for it in range(16)])
+        permute(words, [16 * row + number for number in range(16)])
     for column in range(8):
-        permute(words, [16 * (it // 2) + 2 * column + it % 2 for it in range(16)])
+        permute(words, [16 * (number // 2) + 2 * column + number % 2 for number in range(16)])
     return [x ^ y for x, y in zip(both, words)]
 
 
@@ -82,7 +82,7 @@ STEPS = ((0, 4, 8, 12), (1, 5, 9, 13), (2, 6, 10, 14), (3, 7, 11, 15),
 def permute(words, places):
     """The permutation P on sixteen words (RFC 9106, 3.6)."""
     for step in STEPS:
-        a, b, c, d = (places[it] for it in step)
+        a, b, c, d = (places[place] for place in step)
         for first, second in ((32, 24), (16, 63)):
             words[a] = summed(words[a], words[b])
             words[d] = turned(words[d] ^ words[a], first)

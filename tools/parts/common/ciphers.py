@@ -25,7 +25,7 @@ def substitution():
     """The S-box (FIPS 197, 5.1.1): the inverse, and then the affine map."""
     box = []
     for byte in range(256):
-        inverse = next((it for it in range(256) if times(byte, it) == 1), 0)
+        inverse = next((number for number in range(256) if times(byte, number) == 1), 0)
         turned = inverse
         for shift in range(1, 5):
             turned ^= (inverse << shift | inverse >> (8 - shift)) & 0xFF
@@ -106,32 +106,32 @@ def middle_keys(key):
 
 def forward_keys(key):
     """These as `aes_core` prepares them to encrypt single blocks."""
-    return b"".join(rotated(in_basis(BASIS, xored(it, SUBSTITUTION_CONSTANT)), 3 - number % 4)
-                    for number, it in enumerate(middle_keys(key)))
+    return b"".join(rotated(in_basis(BASIS, xored(round_key, SUBSTITUTION_CONSTANT)), 3 - number % 4)
+                    for number, round_key in enumerate(middle_keys(key)))
 
 
 def inverse_keys(key):
     """These as it prepares them to decrypt single blocks."""
-    def prepared(number, it):
-        columns = b"".join(mixed_back(it[at:at + 4]) for at in range(0, 16, 4))
+    def prepared(number, key):
+        columns = b"".join(mixed_back(key[at:at + 4]) for at in range(0, 16, 4))
         based = bytes(byte ^ INVERSE_BASIS_CONSTANT for byte in in_basis(INVERSE_BASIS, columns))
         return rotated(based, (number + 1) % 4)
-    return b"".join(prepared(number, it) for number, it in enumerate(reversed(middle_keys(key))))
+    return b"".join(prepared(number, round_key) for number, round_key in enumerate(reversed(middle_keys(key))))
 
 
 def key_planes(key):
     """These in planes of bits, as it has them for eight blocks at a time: a byte of ones for each bit that is set."""
-    def planes(number, it):
-        state = rotated(xored(it, SUBSTITUTION_CONSTANT), 3 - number % 4)
+    def planes(number, key):
+        state = rotated(xored(key, SUBSTITUTION_CONSTANT), 3 - number % 4)
         return b"".join(bytes(255 * (byte >> bit & 1) for byte in state) for bit in range(8))
-    return b"".join(planes(number, it) for number, it in enumerate(middle_keys(key)))
+    return b"".join(planes(number, round_key) for number, round_key in enumerate(middle_keys(key)))
 
 
 def keystream(key, iv, length):
     """The keystream of AES-256 in counter mode, the counter being a number of 128 bits."""
     first = int.from_bytes(iv, "big")
     blocks = [((first + at) % 2**128).to_bytes(16, "big") for at in range(-(-length // 16))]
-    return b"".join(encrypted(key, it) for it in blocks)[:length]
+    return b"".join(encrypted(key, block) for block in blocks)[:length]
 
 
 def mac(name, key, message):
@@ -157,13 +157,13 @@ def expanded(name, key, info, length):
 def padded(name, key):
     """HMAC's inner and outer key, as long as the key alone: behind it the pads are known to all (RFC 2104)."""
     assert len(key) <= hashlib.new(name).block_size
-    return [bytes(it ^ pad for it in key) for pad in (0x36, 0x5C)]
+    return [bytes(byte ^ pad for byte in key) for pad in (0x36, 0x5C)]
 
 
 def states(name, key):
     """The states of the two hashes of an HMAC behind its padded keys: who has them can make its tags."""
     block = hashlib.new(name).block_size
-    return [compressed(name, bytes(it ^ pad for it in key.ljust(block, b"\0"))) for pad in (0x36, 0x5C)]
+    return [compressed(name, bytes(byte ^ pad for byte in key.ljust(block, b"\0"))) for pad in (0x36, 0x5C)]
 
 
 @functools.lru_cache(maxsize=None)
@@ -172,7 +172,7 @@ def primes():
     found = []
     number = 2
     while len(found) < 80:
-        if all(number % it for it in found):
+        if all(number % prime for prime in found):
             found.append(number)
         number += 1
     return found
@@ -214,7 +214,7 @@ def compressed(name, block):
     def small(word, by):
         return turned(word, by[0]) ^ turned(word, by[1]) ^ word >> by[2]
 
-    first = [root_bits(it, 2, bits) for it in primes()[:8]]
+    first = [root_bits(prime, 2, bits) for prime in primes()[:8]]
     words = list(struct.unpack(">16" + ("I" if bits == 32 else "Q"), block))
     for at in range(16, rounds):
         words.append((small(words[at - 2], small1) + words[at - 7] + small(words[at - 15], small0) + words[at - 16]) % most)

@@ -137,8 +137,8 @@ class Placing:
     def __init__(self, caller, log):
         self.caller, self.notes = caller, log.notes
         self.home = caller % 2 if log.mounts == 2 else 0
-        mine = [it for it in log.entries if it.caller == caller]
-        self.mine = [[it for it in mine if it.mount == mount] for mount in (0, 1)]
+        mine = [entry for entry in log.entries if entry.caller == caller]
+        self.mine = [[entry for entry in mine if entry.mount == mount] for mount in (0, 1)]
 
     def taken(self, at, mount, verb, record):
         """The next entry of a mount, if it is of this verb and record, and the position after it."""
@@ -199,12 +199,12 @@ class Placing:
 def place_commands(script, log):
     """The commands of each caller with the entries that they made; each entry gets its line and outcome."""
     commands = sections(script)
-    if any(it.caller >= len(commands) for it in log.entries):
+    if any(entry.caller >= len(commands) for entry in log.entries):
         raise LogFault("the log is not one of this script")
     made = [Placing(caller, log).placed(mine) for caller, mine in enumerate(commands)]
-    for it in (one for mine in made for one in mine):
-        for entry in it.entries:
-            entry.line = it.command.line
-        if it.entries and it.command.is_session():
-            it.entries[-1].outcome = it.outcome
+    for of_command in (one for mine in made for one in mine):
+        for entry in of_command.entries:
+            entry.line = of_command.command.line
+        if of_command.entries and of_command.command.is_session():
+            of_command.entries[-1].outcome = of_command.outcome
     return made

@@ -35,7 +35,7 @@ class Key:
             for size in (4, 8):
                 if len(self.value) % size == 0:
                     words = (self.value[at:at + size] for at in range(0, len(self.value), size))
-                    yield b"".join(it[::-1] for it in words)
+                    yield b"".join(word[::-1] for word in words)
 
 
 def named(what, length):
@@ -143,13 +143,13 @@ class Session:
             "changed": Secret("the second secret of login", is_raw, NUMBERS["change login"]),
         }
         self.shared = named("the key that modes share", 64)
-        self.texts = {it: named(it, 64) for it in ("closed_text", "held_text", "mode_text")}
+        self.texts = {name: named(name, 64) for name in ("closed_text", "held_text", "mode_text")}
 
     def words(self):
         """What the braces of the plan stand for, but for the older record."""
-        told = {name: it.word() for name, it in self.secrets.items()}
-        told |= {name + "_new": it.new_word() for name, it in self.secrets.items()}
-        told |= {name: it.hex() for name, it in self.texts.items()}
+        told = {name: secret.word() for name, secret in self.secrets.items()}
+        told |= {name + "_new": secret.new_word() for name, secret in self.secrets.items()}
+        told |= {name: text.hex() for name, text in self.texts.items()}
         return told | {"shared": self.shared.hex(), "shared_id": derived(self.shared, b"\x01", 16).hex()}
 
     def record(self):
@@ -163,7 +163,7 @@ class Session:
     def script(self):
         """The whole script. The older record is the policy's, in the first version."""
         lines = self.record()
-        old = "".join(it + "\n" for it in ["fsc-policy 1", "name old", lines[2], lines[4]])
+        old = "".join(line + "\n" for line in ["fsc-policy 1", "name old", lines[2], lines[4]])
         words = self.words() | {"old": old.encode().hex()}
         return "\n".join([*HEADS, *(line.format(**words) for _, line in PLAN)]) + "\n"
 
@@ -179,11 +179,11 @@ class Session:
         """Each key of the run."""
         for secret in self.secrets.values():
             yield from secret.keys()
-        login, spare = (drawn(NUMBERS[it], NONCE_OR_KEY, 32) for it in ("make login", "make spare"))
+        login, spare = (drawn(NUMBERS[command], NONCE_OR_KEY, 32) for command in ("make login", "make spare"))
         policy = drawn(NUMBERS["make docs"], NONCE_OR_KEY, 64)
         for key in (login, spare):
             yield Key("protectors' keys", key)
-        secrets = {name: it.wrapping_key() for name, it in self.secrets.items()}
+        secrets = {name: secret.wrapping_key() for name, secret in self.secrets.items()}
         for key, command in ((secrets["login"], "make login"), (secrets["spare"], "make spare"), (login, "make docs"),
                              (spare, "add spare"), (secrets["changed"], "change login")):
             yield from wrap_keys(key, drawn(NUMBERS[command], IV, 16))
@@ -204,10 +204,10 @@ def derived(raw, use, length):
 
 def mac_keys(row, name, key):
     """What HMAC makes of its key."""
-    for it in padded(name, key):
-        yield Key(row, it)
-    for it in states(name, key):
-        yield Key(row, it, has_words=False)
+    for value in padded(name, key):
+        yield Key(row, value)
+    for state in states(name, key):
+        yield Key(row, state, has_words=False)
 
 
 def wrap(key, iv, secret):
@@ -221,12 +221,12 @@ def wrap_keys(key, iv):
     """What wrapping under a key has, beside the key."""
     middle = extracted("sha256", key)
     stretched = expanded("sha256", middle, b"", 64)
-    for it in (middle, stretched[:32], stretched[32:]):
-        yield Key("keys of a wrap", it)
+    for value in (middle, stretched[:32], stretched[32:]):
+        yield Key("keys of a wrap", value)
     yield Key("keystreams of a wrap", keystream(stretched[:32], iv, 64))
     yield from cipher_keys("round keys of a wrap", stretched[:32])
-    for it in (middle, stretched[32:]):
-        yield from mac_keys("HMAC's padded keys and states of a wrap", "sha256", it)
+    for value in (middle, stretched[32:]):
+        yield from mac_keys("HMAC's padded keys and states of a wrap", "sha256", value)
 
 
 def raw_keys(row, raw):

@@ -42,9 +42,9 @@ class Beside:
         """The crates that `rt ci` has told of as proved since the last call, or None where it has failed, or what began this run is gone."""
         if os.getppid() != self.parent or not self.file.is_file():
             return self.fail()
-        with open(self.file, "rb") as it:
-            it.seek(self.seen)
-            whole, end, _ = it.read().rpartition(b"\n")
+        with open(self.file, "rb") as file:
+            file.seek(self.seen)
+            whole, end, _ = file.read().rpartition(b"\n")
         self.seen += len(whole + end)
         lines = whole.decode(errors="replace")
         ended = ENDED.search(lines)

@@ -55,7 +55,7 @@ def without_idle(crate, text):
         return not re.fullmatch(r"[\w-]+", name) or re.search(rf"(?<![\w-]){re.escape(name)}(?![\w-])", rest)
 
     def kept(found):
-        names = [it.strip() for it in (found[2] or found[3]).split(",") if it.strip()]
+        names = [part.strip() for part in (found[2] or found[3]).split(",") if part.strip()]
         return found[0] if not found[1].startswith(f"Rattle.{crate}.") or any(map(is_used, names)) else ""
 
     return IMPORT.sub(kept, text)
@@ -64,7 +64,7 @@ def without_idle(crate, text):
 def law_of(edit, texts):
     """The law that is told to refuse the edit: the one function that it tells, if that is no method and lies in a module right below
     the root."""
-    found = [it for it in every_function(texts) if place_of(it, texts) in edit.refused]
+    found = [function for function in every_function(texts) if place_of(function, texts) in edit.refused]
     return found[0] if len(edit.refused) == len(found) == 1 and not found[0].of_type and found[0].is_plain and found[0].file.count("/") == 1 else None
 
 
@@ -84,13 +84,13 @@ def copied_for(crate, law, edit, texts):
     items = "".join(ITEM.findall("\n".join(lines[:law.first]) + "\n"))
     made = {law.file: without_idle(crate, items + "\n".join([*reduced(law, lines, edit.ensures), ""]))}
     folder = f"proofs/{place_of(law, texts).replace('::', '/')}/"
-    for file in (it for it in texts if it.startswith(folder)):
+    for file in (text for text in texts if text.startswith(folder)):
         text = answers(texts[file], edit.ensures) if edit.ensures and file.endswith("/Answers.antt") else texts[file]
         made[file] = without_idle(crate, text)
-    cites = {it: cited(texts[it], modules) - {it} for it in modules}
+    cites = {module: cited(texts[module], modules) - {module} for module in modules}
     edited = {file for file, _, _ in edit.pairs}
-    needed = reached(set().union(*(cited(it, modules) for it in made.values())), cites)
-    return made, sorted(it for it in needed if edited & reached([it], cites))
+    needed = reached(set().union(*(cited(text, modules) for text in made.values())), cites)
+    return made, sorted(name for name in needed if edited & reached([name], cites))
 
 
 def with_copy(crate, edit, number, texts, is_edited=True):
@@ -99,10 +99,10 @@ def with_copy(crate, edit, number, texts, is_edited=True):
     law, modules = law_of(edit, texts), modules_of(crate, texts)
     own, files = copied_for(crate, law, edit, texts)
     module = law.file[4:-3]
-    names = {modules[it]: f"{modules[it]}_as_{number}" for it in files}
+    names = {modules[file]: f"{modules[file]}_as_{number}" for file in files}
     names[f"Rattle.{crate}.proofs.{module}.{law.name}"] = f"Rattle.{crate}.proofs.{module}_as_{number}.{law.name}"
     pattern = re.compile(rf"({'|'.join(sorted(map(re.escape, names), key=len, reverse=True))})(?![\w-])")
-    renamed = lambda text: pattern.sub(lambda it: names[it[1]], text)
+    renamed = lambda text: pattern.sub(lambda found: names[found[1]], text)
     made, now = dict(texts), {**texts, **(whole(edit, texts) if is_edited else {})}
     for file in files:
         made[f"{file[:-5]}_as_{number}.antt"] = renamed(now[file])
@@ -112,7 +112,7 @@ def with_copy(crate, edit, number, texts, is_edited=True):
     made.update({moved(file): renamed(text) for file, text in own.items()})
     root = "src/lib.rt" if "src/lib.rt" in texts else "src/main.rt"
     made[root] = f"{made[root].rstrip()}\n\nmod {module}_as_{number};\n"
-    home = next(it for it in every_function({moved(law.file): made[moved(law.file)]}) if it.name == law.name)
+    home = next(function for function in every_function({moved(law.file): made[moved(law.file)]}) if function.name == law.name)
     return made, Copy(edit if is_edited else None, home, tuple(sorted({*made} - {*texts})))
 
 
@@ -124,7 +124,7 @@ def with_copies(crate, edits, texts):
         once.setdefault((edit.refused, edit.ensures), []).append(edit)
     for like in once.values():
         # with all that is copied for any of them
-        every = Edit(AS_IT_IS.name, tuple(it for edit in like for it in edit.pairs), None, like[0].refused, like[0].ensures)
+        every = Edit(AS_IT_IS.name, tuple(pair for edit in like for pair in edit.pairs), None, like[0].refused, like[0].ensures)
         part, copy = with_copy(crate, every, len(copies) + 2, texts, False)
         made, copies = merged(made, part, texts), [*copies, copy]
     for edit in edits:
@@ -136,11 +136,11 @@ def with_copies(crate, edits, texts):
 def merged(made, part, texts):
     """The texts with what a part adds to those of the crate."""
     behind = lambda file: part[file][len(texts[file].rstrip()):]
-    changed = {it: f"{made[it].rstrip()}{behind(it)}" for it in texts if part[it] != texts[it]}
-    return {**made, **{it: text for it, text in part.items() if it not in texts}, **changed}
+    changed = {text: f"{made[text].rstrip()}{behind(text)}" for text in texts if part[text] != texts[text]}
+    return {**made, **{path: text for path, text in part.items() if path not in texts}, **changed}
 
 
 def told_of(said, copies, inside):
     """For each copy the lines that refuse it: in the law, or in a file that was copied for it."""
     place = lambda line: re.match(r"(?:\./)?(proofs/\S+?\.antt):\d+:\d+: error\b", line)
-    return [[*inside[it.home], *(line for line in said if (at := place(line)) and at[1] in it.files and line not in inside[it.home])] for it in copies]
+    return [[*inside[copy.home], *(line for line in said if (at := place(line)) and at[1] in copy.files and line not in inside[copy.home])] for copy in copies]

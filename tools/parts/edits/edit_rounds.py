@@ -23,9 +23,9 @@ def holed(crate, texts, untouched, taken, kept=()):
     made, kept = dict(texts), set(kept)
     for file, text in untouched.items():
         if file.startswith("proofs/"):
-            kept.update("proofs/" + it.replace(".", "/") for it in re.findall(NAMED.format(crate=crate), text))
+            kept.update("proofs/" + found.replace(".", "/") for found in re.findall(NAMED.format(crate=crate), text))
             ring = re.match(r"(proofs/(?:\w+/)*)\+(\S+?)/", file)
-            kept.update(ring[1] + it for it in re.split(r"[+-]", ring[2])) if ring else None
+            kept.update(ring[1] + part for part in re.split(r"[+-]", ring[2])) if ring else None
     for function in every_function(untouched):
         place = None if function in taken else place_of(function, untouched)
         folder = place and "proofs/" + place.replace("::", "/")
@@ -36,7 +36,7 @@ def holed(crate, texts, untouched, taken, kept=()):
             lines = made[function.file].split("\n")
             if needs_no_body(function, lines):
                 inside = f"{os.path.dirname(folder)}/fn/{function.name}/"
-                made = {file: it for file, it in made.items() if not file.startswith(inside)}
+                made = {file: text for file, text in made.items() if not file.startswith(inside)}
                 lines[function.body:function.last] = ["loop {}", *[""] * (function.last - function.body - 1)]
                 made[function.file] = "\n".join(lines)
     return made
@@ -61,15 +61,15 @@ def has_free_proof(crate, function, texts):
     calls = re.compile(rf"\b(?:self\.|Self::|{function.of_type}::){function.name} *(?:\(|::<)" if function.of_type else rf"(?<![.:\w]){function.name}\b *(?:\(|::<)")
     path = place.replace("::", "/")
     cited = re.compile(rf"\bproofs(?:\.|::){re.escape(place).replace('::', '(?:[.]|::)')}\b")
-    others = [it for file, it in texts.items() if not file.startswith(f"proofs/{path}/")]
+    others = [text for file, text in texts.items() if not file.startswith(f"proofs/{path}/")]
     shared = [file for file in texts if re.search(rf"/fn/{function.name}/|/\+[^/]*\b{function.name}\b", file)]
     return not any(map(calls.search, lines)) and not any(map(cited.search, others)) and not shared and f"src/{path}.rt" not in texts
 
 
 def header_of(function, lines):
     """The lines that open the block in which a method stands, and what is imported in it above the method."""
-    first = next(it for it in range(function.first, -1, -1) if BLOCK.match(lines[it]))
-    last = next(it for it in range(first, function.first) if lines[it].endswith("{"))
+    first = next(number for number in range(function.first, -1, -1) if BLOCK.match(lines[number]))
+    last = next(number for number in range(first, function.first) if lines[number].endswith("{"))
     found, inside = lines[first:last + 1], False
     for line in lines[last + 1:function.first]:
         inside = inside or bool(re.match(r"    (ghost )?use ", line))
@@ -86,9 +86,9 @@ def is_reduced(crate, edit, texts):
     lines = texts[edit.function.file].split("\n")
     folder = f"proofs/{place_of(edit.function, texts).replace('::', '/')}/"
     # one answer for all clauses, which are one assertion
-    is_starred = any(re.match(r" *ensures\*", it) for it in lines[edit.function.first:edit.function.body])
-    answered = [ANSWER.match(it) for it in texts.get(f"{folder}Answers.antt", "").split("\n")]
-    is_whole = edit.ensures != NOTHING and any(it and not re.search(r"-clause-\w+$", it[1]) for it in answered)
+    is_starred = any(re.match(r" *ensures\*", line) for line in lines[edit.function.first:edit.function.body])
+    answered = [ANSWER.match(line) for line in texts.get(f"{folder}Answers.antt", "").split("\n")]
+    is_whole = edit.ensures != NOTHING and any(found and not re.search(r"-clause-\w+$", found[1]) for found in answered)
     return len(ensured(edit.function, lines)) > (edit.ensures != NOTHING) and not is_starred and not is_whole and f"{folder}Proof.antt" not in texts
 
 
@@ -97,18 +97,18 @@ def answers(text, clause):
     clause's goals by the names that the goals of a function with one clause have."""
     mine = re.compile(rf"\b((?:returns|ends)[\w-]*)-clause-{clause}\b(?!-)")
     parts = re.split(r"\n{2,}", text.strip("\n"))
-    is_other = lambda part: any(ANSWER.match(it) and not mine.search(it.split(":")[0]) for it in part.split("\n"))
-    return "\n\n".join(mine.sub(r"\1", it) for it in parts if not is_other(it)) + "\n"
+    is_other = lambda part: any(ANSWER.match(line) and not mine.search(line.split(":")[0]) for line in part.split("\n"))
+    return "\n\n".join(mine.sub(r"\1", part) for part in parts if not is_other(part)) + "\n"
 
 
 def left_out(crate, place, text, goals):
     """A function's file of answers, or an empty text where it has none, with a hole for each of these goals."""
     module = f"Rattle.{crate}.proofs.{place.replace('::', '.')}.Goals"
-    parts = [it for it in re.split(r"\n{2,}", text.strip("\n") or f"use {module} as goal") if not any(re.search(rf"^(?:abbrev )?pub {re.escape(goal)}\s*:", it, re.M) for goal in goals)]
+    parts = [part for part in re.split(r"\n{2,}", text.strip("\n") or f"use {module} as goal") if not any(re.search(rf"^(?:abbrev )?pub {re.escape(goal)}\s*:", part, re.M) for goal in goals)]
     called = re.search(rf"^use {re.escape(module)} as (\w+)$", "\n".join(parts), re.M)
     head = [] if called else [f"use {module} as goal"]
     name = called[1] if called else "goal"
-    return "\n\n".join([*head, *parts, *(f"pub {it} : {name}.{it}\n{it} = ?" for it in goals)]) + "\n"
+    return "\n\n".join([*head, *parts, *(f"pub {goal} : {name}.{goal}\n{goal} = ?" for goal in goals)]) + "\n"
 
 
 def with_copies(crate, edits, texts):
@@ -129,21 +129,21 @@ def with_copies(crate, edits, texts):
         name = f"{home.name}_as_{len(made) + 1}"
         opens, closes = (header_of(home, lines), ["}"]) if home.of_type else ([], [])
         part = reduced(home, lines, edit.ensures if is_less else "")
-        head = next(at for at, it in enumerate(part) if FUNCTION.match(it))
+        head = next(at for at, line in enumerate(part) if FUNCTION.match(line))
         part[head] = re.sub(rf"\bfn {home.name}\b", f"fn {name}", part[head], count=1)
         first = len(lines) + 1 + len(opens)
         moved = lambda line: line + first - home.last - 1 + len(part)
         taken.append(Function(home.file, home.of_type, name, first, moved(home.body), moved(home.last), home.is_plain))
         made.append(replace(edit, function=taken[-1]))
         own, folder = f"Rattle.{crate}.proofs.{place.replace('::', '.')}.", f"proofs/{place.replace('::', '/')}/"
-        for file in [it for it in texts if it.startswith(folder)]:
+        for file in [text for text in texts if text.startswith(folder)]:
             text = texts[file].replace(own, f"{own[:-len(home.name) - 1]}{name}.")
             texts[f"{folder[:-len(home.name) - 1]}{name}/{file[len(folder):]}"] = text
         file = f"{folder[:-len(home.name) - 1]}{name}/Answers.antt"
         if is_less and file in texts:
             texts[file] = answers(texts[file], edit.ensures)
         texts[home.file] = "\n".join([*lines, "", *opens, *part, *closes, ""])
-    for edit in (it for it in made if it.leaves):
+    for edit in (edit for edit in made if edit.leaves):
         place = place_of(edit.function, texts)
         file = f"proofs/{place.replace('::', '/')}/Answers.antt"
         texts[file] = left_out(crate, place, texts.get(file, ""), edit.leaves)
@@ -153,17 +153,17 @@ def with_copies(crate, edits, texts):
 def in_rounds(crate, edits, texts, most):
     """The edits in as few rounds as there can be of at most this many, each of a function of its own or of a copy of it; and those
     that go alone. Functions whose place isn't sure come first, so that few rounds have one: such a round goes over the whole crate."""
-    of_function, alone = {}, [it for it in edits if not it.function]
+    of_function, alone = {}, [edit for edit in edits if not edit.function]
     for edit in edits:
         if edit.function:
             of_function.setdefault(edit.function, []).append(edit)
-    single = {it: made for it, made in of_function.items() if not has_free_proof(crate, it, texts)}
+    single = {function: made for function, made in of_function.items() if not has_free_proof(crate, function, texts)}
     number = max([-(-sum(map(len, of_function.values())) // most), *map(len, single.values())], default=0)
     rounds = [[] for _ in range(number)]
-    for function in sorted(single, key=lambda it: (place_of(it, texts) is not None, -len(single[it]))):
+    for function in sorted(single, key=lambda function: (place_of(function, texts) is not None, -len(single[function]))):
         for edit, made in zip(single[function], sorted(rounds, key=len)):
             made.append(edit)
-    for edit in (it for function, made in of_function.items() if function not in single for it in made):
+    for edit in (edit for function, made in of_function.items() if function not in single for edit in made):
         min(rounds, key=len).append(edit)
     return rounds, alone
 
@@ -173,23 +173,23 @@ def changes_nothing(crate, edits, texts):
     comment is, too, in one that calls no function which is refused, of these in the shortest that has an answer for its clause;
     else it is in a function that has no edit and names none that has, where there is one: what calls a function that is refused
     is told as not proved."""
-    own = lambda it: texts.get(f"proofs/{place_of(it.function, texts).replace('::', '/')}/Answers.antt", "")
-    is_answered = lambda it: bool(re.search(rf"^pub (?:returns|ends)[\w-]*-clause-{it.ensures}\b", own(it), re.M))
-    length = lambda it: it.function.last - it.function.body
-    words = lambda it: re.findall(r"\w+", "\n".join(texts[it.file].split("\n")[it.body:it.last]))
-    refused = {it.function.name for it in edits if it.function and not is_reduced(crate, it, texts)}
-    for edit in sorted((it for it in edits if is_reduced(crate, it, texts)), key=lambda it: (not refused.isdisjoint(words(it.function)), not is_answered(it), length(it))):
+    own = lambda edit: texts.get(f"proofs/{place_of(edit.function, texts).replace('::', '/')}/Answers.antt", "")
+    is_answered = lambda edit: bool(re.search(rf"^pub (?:returns|ends)[\w-]*-clause-{edit.ensures}\b", own(edit), re.M))
+    length = lambda edit: edit.function.last - edit.function.body
+    words = lambda edit: re.findall(r"\w+", "\n".join(texts[edit.file].split("\n")[edit.body:edit.last]))
+    refused = {edit.function.name for edit in edits if edit.function and not is_reduced(crate, edit, texts)}
+    for edit in sorted((edit for edit in edits if is_reduced(crate, edit, texts)), key=lambda found: (not refused.isdisjoint(words(found.function)), not is_answered(found), length(found))):
         part = texts[edit.function.file].split("\n")[edit.function.first:edit.function.last + 1]
         body = part[edit.function.body - edit.function.first:-1]
-        line = next((it for it in body if it.endswith((";", "{")) and "\n".join(part).count(it) == 1), None)
+        line = next((line for line in body if line.endswith((";", "{")) and "\n".join(part).count(line) == 1), None)
         if line:
             return Edit("(a comment)", ((edit.function.file, line, f"{line} // as it was"),), edit.function, (), edit.ensures)
-    every = [it for it in every_function(dict(sorted(texts.items()))) if "test" not in it.file and it.is_plain and place_of(it, texts)]
-    taken = [it.function for it in edits]
-    names, others = {it.name for it in taken if it}, [it for it in every if it not in taken]
-    home = next((it for it in others if names.isdisjoint(words(it))), (others or every)[0])
+    every = [function for function in every_function(dict(sorted(texts.items()))) if "test" not in function.file and function.is_plain and place_of(function, texts)]
+    taken = [edit.function for edit in edits]
+    names, others = {edit.name for edit in taken if edit}, [function for function in every if function not in taken]
+    home = next((other for other in others if names.isdisjoint(words(other))), (others or every)[0])
     line = texts[home.file].split("\n")[home.last]
     if home.first == home.last:
         return Edit("(a comment)", ((home.file, line, f"{line} // as it was"),), home)
-    head = next(it for it in texts[home.file].split("\n")[home.first:] if FUNCTION.match(it))
+    head = next(line for line in texts[home.file].split("\n")[home.first:] if FUNCTION.match(line))
     return Edit("(a comment)", ((home.file, head, f"{head} // as it was"),), home)

@@ -36,27 +36,27 @@ def crates_of(top):
             lines[words.split()[0]] = (" ".join(line.partition("#")[0].split()), below.split())
     found = {}
     while len(found) < len(lines):
-        ready = [it for it, (_, below) in lines.items() if it not in found and all(low in found for low in below if low in lines)]
+        ready = [crate for crate, (_, below) in lines.items() if crate not in found and all(low in found for low in below if low in lines)]
         if not ready:
             raise SystemExit("crates of crates.txt stand on one another in a ring")
-        for it in ready:
-            line, below = lines[it]
-            found[it] = Crate(it, line, tuple(low for low in below if low in lines), tuple(low for low in below if low not in lines))
+        for crate in ready:
+            line, below = lines[crate]
+            found[crate] = Crate(crate, line, tuple(low for low in below if low in lines), tuple(low for low in below if low not in lines))
     return found
 
 
 def below(crates, name):
     """The repository's crates that this one stands on, each once, lower ones first."""
     found = []
-    for it in crates[name].own:
-        found += [more for more in [*below(crates, it), it] if more not in found]
+    for crate in crates[name].own:
+        found += [more for more in [*below(crates, crate), crate] if more not in found]
     return found
 
 
 def texts_of(folder):
     """A crate's files that a check reads, by their paths in it."""
-    files = sorted(it for part in PARTS for it in (folder / part).rglob("*") if it.is_file())
-    return {it.relative_to(folder).as_posix(): it.read_text(encoding="utf-8") for it in files}
+    files = sorted(path for part in PARTS for path in (folder / part).rglob("*") if path.is_file())
+    return {file.relative_to(folder).as_posix(): file.read_text(encoding="utf-8") for file in files}
 
 
 class Kit:
@@ -69,13 +69,13 @@ class Kit:
     def words(self, crates, name, root, folder_of):
         """The words for a crate whose root file is this, over libraries that lie in these folders."""
         words = ["--crate-name", name, root]
-        for it in ("std", *crates[name].of_kit):
-            words += ["--extern", f"{it}={self.top}/rlibs/{it}.rlib"]
+        for crate in ("std", *crates[name].of_kit):
+            words += ["--extern", f"{crate}={self.top}/rlibs/{crate}.rlib"]
         words += ["-L", f"dependency={self.top}/rlibs"]
-        for it in crates[name].own:
-            words += ["--extern", f"{it}={folder_of(it)}/{it}.rlib"]
-        for it in below(crates, name):
-            words += ["-L", f"dependency={folder_of(it)}"]
+        for crate in crates[name].own:
+            words += ["--extern", f"{crate}={folder_of(crate)}/{crate}.rlib"]
+        for crate in below(crates, name):
+            words += ["-L", f"dependency={folder_of(crate)}"]
         words += ["--antt-project", f"{self.top}/rattle/logic/antt-project.json", "--logic-built", f"{self.top}/logic_built"]
         return [*words, "--links", f"{name}=", "--jobs", "1"]
 
@@ -99,7 +99,7 @@ class Run:
             out.seek(0)
             self.said = out.read().split("\n")
         self.wall, self.work = time.monotonic() - began, used.ru_utime + used.ru_stime
-        self.last = next((it for it in reversed(self.said) if it.strip()), "")
+        self.last = next((line for line in reversed(self.said) if line.strip()), "")
 
     def waited(self, ran, stages):
         """Waits for the prover, and gives what it used. Once a check's verdict stands, as the file of its stages tells, it may open no
@@ -133,14 +133,14 @@ class Run:
 
     def is_cut_off(self):
         """Whether it was killed, or wanted memory, so that nothing is known."""
-        return self.status < 0 or self.status > 128 or not (self.is_proved() or self.is_refused()) and any("memory" in it for it in self.said)
+        return self.status < 0 or self.status > 128 or not (self.is_proved() or self.is_refused()) and any("memory" in line for line in self.said)
 
     def cost(self):
         return f"{self.wall:.0f} s, {self.work:.0f} s of a processor"
 
     def last_words(self):
-        told = [it for it in self.said if re.search(r"\berror\b|no verdict", it)] or [self.last]
-        return " / ".join(it.strip()[:200] for it in told[:2])
+        told = [line for line in self.said if re.search(r"\berror\b|no verdict", line)] or [self.last]
+        return " / ".join(line.strip()[:200] for line in told[:2])
 
 
 class Libraries:
@@ -153,7 +153,7 @@ class Libraries:
 
     def choose(self, needed):
         """Takes all of these from the checkout, or none, since a library's statements fit those that it was built over."""
-        self.lies_there = all(self.time(it) for it in needed)
+        self.lies_there = all(self.time(crate) for crate in needed)
 
     def time(self, name):
         """When the checkout's library was built, or 0 where it isn't there or something that it was built from is newer."""
@@ -162,8 +162,8 @@ class Libraries:
             made = folder / "out" / "rlib" / f"{name}.rlib"
             built = made.stat().st_mtime if made.is_dir() else 0
             texts = [self.top / "crates.txt", self.kit.top / "KIT-ID", *(more for part in PARTS for more in [folder / part, *(folder / part).rglob("*")] if more.exists())]
-            lower = [self.time(it) for it in self.crates[name].own]
-            is_new = built and all(lower) and max([*lower, *(it.stat().st_mtime for it in texts)]) <= built
+            lower = [self.time(crate) for crate in self.crates[name].own]
+            is_new = built and all(lower) and max([*lower, *(text.stat().st_mtime for text in texts)]) <= built
             self.times[name] = built if is_new else 0
         return self.times[name]
 
@@ -193,7 +193,7 @@ def sums_of(kit, top, crates, reading, read):
     """For each crate the sum of all that a verdict on it rests on, with its texts as they are read."""
     handles, found = (top / "HANDLES").read_text(encoding="utf-8"), {}
     for name, crate in crates.items():
-        made = hashlib.sha256(repr((reading, kit.version, handles, crate.line, [found[it] for it in crate.own])).encode())
+        made = hashlib.sha256(repr((reading, kit.version, handles, crate.line, [found[other] for other in crate.own])).encode())
         made.update(repr(sorted(read(texts_of(top / "crates" / name)).items())).encode())
         found[name] = made.hexdigest()
     return found

@@ -56,12 +56,12 @@ class Function:
         another module than the method; another function's in that of its module; and behind it its own name, or that of a ring of functions."""
         folders = path.split("/")[:-1]
         if self.of_type:
-            at = next((number for number, it in enumerate(folders) if it.startswith(self.of_type)), len(folders))
+            at = next((number for number, folder in enumerate(folders) if folder.startswith(self.of_type)), len(folders))
             below = folders[at + 1:]
         else:
             module = [] if self.file in ("src/lib.rt", "src/main.rt") else self.file[4:-3].split("/")
             below = folders[len(module):] if folders[:len(module)] == module else []
-        return self.name in [word for it in below for word in re.split(r"[+-]", it)]
+        return self.name in [word for group in below for word in re.split(r"[+-]", group)]
 
 
 @dataclass(frozen=True)
@@ -84,7 +84,7 @@ def type_of(header):
     while bare != before:
         before, bare = bare, re.sub(r"<[^<>]*>", "", bare)
     words = re.findall(r"\w+", bare.split(" for ")[-1])
-    return next((it for it in words if it not in ("mut", "dyn")), "")
+    return next((word for word in words if word not in ("mut", "dyn")), "")
 
 
 def own_of(params):
@@ -97,7 +97,7 @@ def is_whole(header):
     params = re.match(r"<((?:[^<>]|<[^<>]*>)*)>", header)
     own = own_of(params)
     told = re.search(r"\w<((?:[^<>]|<[^<>]*>)*)>\s*(where\b.*|\{.*)?$", header[params.end() if params else 0:])
-    return " for " not in header and all(it.strip() in own for it in told[1].split(",")) if told else " for " not in header
+    return " for " not in header and all(part.strip() in own for part in told[1].split(",")) if told else " for " not in header
 
 
 def impl_name(header):
@@ -111,8 +111,8 @@ def impl_name(header):
         return "" if params or one[2].isdigit() else f"{one[1]}+{one[2]}"
     told = re.fullmatch(r" ([\w:<>, ']+) for ([\w:<>, ']+) \{", bare)
     both = f"{told[2]} {told[1]}" if told else ""
-    words = [it for it in re.findall(r"'?\w+", re.sub(r"\w+::", "", both)) if it not in own_of(params) and it[0] != "'"]
-    is_sure = not any(it[0].isdigit() for it in words) and not any(f"{it}::" in both for it in own_of(params))
+    words = [found for found in re.findall(r"'?\w+", re.sub(r"\w+::", "", both)) if found not in own_of(params) and found[0] != "'"]
+    is_sure = not any(word[0].isdigit() for word in words) and not any(f"{name}::" in both for name in own_of(params))
     return "".join(words) if is_sure else ""
 
 
@@ -129,7 +129,7 @@ def extent(lines, first, indent):
         if line.endswith(";"):
             return None
         if line.endswith("{"):
-            last = next((it for it in range(at, len(lines)) if lines[it].rstrip() == indent + "}"), None)
+            last = next((number for number in range(at, len(lines)) if lines[number].rstrip() == indent + "}"), None)
             return last and (at + 1, last)
     return None
 
@@ -137,7 +137,7 @@ def extent(lines, first, indent):
 def functions(file, text):
     """The functions of a file as `rt fmt` lays it out, those of traits and macros aside, which reach further than their own proof."""
     lines, found, kind, of_type, behind, plain, of_impl = text.split("\n"), [], "", "", -1, True, ""
-    impls = [impl_name(it[2]) for it in map(BLOCK.match, lines) if it and it[1] == "impl"]
+    impls = [impl_name(block[2]) for block in map(BLOCK.match, lines) if block and block[1] == "impl"]
     for at, line in enumerate(lines):
         block = BLOCK.match(line)
         if block:
@@ -159,7 +159,7 @@ def functions(file, text):
             while lines[first - 1].startswith(f"{head[1]}#["):
                 first -= 1
             sure = plain if head[1] else head[2] != "main"
-            is_in_ring = any("#[cycle" in it for it in lines[first:at])
+            is_in_ring = any("#[cycle" in line for line in lines[first:at])
             own_impl = of_impl if head[1] and not is_in_ring else ""
             found.append(Function(file, of_type if head[1] else "", head[2], first, *lies, sure and not is_in_ring, own_impl))
             behind = lies[1]
@@ -215,17 +215,17 @@ def read_edit(name, text, texts):
     for file, old, new in pairs:
         now.update(whole(Edit(name, ((file, old, new),)), now))
         number = texts[file].count("\n", 0, max(texts[file].find(old), 0))
-        inside = [it for it in functions(file, texts[file]) if it.body <= number <= it.last]
+        inside = [function for function in functions(file, texts[file]) if function.body <= number <= function.last]
         homes.add(inside[0] if inside and old in texts[file] else None)
     if now == texts:
         raise BadEdit("it changes nothing")
     told = tuple(line[9:].strip() for line in text.split("\n") if line.startswith("refused: "))
-    lacking = [it for it in told if it not in [place_of(function, texts) for function in every_function(texts)]]
+    lacking = [place for place in told if place not in [place_of(function, texts) for function in every_function(texts)]]
     if lacking:
         raise BadEdit(f"there is no plain function {lacking[0]} to be refused")
     home, clause = homes.pop() if len(homes) == 1 else None, "".join(line[9:].strip() for line in text.split("\n") if line.startswith("ensures: "))
-    law = home or next((it for it in every_function(texts) if [place_of(it, texts)] == [*told]), None)
-    if clause and not (law and clause in (NOTHING, *[it for _, it in ensured(law, texts[law.file].split("\n"))])):
+    law = home or next((function for function in every_function(texts) if [place_of(function, texts)] == [*told]), None)
+    if clause and not (law and clause in (NOTHING, *[clause for _, clause in ensured(law, texts[law.file].split("\n"))])):
         raise BadEdit(f"its function ensures no clause {clause}")
     leaves = tuple(word for line in text.split("\n") if line.startswith("leaves: ") for word in line[8:].split())
     if leaves and not (home and place_of(home, texts)):
@@ -235,23 +235,23 @@ def read_edit(name, text, texts):
 
 def ensured(function, lines):
     """The clauses that a function ensures, each by its lines, from 0, and its name, or an empty one."""
-    head = next(it for it in range(function.first, function.body) if FUNCTION.match(lines[it]))
+    head = next(number for number in range(function.first, function.body) if FUNCTION.match(lines[number]))
     indent = FUNCTION.match(lines[head])[1] + "    "
     starts = [(at, CLAUSE.match(lines[at][len(indent):])) for at in range(head + 1, function.body) if lines[at].startswith(indent)]
-    starts = [(at, it) for at, it in starts if it]
+    starts = [(at, start) for at, start in starts if start]
     is_empty = function.body == function.last and lines[function.body].strip() == "{}"
     ends = [*[at for at, _ in starts][1:], function.body - (not is_empty)]
-    return [(range(at, end), it[3] or "") for (at, it), end in zip(starts, ends) if it[1] == "ensures" and not it[2]]
+    return [(range(at, end), start[3] or "") for (at, start), end in zip(starts, ends) if start[1] == "ensures" and not start[2]]
 
 
 def reduced(function, lines, clause):
     """The function's lines where it ensures this clause alone, which has no name then, so that the fact itself is the goal; none of
     them, where it is NOTHING; and all, where it is empty."""
     every = ensured(function, lines) if clause else []
-    others = [it for at, called in every if called != clause for it in at]
+    others = [line for at, called in every if called != clause for line in at]
     first = [at[0] for at, called in every if called == clause]
-    return [re.sub(r"\bensures \w+", "ensures", lines[it], count=1) if it in first else lines[it]
-            for it in range(function.first, function.last + 1) if it not in others]
+    return [re.sub(r"\bensures \w+", "ensures", lines[number], count=1) if number in first else lines[number]
+            for number in range(function.first, function.last + 1) if number not in others]
 
 
 def applied(edits, texts):
@@ -271,7 +271,7 @@ def applied(edits, texts):
 
 
 def every_function(texts):
-    return [it for file, text in texts.items() if file.startswith("src/") and file.endswith(".rt") for it in functions(file, text)]
+    return [function for file, text in texts.items() if file.startswith("src/") and file.endswith(".rt") for function in functions(file, text)]
 
 
 def module_of(file):
@@ -292,12 +292,12 @@ def place_of(function, texts):
 
 def reserved(said):
     """The folders of proofs that a check names as none for a file, since the functions there are proved with others."""
-    return {it[1] for it in map(re.compile(r"\./(proofs/\S+)/Proof\.antt: error\[reserved-name\]").match, said) if it}
+    return {found[1] for found in map(re.compile(r"\./(proofs/\S+)/Proof\.antt: error\[reserved-name\]").match, said) if found}
 
 
 def is_checked(said, crate, place):
     """Whether a check came to the end of this function's proof and refused nothing in it, but perhaps in what it calls."""
-    return any(re.match(rf"fn {crate}::{re.escape(place)}: (proved|no holes|depends on a hole|no proof: it calls)\b", it) for it in said)
+    return any(re.match(rf"fn {crate}::{re.escape(place)}: (proved|no holes|depends on a hole|no proof: it calls)\b", line) for line in said)
 
 
 def without_tests(texts):
@@ -305,10 +305,10 @@ def without_tests(texts):
     inside = []
     for file, text in texts.items():
         folder = "src" if file in ("src/lib.rt", "src/main.rt") else file[:-3]
-        inside += [f"{folder}/{it}" for it in TESTS.findall(text) if file.endswith(".rt")]
+        inside += [f"{folder}/{found}" for found in TESTS.findall(text) if file.endswith(".rt")]
     left_out = tuple(f"{at}{end}" for at in inside for end in (".rt", "/"))
-    own = {it: text for it, text in texts.items() if not it.startswith(left_out)}
-    return {it: re.sub(r"\n\s*\n", "\n", TESTS.sub("", text)).strip() for it, text in own.items()}
+    own = {path: text for path, text in texts.items() if not path.startswith(left_out)}
+    return {path: re.sub(r"\n\s*\n", "\n", TESTS.sub("", text)).strip() for path, text in own.items()}
 
 
 def is_unread(line):
@@ -321,13 +321,13 @@ def is_unread(line):
 
 def told_inside(said, homes):
     """For each of these functions, the lines that refuse it: at a goal, or in a file of its proof."""
-    found = {it: [] for it in homes}
+    found = {home: [] for home in homes}
     for line in said:
         goal, proof = GOAL.match(line), PROOF.match(line)
         if goal:
-            of = [it for it in homes if it.has_line(goal[1], int(goal[2]) - 1)]
+            of = [home for home in homes if home.has_line(goal[1], int(goal[2]) - 1)]
         else:
-            of = [it for it in homes if proof and it.has_proof(proof[1])]
+            of = [home for home in homes if proof and home.has_proof(proof[1])]
         if len(of) == 1:
             found[of[0]].append(line)
     return found
@@ -335,7 +335,7 @@ def told_inside(said, homes):
 
 def told(said):
     """Each line that refuses something."""
-    return [it for it in said if GOAL.match(it) or PROOF.match(it) or STATED.match(it) and not is_unread(it)]
+    return [line for line in said if GOAL.match(line) or PROOF.match(line) or STATED.match(line) and not is_unread(line)]
 
 
 def goal_of(line):
@@ -352,17 +352,17 @@ def is_tried(edit, line):
 def tells_most(lines):
     """Of the lines that refuse an edit the one that tells most of the contract, or an empty text: a fact that the function ensures, of
     which a searched one tells more than a written proof that doesn't fit; else what a call of the body asks for, a loop or a type keeps."""
-    strong = [it for it in lines if is_strong(it) and goal_of(it)]
-    is_clause = lambda it: bool(re.match(r"(returns|ends)\b", goal_of(it)))
-    rank = lambda it: (not is_clause(it), not GOAL.match(it), "at one of its limits" in it)
-    return min((it for it in strong if is_clause(it) or ASKED.search(goal_of(it))), key=rank, default="")
+    strong = [line for line in lines if is_strong(line) and goal_of(line)]
+    is_clause = lambda line: bool(re.match(r"(returns|ends)\b", goal_of(line)))
+    rank = lambda line: (not is_clause(line), not GOAL.match(line), "at one of its limits" in line)
+    return min((line for line in strong if is_clause(line) or ASKED.search(goal_of(line))), key=rank, default="")
 
 
 def others_refused(lines):
     """The goals at which an edit is refused besides the one that tells most, of those that were searched for. None, where that is in a
     file of a written proof, of which it isn't sure that the fact is false."""
     first = tells_most(lines)
-    searched = [goal_of(it) for it in lines if GOAL.match(it) and goal_of(it) not in ("", goal_of(first))]
+    searched = [goal_of(line) for line in lines if GOAL.match(line) and goal_of(line) not in ("", goal_of(first))]
     return list(dict.fromkeys(searched)) if GOAL.match(first) else []
 
 

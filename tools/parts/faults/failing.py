@@ -19,10 +19,10 @@ class Failing:
 
     def run(self, words, given, first, last, how=run):
         """Runs it while these allocations fail: its status, output and errors, and how many were asked for and failed."""
-        with open(self.counts, "wb") as it:
-            it.write(bytes(16))
+        with open(self.counts, "wb") as file:
+            file.write(bytes(16))
         told = {"LD_PRELOAD": self.library, "FSC_FAIL_COUNTS": self.counts,
                 "FSC_FAIL_FROM": str(first), "FSC_FAIL_TO": str(last)}
         ended = how(words, given, program=self.program, env={"PATH": os.environ["PATH"], **told})
-        with open(self.counts, "rb") as it:
-            return (*ended, *struct.unpack("<2Q", it.read()))
+        with open(self.counts, "rb") as file:
+            return (*ended, *struct.unpack("<2Q", file.read()))

@@ -43,7 +43,7 @@ def commands_of(script):
 def rotation_of(sections):
     """The commands in the order of a run in turns."""
     longest = max(map(len, sections), default=0)
-    return [it[turn] for turn in range(longest) for it in sections if turn < len(it)]
+    return [section[turn] for turn in range(longest) for section in sections if turn < len(section)]
 
 
 def parsed(log):
@@ -64,9 +64,9 @@ def parsed(log):
 
 def written(entries, notes):
     """The log of these."""
-    lines = [f"{at} {it.caller} {it.user} {it.call} = {it.reply}" for at, it in enumerate(entries)]
+    lines = [f"{at} {entry.caller} {entry.user} {entry.call} = {entry.reply}" for at, entry in enumerate(entries)]
     lines += [f"note {caller} {line} {outcome}" for (caller, line), outcome in sorted(notes.items())]
-    return "".join(it + "\n" for it in lines)
+    return "".join(line + "\n" for line in lines)
 
 
 def grouped(order, log):
@@ -133,7 +133,7 @@ class Judge:
             lines = self.script.split("\n")
             for number in refused:
                 lines[number - 1] = IDLE
-            idle = [it._replace(words=[IDLE]) if it.line in refused else it for it in self.order]
+            idle = [command._replace(words=[IDLE]) if command.line in refused else command for command in self.order]
             self.known[refused] = grouped(idle, self.replay("\n".join(lines)))
         return self.known[refused]
 
@@ -153,7 +153,7 @@ class Judge:
             command = due[at][0]
             if entries[at] != due[at][1]._replace(reply=REFUSED) or entries[at].call.split(" ")[0] in FREE:
                 raise Wrong(f"entry {at} is {entries[at]} in place of {due[at][1]}")
-            made[command.line] = [it for owner, it in due[:at] if owner.line == command.line] + [entries[at]]
+            made[command.line] = [entry for owner, entry in due[:at] if owner.line == command.line] + [entries[at]]
             refused |= {command.line}
             at += 1
         self.check_notes(notes, refused)
@@ -162,14 +162,14 @@ class Judge:
         """The entries of the run in which these commands were refused, with what they made before."""
         for command, entry in self.without(refused)[0]:
             if command.line in refused:
-                yield from ((command, it) for it in made[command.line])
+                yield from ((command, entry) for entry in made[command.line])
             else:
                 yield command, entry
 
     def check_notes(self, notes, refused):
         """Each note is as in the run without the refused commands, and theirs tell the want of memory."""
         due = dict(self.without(refused)[1])
-        due |= {(it.caller, it.line): "no-memory" for it in self.order if it.line in refused and is_session(it.words[0])}
+        due |= {(command.caller, command.line): "no-memory" for command in self.order if command.line in refused and is_session(command.words[0])}
         if notes != due:
             raise Wrong(f"the notes are {notes} in place of {due}")
 
@@ -177,16 +177,16 @@ class Judge:
         """The same of a run of many callers in threads, as far as each caller's own lines tell it."""
         entries, notes = parsed(log)
         for caller, section in enumerate(self.sections):
-            own = [it for it in entries if it.caller == caller]
+            own = [entry for entry in entries if entry.caller == caller]
             owners = owners_of(section, own, notes)
             if owners is None:
                 raise Wrong(f"caller {caller}'s entries are not those that its commands ask for")
             for command in section:
                 outcome = notes.get((caller, command.line))
-                mine = [it for owner, it in zip(owners, own) if owner is command]
+                mine = [entry for owner, entry in zip(owners, own) if owner is command]
                 if (outcome is None) == is_session(command.words[0]):
                     raise Wrong(f"the note of line {command.line}")
-                if any(it.reply == REFUSED and it.call.split(" ")[0] in FREE for it in mine):
+                if any(entry.reply == REFUSED and entry.call.split(" ")[0] in FREE for entry in mine):
                     raise Wrong(f"the calls of line {command.line} are {mine}")
                 if outcome is not None and (outcome == "no-memory") != (mine[-1].reply == REFUSED):
                     raise Wrong(f"the note of line {command.line} is {outcome} behind {mine[-1]}")

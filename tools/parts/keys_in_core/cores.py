@@ -32,7 +32,7 @@ def gdb_lines(program, words, files, numbers, room):
     script, terminal = files
     yield from (*settings(program), "catch syscall write")
     begun = False
-    for name, number in sorted(numbers.items(), key=lambda it: it[1]):
+    for name, number in sorted(numbers.items(), key=lambda part: part[1]):
         line = enumerate(f"{len(HEADS) + 1 + number}:", len(SHOWN))
         yield "condition 1 $rdi == 2" + "".join(f" && *(char *)($rsi + {at}) == '{digit}'" for at, digit in line)
         yield "continue" if begun else f"run {' '.join(words)} < {script} > /dev/null 2> {terminal}"
@@ -81,12 +81,12 @@ def stopped(program, given, moments, room, lines):
     """The memory at each of these moments of a run under gdb, whose commands `lines` makes of program and files."""
     path, place = os.path.join(room, "script"), os.path.join(room, "fsc")
     shutil.copy(program, place)
-    with open(path, "wb") as it:
-        it.write(given)
+    with open(path, "wb") as file:
+        file.write(given)
     ours, theirs = pty.openpty()
     commands = os.path.join(room, "commands")
-    with open(commands, "w", encoding="utf-8") as it:
-        it.writelines(line + "\n" for line in lines(place, (path, os.ttyname(theirs))))
+    with open(commands, "w", encoding="utf-8") as file:
+        file.writelines(line + "\n" for line in lines(place, (path, os.ttyname(theirs))))
     reader = threading.Thread(target=drained, args=(ours,), daemon=True)
     reader.start()
     try:
@@ -121,8 +121,8 @@ def drained(terminal):
 
 def memory_of(core, told):
     """The pieces of memory in a core, heap and stacks apart."""
-    with open(core, "rb") as it:
-        text = it.read()
+    with open(core, "rb") as file:
+        text = file.read()
     stacks = stacks_of(told)
     pieces = {STACK: [], HEAP: []}
     start, size, count = struct.unpack_from("<Q", text, 32)[0], *struct.unpack_from("<HH", text, 54)

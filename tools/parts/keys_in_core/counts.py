@@ -10,8 +10,8 @@ class Search:
 
     def __init__(self, keys):
         self.keys = list(keys)
-        self.rows = list(dict.fromkeys(it.row for it in self.keys))
-        self.lengths = sorted({it.piece for it in self.keys})
+        self.rows = list(dict.fromkeys(key.row for key in self.keys))
+        self.lengths = sorted({key.piece for key in self.keys})
         self.pieces = collections.defaultdict(list)
         for number, key in enumerate(self.keys):
             for form in dict.fromkeys(key.forms()):
@@ -33,7 +33,7 @@ class Search:
         told = {row: [whole[row], 0] for row in self.rows}
         for number, count in most.items():
             told[self.keys[number].row][1] += count
-        return {row: tuple(it) for row, it in told.items()}
+        return {row: tuple(counts) for row, counts in told.items()}
 
     def found(self, part):
         """The places of the part at which there is a piece of a key, with its length."""

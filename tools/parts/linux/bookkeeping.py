@@ -39,7 +39,7 @@ class Node:
 
 def parts_of(path):
     """The parts of a path, each as the word of the log."""
-    return [it for it in path.split("/") if it]
+    return [part for part in path.split("/") if part]
 
 
 def length_of(word):
@@ -92,7 +92,7 @@ class Bookkeeping:
         """Whether a link stands on the way of a path."""
         parts = parts_of(path)
         nodes = (self.walk(parts[:at])[1] for at in range(1, len(parts)))
-        return any(it is not None and it.kind == "link" for it in nodes)
+        return any(node is not None and node.kind == "link" for node in nodes)
 
     def parent(self, path):
         """The directory of a path's last part, or none and why; the root has none."""
@@ -114,8 +114,8 @@ class Bookkeeping:
         """The nodes that have names, from a directory on."""
         at = at or self.root
         yield at
-        for it in at.entries.values():
-            yield from self.named(it)
+        for entry in at.entries.values():
+            yield from self.named(entry)
 
     def open_nodes(self):
         """The nodes on which handles are open."""
@@ -123,7 +123,7 @@ class Bookkeeping:
 
     def users_of(self, key):
         """The open nodes whose policies name a key."""
-        return [it for it in self.open_nodes() if it.key == key]
+        return [node for node in self.open_nodes() if node.key == key]
 
     def present(self, key):
         """Whether some user has a claim on a key."""
@@ -142,7 +142,7 @@ class Bookkeeping:
     @contextlib.contextmanager
     def seen(self, directories, locked):
         """As a kernel sees it that has these directories locked, or has them not."""
-        self.view = {it.number: locked for it in directories}
+        self.view = {directory.number: locked for directory in directories}
         try:
             yield
         finally:
@@ -150,7 +150,7 @@ class Bookkeeping:
 
     def open_below(self, directory):
         """Whether something is open below a directory, or was so when it lost its name there."""
-        return any(directory in it.above() for it in self.open_nodes())
+        return any(directory in node.above() for node in self.open_nodes())
 
     def feed(self, caller, user, verb, words, reply):
         """Takes a line of the log in."""
@@ -206,7 +206,7 @@ class Bookkeeping:
     def feed_close(self, caller, handle):
         """With its last handle a key without claims goes, which in Linux lingers; so does that of what stands above."""
         node = self.handles.pop((caller, handle))
-        self.lingering |= {it.key for it in (node, *node.above()) if self.keyless(it)}
+        self.lingering |= {place.key for place in (node, *node.above()) if self.keyless(place)}
 
     def feed_text(self, path, number):
         """In a locked directory a part is the no-key text of the node that was told."""
@@ -214,6 +214,6 @@ class Bookkeeping:
         _, home, _ = self.walk(parts[:-1])
         if not parts or home is None or home.kind != "dir" or not self.locked(home):
             return
-        for it in home.entries.values():
-            if it.number == number:
-                self.texts[parts[-1]] = home, it.name
+        for entry in home.entries.values():
+            if entry.number == number:
+                self.texts[parts[-1]] = home, entry.name

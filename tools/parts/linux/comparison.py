@@ -40,7 +40,7 @@ class Step:
 
     def listed(self):
         """The nodes that the kernel listed, by the mount's numbers."""
-        return [int(it) for it in self.told.get("nodes", "").split(",") if it]
+        return [int(part) for part in self.told.get("nodes", "").split(",") if part]
 
     def directories(self):
         """The directories that its paths lead through, and the nodes at their ends."""
@@ -55,16 +55,16 @@ def same_listing(step):
     """Texts are compared as the nodes that they name, with their lengths; of a page only how many there are."""
     node, ours, theirs = step.node(), names_of(step.ours), names_of(step.theirs)
     counted = step.ours.split(" ")[:3] == step.theirs.split(" ")[:3]
-    if node is None or not counted or not any(it.startswith(NO_KEY) for it in ours):
+    if node is None or not counted or not any(our.startswith(NO_KEY) for our in ours):
         return False
     numbers = step.listed()
-    names = {it.number: it.name for it in node.entries.values()}
-    if not set(numbers) <= set(names) or any(names[it] == shown for it, shown in zip(numbers, theirs)):
+    names = {entry.number: entry.name for entry in node.entries.values()}
+    if not set(numbers) <= set(names) or any(names[number] == shown for number, shown in zip(numbers, theirs)):
         return False
-    known = [step.books.text_of(it, node) for it in ours]
+    known = [step.books.text_of(our, node) for our in ours]
     if step.words[1] != "0" or "more=1" in step.ours or None in known:
         return True
-    return sorted(zip([it.number for it in known], map(len, ours))) == sorted(zip(numbers, map(len, theirs)))
+    return sorted(zip([node.number for node in known], map(len, ours))) == sorted(zip(numbers, map(len, theirs)))
 
 
 def same_target(step):
@@ -97,7 +97,7 @@ def steps(log, answers):
         told, *behind = answer.split("\t")
         caller, user, verb, words, _ = fields(line)
         step = Step(name, mode == "raw", line, caller, user, verb, words, ours, told.partition(" = ")[2],
-                    dict(it.split(":", 1) for it in behind), books)
+                    dict(text.split(":", 1) for text in behind), books)
         if told.partition(" = ")[0] != asked:
             step.theirs = f"no answer, but to: {told[:100]}"
         if verb == "list":

@@ -43,20 +43,20 @@ class Generator:
             for _ in range(self.random.randint(15, 60) // max(1, callers - 1)):
                 lines += self.commands()
             sections += lines
-        return "".join(it + "\n" for it in sections)
+        return "".join(section + "\n" for section in sections)
 
     def beginning(self):
         """An encrypted directory with a few entries."""
         pick, key = self.random.choice, self.random.choice(KEYS)
         path = pick(("/a", "/b", "/a", "/c"))
         lines = [f"add-key {key}", f"mkdir {path}", f"set-policy {path} raw:{key} {pick(PADS)}{self.unit()}"]
-        names = [f"{path}/{it}" for it in self.random.sample(NAMES[:4], self.random.randint(0, 3))]
+        names = [f"{path}/{name}" for name in self.random.sample(NAMES[:4], self.random.randint(0, 3))]
         below = [f"{path}/s"] * self.random.randint(0, 1)
         self.made += [path] * 3 + names * 2 + below
         self.home = path, key
-        lines += [f"create {it}" for it in names] + [f"mkdir {it}" for it in below]
-        for it in self.random.choices(names + below + [path], k=self.random.randint(0, 2)):
-            lines.append(f"open {it}")
+        lines += [f"create {name}" for name in names] + [f"mkdir {path}" for path in below]
+        for choice in self.random.choices(names + below + [path], k=self.random.randint(0, 2)):
+            lines.append(f"open {choice}")
             self.opened += 1
         return lines
 

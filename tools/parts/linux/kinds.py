@@ -38,7 +38,7 @@ def told_held(reply):
 
 def held_otherwise(step, here):
     """Whether of the mount and Linux just the one tells that a key is held, and all else that they tell is the same."""
-    rest = [it.split(" ")[2:] for it in (step.ours, step.theirs) if it.startswith("status")]
+    rest = [reply.split(" ")[2:] for reply in (step.ours, step.theirs) if reply.startswith("status")]
     return is_key_call(step) and (told_held(step.ours), told_held(step.theirs)) == (here, not here) and rest[:1] == rest[1:]
 
 
@@ -46,8 +46,8 @@ def fits(step):
     """Whether Linux's answer fits the view that is tried: a refusal has a cause there, and all else has none."""
     if step.verb == "list" and not step.refused and not step.denied:
         node = step.node()
-        names = {it.number: it.name for it in node.entries.values()} if node else {}
-        plain = [names.get(it) == text for it, text in zip(step.listed(), names_of(step.theirs))]
+        names = {entry.number: entry.name for entry in node.entries.values()} if node else {}
+        plain = [names.get(name) == text for name, text in zip(step.listed(), names_of(step.theirs))]
         return node is not None and not any(plain) if step.books.locked(node) else all(plain)
     if step.verb == "stat" and not step.denied:
         node = step.node()
@@ -65,7 +65,7 @@ def fits_some(step, directories, locked):
         return False
     with step.books.seen(directories, False):
         way = step.directories()
-    directories = [it for it in directories if it in way]
+    directories = [directory for directory in directories if directory in way]
     for count in range(1, len(directories) + 1):
         for some in itertools.combinations(directories, count):
             with step.books.seen(some, locked):
@@ -83,20 +83,20 @@ def other_order(step):
 def open_directory(step):
     """A directory's handle keeps it readable here; Linux gives it its key only by a look-up or a listing."""
     if held_otherwise(step, True):
-        return all(it.kind == "dir" for it in step.books.users_of(step.words[0]))
+        return all(user.kind == "dir" for user in step.books.users_of(step.words[0]))
     books = step.books
-    kept = [it for it in step.directories() if it.kind == "dir" and it in books.open_nodes() and books.keyless(it)]
+    kept = [directory for directory in step.directories() if directory.kind == "dir" and directory in books.open_nodes() and books.keyless(directory)]
     return fits_some(step, kept, True)
 
 
 def kept_plain(step, wanted):
     """The nodes that the mount has locked and for which this holds."""
-    return [it for it in step.books.named() if step.books.locked(it) and wanted(it)]
+    return [node for node in step.books.named() if step.books.locked(node) and wanted(node)]
 
 
 def open_below(step):
     """Linux keeps what stands above an open node unlocked."""
-    kept = kept_plain(step, lambda it: step.books.open_below(it) and step.books.users_of(it.key))
+    kept = kept_plain(step, lambda node: step.books.open_below(node) and step.books.users_of(node.key))
     return fits_some(step, kept, False)
 
 
@@ -105,8 +105,8 @@ def open_unlinked(step):
     if held_otherwise(step, False):
         key = step.words[0]
         return not step.books.users_of(key) and any(
-            it.key == key for node in step.books.open_nodes() for it in node.above())
-    kept = kept_plain(step, lambda it: step.books.open_below(it) and not step.books.users_of(it.key))
+            above.key == key for node in step.books.open_nodes() for above in node.above())
+    kept = kept_plain(step, lambda node: step.books.open_below(node) and not step.books.users_of(node.key))
     return fits_some(step, kept, False)
 
 
@@ -120,7 +120,7 @@ def lingering(step):
     if is_key_call(step):
         taken = (step.refused, step.theirs) == ("no-key", "removed others=0 busy=0")
         return step.words[0] in step.books.lingering and (taken or held_otherwise(step, False))
-    return fits_some(step, kept_plain(step, lambda it: it.key in step.books.lingering), False)
+    return fits_some(step, kept_plain(step, lambda node: node.key in step.books.lingering), False)
 
 
 def of_root(step):
@@ -189,7 +189,7 @@ def asked_of_locked_file(step):
 
 def quota(step):
     """The mount's own quota."""
-    held = sum(step.user in it for it in step.books.claims.values())
+    held = sum(step.user in claim for claim in step.books.claims.values())
     return step.verb == "add-key" and step.refused == "quota" and held >= 64 and step.theirs.startswith("added")
 
 
@@ -271,7 +271,7 @@ KINDS = [
 
 def kind_of(step):
     """The kind of a step's difference, or none."""
-    return next((it for it in KINDS if it.holds(step)), None)
+    return next((kind for kind in KINDS if kind.holds(step)), None)
 
 
 def rows(head="what"):

@@ -33,7 +33,7 @@ def root_directory(step):
             return "refused not-empty"
         return "refused EPERM" if step.user in books.claims.get(step.words[1][16:], ()) else "refused no-key"
     if step.verb == "rename":
-        ends = [of_entry(books, it) for it in paths if it != "/"]
+        ends = [of_entry(books, path) for path in paths if path != "/"]
         if all(home is not None for home, _, _ in ends):
             return "refused EBUSY" if paths[0] == "/" else "refused exists"
     return None
@@ -41,7 +41,7 @@ def root_directory(step):
 
 def links_followed(step):
     """A path leads through a link; drive asks Linux not to follow it."""
-    if step.refused == "not-dir" and any(step.books.through_link(it) for it in step.paths()):
+    if step.refused == "not-dir" and any(step.books.through_link(path) for path in step.paths()):
         return "refused ELOOP" if len(step.paths()) == 1 else None
     return None
 
@@ -101,7 +101,7 @@ def raw_keys(step):
 
 def quota(step):
     """A user's claims beyond 64."""
-    held = sum(step.user in it for it in step.books.claims.values())
+    held = sum(step.user in claim for claim in step.books.claims.values())
     return "added" if step.verb == "add-key" and step.refused == "quota" and held < MOST_CLAIMS else None
 
 
@@ -201,8 +201,8 @@ def seen_plain(step, kept):
 def directories_above(step):
     """The locked directories, with a key that something open needs, above an open node."""
     books = step.books
-    locked = (it for it in books.named() if books.locked(it))
-    return [it for it in locked if books.open_below(it) and books.users_of(it.key)]
+    locked = (node for node in books.named() if books.locked(node))
+    return [node for node in locked if books.open_below(node) and books.users_of(node.key)]
 
 
 def above_an_open_file(step):
@@ -222,7 +222,7 @@ def held_by_a_dead_entry(step):
     books, key = step.books, step.words[0] if step.words else ""
     if step.verb not in ("remove-key", "remove-key-all", "key-status") or books.users_of(key):
         return None
-    if not any(it.key == key for node in books.open_nodes() for it in node.above()):
+    if not any(above.key == key for node in books.open_nodes() for above in node.above()):
         return None
     if step.ours == "removed others=0 busy=0":
         return "removed others=0 busy=1"
@@ -232,7 +232,7 @@ def held_by_a_dead_entry(step):
 def after_the_last_close(step):
     """A key without claims whose last handle was closed, and of which a directory is still there."""
     key = step.words[0] if step.words else ""
-    if key not in step.books.lingering or not any(it.key == key for it in step.books.named()):
+    if key not in step.books.lingering or not any(node.key == key for node in step.books.named()):
         return None
     if step.verb == "key-status" and step.ours.startswith("status absent"):
         return step.ours.replace("absent", "incomplete")
@@ -271,8 +271,8 @@ KNOWN = [
 
 def known_answer(step):
     """Linux's answer and its row, where the mount's state decides that it isn't the mount's; else None."""
-    for it in KNOWN:
-        answer = it.answer(step)
+    for known in KNOWN:
+        answer = known.answer(step)
         if answer is not None and answer.split(" ") != step.ours.split(" ")[:len(answer.split(" "))]:
-            return answer, it.row
+            return answer, known.row
     return None

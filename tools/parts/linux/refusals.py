@@ -97,7 +97,7 @@ def of_rename(step):
     home, node, causes = of_entry(books, step.words[0])
     to, taken, others = of_entry(books, step.words[1])
     causes |= others
-    causes |= {"no-key"} if any(it is not None and books.locked(it) for it in (home, to)) else set()
+    causes |= {"no-key"} if any(directory is not None and books.locked(directory) for directory in (home, to)) else set()
     causes |= {"not-found"} if home is not None and node is None else set()
     causes |= {"exists"} if taken is not None else set()
     if to is not None and node is not None:

@@ -33,7 +33,7 @@ class Result:
                 self.kinds[kind.row] += 1
             else:
                 self.unexplained.append(step)
-        faults = [it for it in answers if it.startswith("F")]
+        faults = [answer for answer in answers if answer.startswith("F")]
         if faults or ("cut:" not in answers[-1] and made < len(log) - 1):
             self.unexplained.append((log[0], faults[:1] or "the answers end"))
         self.cut += "cut:" in answers[-1]
@@ -78,11 +78,11 @@ def show(step):
 def report(result):
     """Prints a result, and returns the exit status."""
     listed = rows()
-    without = [it.row for it in KINDS if it.row not in listed]
+    without = [kind.row for kind in KINDS if kind.row not in listed]
     for kind in KINDS:
         where = f"{PAGE}:{listed[kind.row]}" if kind.row in listed else f"NO ROW in {PAGE}"
         print(f"{result.kinds[kind.row]:7}  {kind.row} ({where})")
-    for row in set(listed) - {it.row for it in KINDS}:
+    for row in set(listed) - {kind.row for kind in KINDS}:
         print(f"      -  {row} ({PAGE}:{listed[row]}; no kind: no script tries it)")
     print(f"{result.unknown:7}  of which Linux can't be asked whether a key is at hand")
     print(f"{result.cut:7}  scripts cut, {result.behind} lines behind the cuts")
@@ -94,8 +94,8 @@ def report(result):
 
 def read(name):
     """The lines of a file."""
-    with open(name, encoding="utf-8", errors="replace") as it:
-        return it.read().splitlines()
+    with open(name, encoding="utf-8", errors="replace") as file:
+        return file.read().splitlines()
 
 
 def answered(logs, answers):

@@ -32,7 +32,7 @@ class Script:
 
     def text(self):
         """The script in sections."""
-        sections = (f"caller {user}\n" + "".join(it + "\n" for it in commands)
+        sections = (f"caller {user}\n" + "".join(command + "\n" for command in commands)
                     for user, commands in zip(self.users, self.commands))
         return "".join(sections)
 
@@ -64,8 +64,8 @@ def in_this_order(name, users, steps):
 
 def fill(script, callers):
     """A filler for each of these callers."""
-    for it in callers:
-        script.commands[it].append(FILLER)
+    for caller in callers:
+        script.commands[caller].append(FILLER)
 
 
 class Fault(Exception):
@@ -78,7 +78,7 @@ def replay(program, script):
                          capture_output=True, check=False)
     if run.returncode:
         raise Fault(f"{script.name}: {run.stderr.decode().strip()}")
-    return [it for it in run.stdout.decode().splitlines() if not it.startswith("note ")]
+    return [line for line in run.stdout.decode().splitlines() if not line.startswith("note ")]
 
 
 def fields(line):
@@ -121,7 +121,7 @@ def commands_of(script, log):
 def texts_listed(log):
     """How many no-key texts each listing shows."""
     replies = (fields(line)[4] for line in log if fields(line)[2] == "list")
-    return [sum(it.startswith(NO_KEY) for it in names_of(reply)) for reply in replies]
+    return [sum(name.startswith(NO_KEY) for name in names_of(reply)) for reply in replies]
 
 
 def stats_put(script, behind):
@@ -203,7 +203,7 @@ class Calls:
             words = [given[0] if word == "add-key" else self.keys.get(given[0], "00" * 64)]
         elif verb == "write":
             verb, words = word, given
-        words = [self.shown(it) if at < PATHS.get(verb, 0) else it for at, it in enumerate(words)]
+        words = [self.shown(word) if at < PATHS.get(verb, 0) else word for at, word in enumerate(words)]
         if verb in CREATIONS:
             words.append(str(self.books.made + 1))
         if verb == "open":

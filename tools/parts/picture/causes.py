@@ -20,11 +20,11 @@ WITH_PATH = {"SetPolicy", "GetPolicy", "Mkdir", "Create", "Symlink", "ReadLink",
 
 def refusal_rows():
     """The rows of docs/ANSWERS.md on refusals: name, calls, cause, what to do."""
-    with open(PAGE, encoding="utf-8") as it:
-        text = it.read()
+    with open(PAGE, encoding="utf-8") as file:
+        text = file.read()
     part = text.split("## Refusals in a reply")[1].split("\n## ")[0]
     for line in part.splitlines():
-        cells = [it.strip() for it in line.strip("|").split("|")]
+        cells = [part.strip() for part in line.strip("|").split("|")]
         if len(cells) == 5 and cells[0].startswith("`"):
             yield cells[0].strip("`"), cells[2], cells[3], cells[4]
 

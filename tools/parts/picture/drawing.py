@@ -68,10 +68,10 @@ def columns_of(bars, last):
 
 def draw_callers(drawing, entries):
     """A lane for each caller, with a dot at each of its calls; where the next lanes begin."""
-    users = {it.caller: it.user for it in entries}
+    users = {entry.caller: entry.user for entry in entries}
     for caller, user in users.items():
         x = LEFT + LANE * caller
-        places = [it.place for it in entries if it.caller == caller]
+        places = [entry.place for entry in entries if entry.caller == caller]
         drawing.head(x, f"caller {caller} ({user})")
         drawing.line(((x, drawing.y(places[0])), (x, drawing.y(places[-1]))), "#bbb", 1)
     for entry in entries:
@@ -98,7 +98,7 @@ def draw_keys(drawing, left, lives, last):
     for column, life in enumerate(lives):
         x = left + LANE * column
         drawing.head(x, f"key {life.key[:SHORT]}")
-        ends = [drawing.y(it.place) for it in life.turns[1:]] + [drawing.y(last) + 8]
+        ends = [drawing.y(turn.place) for turn in life.turns[1:]] + [drawing.y(last) + 8]
         for turn, end in zip(life.turns, ends):
             drawing.state(((x, drawing.y(turn.place)), (x, end)), turn.state)
     return left + LANE * max(len(lives), 1)

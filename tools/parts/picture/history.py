@@ -29,7 +29,7 @@ class Life:
 
     def state_at(self, place):
         """The state at a place, or None where nothing is known of the key yet."""
-        return next((it.state for it in reversed(self.turns) if it.place <= place), None)
+        return next((turn.state for turn in reversed(self.turns) if turn.place <= place), None)
 
     def is_now(self, state, place):
         """The key is in this state at this place.

@@ -23,12 +23,12 @@ def short_word(word):
         return f"{word[:6]}..{word[16:16 + SHORT]}.."
     if re.fullmatch(r"[0-9a-f]{33,}", word):
         return f"{word[:SHORT]}.. ({len(word) // 2} bytes)"
-    return "/".join(short_part(it) for it in word.split("/"))
+    return "/".join(short_part(part) for part in word.split("/"))
 
 
 def short(text):
     """A call or reply with its words cut."""
-    return " ".join(short_word(it) for it in text.split(" "))
+    return " ".join(short_word(word) for word in text.split(" "))
 
 
 def record_lines(entry):
@@ -39,9 +39,9 @@ def record_lines(entry):
         text = bytes.fromhex(entry.answer[2]).decode()
     except ValueError:
         return None
-    if not all(" " <= it <= "~" or it == "\n" for it in text) or "\n" not in text:
+    if not all(" " <= character <= "~" or character == "\n" for character in text) or "\n" not in text:
         return None
-    return [short(it) for it in text.splitlines()]
+    return [short(line) for line in text.splitlines()]
 
 
 def claims_text(history):
@@ -50,7 +50,7 @@ def claims_text(history):
     for life in history.lives.values():
         users = f" by {','.join(sorted(life.claims, key=int))}" if life.claims else ""
         keys.append(f"{life.key[:SHORT]} {life.state}{users}")
-    handles = [f"{it.caller}:{it.number} {short(it.path)}" for it in history.open.values()]
+    handles = [f"{handle.caller}:{handle.number} {short(handle.path)}" for handle in history.open.values()]
     return f"keys: {'; '.join(keys) or 'none'} | open: {', '.join(handles) or 'none'}"
 
 

@@ -21,13 +21,13 @@ class Symbols:
             found = SYMBOL.match(line)
             if found:
                 rows.append((int(found[1], 16), plain_name(found[4])))
-        shared = collections.Counter(it[0] for it in rows)
-        self.rows = sorted(it for it in rows if shared[it[0]] < MAX_SHARED)
-        self.starts = [it[0] for it in self.rows]
+        shared = collections.Counter(row[0] for row in rows)
+        self.rows = sorted(row for row in rows if shared[row[0]] < MAX_SHARED)
+        self.starts = [row[0] for row in self.rows]
 
     def addresses(self, name):
         """Where the functions of this name begin. The name may lack the path before one of its `::`."""
-        return sorted({at for at, it in self.rows if it == name or it.endswith("::" + name)})
+        return sorted({at for at, function in self.rows if function == name or function.endswith("::" + name)})
 
     def function_at(self, address):
         """The function at an address, and the address at which it begins."""
@@ -74,4 +74,4 @@ def load_address(program):
     """The address of the program's first segment in its file, a multiple of a page."""
     segments = output_of("readelf", "-lW", program)
     lows = re.findall(r"^\s+LOAD\s+0x[0-9a-f]+\s+0x([0-9a-f]+)", segments, re.MULTILINE)
-    return min(int(it, 16) for it in lows) // 4096 * 4096
+    return min(int(low, 16) for low in lows) // 4096 * 4096

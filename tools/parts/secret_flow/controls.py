@@ -26,7 +26,7 @@ def faults_in_c():
         subprocess.run(["cc", "-O2", "-mssse3", "-fno-tree-vectorize", "-o", path, SOURCE], check=True)
         found = places_in(Program(path, Symbols(path), Code(path)))
     for name, kind in FUNCTIONS.items():
-        kinds = {it.kind for it in found if it.function == name}
+        kinds = {place.kind for place in found if place.function == name}
         if kinds != ({kind} if kind else set()):
             yield f"in {name} of the program in C {', '.join(sorted(kinds)) or 'nothing'} is found"
 
@@ -47,9 +47,9 @@ def places_in(program):
 def begin(run, registers):
     """Marks the first argument, and at the return all that the arguments point to as public."""
     run.mark_secret("secret", registers["rdi"], SECRET_BYTES)
-    pointers = [registers[it] for it in ("rdi", "rsi", "rdx")]
-    run.at_return(registers, lambda run, _: [run.mark_public("all", it, SECRET_BYTES) for it in pointers
-                                             if "__" not in run.undefined_bits(it, SECRET_BYTES)])
+    pointers = [registers[register] for register in ("rdi", "rsi", "rdx")]
+    run.at_return(registers, lambda run, _: [run.mark_public("all", pointer, SECRET_BYTES) for pointer in pointers
+                                             if "__" not in run.undefined_bits(pointer, SECRET_BYTES)])
 
 
 def faults_in_program(program):
@@ -58,6 +58,6 @@ def faults_in_program(program):
     found = measure(program, TURNS, PASS, secrets={}).places
     if found:
         yield f"with nothing marked {len(found)} places are found, the first in {found[0].function}"
-    found = [it for it in measure(program, TURNS, RAW, with_public=False).places if not allowed_for(it)]
-    if not any(SEARCH_OF_RING in it.function for it in found):
+    found = [place for place in measure(program, TURNS, RAW, with_public=False).places if not allowed_for(place)]
+    if not any(SEARCH_OF_RING in place.function for place in found):
         yield "with nothing public the search of the key ring is not found"

@@ -60,7 +60,7 @@ def measure(program, form, is_raw, secrets=None, with_public=True, with_callers=
         marks = ReadingMarks(script, DIGIT_KINDS if is_raw else (PASSPHRASES,))
     else:
         digits = re.findall(rb"^block ([0-9a-f]+)$", output, re.MULTILINE)
-        blocks = [bytes.fromhex(it.decode()) for it in digits]
+        blocks = [bytes.fromhex(digit.decode()) for digit in digits]
         secrets = script.secrets if secrets is None else secrets
         marks = Marks(secrets, script.public_values(), blocks, with_public)
     run = program.run(arguments, given)
@@ -108,8 +108,8 @@ def blocks_of(form, script):
         return 0
     made, kept = [], []
     for command in script.stretchings():
-        for it in command * 2 if form == CHECK else command:
-            if form != CHECK or it not in kept:
-                made.append(it)
-                kept = [*kept, it][-2:]
+        for word in command * 2 if form == CHECK else command:
+            if form != CHECK or word not in kept:
+                made.append(word)
+                kept = [*kept, word][-2:]
     return sum(dependent_blocks(costs) for _, _, costs in made)

@@ -34,7 +34,7 @@ class Marks:
     def __init__(self, secrets, public_values, blocks=(), with_public=True):
         self.secrets, self.public_values, self.blocks = secrets, public_values, blocks
         self.has_begun, self.unwrappings = False, 0
-        self.actions = {it: self.begin for it in FIRST_USES} | {UNWRAP: self.unwrapped}
+        self.actions = {function: self.begin for function in FIRST_USES} | {UNWRAP: self.unwrapped}
         if with_public:
             self.actions |= {
                 "hmac_kdf::keyed::Keyed::finish": self.derived,
@@ -113,13 +113,13 @@ class ReadingMarks(Marks):
     def __init__(self, script, kinds):
         super().__init__({kind: script.written[kind] for kind in kinds}, {}, with_public=False)
         self.values = sum(script.secrets.values(), [])
-        self.actions = {it: self.reading for it in READERS} | {it: self.begin for it in FIRST_USES}
+        self.actions = {function: self.reading for function in READERS} | {function: self.begin for function in FIRST_USES}
         self.actions[SEED_READER] = self.seed_reading
 
     def reading(self, run, registers):
         """Marks the word that an argument points to, until it is read."""
         for kind, values in self.secrets.items():
-            for pointer in {registers[it] for it in ARGUMENTS}:
+            for pointer in {registers[register] for register in ARGUMENTS}:
                 for value in values:
                     at = run.memory_or_none(pointer, WORD_BYTES).find(value)
                     if at >= 0:

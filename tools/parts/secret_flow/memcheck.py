@@ -58,8 +58,8 @@ class Run:
 
     def started(self, arguments, given):
         """The process, which waits for a debugger before its first instruction."""
-        with open(self.path("stdin"), "wb") as it:
-            it.write(given)
+        with open(self.path("stdin"), "wb") as file:
+            file.write(given)
         command = ["valgrind", *OPTIONS, "--vgdb-prefix=" + self.path("vgdb"),
                    "--xml-file=" + self.path("xml"), self.program, *arguments]
         with open(self.path("stdin"), "rb") as given_file, open(self.path("stdout"), "wb") as output, \
@@ -69,9 +69,9 @@ class Run:
 
     def mapped_at(self):
         """The lowest address at which the program's file is mapped."""
-        with open(f"/proc/{self.process.pid}/maps", encoding="utf-8") as it:
-            lines = [line for line in it if line.rstrip().endswith(" " + self.program)]
-        return min(int(it.split("-")[0], 16) for it in lines)
+        with open(f"/proc/{self.process.pid}/maps", encoding="utf-8") as file:
+            lines = [line for line in file if line.rstrip().endswith(" " + self.program)]
+        return min(int(line.split("-")[0], 16) for line in lines)
 
     # Registers and memory.
     def registers(self):
@@ -85,9 +85,9 @@ class Run:
 
     def memory(self, at, length):
         """Bytes of the program's memory."""
-        with open(f"/proc/{self.process.pid}/mem", "rb", 0) as it:
-            it.seek(at)
-            return it.read(length)
+        with open(f"/proc/{self.process.pid}/mem", "rb", 0) as file:
+            file.seek(at)
+            return file.read(length)
 
     def word(self, at):
         """Eight bytes of memory as a number."""
@@ -96,15 +96,15 @@ class Run:
     def undefined_bits(self, at, length):
         """For each byte its undefined bits in hexadecimal digits, or `__` if the program doesn't own it."""
         lines = self.remote.monitor(f"get_vbits {at:#x} {length}").splitlines()
-        return re.findall(r"[0-9a-f]{2}|__", "".join(it for it in lines if not re.search("[^0-9a-f_ ]", it)))
+        return re.findall(r"[0-9a-f]{2}|__", "".join(line for line in lines if not re.search("[^0-9a-f_ ]", line)))
 
     def addresses_of(self, values):
         """Where each of these values is in the program's memory: pairs of an address and a length."""
         found = []
-        with open(f"/proc/{self.process.pid}/maps", encoding="utf-8") as it:
-            mappings = [line.split()[:2] for line in it]
+        with open(f"/proc/{self.process.pid}/maps", encoding="utf-8") as file:
+            mappings = [line.split()[:2] for line in file]
         for span, rights in mappings:
-            low, high = (int(it, 16) for it in span.split("-"))
+            low, high = (int(part, 16) for part in span.split("-"))
             if rights.startswith("rw") and high - low <= MAX_MAPPING:
                 text = self.memory_or_none(low, high - low)
                 found += [(low + at, len(value)) for at, value in matches(text, values)]
@@ -138,7 +138,7 @@ class Run:
     def mark_public(self, kind, at, length):
         """Marks bytes as defined, and counts those that were not."""
         if length:
-            undefined = sum(it not in ("00", "__") for it in self.undefined_bits(at, length))
+            undefined = sum(bit not in ("00", "__") for bit in self.undefined_bits(at, length))
             self.mark_defined(at, length)
             self.public_bytes[kind] = self.public_bytes.get(kind, 0) + undefined
 
@@ -190,7 +190,7 @@ class Run:
             undefined = shadows["rax"] | shadows["rdx"]
             if "(" in operand:
                 at = effective_address(operand, registers)
-                undefined |= any(it != "00" for it in run.undefined_bits(at, OPERAND_BYTES))
+                undefined |= any(bit != "00" for bit in run.undefined_bits(at, OPERAND_BYTES))
             else:
                 undefined |= shadows[whole_register(operand)]
             count = run.divisions.setdefault(address, [0, 0])
@@ -217,10 +217,10 @@ class Run:
         try:
             self.run_to_end()
             self.process.wait(timeout=SECONDS)
-            with open(self.path("stdout"), "rb") as it:
-                self.output = it.read()
-            with open(self.path("xml"), encoding="utf-8") as it:
-                self.xml = it.read()
+            with open(self.path("stdout"), "rb") as file:
+                self.output = file.read()
+            with open(self.path("xml"), encoding="utf-8") as file:
+                self.xml = file.read()
         finally:
             self.close()
 

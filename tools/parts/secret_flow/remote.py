@@ -63,7 +63,7 @@ def connected(process, prefix):
     folder, name = os.path.split(prefix)
     until = time.time() + SECONDS
     while time.time() < until:
-        if any(it.startswith(name + "-from") for it in os.listdir(folder)):
+        if any(file.startswith(name + "-from") for file in os.listdir(folder)):
             command = ["vgdb", f"--pid={process.pid}", "--vgdb-prefix=" + prefix, "--wait=20"]
             return subprocess.Popen(command, stdin=subprocess.PIPE, stdout=subprocess.PIPE,
                                     stderr=subprocess.DEVNULL, bufsize=0)

@@ -32,8 +32,8 @@ def places(run):
 def errors(text):
     """Each error of memcheck's XML, with how often it was met."""
     top = xml.etree.ElementTree.fromstring(text)
-    times = {it.findtext("unique"): int(it.findtext("count"))
-             for counts in top.findall("errorcounts") for it in counts.findall("pair")}
+    times = {found.findtext("unique"): int(found.findtext("count"))
+             for counts in top.findall("errorcounts") for found in counts.findall("pair")}
     for error in top.findall("error"):
         yield error, times.get(error.findtext("unique"), 1)
 

@@ -25,11 +25,11 @@ class Script:
 
     def __init__(self, lines, secrets, written, keys):
         self.lines, self.secrets, self.written, self.keys = lines, secrets, written, keys
-        self.text = "".join(it + "\n" for it in [*HEADS, *lines]).encode()
+        self.text = "".join(line + "\n" for line in [*HEADS, *lines]).encode()
 
     def public_values(self):
         """The kinds of what a run generates and derives for all to see, by the first 16 bytes."""
-        values = {derived(it, b"\x01", 16): "identifiers" for it in self.secrets[RAW_KEYS]}
+        values = {derived(secret, b"\x01", 16): "identifiers" for secret in self.secrets[RAW_KEYS]}
         for number in range(len(self.lines)):
             values |= {drawn(number, IV, 16): "ivs", drawn(number, SALT, 16): "salts"}
             if number not in self.keys:
@@ -57,7 +57,7 @@ class Script:
                 new = COSTS.match(words[-1])
                 protectors.pop(words[0], None)
                 if new:
-                    protectors[words[0]] = number, tuple(int(it) for it in new.groups()[:3])
+                    protectors[words[0]] = number, tuple(int(group) for group in new.groups()[:3])
                     done.append(("pass:" + new[4], *protectors[words[0]]))
             yield done
 
@@ -85,7 +85,7 @@ def session_script(is_raw):
         f"unlock docs wide {changed.word()}", "open /e/held-open", "read 3 0 64", "lock docs", "close 3"]
     secrets = {THE_SEED: [SEED], RAW_KEYS: [session.shared], RAW_SECRETS: [wrong_raw],
                PASSPHRASES: [wrong_text.encode()]}
-    secrets[RAW_SECRETS if is_raw else PASSPHRASES] += [it.value for it in session.secrets.values()]
+    secrets[RAW_SECRETS if is_raw else PASSPHRASES] += [secret.value for secret in session.secrets.values()]
     written = written_of(secrets)
     written[PASSPHRASES][0] = escaped(wrong_text).encode()
     keys = {NUMBERS["make login"]: KEY_OF_PROTECTOR, NUMBERS["make spare"]: KEY_OF_PROTECTOR,
@@ -95,7 +95,7 @@ def session_script(is_raw):
 
 def written_of(secrets):
     """The texts that spell secrets without an escape."""
-    return {kind: [it if kind == PASSPHRASES else it.hex().encode() for it in values]
+    return {kind: [value if kind == PASSPHRASES else value.hex().encode() for value in values]
             for kind, values in secrets.items()}
 
 
@@ -112,12 +112,12 @@ def edited_script(is_raw, log_of):
     lines = [f"protector login {login.new_word()}", f"policy-new docs login {login.word()}"]
     secrets = {THE_SEED: [SEED], RAW_KEYS: [], RAW_SECRETS: [], PASSPHRASES: []}
     secrets[RAW_SECRETS if is_raw else PASSPHRASES].append(login.value)
-    asked = "".join(it + "\n" for it in [*HEADS, *lines, "meta-get protector/login", "meta-get policy/docs"])
+    asked = "".join(line + "\n" for line in [*HEADS, *lines, "meta-get protector/login", "meta-get policy/docs"])
     records = re.findall(r" meta-get (\S+) = record (\d+) ([0-9a-f]+)", log_of(asked.encode()).decode())
     for name, version, digits in records[-2:]:
         version, record = int(version), bytes.fromhex(digits).decode()
         texts = [record[:at] + ("1" if record[at] == "0" else "0") + record[at + 1:]
-                 for at in (it.start() for it in re.finditer(r"\b[0-9a-f]{16,}", record))]
+                 for at in (found.start() for found in re.finditer(r"\b[0-9a-f]{16,}", record))]
         for text in [*texts, record]:
             lines += [f"meta-put {name} {version} {text.encode().hex()}",
                       f"unlock docs login {login.word()}"]

@@ -11,7 +11,7 @@ ANY = frozenset(SECRET_KINDS)
 DIGITS = frozenset(DIGIT_KINDS)
 COLUMNS = (BRANCH, ADDRESS, DIVISION)
 HEAD = ("what depends", "function", "branches", "addresses", "divisions", "on", "why it may")
-PUBLIC_FORMS = tuple(it for it in FORMS if it != READING)
+PUBLIC_FORMS = tuple(form for form in FORMS if form != READING)
 PUBLIC_HEAD = ("bytes that are public", *PUBLIC_FORMS)
 
 # What may depend on which secrets, in the functions of a pattern, in at most this many places of each. A
@@ -58,10 +58,10 @@ def allowed_for(place):
     """The entry of ALLOWED that a place is in. A division has no secret of its own: memcheck doesn't
     report it. Where any secret may be, so may one whose origin memcheck tells by the frame that it went
     through."""
-    for it in ALLOWED:
-        is_here = re.fullmatch(it.functions, place.function)
-        if place.kind in it.kinds and is_here and (it.secrets is ANY or place.secrets <= it.secrets):
-            return it
+    for allowed in ALLOWED:
+        is_here = re.fullmatch(allowed.functions, place.function)
+        if place.kind in allowed.kinds and is_here and (allowed.secrets is ANY or place.secrets <= allowed.secrets):
+            return allowed
     return None
 
 
@@ -97,18 +97,18 @@ def argon_faults(measures):
     of them is read through the same number of addresses."""
     factors = set()
     for measure in measures:
-        addresses = [it for it in measure.places if it.function == READ_BLOCKS and it.kind == ADDRESS]
-        count = sum(it.times for it in addresses)
+        addresses = [place for place in measure.places if place.function == READ_BLOCKS and place.kind == ADDRESS]
+        count = sum(address.times for address in addresses)
         if measure.blocks:
             factors.add(count / measure.blocks)
-        if bool(count) != bool(measure.blocks) or any(it != int(it) for it in factors) or len(factors) > 1:
+        if bool(count) != bool(measure.blocks) or any(factor != int(factor) for factor in factors) or len(factors) > 1:
             yield f"{measure.name}: {count} addresses of {measure.blocks} dependent blocks of Argon2id"
 
 
 def verdict_faults(measures):
     """Each run in which the comparison of a tag takes more than one branch that depends on the tag."""
     for measure in measures:
-        count = sum(it.times for it in measure.places if it.function == UNWRAP and it.kind == BRANCH)
+        count = sum(place.times for place in measure.places if place.function == UNWRAP and place.kind == BRANCH)
         if count > measure.unwrappings:
             yield f"{measure.name}: {count} branches on tags in {measure.unwrappings} comparisons"
 
@@ -126,12 +126,12 @@ def public_of(measures):
 def text_of(rows):
     """The lines of the first table."""
     yield from heading(HEAD)
-    order = [it.what for it in ALLOWED]
-    for (what, function), row in sorted(rows.items(), key=lambda it: (order.index(it[0][0]), it[0][1])):
+    order = [allowed.what for allowed in ALLOWED]
+    for (what, function), row in sorted(rows.items(), key=lambda row: (order.index(row[0][0]), row[0][1])):
         cells = [row.cells().get(kind, NONE) for kind in COLUMNS]
-        counts = (f"{it.places}/{it.times}" if it.places else "0" for it in cells)
-        reason = next(it.reason for it in ALLOWED if it.what == what)
-        secrets = ", ".join(it for it in SECRET_KINDS if it in row.secrets)
+        counts = (f"{cell.places}/{cell.times}" if cell.places else "0" for cell in cells)
+        reason = next(allowed.reason for allowed in ALLOWED if allowed.what == what)
+        secrets = ", ".join(kind for kind in SECRET_KINDS if kind in row.secrets)
         yield line_of((what, f"`{function}`", *counts, secrets, reason))
 
 
@@ -155,8 +155,8 @@ def line_of(cells):
 
 def cells_below(path, head):
     """The rows of the table with this heading, in a page."""
-    with open(path, encoding="utf-8") as it:
-        lines = [tuple(cell.strip() for cell in line.strip().strip("|").split("|")) for line in it]
+    with open(path, encoding="utf-8") as file:
+        lines = [tuple(cell.strip() for cell in line.strip().strip("|").split("|")) for line in file]
     begun = lines.index(head) + 2 if head in lines else len(lines)
     for cells in lines[begun:]:
         if len(cells) != len(head):
@@ -204,11 +204,11 @@ def plural(kind):
 
 def pin(path, rows, public):
     """Puts the tables into the page, in place of those that are there."""
-    with open(path, encoding="utf-8") as it:
-        text = it.read()
+    with open(path, encoding="utf-8") as file:
+        text = file.read()
     for lines in (list(text_of(rows)), list(public_text(public))):
         begun = text.index(lines[0])
         ended = re.compile(r"^(?!\|)", re.MULTILINE).search(text, begun).start()
-        text = text[:begun] + "".join(it + "\n" for it in lines) + text[ended:]
-    with open(path, "w", encoding="utf-8") as it:
-        it.write(text)
+        text = text[:begun] + "".join(line + "\n" for line in lines) + text[ended:]
+    with open(path, "w", encoding="utf-8") as file:
+        file.write(text)

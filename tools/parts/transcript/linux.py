@@ -40,7 +40,7 @@ def learn_texts(program, transcript, before, step):
         return
     script = script_of(transcript.users, before)
     script.level()
-    places = [script.ask(step.caller, f"stat {it}") for it in paths]
+    places = [script.ask(step.caller, f"stat {path}") for path in paths]
     log = program.log(script)[step.caller]
     for path, entry in zip(paths, (log[at].entries[0] for at in places)):
         if not entry.refusal():
@@ -53,7 +53,7 @@ def known_differences(program, transcript, found):
     for at, answer in enumerate(found):
         for entry in answer.made.entries:
             step = kernel_step(entry, books)
-            learn_texts(program, transcript, [it.step for it in found[:at]], step)
+            learn_texts(program, transcript, [answer.step for answer in found[:at]], step)
             reply, row = known_answer(step) or ("", "")
             if reply:
                 yield answer.step.line, [f"Linux: {reply} (docs/LINUX.md, line {listed[row]}: {row})"]
@@ -79,8 +79,8 @@ def asked_of(step, listed):
 
 def lines_of(name):
     """The lines of a file."""
-    with open(name, encoding="utf-8") as it:
-        return it.read().splitlines()
+    with open(name, encoding="utf-8") as file:
+        return file.read().splitlines()
 
 
 def asked_of_kernel(program, script, version):
@@ -89,17 +89,17 @@ def asked_of_kernel(program, script, version):
         raise Failure("a kernel is asked by tools/linux, which stands in the repository of fsc alone")
     with tempfile.TemporaryDirectory() as folder:
         name = os.path.join(folder, "transcript.fsc")
-        with open(name, "wb") as it:
-            it.write(script)
+        with open(name, "wb") as file:
+            file.write(script)
         words = [LINUX, version, "--raw", "--program", program.path, name]
         ended = subprocess.run(words, check=False, capture_output=True, text=True)
     if not ended.stdout.strip().endswith("unexplained"):
         told = (ended.stderr or ended.stdout).strip().splitlines()[-1:]
         raise Failure(f"tools/linux {version} ended with {ended.returncode}: {told}")
     out = os.path.join(PARTS, "linux", "out", version)
-    logs, answers = (scripts_of(lines_of(os.path.join(out, it))) for it in ("logs.txt", "answers.txt"))
+    logs, answers = (scripts_of(lines_of(os.path.join(out, name))) for name in ("logs.txt", "answers.txt"))
     listed = rows()
-    return [asked_of(it, listed) for it in steps(logs[0], answers[0])]
+    return [asked_of(step, listed) for step in steps(logs[0], answers[0])]
 
 
 def kernel_differences(program, transcript, found, version):
@@ -107,7 +107,7 @@ def kernel_differences(program, transcript, found, version):
 
     After a listing of no-key texts tools/linux puts a `stat` for each, which is no step of the transcript.
     """
-    script = script_of(transcript.users, [it.step for it in found])
+    script = script_of(transcript.users, [answer.step for answer in found])
     asked = iter(asked_of_kernel(program, script.text(), version))
     for answer in found:
         for entry in answer.made.entries:
@@ -122,7 +122,7 @@ def kernel_differences(program, transcript, found, version):
             if step.differing:
                 yield answer.step.line, [f"Linux {version}: {step.differing}"]
             names = names_of(entry.reply) if entry.verb == "list" else []
-            for _ in (it for it in names if it.startswith(NO_KEY)):
+            for _ in (name for name in names if name.startswith(NO_KEY)):
                 next(asked, None)
 
 

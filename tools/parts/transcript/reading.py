@@ -59,7 +59,7 @@ class Transcript:
 
     def names(self):
         """The names of the users."""
-        return [it.name for it in self.users]
+        return [user.name for user in self.users]
 
 
 class Fault(Exception):
@@ -91,7 +91,7 @@ def script_command(words):
 
 def expected_reply(words):
     """What is expected, texts in hexadecimal."""
-    return " ".join(bytes_word(it) for it in words)
+    return " ".join(bytes_word(word) for word in words)
 
 
 def read_user(transcript, words):
@@ -138,7 +138,7 @@ def read_transcript(text):
         transcript.lines.pop()
     for number, line in enumerate(transcript.lines, 1):
         words = line.split(" ")
-        words = [it for it in words if it]
+        words = [word for word in words if word]
         if not words or words[0].startswith("#"):
             continue
         try:

@@ -39,7 +39,7 @@ def shown_answer(answer):
 def details(answer):
     """The lines below a step: the replies of a session's calls, and what was expected if it differs."""
     if answer.made.command.is_session():
-        yield INDENT + "; ".join(short(it.reply) for it in answer.made.entries)
+        yield INDENT + "; ".join(short(entry.reply) for entry in answer.made.entries)
     if answer.differs():
         yield f"{INDENT}differs: expected is {readable(answer.step.expected)}"
 
@@ -51,14 +51,14 @@ def is_failure(answer, strict):
 
 def column_of(steps, names):
     """The column of the answers, after the longest command that isn't too long."""
-    lengths = [len(f"{names[it.caller]}: {it.shown}") for it in steps]
-    return max([it for it in lengths if it < MAX_COLUMN], default=0) + 1
+    lengths = [len(f"{names[step.caller]}: {step.shown}") for step in steps]
+    return max([length for length in lengths if length < MAX_COLUMN], default=0) + 1
 
 
 def transcript_lines(transcript, found, notes):
     """The lines of a transcript: its own, with the answer of each step, and below a step its notes."""
     column = column_of(transcript.steps, transcript.names())
-    by_line = {it.step.line: it for it in found}
+    by_line = {answer.step.line: answer for answer in found}
     for number, line in enumerate(transcript.lines, 1):
         answer = by_line.get(number)
         if answer is None:
@@ -67,22 +67,22 @@ def transcript_lines(transcript, found, notes):
             command = f"{transcript.names()[answer.step.caller]}: {answer.step.shown}"
             yield f"{command:{column}} = {shown_answer(answer)}"
             yield from details(answer)
-        yield from (INDENT + it for it in notes.get(number, []))
+        yield from (INDENT + note for note in notes.get(number, []))
 
 
 def summary(found, strict):
     """How many answers differ from what is expected; of a strict run also the unexpected refusals."""
-    expected = [it for it in found if it.step.expected is not None]
-    differing = sum(it.differs() for it in expected)
+    expected = [answer for answer in found if answer.step.expected is not None]
+    differing = sum(answer.differs() for answer in expected)
     text = f"# {differing} of {len(expected)} expected answers differ{'s' if differing == 1 else ''}"
     if strict:
-        text += f", {sum(is_failure(it, True) for it in found) - differing} unexpected refusals"
+        text += f", {sum(is_failure(answer, True) for answer in found) - differing} unexpected refusals"
     return text
 
 
 def tap_lines(transcript, found, strict):
     """The lines of a test runner: a test for each expectation, of a strict run for each refusal too."""
-    tests = [it for it in found if it.step.expected is not None or is_failure(it, strict)]
+    tests = [answer for answer in found if answer.step.expected is not None or is_failure(answer, strict)]
     yield f"1..{len(tests)}"
     for number, answer in enumerate(tests, 1):
         failed = is_failure(answer, strict)
@@ -92,4 +92,4 @@ def tap_lines(transcript, found, strict):
         if failed:
             expected = "no refusal" if answer.step.expected is None else readable(answer.step.expected)
             yield f"# expected: {expected}"
-            yield f"# answered: {' '.join([*dict.fromkeys(readable(it) for it in answer.texts())])}"
+            yield f"# answered: {' '.join([*dict.fromkeys(readable(text) for text in answer.texts())])}"

@@ -49,7 +49,7 @@ class Answer:
     def matching(self) -> Optional[str]:
         """The first of the texts that begins with what is expected, word by word."""
         wanted = (self.step.expected or "").split(" ")
-        return next((it for it in self.texts() if it.split(" ")[:len(wanted)] == wanted), None)
+        return next((text for text in self.texts() if text.split(" ")[:len(wanted)] == wanted), None)
 
     def differs(self):
         """Whether something is expected, and neither reply nor outcome begins so."""
@@ -70,7 +70,7 @@ def found_program(given):
         is_checkout = os.path.isdir(os.path.join(TOP, "crates"))
         places = [PROVED, UNPROVED] if is_checkout else [RELEASED]
         places.append(shutil.which("fsc"))
-    found = next((it for it in places if it and os.access(it, os.X_OK)), None)
+    found = next((place for place in places if place and os.access(place, os.X_OK)), None)
     if found is None:
         named = f" {' or '.join(filter(None, places))}" if given or os.environ.get("FSC_PROGRAM") else ""
         raise Failure(f"there is no program{named}; ./fsc --unproved --version builds one in 1 to 3 minutes")
@@ -98,7 +98,7 @@ class Program:
     def forms(self):
         """The form of each command, as --help has it, by its name."""
         _, text, _ = self.run("--help")
-        return {it.split(" ")[0]: it for it in FORM_LINE.findall(text)}
+        return {found.split(" ")[0]: found for found in FORM_LINE.findall(text)}
 
     def log(self, script):
         """The commands of each caller with their entries, or BadCommands, a Failure."""
@@ -109,7 +109,7 @@ class Program:
         if status == BAD_LINE and FAULT_LINE.search(told):
             raise BadCommands(told)
         if status:
-            lines = [it.removeprefix("fsc: ") for it in told.splitlines()]
+            lines = [line.removeprefix("fsc: ") for line in told.splitlines()]
             raise Failure(f"fsc ended with {status}: {'; '.join(lines)}", status)
         try:
             self.logs[text] = place_commands(text, read_log(log))
@@ -142,6 +142,6 @@ def bad_commands(program, script):
 def answers(program, script):
     """The answer to each step of the script, in the order of the steps."""
     by_line = script.steps_by_line()
-    made = (it for section in program.log(script) for it in section if it.command.line in by_line)
-    found = [Answer(by_line[it.command.line], it) for it in made]
-    return sorted(found, key=lambda it: it.step.line)
+    made = (made for section in program.log(script) for made in section if made.command.line in by_line)
+    found = [Answer(by_line[command.command.line], command) for command in made]
+    return sorted(found, key=lambda answer: answer.step.line)

@@ -15,7 +15,7 @@ class Script:
         lines = []
         for user, section in zip(self.users, self.sections):
             lines += [f"caller {user.uid}", *(command for command, _ in section)]
-        return "".join(it + "\n" for it in lines).encode()
+        return "".join(line + "\n" for line in lines).encode()
 
     def steps_by_line(self):
         """The step of each line of the text that has one."""

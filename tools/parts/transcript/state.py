@@ -50,7 +50,7 @@ class Asking:
 
 def is_change(entries):
     """Whether a call that was not refused may have changed keys, handles or directories."""
-    return any(it.verb in CHANGING and not it.refusal() for it in entries)
+    return any(entry.verb in CHANGING and not entry.refusal() for entry in entries)
 
 
 def key_of_policy(reply):
@@ -63,7 +63,7 @@ def opened(program, transcript, found):
     for at, answer in enumerate(found, 1):
         entry = answer.made.entries[-1]
         if entry.verb == "open" and not entry.refusal():
-            asking = Asking(program, transcript, [it.step for it in found[:at]])
+            asking = Asking(program, transcript, [answer.step for answer in found[:at]])
             caller, path = entry.caller, entry.words[0]
             node, policy = asking.replies([(caller, f"stat {path}"), (caller, f"get-policy {path}")])
             yield Handle(caller, entry.answer[1], path, node.answer[2], key_of_policy(policy.reply))
@@ -104,37 +104,37 @@ def encrypted(asking, root, is_mixed):
     """
     level, found = [Level(root, None)], []
     while level:
-        asked = [(it, questions_of(it.path, int(it.stat.answer[3]))) for it in level]
+        asked = [(directory, questions_of(directory.path, int(directory.stat.answer[3]))) for directory in level]
         entries = iter(asking.replies([question for _, questions in asked for question in questions]))
         level = []
-        for it, questions in asked:
+        for directory, questions in asked:
             policy, *rest = (next(entries) for _ in questions)
             key = key_of_policy(policy.reply)
-            if key and it.readable() != it.above:
-                found.append(Directory(it.path, it.stat.answer[2], key, it.readable()))
+            if key and directory.readable() != directory.above:
+                found.append(Directory(directory.path, directory.stat.answer[2], key, directory.readable()))
             if not key or is_mixed(key):
-                level += [Level(one, it.readable()) for one in rest if one.answer[:2] == ["stat", "dir"]]
+                level += [Level(one, directory.readable()) for one in rest if one.answer[:2] == ["stat", "dir"]]
     return found
 
 
 def keys_named(found):
     """The identifiers of the keys that the answers name, and the label of each policy that a record has."""
     keys, labels = {}, {}
-    for entry in (it for answer in found for it in answer.made.entries):
+    for entry in (entry for answer in found for entry in answer.made.entries):
         if entry.answer[0] == "added":
             keys[entry.answer[1]] = True
         if entry.verb == "set-policy" and not entry.refusal():
             keys[entry.words[1][16:]] = True
         if entry.answer[0] == "record" and entry.words[0].startswith("policy/"):
             lines = bytes.fromhex(entry.answer[2]).split(b"\n")
-            ids = [it[3:].decode("latin-1") for it in lines if it.startswith(b"id ")]
-            labels.update({it: entry.words[0].removeprefix("policy/") for it in ids[:1]})
+            ids = [line[3:].decode("latin-1") for line in lines if line.startswith(b"id ")]
+            labels.update({id: entry.words[0].removeprefix("policy/") for id in ids[:1]})
     return list(keys), labels
 
 
 def user_text(users, uid):
     """A user with the names of its callers."""
-    return f"{' and '.join(it.name for it in users if it.uid == uid)} ({uid})"
+    return f"{' and '.join(user.name for user in users if user.uid == uid)} ({uid})"
 
 
 class State:
@@ -142,19 +142,19 @@ class State:
 
     def __init__(self, program, transcript, found):
         self.users = transcript.users
-        asking = Asking(program, transcript, [it.step for it in found])
+        asking = Asking(program, transcript, [answer.step for answer in found])
         self.keys, self.labels = keys_named(found)
         if not self.users:
             self.handles, self.directories = [], []
             return
         given = list(opened(program, transcript, found))
-        callers = {it.uid: at for at, it in reversed(list(enumerate(self.users)))}
+        callers = {user.uid: at for at, user in reversed(list(enumerate(self.users)))}
         asked = [(at, f"key-status id:{key}") for key in self.keys for at in callers.values()]
-        asked += [(it.caller, f"read {it.number} 0 0") for it in given]
+        asked += [(handle.caller, f"read {handle.number} 0 0") for handle in given]
         *entries, root = asking.replies([*asked, (0, "stat /")])
-        self.statuses = {(it.words[0], int(it.user)): it.answer for it in entries if it.verb == "key-status"}
-        reads = [it for it in entries if it.verb == "read"]
-        self.handles = [it for it, read in zip(given, reads) if read.refusal() != "bad-handle"]
+        self.statuses = {(entry.words[0], int(entry.user)): entry.answer for entry in entries if entry.verb == "key-status"}
+        reads = [entry for entry in entries if entry.verb == "read"]
+        self.handles = [handle for handle, read in zip(given, reads) if read.refusal() != "bad-handle"]
         self.directories = encrypted(asking, root, lambda key: self.state_of(key) == "incomplete")
 
     def state_of(self, key):
@@ -163,7 +163,7 @@ class State:
 
     def key_of(self, handle):
         """The key of a handle's node; a directory may have got its policy after it was opened."""
-        return next((it.key for it in self.directories if it.number == handle.node), handle.key)
+        return next((directory.key for directory in self.directories if directory.number == handle.node), handle.key)
 
     def key_line(self, key):
         """A key with its state, claims and open handles."""
@@ -171,26 +171,26 @@ class State:
         label = f" ({self.labels[key]})" if key in self.labels else ""
         text = f"key {key[:SHORT]}{label}: {self.state_of(key)}"
         if claims:
-            text += "; claims of " + ", ".join(user_text(self.users, it) for it in sorted(claims))
-        handles = [it for it in self.handles if self.key_of(it) == key]
+            text += "; claims of " + ", ".join(user_text(self.users, claim) for claim in sorted(claims))
+        handles = [handle for handle in self.handles if self.key_of(handle) == key]
         if handles:
-            named = (f"{self.users[it.caller].name} {it.number} on {it.path}" for it in handles)
+            named = (f"{self.users[handle.caller].name} {handle.number} on {handle.path}" for handle in handles)
             text += "; open: " + ", ".join(named)
         return text
 
     def lines(self):
         """The state, a line for each key and each encrypted directory."""
-        found = [self.key_line(it) for it in self.keys]
-        for it in self.directories:
-            shown = "readable" if it.readable else "locked"
-            found.append(f"directory {it.path} under {it.key[:SHORT]}: {shown}")
+        found = [self.key_line(key) for key in self.keys]
+        for directory in self.directories:
+            shown = "readable" if directory.readable else "locked"
+            found.append(f"directory {directory.path} under {directory.key[:SHORT]}: {shown}")
         return found or ["no key and no encrypted directory"]
 
 
 def told_states(program, transcript, found, at):
     """The state after each step that changed it, or after the last step up to line `at` alone."""
     if at is not None:
-        count = sum(it.step.line <= at for it in found)
+        count = sum(answer.step.line <= at for answer in found)
         yield at, State(program, transcript, found[:count]).lines()
         return
     last = None

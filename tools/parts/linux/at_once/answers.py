@@ -25,15 +25,15 @@ def creation(kind):
         if not path:
             raise Refused("exists")
         home = parent(state, linux, path)
-        it = state.nodes[home]
-        if it.policy and not state.present(it.key):
-            there = linux and state.readable(home, linux) and path[-1] in it.body
+        node = state.nodes[home]
+        if node.policy and not state.present(node.key):
+            there = linux and state.readable(home, linux) and path[-1] in node.body
             raise Refused("exists|no-key" if there else "no-key")
-        if path[-1] in it.body:
+        if path[-1] in node.body:
             raise Refused("exists")
-        state.put(home, body={**it.body, path[-1]: state.next})
+        state.put(home, body={**node.body, path[-1]: state.next})
         state.nodes[state.next] = Node(
-            kind, it.policy, home, path[-1], {"dir": {}, "file": b"", "link": target}[kind]
+            kind, node.policy, home, path[-1], {"dir": {}, "file": b"", "link": target}[kind]
         )
         state.next += 1
         return "ok"
@@ -42,10 +42,10 @@ def creation(kind):
 
 
 def readlink(state, linux, user, caller, path):
-    it = state.nodes[walked(state, linux, path)]
-    if it.kind != "link":
+    node = state.nodes[walked(state, linux, path)]
+    if node.kind != "link":
         raise Refused("inval")
-    return f"target {it.body}"
+    return f"target {node.body}"
 
 
 def removal(directory):
@@ -58,10 +58,10 @@ def removal(directory):
         number = state.child(home, path[-1], linux)
         if number is None:
             raise Refused("not-found")
-        it = state.nodes[number]
-        if directory != (it.kind == "dir"):
+        node = state.nodes[number]
+        if directory != (node.kind == "dir"):
             raise Refused("not-dir" if directory else "is-dir")
-        if directory and it.body:
+        if directory and node.body:
             raise Refused("not-empty")
         state.unlink(home, path[-1])
         state.pins = state.pins - {number}  # what has neither name nor handle is dropped at once
@@ -120,19 +120,19 @@ def moved(state, home, number, old, to, new):
 
 def list_names(state, linux, user, caller, path, _):
     number = walked(state, linux, path)
-    it = state.nodes[number]
-    if it.kind != "dir":
+    node = state.nodes[number]
+    if node.kind != "dir":
         raise Refused("not-dir")
     if not state.readable(number, linux):
-        return f"names {len(it.body)} locked"
-    return " ".join([f"names {len(it.body)} more=0", *sorted(it.body)])
+        return f"names {len(node.body)} locked"
+    return " ".join([f"names {len(node.body)} more=0", *sorted(node.body)])
 
 
 def stat(state, linux, user, caller, path):
     number = walked(state, linux, path)
-    it = state.nodes[number]
-    flags = f"enc={int(bool(it.policy))} key={int(state.readable(number, linux))}"
-    return f"stat {it.kind} {number} {len(it.body)} {flags}"
+    node = state.nodes[number]
+    flags = f"enc={int(bool(node.policy))} key={int(state.readable(number, linux))}"
+    return f"stat {node.kind} {number} {len(node.body)} {flags}"
 
 
 def open_node(state, linux, user, caller, path):

@@ -21,7 +21,7 @@ MAX_PAUSE_NS = 100_000
 
 def parts_of(path):
     """The parts of a path."""
-    return tuple(it for it in path.split("/") if it)
+    return tuple(part for part in path.split("/") if part)
 
 
 def text_of(parts):
@@ -133,23 +133,23 @@ class AtOnce:
 
     def all_calls(self):
         """The calls of all callers."""
-        return [it for own in self.calls for it in own]
+        return [call for own in self.calls for call in own]
 
     def keys(self):
         """The identifiers of the keys that the calls name."""
         found = {}
-        for it in self.all_calls():
-            if it.verb == "set-policy":
-                found[it.arguments[1][16:]] = True
-            elif it.verb in ("add-key", "key-status", *REMOVALS):
-                found[it.arguments[-1]] = True
+        for call in self.all_calls():
+            if call.verb == "set-policy":
+                found[call.arguments[1][16:]] = True
+            elif call.verb in ("add-key", "key-status", *REMOVALS):
+                found[call.arguments[-1]] = True
         return list(found)
 
     def for_race(self, mode, repeats, seed):
         """The lines that race reads."""
         lines = [f"S\t{self.name}-{mode}\t{mode}\t{repeats}\t{seed}\t{MAX_PAUSE_NS}"]
         lines += [f"C\t{at}\t{in_linux(user)}" for at, user in enumerate(self.users)]
-        lines += [f"K\t{it}" for it in self.keys()]
+        lines += [f"K\t{key}" for key in self.keys()]
         return lines + [
-            "\t".join(["X", str(it.caller), str(it.phase), *it.for_race]) for it in self.all_calls()
+            "\t".join(["X", str(call.caller), str(call.phase), *call.for_race]) for call in self.all_calls()
         ]

@@ -12,7 +12,7 @@ MAX_RUNS = 3_000
 def refused_at(program, script, lines):
     """Nothing where fsc check certifies the log, and else the number of lines that are good, and what it
     said."""
-    text = script + "---\n" + "".join(it + "\n" for it in lines)
+    text = script + "---\n" + "".join(line + "\n" for line in lines)
     run = subprocess.run(
         [program, "check", "--seed", SEED], input=text.encode(), capture_output=True, check=False
     )
@@ -41,11 +41,11 @@ class Frame:
         """What two orders have in common after which the same calls fit."""
         nodes = tuple(
             sorted(
-                (it.number, it.policy, it.home.number if it.home else None, it.name)
-                for it in self.books.named()
+                (node.number, node.policy, node.home.number if node.home else None, node.name)
+                for node in self.books.named()
             )
         )
-        handles = tuple(sorted((handle, it.number) for handle, it in self.books.handles.items()))
+        handles = tuple(sorted((handle, node.number) for handle, node in self.books.handles.items()))
         claims = tuple(
             sorted((key, tuple(sorted(users))) for key, users in self.books.claims.items() if users)
         )
@@ -72,12 +72,12 @@ def reply_in_log(books, inodes, call):
         return call.reply, None
     _, kind, inode, size, encrypted, _ = call.reply.split(" ")
     node = books.node(text_of(call.arguments[0]))
-    there = {it.number for it in books.named()} | {it.number for it in books.open_nodes()}
-    known = {number: it for number, it in inodes.items() if number in there}
+    there = {node.number for node in books.named()} | {node.number for node in books.open_nodes()}
+    known = {number: inode for number, inode in inodes.items() if number in there}
     if (
         node is None
         or known.get(node.number, inode) != inode
-        or inode in (it for number, it in known.items() if number != node.number)
+        or inode in (other for number, other in known.items() if number != node.number)
     ):
         return None
     if node.kind == "dir":
@@ -97,15 +97,15 @@ class AllOrders:
         self.calls = history.calls
         sections = zip(history.users, self.calls)
         self.script = "".join(
-            f"caller {user}\n" + "".join(it.text + "\n" for it in own) for user, own in sections
+            f"caller {user}\n" + "".join(call.text + "\n" for call in own) for user, own in sections
         )
 
     def enabled(self, positions):
         """The callers whose next call may be next, the earliest end first."""
-        left = [it for it, own in enumerate(self.calls) if positions[it] < len(own)]
-        limit = min((self.calls[it][positions[it]].end for it in left), default=0)
-        found = [it for it in left if self.calls[it][positions[it]].begin < limit]
-        return sorted(found, key=lambda it: self.calls[it][positions[it]].end)
+        left = [caller for caller, own in enumerate(self.calls) if positions[caller] < len(own)]
+        limit = min((self.calls[caller][positions[caller]].end for caller in left), default=0)
+        found = [caller for caller in left if self.calls[caller][positions[caller]].begin < limit]
+        return sorted(found, key=lambda caller: self.calls[caller][positions[caller]].end)
 
     def next_frame(self, frame):
         """A frame with one call more, of the first caller not tried, or none."""
@@ -161,9 +161,9 @@ class AllOrders:
                 return found[-1].lines
             if refusal[0] < 0:
                 raise ValueError(refusal[1])
-            for it in found:
-                if len(it.lines) > refusal[0]:
+            for after in found:
+                if len(after.lines) > refusal[0]:
                     break
-                seen.add(it.mark())
-                stack.append(it)
+                seen.add(after.mark())
+                stack.append(after)
         return None

@@ -27,11 +27,11 @@ BEFORE = {
     "removals": (*ENCRYPTED, "mkdir /e/d", "create /e/d/g"),
     "handles": (*ENCRYPTED, "create /e/g", "open /e", "stat /e/f"),
     "files": (*ENCRYPTED, "mkdir /e/d", "create /e/d/g"),
-    "policies": (*(f"add-key {it}" for it in K), "mkdir /a", "mkdir /b"),
+    "policies": (*(f"add-key {key}" for key in K), "mkdir /a", "mkdir /b"),
     "mixed": (*ENCRYPTED, "mkdir /e/d", "create /e/d/g", "mkdir /a"),
 }
 AFTER = {
-    "keys": tuple(f"key-status raw:{it}" for it in K),
+    "keys": tuple(f"key-status raw:{key}" for key in K),
     "tree": ("list /", "list /a", "list /b", "stat /a/f", "stat /b/f", "stat /f"),
     "walks": ("list /", "list /a", "list /b", "list /a/s", "list /b/s", "list /s"),
     "sealed": ("list /", "list /e", "list /e/d", "stat /e/f", "stat /e/d/f", f"key-status raw:{K[0]}"),
@@ -77,10 +77,10 @@ class Draws:
                 self.opened += lines[-1].startswith("open ")
             lines.append("# after")
             if self.family in WITH_HANDLES:
-                lines += [f"close {it}" for it in range(min(self.opened, MAX_CLOSES))]
+                lines += [f"close {number}" for number in range(min(self.opened, MAX_CLOSES))]
             if self.caller == len(users) - 1:
                 lines += AFTER[self.family]
-        return "".join(it + "\n" for it in lines)
+        return "".join(line + "\n" for line in lines)
 
     def before(self):
         """What a caller makes before."""

@@ -63,7 +63,7 @@ def faults_of_lines(text):
         ):
             yield number, f"isn't as docs/FORMATS.md says of {verb}, or is taken by Linux alone"
         else:
-            yield from ((number, it) for it in faults_of_call(verb, words))
+            yield from ((number, fault) for fault in faults_of_call(verb, words))
 
 
 def faults_of_call(verb, words):
@@ -80,7 +80,7 @@ def faults_of_call(verb, words):
         length = int(words[2]) if verb == "fill" else len(words[2]) // 2
         if int(words[1]) + length > MAX_FILE:
             yield f"writes beyond {MAX_FILE} bytes, which Linux does and the mount refuses"
-    for word in (it for it in words if it.startswith("/")):
+    for word in (word for word in words if word.startswith("/")):
         if any(len(part) > MAX_NAME for part in word.split("/")):
             yield f"has a name of more than {MAX_NAME} characters"
         if any(part in (".", "..") for part in word.split("/")):
@@ -97,7 +97,7 @@ def faults_of_sections(script):
         yield script.calls[MAX_CALLERS][0].line if script.calls[
             MAX_CALLERS
         ] else 1, f"is of caller {MAX_CALLERS + 1}; a script has at most {MAX_CALLERS}"
-    elif len(script.users) > MAX_WITH_KEYS and any(it.verb == "add-key" for it in script.all_calls()):
+    elif len(script.users) > MAX_WITH_KEYS and any(call.verb == "add-key" for call in script.all_calls()):
         yield 1, f"has {len(script.users)} callers; with keys there are at most {MAX_WITH_KEYS}"
     last = {}
     for section, number, phase in script.markers:
@@ -111,7 +111,7 @@ def faults_of_sections(script):
             yield own[
                 MAX_CALLS
             ].line, f"is call {MAX_CALLS + 1} of its caller; there are at most {MAX_CALLS}"
-    if not any(it.phase == TOGETHER for it in script.all_calls()):
+    if not any(call.phase == TOGETHER for call in script.all_calls()):
         yield 1, "has nothing that is made at once: no call comes after # together"
     if len(script.keys()) > MAX_KEYS:
         yield 1, f"names {len(script.keys())} keys; there are at most {MAX_KEYS}"
@@ -120,43 +120,43 @@ def faults_of_sections(script):
 def faults_of_calls(script):
     """What some calls may not be beside others."""
     calls = script.all_calls()
-    together = [it for it in calls if it.phase == TOGETHER]
-    moved = [path for it in together if it.verb == "rename" for path in it.paths()]
-    links = {it.arguments[0][-1] for it in calls if it.verb == "symlink"}
-    policies = {it.arguments[0] for it in calls if it.verb == "set-policy"}
-    for it in calls:
+    together = [call for call in calls if call.phase == TOGETHER]
+    moved = [path for other in together if other.verb == "rename" for path in other.paths()]
+    links = {call.arguments[0][-1] for call in calls if call.verb == "symlink"}
+    policies = {call.arguments[0] for call in calls if call.verb == "set-policy"}
+    for call in calls:
         if (
-            it.phase == TOGETHER
-            and it.verb == "list"
-            and any(path == it.arguments[0][: len(path)] for path in moved)
+            call.phase == TOGETHER
+            and call.verb == "list"
+            and any(path == call.arguments[0][: len(path)] for path in moved)
         ):
-            yield it.line, "lists a directory that may be renamed between Linux's open and its listing"
-        parts = [part for path in it.paths() for part in (path if it.verb not in LINK_VERBS else path[:-1])]
+            yield call.line, "lists a directory that may be renamed between Linux's open and its listing"
+        parts = [part for path in call.paths() for part in (path if call.verb not in LINK_VERBS else path[:-1])]
         if links & set(parts):
-            yield it.line, "names a symlink, or leads through one, which Linux follows"
-        if it.verb == "open" and it.arguments[0] in policies and not looked_into(script, it):
-            yield it.line, "opens an encrypted directory: do so before # together, then stat a name in it"
-        if it.verb == "set-policy" and not it.user and not claim_stays(script, it.arguments[1][16:]):
-            yield it.line, "is a policy by user 0, which Linux takes without a claim: let a user's stay"
+            yield call.line, "names a symlink, or leads through one, which Linux follows"
+        if call.verb == "open" and call.arguments[0] in policies and not looked_into(script, call):
+            yield call.line, "opens an encrypted directory: do so before # together, then stat a name in it"
+        if call.verb == "set-policy" and not call.user and not claim_stays(script, call.arguments[1][16:]):
+            yield call.line, "is a policy by user 0, which Linux takes without a claim: let a user's stay"
 
 
 def looked_into(script, call):
     """Whether a directory is opened before, and a name in it looked up next."""
     behind = script.calls[call.caller][call.index + 1 : call.index + 2]
     return call.phase == BEFORE and any(
-        it.verb == "stat" and it.arguments[0][:-1] == call.arguments[0] for it in behind
+        other.verb == "stat" and other.arguments[0][:-1] == call.arguments[0] for other in behind
     )
 
 
 def claim_stays(script, key):
     """Whether a user adds a key before, and none of that user's calls removes it."""
     calls = script.all_calls()
-    if any(it.verb == "remove-key-all" and it.arguments[0] == key for it in calls):
+    if any(call.verb == "remove-key-all" and call.arguments[0] == key for call in calls):
         return False
-    removing = {it.user for it in calls if it.verb == "remove-key" and it.arguments[0] == key}
+    removing = {call.user for call in calls if call.verb == "remove-key" and call.arguments[0] == key}
     return any(
-        it.verb == "add-key" and it.arguments[1] == key and it.phase == BEFORE and it.user not in removing
-        for it in calls
+        call.verb == "add-key" and call.arguments[1] == key and call.phase == BEFORE and call.user not in removing
+        for call in calls
     )
 
 

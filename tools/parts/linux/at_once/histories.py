@@ -16,24 +16,24 @@ class History:
 
     def all_calls(self):
         """The calls of all callers."""
-        return [it for own in self.calls for it in own]
+        return [call for own in self.calls for call in own]
 
     def without(self, calls):
         """The history without some calls."""
         gone = set(map(id, calls))
         return History(
-            self.name, self.users, [[it for it in own if id(it) not in gone] for own in self.calls]
+            self.name, self.users, [[call for call in own if id(call) not in gone] for own in self.calls]
         )
 
     def copy(self):
         """The history with calls of its own."""
         return History(
-            self.name, self.users, [[dataclasses.replace(it) for it in own] for own in self.calls]
+            self.name, self.users, [[dataclasses.replace(call) for call in own] for own in self.calls]
         )
 
     def overlaps(self):
         """How many pairs of calls of two callers are made together, and how many of them overlap."""
-        calls = [it for it in self.all_calls() if it.phase == TOGETHER]
+        calls = [call for call in self.all_calls() if call.phase == TOGETHER]
         pairs = [
             (one, other)
             for at, one in enumerate(calls)
@@ -45,21 +45,21 @@ class History:
     def note_overlaps(self):
         """Notes at each call what of other callers overlaps it, before any call is left out."""
         calls = self.all_calls()
-        renames = [it for it in calls if it.verb == "rename" and it.reply == "ok"]
-        removals = [it for it in calls if it.verb in REMOVALS and it.reply.startswith("removed others=0")]
-        writes = [it for it in calls if it.verb == "write" and it.reply == "ok"]
-        for it in calls:
-            beside = [other for other in calls if other is not it and it.overlaps(other)]
-            it.held_beside = it.verb in REMOVALS and any(
+        renames = [call for call in calls if call.verb == "rename" and call.reply == "ok"]
+        removals = [call for call in calls if call.verb in REMOVALS and call.reply.startswith("removed others=0")]
+        writes = [call for call in calls if call.verb == "write" and call.reply == "ok"]
+        for call in calls:
+            beside = [other for other in calls if other is not call and call.overlaps(other)]
+            call.held_beside = call.verb in REMOVALS and any(
                 other.verb not in ("key-status", "add-key") for other in beside
             )
-            if it.verb in ("stat", "read"):
-                it.writes = tuple(other for other in writes if it.overlaps(other))
-            it.walks_apart = any(len(path) > 1 for path in it.paths()) and any(
-                other.caller != it.caller and it.overlaps(other) for other in renames
+            if call.verb in ("stat", "read"):
+                call.writes = tuple(other for other in writes if call.overlaps(other))
+            call.walks_apart = any(len(path) > 1 for path in call.paths()) and any(
+                other.caller != call.caller and call.overlaps(other) for other in renames
             )
-            it.check_apart = (
-                it.verb in CREATIONS and it.reply == "ok" and any(it.overlaps(other) for other in removals)
+            call.check_apart = (
+                call.verb in CREATIONS and call.reply == "ok" and any(call.overlaps(other) for other in removals)
             )
 
 
@@ -67,13 +67,13 @@ def bytes_of(runs):
     """The digits of the bytes of `COUNTxBYTE,..`."""
     if runs == "-":
         return runs
-    pairs = [it.partition("x") for it in runs.split(",")]
+    pairs = [part.partition("x") for part in runs.split(",")]
     return "".join(byte * int(count) for count, _, byte in pairs)
 
 
 def take_reply(history, words):
     """Puts a reply at its call; whether the words were whole."""
-    if len(words) < FIELDS or not all(it.isdigit() for it in words[: FIELDS - 1]):
+    if len(words) < FIELDS or not all(word.isdigit() for word in words[: FIELDS - 1]):
         return False
     caller, index, *numbers = map(int, words[: FIELDS - 1])
     if caller >= len(history.calls) or index >= len(history.calls[caller]):
@@ -88,10 +88,10 @@ def take_reply(history, words):
 
 def read_answers(name, scripts):
     """The whole histories of some scripts, and what else race printed."""
-    by_name = {it.name: it for it in scripts}
+    by_name = {script.name: script for script in scripts}
     found, faults, at, ended = [], [], None, False
     with open(name, encoding="utf-8", errors="replace") as lines:
-        for line in (it.rstrip("\n") for it in lines):
+        for line in (line.rstrip("\n") for line in lines):
             words = line.split("\t")
             if line.startswith("F"):
                 faults.append(line)
@@ -105,9 +105,9 @@ def read_answers(name, scripts):
             elif at is not None and not take_reply(at, words):
                 faults.append(f"a torn line: {line[:60]}")
                 at = None
-    whole = [it for it in found if all(call.reply for call in it.all_calls())]
+    whole = [history for history in found if all(call.reply for call in history.all_calls())]
     if not ended:
         faults.append("the answers end early")
-    for it in whole:
-        it.note_overlaps()
+    for history in whole:
+        history.note_overlaps()
     return whole, faults

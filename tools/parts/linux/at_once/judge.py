@@ -45,10 +45,10 @@ def in_time(calls):
     """Whether no call comes after one that began only when it had ended: asked of the order, not of the
     search."""
     latest = 0
-    for it in calls:
-        if it.end < latest:
+    for call in calls:
+        if call.end < latest:
             return False
-        latest = max(latest, it.begin)
+        latest = max(latest, call.begin)
     return True
 
 
@@ -92,8 +92,8 @@ def judge(program, history):
     own = iter(calls)
     by_place = {place: next(own) for place, line in enumerate(log.lines) if line.theirs is not None}
     take_lines(verdict, log, by_place)
-    verdict.as_begun = calls == sorted(calls, key=lambda it: it.begin)
-    verdict.as_ended = calls == sorted(calls, key=lambda it: it.end)
+    verdict.as_begun = calls == sorted(calls, key=lambda call: call.begin)
+    verdict.as_ended = calls == sorted(calls, key=lambda call: call.end)
     if not in_time(calls) or len(calls) != len(history.all_calls()):
         verdict.reason = "the order does not respect the tickets"
     verdict.after_removal, wrong = broken(history, log.seen)
@@ -114,7 +114,7 @@ def alone(history):
         if own:
             made.users.append(user)
             made.calls.append(
-                [dataclasses.replace(it, caller=len(made.calls), index=at) for at, it in enumerate(own)]
+                [dataclasses.replace(call, caller=len(made.calls), index=at) for at, call in enumerate(own)]
             )
     return made
 
@@ -128,9 +128,9 @@ def confirmed_core(program, history):
     core = alone(smallest_core(history, Level.AS_IS))
     if any(
         name.startswith(NO_KEY) or len(name) > kinds.pages.MIN_TEXT
-        for it in core.all_calls()
-        if it.verb == "list"
-        for name in names_of(it.reply)
+        for call in core.all_calls()
+        if call.verb == "list"
+        for name in names_of(call.reply)
     ):
         return core, "unreadable", 0
     orders = AllOrders(program, core)
@@ -140,8 +140,8 @@ def confirmed_core(program, history):
 
 def picture(history):
     """The calls by their beginnings, for reading."""
-    calls = sorted(history.all_calls(), key=lambda it: it.begin)
+    calls = sorted(history.all_calls(), key=lambda call: call.begin)
     return [
-        f"  {it.begin:4}-{it.end:<4} {it.caller} {it.user} {it.text[:60]:60} = {it.reply[:80]}"
-        for it in calls
+        f"  {call.begin:4}-{call.end:<4} {call.caller} {call.user} {call.text[:60]:60} = {call.reply[:80]}"
+        for call in calls
     ]

@@ -47,16 +47,16 @@ def key_status(state, linux, user, caller, key):
 
 def set_policy(state, linux, user, caller, path, policy):
     number = walked(state, linux, path)
-    it = state.nodes[number]
-    if it.kind != "dir":
+    node = state.nodes[number]
+    if node.kind != "dir":
         raise Refused("not-dir")
     if number == ROOT or not SOME_POLICY.fullmatch(policy):
         raise Refused("inval")
-    if it.policy:
-        if it.policy == policy:
+    if node.policy:
+        if node.policy == policy:
             return "ok"
         raise Refused("exists")
-    if it.body:
+    if node.body:
         raise Refused("not-empty")
     users = state.claims.get(policy[16:], ())
     if not users or (user and user not in users):
@@ -66,7 +66,7 @@ def set_policy(state, linux, user, caller, path, policy):
 
 
 def get_policy(state, linux, user, caller, path):
-    it = state.nodes[walked(state, linux, path)]
-    if not it.policy:
+    node = state.nodes[walked(state, linux, path)]
+    if not node.policy:
         raise Refused("no-data")
-    return f"policy {it.policy}"
+    return f"policy {node.policy}"

@@ -44,7 +44,7 @@ def size_by_pages(step, call):
     ours, theirs = step.ours.split(" "), step.theirs.split(" ")
     if step.verb != "stat" or len(ours) != len(theirs) or ours[:3] + ours[4:-1] != theirs[:3] + theirs[4:-1]:
         return False
-    ends = {it for write in call.writes for it in pages.ends(*write.arguments[1:])}
+    ends = {end for write in call.writes for end in pages.ends(*write.arguments[1:])}
     return int(theirs[3]) in ends
 
 

@@ -57,21 +57,21 @@ class Log:
         """The script of the log."""
         lines = []
         for user, own in zip(self.history.users, self.history.calls):
-            lines += [f"caller {user}", *(self.changed.get((it.caller, it.index), it.text) for it in own)]
+            lines += [f"caller {user}", *(self.changed.get((call.caller, call.index), call.text) for call in own)]
         if self.section:
             lines += [f"caller {ONE_MORE_USER}", *self.section]
-        return "".join(it + "\n" for it in lines)
+        return "".join(line + "\n" for line in lines)
 
     def texts(self):
         """The lines as text."""
-        return [it.text(place) for place, it in enumerate(self.lines)]
+        return [line.text(place) for place, line in enumerate(self.lines)]
 
     def above(self, state):
         """The encrypted directories above open nodes."""
         if self.level == Level.AS_IS:
             return set()
         return {
-            it for number in state.handles.values() for it in state.above(number) if state.nodes[it].policy
+            above for number in state.handles.values() for above in state.above(number) if state.nodes[above].policy
         }
 
     def own_call(self, command):
@@ -84,18 +84,18 @@ class Log:
 
     def pin(self, nodes):
         """Opens nodes that have a name."""
-        for it in sorted(nodes - set(self.opened)):
-            path = self.mount.path(it)
-            if path is None or self.mount.nodes[it].kind == "link":
+        for node in sorted(nodes - set(self.opened)):
+            path = self.mount.path(node)
+            if path is None or self.mount.nodes[node].kind == "link":
                 continue
             reply = self.own_call(f"open {text_of(path)}")
             if reply.startswith("handle "):
-                self.opened[it] = int(reply.split(" ")[1])
+                self.opened[node] = int(reply.split(" ")[1])
 
     def unpin(self, nodes):
         """Closes what was opened of some nodes."""
-        for it in sorted(nodes & set(self.opened)):
-            self.own_call(f"close {self.opened.pop(it)}")
+        for node in sorted(nodes & set(self.opened)):
+            self.own_call(f"close {self.opened.pop(node)}")
 
     def take(self, point, before, state):
         """A point, with the states of the search before and after it."""
@@ -120,22 +120,22 @@ class Log:
 
     def take_call(self, call, before):
         """A call's line."""
-        it = call
+        call_now = call
         if self.level == Level.APART and call.walks_apart:
-            it = self.at_paths_now(call, before)
+            call_now = self.at_paths_now(call, before)
         if call.verb == "add-key":
             self.raw_keys[call.arguments[1]] = call.text.split(" ")[1]
-        self.seen[call.caller, call.index] = key_seen(before, it)
-        claimed = self.claim(it, before)
-        without = self.reply_without_pins(it, before)
-        reply = answer(self.mount, False, it.user, it.caller, it.verb, it.arguments)
-        self.note_drawn(it, reply)
-        self.note_witness(it, before, reply, without)
-        theirs = self.shown_reply(it, reply)
+        self.seen[call.caller, call.index] = key_seen(before, call_now)
+        claimed = self.claim(call_now, before)
+        without = self.reply_without_pins(call_now, before)
+        reply = answer(self.mount, False, call_now.user, call_now.caller, call_now.verb, call_now.arguments)
+        self.note_drawn(call_now, reply)
+        self.note_witness(call_now, before, reply, without)
+        theirs = self.shown_reply(call_now, reply)
         if reply.endswith(" locked"):
-            reply = self.listing(it)
+            reply = self.listing(call_now)
             theirs = reply if theirs is None else theirs
-        self.lines.append(Line(it.caller, it.user, it.shown, reply, reply if theirs is None else theirs))
+        self.lines.append(Line(call_now.caller, call_now.user, call_now.shown, reply, reply if theirs is None else theirs))
         if claimed:
             self.own_call(f"remove-key raw:{claimed}")
             self.witnesses.append((kinds.CREATION, call))
@@ -155,18 +155,18 @@ class Log:
     def at_paths_now(self, call, before):
         """The call at the paths that the nodes have now to which its walks have led."""
         try:
-            it = resolved(before, call)
+            call_now = resolved(before, call)
         except Refused:
             return call
-        if it.arguments == call.arguments:
+        if call_now.arguments == call.arguments:
             return call
         words = call.text.split(" ")
         count = len(call.paths())
-        words[1 : 1 + count] = map(text_of, it.arguments[:count])
+        words[1 : 1 + count] = map(text_of, call_now.arguments[:count])
         changed = call_of(call.caller, call.user, call.index, call.phase, call.line, " ".join(words))
         self.changed[call.caller, call.index] = changed.text
         self.witnesses.append((kinds.WALKS, call))
-        return dataclasses.replace(call, shown=changed.shown, arguments=it.arguments)
+        return dataclasses.replace(call, shown=changed.shown, arguments=call_now.arguments)
 
     def claim(self, call, before):
         """Adds the key for a creation that had asked for it before; returns the raw key."""
@@ -186,8 +186,8 @@ class Log:
         if not pinned:
             return None
         mount = self.mount.copy()
-        for it in pinned:
-            mount.handles.pop((self.caller, self.opened[it]), None)
+        for handle in pinned:
+            mount.handles.pop((self.caller, self.opened[handle]), None)
         return answer(mount, False, call.user, call.caller, call.verb, call.arguments)
 
     def note_witness(self, call, before, reply, without):
@@ -220,14 +220,14 @@ class Log:
     def listing(self, call):
         """The listing of a locked directory, by its texts."""
         number = self.mount.at(call.arguments[0])
-        it = self.mount.nodes[number]
-        names = list(it.body)
+        node = self.mount.nodes[number]
+        names = list(node.body)
         if names:
             known = sorted(
                 {path[-1] for own in self.history.calls for call in own for path in call.paths() if path}
             )
             texts = texts_of(
-                self.program, self.drawn[number], self.raw_keys[it.key], PAD_OF[it.policy[6:8]], known
+                self.program, self.drawn[number], self.raw_keys[node.key], PAD_OF[node.policy[6:8]], known
             )
             names = sorted(texts[name] for name in names)
         return " ".join([f"names {len(names)} more=0", *names])

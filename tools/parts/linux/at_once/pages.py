@@ -12,7 +12,7 @@ def is_text(name):
 def beside(state, call, node):
     """The offsets and bytes of the writes to a node that overlap a call."""
     return [
-        it.arguments[1:] for it in call.writes if state.handles.get((it.caller, it.arguments[0])) == node
+        write.arguments[1:] for write in call.writes if state.handles.get((write.caller, write.arguments[0])) == node
     ]
 
 
@@ -24,7 +24,7 @@ def ends(offset, data):
 
 def sizes_beside(state, call, node):
     """The sizes that a file may have within the writes that overlap a call."""
-    return {it for write in beside(state, call, node) for it in ends(*write)}
+    return {end for write in beside(state, call, node) for end in ends(*write)}
 
 
 def is_torn(state, call):

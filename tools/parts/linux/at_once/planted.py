@@ -12,11 +12,11 @@ from parts.linux.at_once.search import search
 def changed(history, drawn):
     """The history with a reply that is another of its verb's in the history, or with the two swapped; or
     none."""
-    calls = [it for it in history.all_calls() if it.phase == TOGETHER and not it.reply.startswith("handle")]
+    calls = [call for call in history.all_calls() if call.phase == TOGETHER and not call.reply.startswith("handle")]
     if not calls:
         return None
     one = drawn.choice(calls)
-    others = [it for it in calls if it.verb == one.verb and it.reply != one.reply]
+    others = [call for call in calls if call.verb == one.verb and call.reply != one.reply]
     if not others:
         return None
     other = drawn.choice(others)

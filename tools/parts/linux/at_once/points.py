@@ -94,7 +94,7 @@ def fits(state, level, call, ours):
         )
     if call.verb == "list" and ours.endswith(" locked"):
         shown = theirs.split(" ")
-        return shown[:2] == ours.split(" ")[:2] and all(pages.is_text(it) for it in shown[3:])
+        return shown[:2] == ours.split(" ")[:2] and all(pages.is_text(name) for name in shown[3:])
     return call.verb == "read" and level >= Level.APART and pages.is_torn(state, call)
 
 

@@ -19,22 +19,22 @@ def key_seen(state, call):
         shown = set(call.reply.split(" ")[3:])
         return node.key if node and shown & set(node.body) else ""
     homes = [state.at(path[:-1]) for path in call.paths() if path]
-    keys = [state.nodes[it].key for it in homes if it is not None]
-    return next((it for it in keys if it), "")
+    keys = [state.nodes[home].key for home in homes if home is not None]
+    return next((key for key in keys if key), "")
 
 
 def asked_after(history):
     """Each call with the keys of which nothing may be seen: a removal had replied busy=0 before it began."""
     calls = history.all_calls()
-    removals = [it for it in calls if it.verb in REMOVALS and it.reply == FREE]
-    added = [it for it in calls if it.verb == "add-key"]
+    removals = [call for call in calls if call.verb in REMOVALS and call.reply == FREE]
+    added = [call for call in calls if call.verb == "add-key"]
     for call in calls:
         keys = set()
-        for it in removals:
-            key = it.arguments[0]
+        for removal in removals:
+            key = removal.arguments[0]
             adding = [other for other in added if other.arguments[1] == key]
-            again = any(other.begin < call.end and other.end > it.begin for other in adding)
-            if it.end < call.begin and not again:
+            again = any(other.begin < call.end and other.end > removal.begin for other in adding)
+            if removal.end < call.begin and not again:
                 keys.add(key)
         if keys:
             yield call, keys

@@ -65,8 +65,8 @@ class Tally:
         if self.folder is None:
             return
         name = os.path.join(self.folder, verdict.history.name + ".checked")
-        with open(name, "w", encoding="utf-8") as it:
-            it.write(verdict.script + "---\n" + "".join(line + "\n" for line in verdict.lines))
+        with open(name, "w", encoding="utf-8") as file:
+            file.write(verdict.script + "---\n" + "".join(line + "\n" for line in verdict.lines))
 
     def print_cores(self):
         """Prints a smallest core of each kind."""
@@ -100,9 +100,9 @@ class Tally:
             print(f"{count:7}  lines: {row}" + (f" ({PAGE}:{known[row]})" if row in known else ""))
         print(f"{self.after_removal:7}  calls after a removal with busy=0 and before an adding saw nothing")
         print(f"{self.cores_refused:7}  smallest cores of which fsc check refuses every order")
-        for it in faults:
-            print(f"fault: {it}")
+        for fault in faults:
+            print(f"fault: {fault}")
         self.print_unexplained()
         print(f"{self.histories} histories, {self.calls} calls, {len(self.unexplained)} unexplained")
-        without = [it for it in kinds.KINDS if it not in listed]
+        without = [kind for kind in kinds.KINDS if kind not in listed]
         return 1 if self.unexplained or without or faults else 0

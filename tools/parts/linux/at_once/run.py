@@ -14,27 +14,27 @@ MODES = ("free", "rounds")
 def drawn(count):
     """The scripts of the numbers below a count."""
     draws = [Draws(number) for number in range(count)]
-    return [(it.name, it.script()) for it in draws]
+    return [(draw.name, draw.script()) for draw in draws]
 
 
 def given(names):
     """The names and texts of the scripts in files."""
     found = []
     for name in names:
-        with open(name, encoding="utf-8") as it:
-            found.append((os.path.basename(name).removesuffix(".fsc"), it.read()))
+        with open(name, encoding="utf-8") as file:
+            found.append((os.path.basename(name).removesuffix(".fsc"), file.read()))
     return found
 
 
 def checked(texts):
     """The scripts of names and texts; none where one has a fault, each of which is printed."""
-    wrong = [it for name, text in texts for it in faults(name, text, AtOnce)]
+    wrong = [fault for name, text in texts for fault in faults(name, text, AtOnce)]
     names = [name for name, _ in texts]
     wrong += [
-        f"{it}: two scripts have this name" for it in sorted({it for it in names if names.count(it) > 1})
+        f"{name}: two scripts have this name" for name in sorted({twice for twice in names if names.count(twice) > 1})
     ]
-    for it in wrong:
-        print(f"linux: {it}", file=sys.stderr)
+    for fault in wrong:
+        print(f"linux: {fault}", file=sys.stderr)
     return None if wrong else [AtOnce(name, text) for name, text in texts]
 
 
@@ -44,15 +44,15 @@ def run_at_once(texts, repeats, program, folder, machine):
     scripts = checked(texts)
     if scripts is None:
         return 2
-    calls, answers, orders = (os.path.join(folder, it) for it in ("calls.txt", "answers.txt", "orders"))
+    calls, answers, orders = (os.path.join(folder, name) for name in ("calls.txt", "answers.txt", "orders"))
     lines = [
         line
-        for seed, it in enumerate(scripts)
+        for seed, script in enumerate(scripts)
         for mode in MODES
-        for line in it.for_race(mode, repeats, seed)
+        for line in script.for_race(mode, repeats, seed)
     ]
-    with open(calls, "w", encoding="utf-8") as it:
-        it.writelines(line + "\n" for line in [*lines, "END"])
+    with open(calls, "w", encoding="utf-8") as file:
+        file.writelines(line + "\n" for line in [*lines, "END"])
     status = machine("race", calls, answers)
     if status not in (0, 3):
         return status

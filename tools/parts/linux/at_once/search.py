@@ -22,9 +22,9 @@ class Order:
 
 def points(history, level):
     """The points of each caller in order, and from UNDER_WAY on those of race's own removal."""
-    made = [[point for it in own for point in points_of(it, level)] for own in history.calls]
+    made = [[point for call in own for point in points_of(call, level)] for own in history.calls]
     if level >= Level.UNDER_WAY:
-        last = max((it.end for it in history.all_calls() if it.phase < AFTER), default=0)
+        last = max((call.end for call in history.all_calls() if call.phase < AFTER), default=0)
         made.append([Point(None, "clean", last + 0.2, last + 0.3)])
     return made
 
@@ -36,16 +36,16 @@ class Search:
     def __init__(self, history, level, max_tries=MAX_TRIES):
         self.level, self.max_tries = level, max_tries
         self.points = points(history, level)
-        self.lengths = [len(it) for it in self.points]
+        self.lengths = [len(point) for point in self.points]
         self.tried = 0
 
     def enabled(self, positions):
         """The callers whose next point may be the next of all: it begins before each other's next one
         ends."""
         left = [at for at, length in enumerate(self.lengths) if positions[at] < length]
-        limit = min((self.points[it][positions[it]].end for it in left), default=0)
-        found = [it for it in left if self.points[it][positions[it]].begin < limit]
-        return sorted(found, key=lambda it: (self.points[it][positions[it]].end, it))
+        limit = min((self.points[caller][positions[caller]].end for caller in left), default=0)
+        found = [caller for caller in left if self.points[caller][positions[caller]].begin < limit]
+        return sorted(found, key=lambda caller: (self.points[caller][positions[caller]].end, caller))
 
     def next_ones(self, positions, state):
         """Each point that may be next, with the positions and the state after it."""
@@ -100,9 +100,9 @@ def smallest_core(history, level):
 
     A call that changed nothing is left out if there is still no order without it, the latest first.
     """
-    calls = [it for it in history.all_calls() if it.changed_nothing()]
-    for it in sorted(calls, key=lambda it: -it.begin):
-        fewer = history.without([it])
+    calls = [call for call in history.all_calls() if call.changed_nothing()]
+    for call in sorted(calls, key=lambda point: -point.begin):
+        fewer = history.without([call])
         if search(fewer, level).verdict == "none":
             history = fewer
     return history

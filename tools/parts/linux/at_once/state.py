@@ -67,8 +67,8 @@ class State:
         """All of the state as a value that can be compared."""
         if self.frozen is None:
             nodes = frozenset(
-                (number, *it[:4], frozenset(it.body.items()) if it.kind == "dir" else it.body)
-                for number, it in self.nodes.items()
+                (number, *node[:4], frozenset(node.body.items()) if node.kind == "dir" else node.body)
+                for number, node in self.nodes.items()
             )
             self.frozen = (
                 frozenset(self.claims.items()),
@@ -94,8 +94,8 @@ class State:
 
     def named(self, number):
         """Whether a node has a name."""
-        it = self.nodes[number]
-        return it.home in self.nodes and self.nodes[it.home].body.get(it.name) == number
+        node = self.nodes[number]
+        return node.home in self.nodes and self.nodes[node.home].body.get(node.name) == number
 
     def path(self, number):
         """The parts of a node's path, or none where it has no name."""
@@ -111,8 +111,8 @@ class State:
         """The node at a path by plain names, whatever is locked, or none."""
         number = ROOT
         for part in path:
-            it = self.nodes[number]
-            number = it.body.get(part) if it.kind == "dir" else None
+            node = self.nodes[number]
+            number = node.body.get(part) if node.kind == "dir" else None
             if number is None:
                 return None
         return number
@@ -123,17 +123,17 @@ class State:
         found = set(self.handles.values()) | self.pins
         if above:
             for number in list(self.handles.values()):
-                found.update(it for it in self.above(number) if self.nodes[it].policy)
+                found.update(above for above in self.above(number) if self.nodes[above].policy)
         return found
 
     def busy(self, key, above):
         """Whether a node of a key is held."""
-        return any(self.nodes[it].key == key for it in self.held(above) if it in self.nodes)
+        return any(self.nodes[outer].key == key for outer in self.held(above) if outer in self.nodes)
 
     def readable(self, number, above):
         """Whether a node is not locked."""
-        it = self.nodes[number]
-        return not it.policy or self.present(it.key) or number in self.held(above)
+        node = self.nodes[number]
+        return not node.policy or self.present(node.key) or number in self.held(above)
 
     def child(self, directory, part, above):
         """The node of a plain name in a directory, or none."""
@@ -164,12 +164,12 @@ class State:
 
     def of_key(self, key):
         """The pinned nodes of a key."""
-        return frozenset(it for it in self.pins if it in self.nodes and self.nodes[it].key == key)
+        return frozenset(pin for pin in self.pins if pin in self.nodes and self.nodes[pin].key == key)
 
     def without_pins(self, nodes):
         """The state without some of the pins."""
         new = self.copy()
         new.pins = new.pins - nodes
-        for it in nodes:
-            new.forget(it)
+        for node in nodes:
+            new.forget(node)
         return new

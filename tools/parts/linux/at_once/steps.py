@@ -18,13 +18,13 @@ def reply_at(state, level, call):
         return answer(state, linux, call.user, call.caller, call.verb, call.arguments)
     checked = state.under_way.get(call.caller, ((), False))[1]
     try:
-        it = resolved(state, call) if call.walks_apart else call
-        reply = answer(state, linux, it.user, it.caller, it.verb, it.arguments)
+        resolved_call = resolved(state, call) if call.walks_apart else call
+        reply = answer(state, linux, resolved_call.user, resolved_call.caller, resolved_call.verb, resolved_call.arguments)
         if reply == "refused no-key" and checked and call.reply == "ok":
-            reply = with_claim(state, linux, it)
+            reply = with_claim(state, linux, resolved_call)
     except Refused as why:
         reply = f"refused {why}"
-    state.under_way = {caller: it for caller, it in state.under_way.items() if caller != call.caller}
+    state.under_way = {caller: under_way for caller, under_way in state.under_way.items() if caller != call.caller}
     state.frozen = None
     return reply
 
@@ -32,10 +32,10 @@ def reply_at(state, level, call):
 def with_claim(state, linux, call):
     """The reply to a creation for which one more user has a claim on the directory's key meanwhile."""
     before = state.claims
-    policies = {it.policy for it in state.nodes.values() if it.policy}
+    policies = {node.policy for node in state.nodes.values() if node.policy}
     state.claims = {
         **before,
-        **{it[16:]: frozenset({ONE_MORE_USER}) for it in policies if not before.get(it[16:])},
+        **{policy[16:]: frozenset({ONE_MORE_USER}) for policy in policies if not before.get(policy[16:])},
     }
     reply = answer(state, linux, call.user, call.caller, call.verb, call.arguments)
     state.claims = before
@@ -101,17 +101,17 @@ def stepped(state, at, part):
 def key_is_there(state, call):
     """Whether the directory of a creation has a policy whose key is present."""
     try:
-        it = state.nodes[walked(state, True, call.arguments[0][:-1])]
+        node = state.nodes[walked(state, True, call.arguments[0][:-1])]
     except Refused:
         return False
-    return bool(it.policy) and state.present(it.key)
+    return bool(node.policy) and state.present(node.key)
 
 
 def subsets(nodes):
     """Each set of some of these nodes, small ones first."""
     nodes = sorted(nodes)
     made = [
-        frozenset(it for at, it in enumerate(nodes) if bits >> at & 1)
+        frozenset(node for at, node in enumerate(nodes) if bits >> at & 1)
         for bits in range(1, 1 << min(len(nodes), MAX_CHOSEN))
     ]
     return sorted(made, key=len)
@@ -139,14 +139,14 @@ def removed(state, level, point):
     choices = [state]
     if state.pins and call.reply == "refused no-key":
         choices.append(state.without_pins(state.of_key(key)))
-    for it in choices:
-        new = it.copy()
+    for choice in choices:
+        new = choice.copy()
         ours = taken(new, call, key)
         if ours == call.reply:
             return [new]
         if ours == "last" and call.reply in (BUSY, FREE):
             new.removing = tuple(sorted((*new.removing, (call.caller, key))))
-            if it.present(key):
+            if choice.present(key):
                 new.pins |= {
                     number
                     for number, node in new.nodes.items()
@@ -176,7 +176,7 @@ def replied(state, level, call, key):
     if (call.caller, key) not in state.removing:
         return [state]
     new = state.copy()
-    new.removing = tuple(it for it in new.removing if it != (call.caller, key))
+    new.removing = tuple(removal for removal in new.removing if removal != (call.caller, key))
     free = new.without_pins(new.of_key(key))
     busy = free.busy(key, True)
     if call.reply == FREE:
@@ -195,7 +195,7 @@ def closed(state, level, point):
         keys = {key for caller, key in state.removing if caller == call.caller}
         if not keys:
             return [state]
-        new.removing = tuple(it for it in new.removing if it[0] != call.caller)
+        new.removing = tuple(removal for removal in new.removing if removal[0] != call.caller)
         keys -= {key for _, key in new.removing}
         free = new.without_pins(frozenset().union(*map(new.of_key, keys)))
         return [free, new] if level >= Level.UNDER_WAY and new.pins != free.pins else [free]
@@ -203,11 +203,11 @@ def closed(state, level, point):
     if not fits(new, level, call, answer(new, True, call.user, call.caller, "close", call.arguments)):
         return []
     lost = frozenset(
-        it
-        for it in before - new.held(True)
-        if it in new.nodes and new.nodes[it].policy and not new.present(new.nodes[it].key) and new.named(it)
+        number
+        for number in before - new.held(True)
+        if number in new.nodes and new.nodes[number].policy and not new.present(new.nodes[number].key) and new.named(number)
     )
     if lost:
         new.pins |= lost
-        new.removing = tuple(sorted((*new.removing, *{(call.caller, new.nodes[it].key) for it in lost})))
+        new.removing = tuple(sorted((*new.removing, *{(call.caller, new.nodes[number].key) for number in lost})))
     return [new]

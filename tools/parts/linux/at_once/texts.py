@@ -22,7 +22,7 @@ def script_of(call, raw, pad, names):
     home = "/t/s" if inside else "/t"
     policy = f"set-policy /t raw:{raw} {pad}"
     ready = [f"add-key {raw}", "mkdir /t"] + [policy] * inside
-    others = [it for it in range(CALLERS) if it != call.caller and (call.index or it < call.caller)]
+    others = [line for line in range(CALLERS) if line != call.caller and (call.index or line < call.caller)]
     if len(others) < len(ready):
         raise NoTexts(
             f"line {call.line} draws the nonce of a locked directory too early for its texts to be known"
@@ -32,12 +32,12 @@ def script_of(call, raw, pad, names):
         sections[caller][0] = command
     sections[call.caller][call.index] = "mkdir /t/s" if inside else policy
     last = (
-        [f"create {home}/{it}" for it in names]
+        [f"create {home}/{name}" for name in names]
         + ["open /t"] * inside
         + [f"remove-key raw:{raw}", f"list {home}"]
     )
     sections[0] += last + [f"stat {home}/*{k}" for k in range(len(names))]
-    return "".join("".join(it + "\n" for it in ["caller 1000", *own]) for own in sections), 2 + inside
+    return "".join("".join(line + "\n" for line in ["caller 1000", *own]) for own in sections), 2 + inside
 
 
 def texts_of(program, call, raw, pad, names):
