@@ -1,4 +1,4 @@
--- What of names may be cached goes on holding where a handle is opened or closed, and where a file is written.
+-- The rule for cached names holds after a handle is opened or closed, and after a file is written.
 use Rattle.std.proofs.Common.{◌≡◌, ◌≢◌, ℕ, Bool, true, false, cond, not, ◌&&◌, ◌||◌, List, Contains, eqb, Option, Some, None, Result, Ok, Err, OnOk, OnErr, inl, inr, ◌⊎◌, refl, sym, ap, subst, ◌∙◌}
 use Rattle.std.proofs.lemmas.Bool.{cases_eq, or_cases, or_left, or_right, eq-eqb, true≢false}
 use Rattle.policy_ctx.specs.Context.{id_in}
@@ -79,7 +79,7 @@ module _ (disk : Disk) (claims : ClaimSet) (names : NameList) (live left : Handl
           negated false is = refl
       by false false is was = inl (λ same. true≢false (sym (eq-eqb pair.0.dir node same) ∙ dir_none names (dir_forgotten names node) node refl pair was))
 
-  -- the disk elsewhere, and where the node stays
+  -- the disk at other nodes, and at the node if it stays
   disk_same : (d : ℕ) → (d ≢ node) ⊎ ((on || due) ≡ true) → get (disk_left disk (has_handle left node) node) d ≡ get disk d
   disk_same d which = by on (is_lasting disk node) (is_key_due claims (context_on_disk (get disk node))) which
     where
@@ -89,7 +89,7 @@ module _ (disk : Disk) (claims : ClaimSet) (names : NameList) (live left : Handl
       by false false key (inl differ) = remove_other disk node d differ
       by false false key (inr bad) = absurd (true≢false (sym bad))
 
-  -- a directory stays keyed elsewhere, and where its key is due or a handle is left
+  -- a directory stays keyed at other nodes, and at the node if its key is required or a handle is left
   keyed_apart : (d : ℕ) → (d ≢ node) → is_unlocked disk claims live d ≡ true → is_unlocked disk claims left d ≡ true
   keyed_apart d differ keyed =
       keyed_more claims claims live left d (λ id is. is) (λ held. held_others live left node lost d differ ∙ held) (context_on_disk (get disk d)) keyed
@@ -120,7 +120,7 @@ module _ (disk : Disk) (claims : ClaimSet) (names : NameList) (live left : Handl
         ∙ still_keyed pair.0.dir (elsewhere pair held) (rule.keyed pair (fewer_names disk claims names left node pair held));
   }
 
--- the same of parts that are told by equations
+-- the same of parts that are given by equations
 pub names_on : (disk new : Disk) (claims : ClaimSet) (names now : NameList) (live : HandleList) → new ≡ disk → now ≡ names
     → NamesForget disk claims names live → NamesForget new claims now live
 names_on disk new claims names now live is are rule =

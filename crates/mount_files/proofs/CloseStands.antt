@@ -1,4 +1,4 @@
--- A state in which a handle was closed stands for the mount in which it was.
+-- A state in which a handle was closed represents the mount in which it was.
 use Rattle.std.proofs.Common.{◌≡◌, ℕ, Bool, true, false, cond, ◌||◌, List, [], Contains, eqb, unwrap_or, Option, Some, None, option_map, inl, inr, refl, sym, ap, subst, ◌∙◌}
 use Rattle.std.proofs.lemmas.Bool.{cases_Bool, cases_eq, eqb-true, true≢false}
 use Rattle.policy_ctx.specs.declared.policy.KeyId.{KeyId}
@@ -88,7 +88,7 @@ module _ (disk : Disk) (next : ℕ) (m : PlainMount) (well : IsWellFormed m) (tr
 
 -- ---- cached keys
 
--- a node with a context after the close stood so before
+-- a node with a context after the close had it before
 left_node : (b : Bool) (nodes : Nodes) (n q : ℕ) (c : Context) → context_at (cond b nodes (remove nodes n)) q ≡ Some c
     → get (cond b nodes (remove nodes n)) q ≡ get nodes q
 left_node true nodes n q c is = refl
@@ -109,7 +109,7 @@ each_left P modes old kind (Some context) q k mode = by_flag (is_by_mode_in cont
     by_flag true = each_released P modes old (id_in context) kind q k mode
     by_flag false = old q k mode
 
--- ---- the state stands
+-- ---- the state represents the mount
 
 module _ (old new : MountState) (m : PlainMount) (caller handle n : ℕ) (st : StandsFor old m) (same : SameButClosed old new)
     (closes : ClosesOne old new caller handle n) where

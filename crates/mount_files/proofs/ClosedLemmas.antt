@@ -1,4 +1,4 @@
--- What must be forgotten is kept where a handle is closed.
+-- The rule of what must be forgotten holds after a handle is closed.
 use Rattle.std.proofs.Common.{◌≡◌, ◌≢◌, ℕ, ◌+◌, ◌-◌, ◌≤◌, Bool, true, false, cond, not, ◌&&◌, ◌||◌, List, [], ◌∷◌, length, eqb, Option, Some, None, is_some, inl, inr, refl, sym, ap, ◌∙◌, arith}
 use Rattle.std.proofs.lemmas.Bool.{cases_eq, or_cases, or_left, or_right, and_parts, eq-eqb, true≢false}
 use Rattle.std.proofs.lemmas.List.Sums.{sum_by-cons}
@@ -46,7 +46,7 @@ users_alike p q (h ∷ hs) same =
 -- ---- which keys are left
 
 module _ (keys : KeyMap) (node : ℕ) where
-  -- a key that is left stood, and if it is the node's, the node's stayed
+  -- a key that is left was there before, and if it is the node's, the node's stayed
   pub left_was : (b : Bool) (q : ℕ) (k : NodeKey) → get (cond b keys (remove keys node)) q ≡ Some k → (get keys q ≡ Some k) × (q ≡ node → b ≡ true)
   left_was true q k is = (is, λ _. refl)
   left_was false q k is = elim (cases_eq q node) [
@@ -92,7 +92,7 @@ module _ (disk : Disk) (claims : ClaimSet) (cache : Cache) (modes : Modes) (live
     few = let few = rule.pins.few in omega arith;
   }
 
-  -- the key that the node's context names is the one that its file key was drawn from
+  -- the key that the node's context names is the one that its file key was derived from
   due : (id : KeyId) (o : Option (List ℕ)) → has_own id o ≡ true → is_key_due claims o ≡ true → is_present claims id ≡ true
   due id None own is = absurd (true≢false (sym own))
   due id (Some context) own is =

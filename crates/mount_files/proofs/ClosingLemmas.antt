@@ -28,7 +28,7 @@ use Rattle.mount_files.proofs.CachedRules.{closed_names, names_on}
 use Rattle.mount_files.proofs.ClosedLemmas.{after, closed_rule, closed_is_safe}
 use Rattle.mount_files.proofs.HandleCounts.{left_length, one_here, node_held, pins_here}
 
--- some pins, told in two ways
+-- some pins, in two forms
 some_pins : (n : ℕ) → not (eqb n 0) ≡ nat_lt 0 n
 some_pins n = elim (cases_lt 0 n) [
   | inl some ↦ ap not (ne_eqb n 0 (λ none. omega arith)) ∙ sym (lt-ltb 0 n some)

@@ -1,4 +1,4 @@
--- Which keys a node uses, by the context that lies on the disk.
+-- Which keys a node uses, by the context on the disk.
 use Rattle.std.proofs.Common.{◌≡◌, ℕ, true, false, not, ◌&&◌, List, Some, None, inl, inr, sym, ap, ◌∙◌}
 use Rattle.std.proofs.lemmas.Bool.{cases_Bool}
 use Rattle.policy_ctx.specs.declared.policy.KeyId.{KeyId}

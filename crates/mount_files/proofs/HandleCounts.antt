@@ -13,7 +13,7 @@ use Rattle.mount_model.specs.OpenHandles.{has_handle}
 use Rattle.mount_state.specs.Handles.{users, handles_on, LosesOne}
 use Rattle.mount_state.proofs.UserLemmas.{some_user, users_from, pins_tell}
 
--- one where it is so, else none
+-- one if it is so, else none
 abbrev pub one_if : Bool → ℕ
 one_if b = cond b 1 0
 
@@ -23,7 +23,7 @@ or_none : (b : Bool) → (b || false) ≡ b
 or_none true = refl
 or_none false = refl
 
--- the handles with one more behind them
+-- the handles with one more at the end
 abbrev pub more : HandleList → Handle → HandleList
 more live h = live ++ h ∷ []
 

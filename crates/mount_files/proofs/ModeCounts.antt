@@ -1,4 +1,4 @@
--- Mode keys with one user more and with one less: how many users each has, and which keys stand.
+-- Mode keys with one user more and with one less: how many users each has, and which keys there are.
 use Rattle.std.proofs.Common.{◌≡◌, ℕ, ◌+◌, ◌-◌, ◌≤◌, Bool, true, false, cond, ◌&&◌, eqb, Option, Some, None, inl, inr, ◌⊎◌, sym, refl, ap, subst, ◌∙◌, arith}
 use Rattle.std.specs.Option.{option_map_or}
 use Rattle.std.specs.Ordering.{eq_by_cmp}
@@ -105,7 +105,7 @@ module _ (those : ModeMap) (id : KeyId) where
                 ]
           ]
 
-  -- what holds of each key that stands, and of the one that comes
+  -- what holds of each key that is there, and of the one that is added
   module _ (P : KeyId → FileKey → Type 0) (old : (q : KeyId) (mode : ModeKey) → map.get those q ≡ Some mode → P q mode.key) where
     each_more : (key : FileKey) → P id key → (q : KeyId) (mode : ModeKey) → map.get (with_users those id key 1) q ≡ Some mode → P q mode.key
     each_more key fresh q mode is =
@@ -246,7 +246,7 @@ pub itself : (id : KeyId) (kind : KeyKind) → is_it id kind id kind ≡ true
 itself id Contents = ap (λ b. b && true) (same_id-refl id)
 itself id Names = ap (λ b. b && true) (same_id-refl id)
 
--- the one that came has a user
+-- the one that was added has a user
 pub held_some : (modes : Modes) (id : KeyId) (kind : KeyKind) (key : FileKey) → 1 ≤ users_in (of_kind (held modes id kind key) kind) id
 held_some modes id kind key =
     let count = users_held modes id kind key id kind in

@@ -1,4 +1,4 @@
--- The key that a handle on a node needs is had where the node's key is at hand, and is the node's.
+-- If the node's key is available, the key that a handle on it needs is found, and is the node's.
 use Rattle.std.proofs.Common.{◌≡◌, ℕ, Bool, true, false, cond, ◌&&◌, ◌||◌, List, [], drop, Option, Some, None, option_map, is_some, is_none, unwrap_or, inl, inr, refl, sym, ap, ◌∙◌, arith}
 use Rattle.std.specs.Option.{option_map_or}
 use Rattle.std.proofs.lemmas.Bool.{or_cases, true≢false}
@@ -106,7 +106,7 @@ module _ (disk : Disk) (cache : Cache) (node : ℕ) (context : List ℕ) (there 
     fits = fits;
   }
 
-  -- ---- where the key is at hand
+  -- ---- if the key is available
 
   module _ (ring : Holding) (modes : Modes) (live : HandleList) (rule : Forgets disk ring.claims cache modes live) (exact : HoldsClaimedSecrets ring)
       (keyed : is_unlocked disk ring.claims live node ≡ true) (id : KeyId) (id_is : id ≡ id_in context) where

@@ -1,4 +1,4 @@
--- A state in which a handle was opened stands for the mount in which it was.
+-- A state in which a handle was opened represents the mount in which it was.
 use Rattle.std.proofs.Common.{◌≡◌, ℕ, ◌+◌, Bool, true, false, cond, not, ◌&&◌, ◌||◌, [], ◌∷◌, ◌++◌, length, nat_le, Option, Some, None, option_map, is_some, Ok, inl, refl, sym, ap, subst, ◌∙◌}
 use Rattle.std.specs.Option.{option_map_or}
 use Rattle.std.proofs.lemmas.Bool.{or_parts, leb-false, true≢false}
@@ -37,7 +37,7 @@ use Rattle.mount_state.specs.CachedKeys.{CachesStand}
 use Rattle.mount_state.specs.declared.state.MountState.{MountState}
 use Rattle.mount_files.specs.Opened.{is_link_body, OpensAsTold, OpensOne}
 
--- ---- what lies on the disk
+-- ---- what is on the disk
 
 there_alike : {X Y : Type 0} (f : X → Y) (o : Option X) → is_some (option_map f o) ≡ is_some o
 there_alike f None = refl
@@ -85,7 +85,7 @@ module _ (m : PlainMount) (caller n : ℕ) where
   told_opened link keyed room = λ i. cond (link i) (refused m Inval) (cond (not (keyed i)) (refused m NoKey)
       (cond (room i) (refused m NoSpace) (opened_on m caller n)))
 
--- a refusal that is told, and the mount that it leaves
+-- a refusal that is returned, and the mount that it leaves
 pub refusal_given : (m : PlainMount) (answer : Answer) (refusal : Refusal) (s : MountState) → answer ≡ refused m refusal → StandsFor s m
     → IsGivenOrNoMemory m answer (Refused refusal) s
 refusal_given m answer refusal s is st = inl (
@@ -124,7 +124,7 @@ pub walked_there : (m : PlainMount) (path : PathParts) (n : ℕ) → IsWellForme
 walked_there m path n well is =
     named_there (get m.nodes n) (reached_named m.nodes well.nodes.tree.root well.nodes.tree.names (walked_reached m path n is))
 
--- ---- the state stands
+-- ---- the state represents the mount
 
 pub opened_stands : (old new : MountState) (m : PlainMount) (caller n : ℕ) → StandsFor old m → OpensOne old new caller n
     → CachesStand new.inodes new.modes m → new.names ≡ old.names → IsWellFormed (with_handle m caller n) → StandsFor new (with_handle m caller n)
@@ -169,7 +169,7 @@ kept_stands old new m st same caches names = record {
   records = same.meta ∙ st.records;
 }
 
--- the handle was opened under the number that the mount tells
+-- the handle was opened under the number that the mount answers
 pub opened_given : (m : PlainMount) (caller n : ℕ) (answer : Answer) (number : ℕ) (new : MountState) → answer ≡ opened_on m caller n
     → number ≡ opens_of m.opened caller → StandsFor new (with_handle m caller n) → IsGivenOrNoMemory m answer (Opened number) new
 opened_given m caller n answer number new is count st = inl (
@@ -177,7 +177,7 @@ opened_given m caller n answer number new is count st = inl (
   subst (StandsFor new) (sym (ap (λ (a : Answer). a.mount) is)) st,
 )
 
--- the handle that is opened behind a walk is the one more
+-- the handle that is opened after a walk is the one more
 pub opened_after : (old walked new : MountState) (caller : ℕ) (reply : Reply) → SameButCaches old walked → OpensAsTold walked new caller reply → OpensAsTold old new caller reply
 opened_after old walked new caller reply same told = record {
   node = told.node;
@@ -198,7 +198,7 @@ opened_after old walked new caller reply same told = record {
   number = told.number ∙ ap (λ (hs : Handles). Opened (opens_of hs.opened caller)) same.handles;
 }
 
--- ---- at the node to which the path leads
+-- ---- at the node that the path resolves to
 
 module _ (m : PlainMount) (caller : ℕ) (path : PathParts) (n : ℕ) (led : Ok n ≡ walked m path) (reply : Reply) where
   pub at_given : (new : MountState) → IsGivenOrNoMemory m (open_told m caller n) reply new → IsGivenOrNoMemory m (answer_to_open m caller path) reply new

@@ -1,4 +1,4 @@
--- What must be forgotten is kept where a handle is opened.
+-- The rule of what must be forgotten holds after a handle is opened.
 use Rattle.std.proofs.Common.{◌≡◌, ℕ, ◌+◌, ◌<◌, Bool, true, false, cond, length, eqb, Option, Some, None, IfSome, is_some, is_none, inl, inr, ◌⊎◌, refl, sym, ap, subst, ◌∙◌, arith}
 use Rattle.std.proofs.lemmas.Bool.{cases_eq, or_cases, or_left, or_right, eq-eqb, eqb-true, ne_eqb, true≢false}
 use Rattle.policy_ctx.specs.declared.policy.KeyId.{KeyId}
@@ -38,7 +38,7 @@ module _ (keys : KeyMap) (node : ℕ) where
     | inr differ ↦ inl (sym (insert_other keys node k q differ) ∙ is)
   ]
 
-  -- a key that is cached was, or is the one that came
+  -- a key that is cached was cached before, or is the one that was added
   pub given_was : (P : NodeKey → Type 0) (key : Option NodeKey) → IfSome key P → (q : ℕ) (found : NodeKey)
       → get (given keys node key) q ≡ Some found → (get keys q ≡ Some found) ⊎ ((q ≡ node) × P found)
   given_was P None fresh q found is = inl is
@@ -66,7 +66,7 @@ module _ (disk : Disk) (claims : ClaimSet) (cache : Cache) (modes : Modes) (live
   abbrev pub IsForNode : NodeKey → Type 0
   IsForNode k = (uses_own disk h.node k.id ≡ true) × (is_of_kind (kind_on_disk (get disk h.node)) k.key ≡ true)
 
-  -- the node has its key with this one, where it has one of its own
+  -- the node has its key with this one, if it has one of its own
   abbrev pub IsKeyed : Option NodeKey → Type 0
   IsKeyed key = (id : KeyId) → uses_own disk h.node id ≡ true → is_some (get (given cache.keys h.node key) h.node) ≡ true
 

@@ -62,7 +62,7 @@ module _ (disk : Disk) (claims : ClaimSet) (cache : Cache) (modes : Modes) (live
 pub room_left : (handles : Handles) (caller : ℕ) → is_full handles caller ≡ false → length handles.live < MOST_HANDLES
 room_left handles caller room = leb-false MOST_HANDLES (length handles.live) (or_parts (nat_le MOST_HANDLES (length handles.live)) (nat_le MOST_OPENS (opens_of handles.opened caller)) room).0
 
--- ---- a pin that is taken away again, with the key that came with it
+-- ---- a pin that is removed again, with the key that was added with it
 
 pub unpinned : (cache : Cache) (node : ℕ) (key : Option NodeKey) (cached : Bool) → cached ≡ is_some (key_at cache node) → (after : Cache)
     → after ≡ record { keys = given cache.keys node key; pins = with_pins cache.pins node (pins_of cache node + 1) }

@@ -57,13 +57,13 @@ totals_alike : (raws : Raws) (nodes : Nodes) (disk : Disk) → AgreesBy (stored_
 unfolding disk_total block_total
 totals_alike raws nodes disk agree = ap (sum_by disk_value) (agree_entries_by (stored_node raws) nodes disk agree) ∙ sums_alike raws (entries nodes)
 
--- ---- whether there is room for a write
+-- ---- whether there is space for a write
 
 none_written : (offset : ℕ) (contents : List ℕ) → with_bytes offset [] contents ≡ contents
 unfolding with_bytes
 none_written offset contents = refl
 
--- with bytes a file has so many blocks at least as they need
+-- with bytes a file has at least as many blocks as they need
 count_written : (offset : ℕ) (bytes contents : List ℕ) → 0 < length bytes
     → plain_count (with_bytes offset bytes contents) ≡ max (plain_count contents) (end_block offset bytes)
 unfolding block_count
@@ -100,7 +100,7 @@ module _ (s : MountState) (m : PlainMount) (st : StandsFor s m) (file offset : �
       let few = st.well.nodes.blocks in
       lt-ltb _ _ (omega (arith, over, count, few, total, here))
 
-  -- there is room, where the bytes don't exceed the disk
+  -- there is space, if the bytes don't exceed the disk
   pub room_left : (0 < length bytes → ExceedsDisk s.disk file offset bytes → ⊥) → lacks_blocks_for m file offset bytes ≡ false
   room_left fits = elim (cases_Bool (lacks_blocks_for m file offset bytes)) [
     | inl lacks ↦ elim (cases_lt 0 (length bytes)) [

@@ -143,7 +143,7 @@ module _ (s : MountState) (m : PlainMount) (st : StandsFor s m) (file : ℕ) (is
           ∙ ap (option_map (seal_with file c)) (contents_is c here)
           ∙ sym (ap (contents_seal m.raws file) here)
 
--- where the context that is read is the one on the disk, a key for contents is held
+-- if the context that is read is the one on the disk, a key for contents is held
 pub key_held : (s : MountState) (file : ℕ) → HasOpen s file → (context : Context) → context_on_disk (get s.disk file) ≡ Some (context_bytes context)
     → ((c : Context) → length c.policy.id.0 ≡ 16 → context_on_disk (get s.disk file) ≡ Some (context_bytes c) → Some context ≡ Some c)
     → (bytes : List ℕ) × (contents_key s.inodes s.modes file context ≡ Some (key.Contents bytes))

@@ -1,4 +1,4 @@
--- A file's contents that are written leave the rule, and the state stands for the mount with them written.
+-- Writing a file's contents preserves the rule, and the state represents the mount with them written.
 use Rattle.std.proofs.Common.{◌≡◌, ℕ, ◌+◌, ◌-◌, false, ◌&&◌, List, [], ◌∷◌, length, nat_lt, Option, Some, None, option_map, is_some, Result, Ok, Err, OnOk, OnErr, inl, inr, refl, sym, ap, subst, ◌∙◌}
 use Rattle.std.proofs.lemmas.Bool.{cases_eq, ltb-false}
 use Rattle.policy_ctx.specs.declared.policy.Context.{Context}

@@ -1,4 +1,4 @@
--- What goes where a handle is closed.
+-- What is removed when a handle is closed.
 use Rattle.std.specs.Prelude.{ℕ, Bool, true, false, not, ◌&&◌, ◌||◌, ◌==◌, List, Option, Some, None, if◌then◌else◌}
 use Rattle.number_map.specs.Numbered.{get, remove}
 use Rattle.user_claims.specs.Claims.{ClaimSet}
@@ -24,22 +24,22 @@ is_named_in (Some v) = v.named
 abbrev pub is_lasting : Disk → ℕ → Bool
 is_lasting disk node = (node == 0) || is_named_in (get disk node)
 
--- the node stays where it has a handle, or stays without one
+-- the node stays if it has a handle, or stays without one
 abbrev pub disk_left : Disk → Bool → ℕ → Disk
 disk_left disk held node = if held || is_lasting disk node then disk else remove disk node
 
--- some user has a claim on the master key that the context names; so it is where there is none
+-- some user has a claim on the master key that the context names; it holds too if there is no context
 abbrev pub is_key_due : ClaimSet → Option (List ℕ) → Bool
 is_key_due claims None = true
 is_key_due claims (Some context) = is_present claims (id_in context)
 
--- the node's key stays where the node has a handle, or stays without one and its key is due
+-- the node's key stays if the node has a handle, or if the node stays without one and its key is required
 abbrev pub keys_left : Disk → ClaimSet → KeyMap → Bool → ℕ → KeyMap
 keys_left disk claims keys held node =
     if held || (is_lasting disk node && is_key_due claims (context_on_disk (get disk node))) then keys
     else remove keys node
 
--- a directory's names stay where its key would
+-- a directory's names stay if its key would
 abbrev pub names_left : Disk → ClaimSet → NameList → Bool → ℕ → NameList
 names_left disk claims names held node =
     if held || (is_lasting disk node && is_key_due claims (context_on_disk (get disk node)))

@@ -1,4 +1,4 @@
--- What a handle on a node needs of a master key, in the state and in the mount that it stands for.
+-- What a handle on a node needs of a master key, in the state and in the mount that it represents.
 use Rattle.std.specs.Prelude.{◌≡◌, ℕ, true, false, ◌&&◌, [], Option, Some, is_some, IfSome}
 use Rattle.std.specs.Option.{unwrap_or}
 use Rattle.policy_ctx.specs.declared.policy.KeyId.{KeyId}
@@ -25,7 +25,7 @@ abbrev pub IsKeyFor : Disk → ℕ → NodeKey → Type 0
 IsKeyFor disk node key = (uses_own disk node key.id ≡ true)
     × (is_of_kind (kind_on_disk (get disk node)) key.key ≡ true)
 
--- with this key, where there is one, the node has its own key cached if it has one; it uses no mode key
+-- with this key, if there is one, the node has its own key cached if it has one; it uses no mode key
 pub record IsOwnNeed (disk : Disk) (cache : Cache) (node : ℕ) (key : Option NodeKey) : Type 0 where
   pub fits : IfSome key (IsKeyFor disk node)
   pub cached : (id : KeyId) → uses_own disk node id ≡ true

@@ -11,7 +11,7 @@ use Rattle.mount_state.specs.StandsFor.{StandsFor}
 use Rattle.mount_state.specs.CachedKeys.{plain_kind}
 use Rattle.mount_state.specs.declared.state.MountState.{MountState}
 
--- in whatever mount the state stands for, a call on that file is refused so
+-- in every mount that the state represents, a call on that file is refused so
 abbrev pub IsFileRefused : MountState → ℕ → ℕ → Refusal → Type 0
 IsFileRefused s caller handle refusal =
     (m : PlainMount) (f : ℕ → Answer) → StandsFor s m → at_file m caller handle f ≡ refused m refusal
@@ -21,7 +21,7 @@ pub record IsOpen (m : PlainMount) (file : ℕ) : Type 0 where
   pub is_file : plain_kind (get m.nodes file) ≡ Contents
   pub held : has_handle m.handles file ≡ true
 
--- the state stands for a mount in which the file is open
+-- the state represents a mount in which the file is open
 pub record HasOpen (s : MountState) (file : ℕ) : Type 0 where
   pub mount : PlainMount
   pub stands : StandsFor s mount

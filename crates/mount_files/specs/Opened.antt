@@ -12,7 +12,7 @@ use Rattle.mount_files.specs.Closed.{disk_left, keys_left, modes_left, names_lef
 
 -- ---- OpenNode
 
--- a symlink, as it lies on the disk
+-- a symlink, as it is on the disk
 abbrev pub is_link_body : Body → Bool
 is_link_body (Dir entries) = false
 is_link_body (File blocks size) = false

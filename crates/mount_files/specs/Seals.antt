@@ -27,7 +27,7 @@ abbrev pub seal_with : ℕ → Context → FileKey → Seal
 seal_with file c key = record { key = key_bytes key; start = node_start file c; unit = c.policy.unit }
 
 -- The contents of the file are sealed so: under the key that is held for it by its context on the disk, and
--- not at all where it has none. What lies there as a context is one.
+-- not at all if it has none. What is stored there as a context is one.
 pub record IsSealOf (s : MountState) (file : ℕ) (seal : Option Seal) : Type 0 where
   pub read : (bytes : List ℕ) → context_on_disk (get s.disk file) ≡ Some bytes → context_fault bytes ≡ None
   pub plain : context_on_disk (get s.disk file) ≡ None → seal ≡ None

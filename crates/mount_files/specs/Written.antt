@@ -15,11 +15,11 @@ pub record IsWrittenOn (s : MountState) (disk : Disk) (file offset : ℕ) (bytes
   pub sealed : IsSealOf s file seal
   pub written : disk ≡ disk_written s.disk file seal offset bytes
 
--- so it is for the file on which a handle is; without one nothing is written
+-- so it is for the file of the open handle; without a handle nothing is written
 abbrev pub IsWrittenTo : MountState → Disk → Option ℕ → ℕ → List ℕ → Type 0
 IsWrittenTo s disk None offset bytes = ⊥
 IsWrittenTo s disk (Some file) offset bytes = IsWrittenOn s disk file offset bytes
 
--- nothing differs but what lies on the disk
+-- nothing differs but the disk
 abbrev pub SameButDisk : MountState → MountState → Type 0
 SameButDisk old new = SameBut (part.Disk ∷ []) old new

@@ -34,12 +34,13 @@ use mount_model::{Refusal, Reply};
 use mount_state::MountState;
 use policy_ctx::{CONTEXT_LEN, id_in, is_by_mode};
 
-/// Closes the caller's handle of this number. With a node's last handle its key goes where no user has a
-/// claim on the master key, and with it a directory's cached names; under flag 8 the mode key where no other
-/// handle uses it; and the node itself where it has no name; the root never goes. What goes of keys is
-/// overwritten.
+/// Closes the caller's handle of this number. Closing the last handle on a node removes:
+/// - the node's key, if no user has a claim on the master key, and with it a directory's cached names;
+/// - under flag 8 the mode key, if no other handle uses it;
+/// - the node itself, if it has no name and is not the root.
 ///
-/// BadHandle exactly where the caller has no such handle. It takes no memory.
+/// Keys that are removed are wiped. Returns BadHandle exactly when the caller has no such handle. Takes no
+/// memory.
 pub fn close(state: &mut MountState, caller: u32, handle: u32) -> Reply
     ensures bad { node_of state.old.handles.live caller handle ≡ None
         → result ≡ Reply.Refused Refusal.BadHandle }
@@ -62,7 +63,7 @@ pub fn close(state: &mut MountState, caller: u32, handle: u32) -> Reply
     Reply::Done
 }
 
-// That of a key that is absent nothing is held.
+// That nothing of an absent key is held.
 fn hold_what_is_needed(state: &MountState)
     ensures { (id : KeyId) → key_state state.now.disk state.now.ring.claims state.now.handles.live id ≡ Absent
         → HoldsNothing state.now.disk state.now.ring state.now.inodes state.now.modes state.now.names id }
@@ -93,7 +94,7 @@ fn close_on(state: &mut MountState, caller: u32, handle: u32, node: u32)
     forget_node(&mut state.disk, &state.inodes, node);
 }
 
-// Takes one user away from the mode key that the node uses.
+// Removes one user from the mode key that the node uses.
 fn release_mode(disk: &DiskTree, modes: &mut ModeKeys, node: u32)
     requires { (id : KeyId) (kind : KeyKind) → uses_mode disk.now id kind node ≡ true
         → 1 ≤ users_in (of_kind modes.old kind) id }
@@ -110,8 +111,8 @@ fn release_mode(disk: &DiskTree, modes: &mut ModeKeys, node: u32)
     }
 }
 
-// Forgets the key of a node without pins, where the node is not to stay or no user has a claim on the
-// master key.
+// Removes the key of a node without pins, if the node is not to stay or no user has a claim on the master
+// key.
 fn forget_key(disk: &DiskTree, ring: &KeyRing, inodes: &mut InodeCache, node: u32)
     ensures { inodes.new ≡ record inodes.old {
       keys = keys_left disk.now ring.now.claims inodes.old.keys (not (is_unpinned inodes.old node)) node;
@@ -123,7 +124,7 @@ fn forget_key(disk: &DiskTree, ring: &KeyRing, inodes: &mut InodeCache, node: u3
     inodes.drop_key(node);
 }
 
-// Forgets the names of a directory where its key is forgotten.
+// Removes the cached names of a directory if its key is removed.
 fn forget_names(
     disk: &DiskTree,
     ring: &KeyRing,
@@ -140,7 +141,7 @@ fn forget_names(
     names.forget_dir(node);
 }
 
-// Whether the node's key stays: the node has pins, or it is to stay and its key is due.
+// Whether the node's key stays: the node has pins, or it is to stay and its key is required.
 fn is_key_kept(disk: &DiskTree, ring: &KeyRing, inodes: &InodeCache, node: u32) -> bool
     ensures { result ≡ (not (is_unpinned inodes.now node)
         || (is_lasting disk.now node && is_key_due ring.now.claims (context_on_disk (get disk.now node)))) }
@@ -161,7 +162,7 @@ fn is_dir(disk: &DiskTree, node: u32) -> bool
     }
 }
 
-// Forgets the node, where it has no pins and isn't to stay.
+// Removes the node, if it has no pins and isn't to stay.
 fn forget_node(disk: &mut DiskTree, inodes: &InodeCache, node: u32)
     ensures { disk.new ≡ disk_left disk.old (not (is_unpinned inodes.now node)) node }
 {
@@ -183,7 +184,7 @@ fn is_lasting(disk: &DiskTree, node: u32) -> bool
 }
 
 // Whether the node's key stays without a handle: some user has a claim on the master key that its context
-// names. So it is where it has none.
+// names. It stays too if the node has no context.
 fn is_key_due(disk: &DiskTree, ring: &KeyRing, node: u32) -> bool
     ensures { result ≡ is_key_due ring.now.claims (context_on_disk (get disk.now node)) }
 {

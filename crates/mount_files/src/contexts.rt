@@ -1,4 +1,4 @@
-//! The context of a node, as it lies on the disk.
+//! The context of a node on the disk.
 
 ghost use Rattle.std.specs.Prelude.{◌≡◌, ℕ, List, length, None, Some, option_map, IfOk, IsOk};
 ghost use Rattle.number_map.specs.Numbered.{get};
@@ -9,8 +9,8 @@ ghost use Rattle.mount_state.specs.Contexts.{context_on_disk};
 use disk_tree::{DiskTree, StoredNode};
 use policy_ctx::{Context, CtxFault, decode_context};
 
-// The context of the node; none where it has no policy, or there is no such node. A fault where the bytes
-// on the disk are no context.
+// Returns the context of the node, or `None` if it has no policy or there is no such node. Returns a fault
+// if the bytes on the disk are no context.
 pub(crate) fn context_on(disk: &DiskTree, number: u32) -> Result<Option<Context>, CtxFault>
     ensures none { context_on_disk (get disk.now number) ≡ None → result ≡ Ok None }
     ensures read { (c : Context) → length c.policy.id.0 ≡ 16

@@ -1,4 +1,4 @@
-//! What is lent may be given to another thread.
+//! A pending read may be passed to another thread.
 
 use crate::lent::Lent;
 use file_disk::LentRead;

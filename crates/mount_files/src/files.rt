@@ -8,8 +8,8 @@ ghost use Rattle.mount_files.specs.OpenFile.{IsFileRefused};
 use mount_model::Refusal;
 use mount_state::MountState;
 
-// The file that the caller has open under the number. BadHandle where there is none, IsDir where that is
-// a directory.
+// Returns the file that the caller has open under the number. BadHandle if there is none, IsDir if it is a
+// directory.
 pub(crate) fn open_file(state: &MountState, caller: u32, handle: u32) -> Result<u32, Refusal>
     ensures held { IfOk result (λ file. node_of state.now.handles.live caller handle ≡ Some file) }
     ensures file { IfOk result (IsFileAt state.now.disk) }

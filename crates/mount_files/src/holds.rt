@@ -18,7 +18,7 @@ use inode_refs::{InodeCache, NodeKey};
 use mount_state::{HandleTable, MountState};
 use std::alloc::{AllocError, Global};
 
-// Opens a handle on a node that uses no mode key, and caches its own key where that is handed in.
+// Opens a handle on a node that uses no mode key, and caches the node's own key if it is passed.
 pub(crate) fn open_own(
     alloc: Global,
     state: &mut MountState,
@@ -66,7 +66,7 @@ pub(crate) fn open_shared(
     ensures caches { (m : PlainMount) → StandsFor state.old m → IsNeedIn m node (Shared id kind key)
         → CachesStand state.new.inodes state.new.modes m }
 {
-    // Each mode key has users, so one more that is taken away again leaves all as before.
+    // Each mode key has users, so one user that is added and removed again leaves all as before.
     let _used = state.modes.users_of(&id);
     if state.modes.hold(alloc, &id, kind, key, 1).is_err() {
         return Err(AllocError);
@@ -87,7 +87,7 @@ pub(crate) fn open_shared(
     }
 }
 
-// Pins the node, with its key where one is handed in, and opens a handle on it.
+// Pins the node, with its key if one is passed, and opens a handle on it.
 fn open_pinned(
     alloc: Global,
     inodes: &mut InodeCache,
@@ -119,7 +119,7 @@ fn open_pinned(
     }
 }
 
-// Takes a pin of the node away, and its key where it isn't to stay.
+// Removes a pin of the node, and its key if the key isn't to stay.
 fn unpin(inodes: &mut InodeCache, node: u32, stays: bool)
     requires { 0 < pins_of inodes.old node }
     ensures { inodes.new ≡ record {

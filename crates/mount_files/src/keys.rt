@@ -15,9 +15,9 @@ use mount_model::Refusal;
 use mount_state::{MountState, start_of};
 use policy_ctx::Context;
 
-// What the contents of the file are sealed with: the file's own key that is cached, or that of its mode;
-// none where the file has no policy. BadHandle where its key isn't held, which no open file of a mount is
-// without.
+// Returns what the contents of the file are sealed with: the file's own cached key, or that of its mode, or
+// `None` if the file has no policy. Returns BadHandle if its key isn't held; for an open file of a mount it
+// always is.
 pub(crate) fn key_of(state: &MountState, file: u32) -> Result<Option<ContentsKey>, Refusal>
     ensures sealed { IfOk result (λ key. IsSealOf state.now file (seal_of key)) }
     ensures ranged { IfOk result (λ key. IsKeyOfBytes (seal_of key)) }
@@ -55,7 +55,7 @@ fn key_under(
     }
 }
 
-// The key that is held: the mode key under flag 8, else the file's own.
+// Returns the key that is held: the mode key under flag 8, else the file's own.
 fn held_key<'a>(state: &'a MountState, file: u32, context: &Context) -> Option<&'a FileKey>
     ensures { option_copied result ≡ held_key state.now file context.now }
 {

@@ -1,13 +1,13 @@
-//! What a read gives before it is deciphered.
+//! The result of a read before it is decrypted.
 
 use file_disk::LentRead;
 use mount_model::Reply;
 
-/// What a call leaves to be done once the turn is given back.
+/// What a call leaves to be done once the turn is over.
 #[derive(Drop)]
 pub enum Lent {
     /// Nothing: this is the reply.
     Ready(Reply),
-    /// The stored blocks of a part of a file, which are still to be deciphered.
+    /// The stored blocks of a part of a file, which are still encrypted.
     Read(LentRead),
 }

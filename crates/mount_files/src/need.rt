@@ -6,7 +6,7 @@ use inode_refs::NodeKey;
 /// What a handle on a node needs.
 #[derive(Drop)]
 pub(crate) enum Need {
-    /// The node's own file key, which is to be cached; none where it is cached, or the node has none.
+    /// The node's own file key, which is to be cached. `None` if it is cached, or the node has none.
     Own(Option<NodeKey>),
     /// The mode key of this identifier and kind.
     Shared {

@@ -1,4 +1,4 @@
-//! Which key a handle on a node needs, and where it is had from.
+//! Which key a handle on a node needs, and how it is obtained.
 
 ghost use Rattle.std.specs.Prelude.{◌≡◌, true, false, drop, is_some, Some};
 ghost use Rattle.number_map.specs.Numbered.{get};
@@ -18,7 +18,7 @@ use inode_refs::NodeKey;
 use mount_state::MountState;
 use policy_ctx::{CONTEXT_LEN, POLICY_LEN, id_in, is_by_mode};
 
-// What a handle on the node needs, which is there and whose key is at hand.
+// Returns what a handle on the node needs. The node exists, and its key is available.
 pub(crate) fn need_of(state: &MountState, node: u32) -> Need
     requires there { is_some (get state.now.disk node) ≡ true }
     requires keyed { is_unlocked state.now.disk state.now.ring.claims state.now.handles.live node ≡ true }
@@ -38,7 +38,7 @@ pub(crate) fn need_of(state: &MountState, node: u32) -> Need
     own_need(state, node, context, kind)
 }
 
-// The key of a node that has one of its own: the one that is cached, else one that is drawn.
+// Returns the key of a node that has one of its own: the cached one, else a derived one.
 fn own_need(state: &MountState, node: u32, context: &[u8; CONTEXT_LEN], kind: KeyKind) -> Need
     requires there { context_on_disk (get state.now.disk node) ≡ Some context.now }
     requires kind { kind ≡ kind_on_disk (get state.now.disk node) }
@@ -51,7 +51,7 @@ fn own_need(state: &MountState, node: u32, context: &[u8; CONTEXT_LEN], kind: Ke
         return Need::Own(None);
     }
     let id = id_in(context);
-    // A secret is held exactly where some user has a claim.
+    // A secret is held exactly when some user has a claim.
     let _exact = state.ring.claims();
     let Some(secret) = state.ring.secret_of(&id) else {
         unreachable!()
@@ -60,7 +60,7 @@ fn own_need(state: &MountState, node: u32, context: &[u8; CONTEXT_LEN], kind: Ke
     Need::Own(Some(NodeKey { id, key }))
 }
 
-// The mode key that the node uses: the one that stands, else one that is drawn.
+// Returns the mode key that the node uses: the one that is held, else a derived one.
 fn shared_need(state: &MountState, node: u32, context: &[u8; CONTEXT_LEN], kind: KeyKind) -> Need
     requires there { context_on_disk (get state.now.disk node) ≡ Some context.now }
     requires kind { kind ≡ kind_on_disk (get state.now.disk node) }
@@ -88,7 +88,7 @@ fn shared_need(state: &MountState, node: u32, context: &[u8; CONTEXT_LEN], kind:
     }
 }
 
-// What the node's key enciphers.
+// Returns the kind of the node's key: what it encrypts.
 pub(crate) fn key_kind_of(body: &Body) -> KeyKind
     ensures { result ≡ disk_kind_of body.now }
 {
@@ -98,7 +98,7 @@ pub(crate) fn key_kind_of(body: &Body) -> KeyKind
     }
 }
 
-// The nonce in the bytes of a context.
+// Returns the nonce in the bytes of a context.
 fn nonce_in(context: &[u8; CONTEXT_LEN]) -> [u8; 16]
     ensures { result ≡ drop 24 context.now }
 {
@@ -107,7 +107,7 @@ fn nonce_in(context: &[u8; CONTEXT_LEN]) -> [u8; 16]
     nonce
 }
 
-// The same key once more.
+// Returns a copy of the key.
 fn copy_of(key: &FileKey) -> FileKey
     ensures { result ≡ key.now }
 {

@@ -24,14 +24,14 @@ use name_crypt::Steps;
 use std::alloc::{AllocError, Global};
 use std::sync::ledger::Ledger;
 
-/// Opens the directory or file at the end of the path, and answers the number of the caller's new handle:
-/// how many the caller opened before. The key of the node is cached as long as a handle is open on it, or
-/// under flag 8 the mode key of its kind.
+/// Opens the directory or file at the end of the path. Returns the number of the caller's new handle: how
+/// many the caller opened before. The key of the node, or under flag 8 the mode key of its kind, is cached
+/// as long as a handle is open on it.
 ///
-/// Refused as the walk is, then Inval for a symlink, NoKey where the node's key isn't at hand, and NoSpace
-/// where `MOST_HANDLES` handles are open or the caller opened `MOST_OPENS`; NoMemory in place of an answer
-/// that is no refusal. After a refusal all is as before, but for which keys of nodes and which
-/// names are cached.
+/// Refused as the walk is, then with Inval for a symlink, then with NoKey if the node's key isn't
+/// available. Then NoSpace if `MOST_HANDLES` handles are open or the caller opened `MOST_OPENS`. NoMemory
+/// replaces an answer that is no refusal. After a refusal all is as before, except which keys of nodes and
+/// which names are cached.
 pub fn open_node<L: Ledger>(
     alloc: Global,
     state: &mut MountState,
@@ -55,7 +55,7 @@ pub fn open_node<L: Ledger>(
     }
 }
 
-// Opens a handle of the caller on the node to which a walk led.
+// Opens a handle of the caller on the node that a walk reached.
 fn open_at(alloc: Global, state: &mut MountState, caller: u32, node: u32) -> Reply
     ensures stands { (m : PlainMount) → StandsFor state.old m → is_some (get m.nodes node) ≡ true
         → IsGivenOrNoMemory m (open_told m caller node) result state.new }
@@ -83,7 +83,7 @@ fn open_at(alloc: Global, state: &mut MountState, caller: u32, node: u32) -> Rep
     }
 }
 
-// Opens a handle of the caller on the node, which is there and whose key is at hand.
+// Opens a handle of the caller on the node. The node exists, and its key is available.
 fn open_keyed(
     alloc: Global,
     state: &mut MountState,
@@ -106,7 +106,7 @@ fn open_keyed(
     }
 }
 
-// Whether it is a symlink's.
+// Whether the body is a symlink's.
 fn is_link(body: &Body) -> bool
     ensures { result ≡ is_link_body body.now }
 {

@@ -1,5 +1,4 @@
-//! A part of an open file is read: under the turn its stored blocks are copied, and outside they are
-//! deciphered.
+//! Reading a part of an open file: its stored blocks are copied in the turn, and decrypted outside.
 
 ghost use Rattle.std.specs.Prelude.{◌≡◌, ◌≤◌, Some};
 ghost use Rattle.mount_model.specs.PlainMount.{PlainMount};
@@ -18,12 +17,11 @@ use mount_model::{Refusal, Reply};
 use mount_state::MountState;
 use std::alloc::Global;
 
-/// Begins to read at most `len` bytes from byte `offset` on of the file that the caller has open under
-/// the number: the stored blocks of that part are copied, with the key that deciphers them, and nothing
-/// is deciphered.
+/// Begins to read at most `len` bytes from byte `offset` on of the file that the caller has open under the
+/// number. Copies the stored blocks of that part, with the key that decrypts them. Decrypts nothing.
 ///
-/// The reply is ready where the part is empty and where the read is refused: BadHandle where the caller
-/// has no such handle, then IsDir, then TooBig for more than `MOST_READ_BYTES`; NoMemory where there is
+/// The reply is ready if the part is empty or the read is refused. Refused with BadHandle if the caller has
+/// no such handle, then with IsDir, then with TooBig for more than `MOST_READ_BYTES`; NoMemory if there is
 /// none for the copy.
 pub fn read_begin(
     alloc: Global,
@@ -63,8 +61,7 @@ fn lend(alloc: Global, state: &MountState, file: u32, offset: u32, len: u32) -> 
     }
 }
 
-/// Deciphers in place what was lent, and cuts it to the content. It takes no memory; the key is
-/// overwritten.
+/// Decrypts the pending read in place, cuts it to the content, and wipes the key. Takes no memory.
 pub fn read_finish(lent: LentRead) -> Reply
     ensures { result ≡ reply_of (Lent.Read lent) }
 {
@@ -72,7 +69,7 @@ pub fn read_finish(lent: LentRead) -> Reply
 }
 
 impl Lent {
-    /// The reply: it is ready, or what was lent is deciphered. It takes no memory.
+    /// Returns the reply: the ready one, or the decrypted content of the pending read. Takes no memory.
     pub fn finish(self) -> Reply
         ensures { result ≡ reply_of self }
     {
@@ -83,8 +80,8 @@ impl Lent {
     }
 }
 
-/// Reads at most `len` bytes from byte `offset` on, as far as the file goes, of the file that the caller
-/// has open under the number. Refused as `read_begin` is.
+/// Reads at most `len` bytes from byte `offset` on of the file that the caller has open under the number,
+/// up to the end of the file. Refused as `read_begin` is.
 pub fn read(
     alloc: Global,
     state: &MountState,

@@ -1,4 +1,4 @@
-//! Bytes are written into an open file.
+//! Writing bytes into an open file.
 
 ghost use Rattle.std.specs.Prelude.{◌≡◌, true, false};
 ghost use Rattle.mount_model.specs.ClaimHistory.{is_refused};
@@ -20,12 +20,12 @@ use mount_state::MountState;
 use std::alloc::Global;
 
 /// Writes the bytes from byte `offset` on into the file that the caller has open under the number. A gap
-/// before them is zeros, enciphered as all else; no bytes change nothing. Only the blocks that the bytes
-/// touch and those that are new are stored anew.
+/// before them is zeros, encrypted as all else. Empty `bytes` change nothing. Only the blocks that the
+/// bytes touch and those that are new are stored again.
 ///
-/// BadHandle where the caller has no such handle, then IsDir, then TooBig where the bytes would end behind
-/// `MOST_FILE_BYTES`, then NoSpace where all files would have more than `MOST_BLOCKS` blocks; NoMemory
-/// where there is none for new blocks. After a refusal the state is as before.
+/// Refused with BadHandle if the caller has no such handle, then with IsDir. Then TooBig if the bytes would
+/// end after `MOST_FILE_BYTES`, then NoSpace if all files would have more than `MOST_BLOCKS` blocks.
+/// NoMemory if there is none for new blocks. After a refusal the state is as before.
 pub fn write(
     alloc: Global,
     state: &mut MountState,
