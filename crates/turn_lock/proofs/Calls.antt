@@ -19,8 +19,12 @@ use Rattle.turn_lock.specs.declared.view.View.{View}
 use Rattle.turn_lock.specs.Standing.{Standing, standing}
 use Rattle.turn_lock.specs.Turns.{TurnState, Kept}
 use Rattle.turn_lock.specs.Views.{Owns, Knows, all_left}
-use Rattle.turn_lock.specs.Steps.{Seated, tried, counted, counted_view, released}
+use Rattle.turn_lock.specs.Steps.{Seated, HasTaken, tried, counted, counted_view, released}
 use Rattle.turn_lock.proofs.Views.{at_written, only, each_set, alone, apart_set, left_set}
+
+-- the turn was taken of a seat that knew the same
+pub taken_from : {V C R : Type 0} (m n after : Seated V C R) → m ≡ n → HasTaken m after → HasTaken n after
+taken_from {V} {C} {R} m n after same taken = subst (λ (z : Seated V C R). HasTaken z after) same taken
 
 module _ {V C R : Type 0} (leads : History C R → V → Type 0) (numbers allowance : ℕ) where
   abbrev Rule : TurnState V C R → Type 0
@@ -64,17 +68,24 @@ module _ {V C R : Type 0} (leads : History C R → V → Type 0) (numbers allowa
   no_other s k id j v u at t other at' t' =
       other (((k.each j u at').holds_turn t').1 ∙ sym ((k.each id v at).holds_turn t).1)
 
-  -- the turn is taken
-  tries : (slots id : ℕ) (v : View C R) → v.who < v.high
-      → Allows Rule slots id (v, []) 0 (λ n. either (eqb n 0) 1 n) (tried (v, []))
-  tries slots id v some_number s k long at small =
-      subst (λ (ws : List ℕ). (w : View C R) × (a : Act (Option (Standing V C R))) × Valid s.homes [] a
-      × Rule (table (set ws 0 (either (eqb (get_or ws 0 0) 0) 1 (get_or ws 0 0))) (homes_after s.homes [] a)
-      (set s.views id w))
-      × tried (v, []) (get_or ws 0 0) (w, carried_after [] a)) (sym k.words)
-      (exchanged k.turn 0 1 (λ n. (w : View C R) × (a : Act (Option (Standing V C R))) × Valid s.homes [] a
+  -- What a step on the turn leaves that makes it n: where it was free, the seat has taken it, and else
+  -- nothing but the word has changed
+  abbrev Tries : (s : TurnState V C R) (k : Rule s) (id : ℕ) (v : View C R) (n : ℕ) → Type 0
+  Tries s k id v n =
+      (w : View C R) × (a : Act (Option (Standing V C R))) × Valid s.homes [] a
       × Rule (table (n ∷ length k.history ∷ []) (homes_after s.homes [] a) (set s.views id w))
-      × tried (v, []) k.turn (w, carried_after [] a)) hit miss)
+      × tried (v, []) k.turn (w, carried_after [] a)
+
+  takes_free : (s : TurnState V C R) (k : Rule s) (id : ℕ) (v : View C R) (n : ℕ) → v.who < v.high
+      → get_elem? s.views id ≡ some v → n ≢ 0 → k.turn ≡ 0 → Tries s k id v n
+  takes_free s k id v n some_number at some_turn z = (
+    w,
+    takes 0 (Some held),
+    ap (λ (hs : List (maybe.Option (Option (Standing V C R)))). get_elem? hs 0)
+        (k.free z).1,
+    kept,
+    ((λ _. (held, f.begins, refl)), (λ nz. absurd (nz z))),
+  )
     where
       w : View C R
       w = record v { turn = true; seen = k.history }
@@ -82,57 +93,87 @@ module _ {V C R : Type 0} (leads : History C R → V → Type 0) (numbers allowa
       f : Knows numbers k.history k.turn k.holder id v
       f = k.each id v at
 
-      hit : k.turn ≡ 0 → (w : View C R) × (a : Act (Option (Standing V C R))) × Valid s.homes [] a
-          × Rule (table (1 ∷ length k.history ∷ []) (homes_after s.homes [] a) (set s.views id w))
-          × tried (v, []) k.turn (w, carried_after [] a)
-      hit z = (
-        w,
-        takes 0 (Some held),
-        ap (λ (hs : List (maybe.Option (Option (Standing V C R)))). get_elem? hs 0)
-            (k.free z).1,
-        kept,
-        ((λ _. (held, f.begins, refl)), (λ nz. absurd (nz z))),
-      )
-        where
-          held : Standing V C R
-          held = standing (k.free z).0 k.history
+      held : Standing V C R
+      held = standing (k.free z).0 k.history
 
-          kept : Rule (table (1 ∷ length k.history ∷ []) (homes_after s.homes [] (takes 0 (Some held)))
-              (set s.views id w))
-          kept = record {
-            history = k.history;
-            turn = 1;
-            holder = id;
-            words = refl;
-            free = λ e. absurd (omega arith);
-            taken = λ _. (w, at_written s.views id v w at, refl);
-            each = each_set (Knows numbers k.history 1 id) s.views id w
-                record {
-                  begins = IsPrefix-refl k.history;
-                  told_begins = f.told_begins;
-                  holds_turn = λ _. (refl, refl, refl, some_number);
-                  below = f.below;
-                  own = f.own;
-                }
-                (λ j u other at'. let g = k.each j u at' in
-                record {
-                  begins = g.begins;
-                  told_begins = g.told_begins;
-                  holds_turn = λ t.
-                      let one = (g.holds_turn t).0 in absurd (omega arith);
-                  below = g.below;
-                  own = g.own;
-                });
-            apart = apart_set s.views id w k.apart (alone s.views id v k.apart at);
-            callers = k.callers;
-            room = let sums = left_same s.views id v w at refl in let before = k.room in omega arith;
-            small = k.small;
-          }
+      kept : Rule (table (n ∷ length k.history ∷ []) (homes_after s.homes [] (takes 0 (Some held)))
+          (set s.views id w))
+      kept = record {
+        history = k.history;
+        turn = n;
+        holder = id;
+        words = refl;
+        free = λ e. absurd (some_turn e);
+        taken = λ _. (w, at_written s.views id v w at, refl);
+        each = each_set (Knows numbers k.history n id) s.views id w
+            record {
+              begins = IsPrefix-refl k.history;
+              told_begins = f.told_begins;
+              holds_turn = λ _. (some_turn, refl, refl, some_number);
+              below = f.below;
+              own = f.own;
+            }
+            (λ j u other at'. let g = k.each j u at' in
+            record {
+              begins = g.begins;
+              told_begins = g.told_begins;
+              holds_turn = λ t. absurd ((g.holds_turn t).0 z);
+              below = g.below;
+              own = g.own;
+            });
+        apart = apart_set s.views id w k.apart (alone s.views id v k.apart at);
+        callers = k.callers;
+        room = let sums = left_same s.views id v w at refl in let before = k.room in omega arith;
+        small = k.small;
+      }
 
-      miss : k.turn ≢ 0 → (w : View C R) × (a : Act (Option (Standing V C R))) × Valid s.homes [] a
-          × Rule (table (k.turn ∷ length k.history ∷ []) (homes_after s.homes [] a) (set s.views id w))
-          × tried (v, []) k.turn (w, carried_after [] a)
-      miss nz = (v, keeps, tt, unchanged s k id v at, ((λ z. absurd (nz z)), (λ _. refl)))
+  -- the turn is taken where it is free, and else is as it was
+  tries : (slots id : ℕ) (v : View C R) → v.who < v.high
+      → Allows Rule slots id (v, []) 0 (λ n. either (eqb n 0) 1 n) (tried (v, []))
+  tries slots id v some_number s k long at small =
+      subst (λ (ws : List ℕ). (w : View C R) × (a : Act (Option (Standing V C R))) × Valid s.homes [] a
+      × Rule (table (set ws 0 (either (eqb (get_or ws 0 0) 0) 1 (get_or ws 0 0))) (homes_after s.homes [] a)
+      (set s.views id w))
+      × tried (v, []) (get_or ws 0 0) (w, carried_after [] a)) (sym k.words)
+      (exchanged k.turn 0 1 (Tries s k id v) (takes_free s k id v 1 some_number at (λ e. absurd (omega arith)))
+      (λ nz. (v, keeps, tt, unchanged s k id v at, ((λ z. absurd (nz z)), (λ _. refl)))))
+
+  -- a turn that a caller has is marked: others may sleep until it is free
+  marked : (s : TurnState V C R) (k : Rule s) (id : ℕ) (v : View C R) (n : ℕ) → n ≢ 0 → k.turn ≢ 0
+      → get_elem? s.views id ≡ some v
+      → Rule (table (n ∷ length k.history ∷ []) s.homes (set s.views id v))
+  marked s k id v n some_turn nz at =
+      subst (λ (vs : List (View C R)). Rule (table (n ∷ length k.history ∷ []) s.homes vs))
+      (sym (set_again s.views id v at)) record {
+        history = k.history;
+        turn = n;
+        holder = k.holder;
+        words = refl;
+        free = λ e. absurd (some_turn e);
+        taken = λ _. k.taken nz;
+        each = λ j u at'. let g = k.each j u at' in record {
+          begins = g.begins;
+          told_begins = g.told_begins;
+          holds_turn = λ t. (some_turn, (g.holds_turn t).1, (g.holds_turn t).2, (g.holds_turn t).3);
+          below = g.below;
+          own = g.own;
+        };
+        apart = k.apart;
+        callers = k.callers;
+        room = k.room;
+        small = k.small;
+      }
+
+  -- the turn is taken where it is free, and marked else
+  marks : (slots id n : ℕ) (v : View C R) → n ≢ 0 → v.who < v.high
+      → Allows Rule slots id (v, []) 0 (λ _. n) (tried (v, []))
+  marks slots id n v some_turn some_number s k long at small =
+      subst (λ (ws : List ℕ). (w : View C R) × (a : Act (Option (Standing V C R))) × Valid s.homes [] a
+      × Rule (table (set ws 0 n) (homes_after s.homes [] a) (set s.views id w))
+      × tried (v, []) (get_or ws 0 0) (w, carried_after [] a)) (sym k.words)
+      (⊎_elim (takes_free s k id v n some_number at some_turn)
+      (λ nz. (v, keeps, tt, marked s k id v n some_turn nz at, ((λ z. absurd (nz z)), (λ _. refl))))
+      (cases_eq k.turn 0))
 
   -- the entry is counted
   counts : (slots id : ℕ) (v : View C R) (c : List (ℕ × Option (Standing V C R))) (e : Entry C R)
@@ -160,7 +201,7 @@ module _ {V C R : Type 0} (leads : History C R → V → Type 0) (numbers allowa
       f : Knows numbers k.history k.turn k.holder id v
       f = k.each id v at
 
-      held : (k.turn ≡ 1) × (id ≡ k.holder) × (v.seen ≡ k.history) × (v.who < v.high)
+      held : (k.turn ≢ 0) × (id ≡ k.holder) × (v.seen ≡ k.history) × (v.who < v.high)
       held = f.holds_turn turn
 
       seen_all : v.seen ≡ k.history
@@ -211,7 +252,7 @@ module _ {V C R : Type 0} (leads : History C R → V → Type 0) (numbers allowa
         words =
             let room = k.room in let most = k.small in
             ap (λ n. k.turn ∷ n ∷ []) (mod-eq_of_lt (omega arith) ∙ sym one_more);
-        free = λ z. let one = held.0 in absurd (omega arith);
+        free = λ z. absurd (held.0 z);
         taken =
             λ _. (
               w,
@@ -247,13 +288,13 @@ module _ {V C R : Type 0} (leads : History C R → V → Type 0) (numbers allowa
   -- the value goes home, and the turn is free
   releases : (id : ℕ) (v : View C R) (value : V) → v.turn ≡ true → leads v.seen value
       → Allows Rule 1 id (v, (0, Some (standing value v.seen)) ∷ []) 0 (λ _. 0)
-      (λ _. released (v, (0, Some (standing value v.seen)) ∷ []) 0)
+      (released (v, (0, Some (standing value v.seen)) ∷ []))
   releases id v value turn led s k long at small =
       subst (λ (ws : List ℕ). (w : View C R) × (a : Act (Option (Standing V C R)))
       × Valid s.homes ((0, Some (standing value v.seen)) ∷ []) a
       × Rule (table (set ws 0 0) (homes_after s.homes ((0, Some (standing value v.seen)) ∷ []) a)
       (set s.views id w))
-      × released (v, (0, Some (standing value v.seen)) ∷ []) 0
+      × released (v, (0, Some (standing value v.seen)) ∷ []) (get_or ws 0 0)
       (w, carried_after ((0, Some (standing value v.seen)) ∷ []) a)) (sym k.words)
       (w, gives, tt, kept, refl)
     where
@@ -306,6 +347,12 @@ module _ {V C R : Type 0} (leads : History C R → V → Type 0) (numbers allowa
       subst (λ (z : Seated V C R). Allows Rule slots id z 0 (λ n. either (eqb n 0) 1 n) (tried z))
       (λ i. (m.0, sym bare i)) (tries slots id m.0 wide)
 
+  pub marks_at : (slots id n : ℕ) (m : Seated V C R) → m.1 ≡ [] → m.0.who < m.0.high → n ≢ 0
+      → Allows Rule slots id m 0 (λ _. n) (tried m)
+  marks_at slots id n m bare wide some_turn =
+      subst (λ (z : Seated V C R). Allows Rule slots id z 0 (λ _. n) (tried z))
+      (λ i. (m.0, sym bare i)) (marks slots id n m.0 some_turn wide)
+
   pub counts_at : (slots id : ℕ) (m : Seated V C R) (said : History C R) (e : Entry C R) → said ≡ e ∷ []
       → m.0.turn ≡ true → e.who ≡ m.0.who → 0 < m.0.left
       → Allows Rule slots id m 1 (λ n. (n + 1) % 2 ^ 64) (counted said m)
@@ -315,8 +362,8 @@ module _ {V C R : Type 0} (leads : History C R → V → Type 0) (numbers allowa
 
   pub releases_at : (slots id : ℕ) (m : Seated V C R) (value : V) → slots ≡ 1 → m.0.turn ≡ true
       → leads m.0.seen value
-      → m.1 ≡ (0, Some (standing value m.0.seen)) ∷ [] → Allows Rule slots id m 0 (λ _. 0) (λ _. released m 0)
+      → m.1 ≡ (0, Some (standing value m.0.seen)) ∷ [] → Allows Rule slots id m 0 (λ _. 0) (released m)
   releases_at slots id m value one turn led carried =
-      subst (λ (n : ℕ). Allows Rule n id m 0 (λ _. 0) (λ _. released m 0)) (sym one)
-      (subst (λ (z : Seated V C R). Allows Rule 1 id z 0 (λ _. 0) (λ _. released z 0))
+      subst (λ (n : ℕ). Allows Rule n id m 0 (λ _. 0) (released m)) (sym one)
+      (subst (λ (z : Seated V C R). Allows Rule 1 id z 0 (λ _. 0) (released z))
       (λ i. (m.0, sym carried i)) (releases id m.0 value turn led))

@@ -14,12 +14,15 @@ abbrev pub Seated : Type 0 → Type 0 → Type 0 → Type 0
 Seated V C R = Me (Option (Standing V C R)) (View C R)
 
 module _ {C R : Type 0} where
-  -- the turn is taken, with the value and its history, or it was not free
+  -- a seat took the turn, with the value and its history
+  abbrev pub HasTaken : {V : Type 0} → Seated V C R → Seated V C R → Type 0
+  HasTaken {V} m m' =
+      (held : Standing V C R) × IsPrefix m.0.seen held.history
+      × (m' ≡ (record m.0 { turn = true; seen = held.history }, (0, Some held) ∷ []))
+
+  -- the turn is taken, or it was not free
   abbrev pub tried : {V : Type 0} → Seated V C R → ℕ → Seated V C R → Type 0
-  tried {V} m found m' =
-      (found ≡ 0 → (held : Standing V C R) × IsPrefix m.0.seen held.history
-      × (m' ≡ (record m.0 { turn = true; seen = held.history }, (0, Some held) ∷ [])))
-      × (found ≢ 0 → m' ≡ m)
+  tried m found m' = (found ≡ 0 → HasTaken m m') × (found ≢ 0 → m' ≡ m)
 
   abbrev pub counted_view : View C R → History C R → View C R
   counted_view v said = record v {

@@ -1,5 +1,5 @@
 -- What a seat knows, when that is so, and what the first seat knows.
-use Rattle.std.specs.Prelude.{◌≡◌, ℕ, ◌<◌, ◌≤◌, true, false, List, [], ◌++◌, sum_by}
+use Rattle.std.specs.Prelude.{◌≡◌, ◌≢◌, ℕ, ◌<◌, ◌≤◌, true, false, List, [], ◌++◌, sum_by}
 use Rattle.call_history.specs.Entries.{History, by, entries_by}
 use Rattle.call_history.specs.Prefix.{IsPrefix}
 use Rattle.turn_lock.specs.declared.view.View.{View}
@@ -13,7 +13,7 @@ module _ {C R : Type 0} where
   pub record Knows (numbers : ℕ) (history : History C R) (turn holder j : ℕ) (v : View C R) : Type 0 where
     pub begins : IsPrefix v.seen history
     pub told_begins : IsPrefix v.told history
-    pub holds_turn : v.turn ≡ true → (turn ≡ 1) × (j ≡ holder) × (v.seen ≡ history) × (v.who < v.high)
+    pub holds_turn : v.turn ≡ true → (turn ≢ 0) × (j ≡ holder) × (v.seen ≡ history) × (v.who < v.high)
     pub below : v.high ≤ numbers
     pub own : (caller : ℕ) → Owns v caller → by caller (v.past ++ v.mine) ≡ entries_by caller history
 

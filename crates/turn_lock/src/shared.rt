@@ -10,7 +10,7 @@ use crate::held::Held;
 use crate::machine::{At, Machine, Worn};
 use crate::pass::Pass;
 use crate::steps::{cut, enter, give_back, merge, take_turn};
-use crate::view::{Limits, Turn, View};
+use crate::view::{FREE, Limits, Turn, View};
 use atomic_table::{Refused, Table};
 use std::alloc::{AllocError, AllocFailed, Global};
 use std::marker::{Brand, Model};
@@ -59,7 +59,7 @@ impl<M: Machine> Shared<M> {
         };
         slots.push_reserved(Some(Held::new(alloc, value)?));
         let limits = Limits { numbers, allowance };
-        let (table, seat) = match Table::new(alloc, &[0, 0], slots, &limits) {
+        let (table, seat) = match Table::new(alloc, &[FREE, 0], slots, &limits) {
             Ok(opened) => opened,
             Err(Refused { mut slots }) => {
                 let held = slots.pop().flatten().unwrap();

@@ -1,19 +1,67 @@
 //! The steps of a call on the table, and those of a split and a join.
 ghost use Rattle.std.specs.Prelude.{◌≡◌, ℕ, ◌+◌, ◌-◌, ◌<◌, ◌≤◌, true};
-ghost use Rattle.std.specs.Prelude.{false, [], ◌∷◌, ◌++◌, length, Some, None};
+ghost use Rattle.std.specs.Prelude.{false, [], ◌∷◌, ◌++◌, length, Some, None, IsTrue, IsFalse};
 ghost use Rattle.call_history.specs.declared.TheConstants.{MOST_PLACES};
 ghost use Rattle.call_history.specs.Prefix.{IsPrefix};
 ghost use Rattle.call_history.specs.Entries.{by, entries_by, entry};
 ghost use Rattle.turn_lock.specs.Views.{Owns};
-ghost use Rattle.turn_lock.specs.Steps.{counted_view, lower_view, upper_view, joined_view};
+ghost use Rattle.turn_lock.specs.Steps.{HasTaken, counted_view, lower_view, upper_view, joined_view};
 
 use crate::held::Held;
 use crate::machine::Machine;
 use crate::plays::{Count, Cut, Glue, Look, Parts, Release, Try};
 use crate::recorder::{Recorder, Said};
-use crate::view::{Place, Top};
+use crate::view::{AWAITED, FREE, Place, TAKEN, Top};
 use std::sync::Wait;
 use std::thread;
+
+// How often a caller tries for the turn before it sleeps.
+const MAX_TRIES: u32 = 20;
+
+// Takes the turn if it is free at one of `MAX_TRIES` tries, between which other threads may run.
+fn try_for_turn<M: Machine>(top: &Top<M>, seat: &mut Place<M>) -> bool
+    requires table { (seat.old.table_id ≡ top.now.table_id) × (top.now.table_id.words ≡ 2) }
+    requires idle { (seat.old.me.1 ≡ []) × (seat.old.me.0.who < seat.old.me.0.high) }
+    ensures seat { (seat.new.table_id ≡ seat.old.table_id) × (seat.new.id ≡ seat.old.id) }
+    ensures taken { IsTrue result → HasTaken seat.old.me seat.new.me }
+    ensures kept { IsFalse result → seat.new.me ≡ seat.old.me }
+{
+    'tries: for _ in 0..MAX_TRIES {
+        if top.compare_exchange::<Try>(seat, 0, FREE, TAKEN) == FREE {
+            return true;
+        }
+        thread::yield_now();
+    }
+    false
+}
+
+// Takes the turn, and sleeps until it is free. Others may sleep still, so it stays marked as awaited.
+fn sleep_for_turn<M: Machine, W: Wait>(rt: &W, top: &Top<M>, seat: &mut Place<M>)
+    requires table { (seat.old.table_id ≡ top.now.table_id) × (top.now.table_id.words ≡ 2) }
+    requires idle { (seat.old.me.1 ≡ []) × (seat.old.me.0.who < seat.old.me.0.high) }
+    ensures seat { (seat.new.table_id ≡ seat.old.table_id) × (seat.new.id ≡ seat.old.id) }
+    ensures taken { HasTaken seat.old.me seat.new.me }
+{
+    for _ in rt.forever() {
+        if top.swap::<Try>(seat, 0, AWAITED) == FREE {
+            return;
+        }
+        top.park(rt, 0, AWAITED as u32);
+    }
+}
+
+// Takes the turn. A caller that tried in vain for a while sleeps, so that it keeps no processor busy.
+fn await_turn<M: Machine, W: Wait>(rt: &W, top: &Top<M>, seat: &mut Place<M>)
+    requires table { (seat.old.table_id ≡ top.now.table_id) × (top.now.table_id.words ≡ 2) }
+    requires idle { (seat.old.me.1 ≡ []) × (seat.old.me.0.who < seat.old.me.0.high) }
+    ensures seat { (seat.new.table_id ≡ seat.old.table_id) × (seat.new.id ≡ seat.old.id) }
+    ensures taken { HasTaken seat.old.me seat.new.me }
+{
+    if try_for_turn(top, seat) {
+        return;
+    }
+    sleep_for_turn(rt, top, seat);
+}
 
 // Waits for the turn, and takes the value out of its slot.
 pub(crate) fn take_turn<M: Machine, W: Wait>(rt: &W, top: &Top<M>, seat: &mut Place<M>) -> Held<M>
@@ -24,13 +72,8 @@ pub(crate) fn take_turn<M: Machine, W: Wait>(rt: &W, top: &Top<M>, seat: &mut Pl
     ensures turn { seat.new.me
         ≡ (record seat.old.me.0 { turn = true; seen = result.history }, (0, None) ∷ []) }
 {
-    for _ in rt.forever() {
-        if top.compare_exchange::<Try>(seat, 0, 0, 1) == 0 {
-            return top.exchange(seat, 0, None).unwrap();
-        }
-        thread::yield_now();
-    }
-    unreachable!()
+    await_turn(rt, top, seat);
+    top.exchange(seat, 0, None).unwrap()
 }
 
 // Counts the entry of a call, which gives its place, and records it beside the value.
@@ -57,7 +100,7 @@ pub(crate) fn enter<K: Said<M::Call, M::Reply>, M: Machine>(
     place
 }
 
-// Gives the value back and frees the turn.
+// Gives the value back and frees the turn, and wakes a caller that sleeps for it.
 pub(crate) fn give_back<M: Machine>(top: &Top<M>, seat: &mut Place<M>, held: Held<M>)
     requires table { (seat.old.table_id ≡ top.now.table_id)
         × (top.now.table_id.words ≡ 2) × (top.now.table_id.slots ≡ 1) }
@@ -68,7 +111,9 @@ pub(crate) fn give_back<M: Machine>(top: &Top<M>, seat: &mut Place<M>, held: Hel
     ensures free { seat.new.me ≡ (record seat.old.me.0 { turn = false }, []) }
 {
     top.exchange(seat, 0, Some(held));
-    top.store::<Release>(seat, 0, 0);
+    if top.swap::<Release>(seat, 0, FREE) == AWAITED {
+        top.wake_one(0);
+    }
 }
 
 // Cuts what a seat knows in two.

@@ -9,6 +9,13 @@ use call_history::Entry;
 use std::alloc::Global;
 use std::collections::LinkedList;
 
+// What word 0 is: the turn is free, a caller has it, or one has it and others may sleep until it is free.
+pub(crate) const FREE: u64 = 0;
+
+pub(crate) const TAKEN: u64 = 1;
+
+pub(crate) const AWAITED: u64 = 2;
+
 // What a seat knows. No value of it is made.
 pub(crate) struct View<C, R> {
     pub who: u32,

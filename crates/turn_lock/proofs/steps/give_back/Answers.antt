@@ -2,8 +2,8 @@ use Rattle.std.proofs.Common.{rules, subst}
 use Rattle.turn_lock.proofs.Calls.{releases_at}
 use Rattle.turn_lock.proofs.steps.give_back.Goals as goal
 
-pub store-requires : goal.store-requires
-store-requires g c = (
+pub swap-requires : goal.swap-requires
+swap-requires g c = (
   search rules,
   search rules,
   releases_at _ _ _ _ _ _ c.args.held.value (search rules) (search rules)
