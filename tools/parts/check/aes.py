@@ -1,4 +1,5 @@
-"""AES-256 both ways, in XTS and in CBC with ciphertext stealing, for stored blocks and names (docs/FORMATS.md)."""
+"""AES-256 both ways, in XTS and in CBC with ciphertext stealing, for stored blocks and names
+(docs/FORMATS.md)."""
 import functools
 import struct
 
@@ -14,7 +15,8 @@ def tables():
     back = bytes(box.index(number) for number in range(256))
     forward = [_column(box[number], (2, 1, 1, 3)) for number in range(256)]
     backward = [_column(back[number], (14, 9, 13, 11)) for number in range(256)]
-    return [_turned(forward, row) for row in range(4)], [_turned(backward, row) for row in range(4)], box, back
+    return [_turned(forward, row) for row in range(4)], [_turned(backward, row)
+                                                         for row in range(4)], box, back
 
 
 def _column(byte, factors):
@@ -32,7 +34,8 @@ class Aes:
         assert len(key) == 32
         self.words = struct.unpack(">60I", round_keys(key))
         unmixed = [_unmixed(word) for word in self.words[4:-4]]
-        self.back = [*self.words[-4:], *(word for at in range(ROUNDS - 2, -1, -1) for word in unmixed[4 * at:4 * at + 4]), *self.words[:4]]
+        self.back = [*self.words[-4:], *(word for at in range(ROUNDS - 2, -1, -1)
+                                         for word in unmixed[4 * at:4 * at + 4]), *self.words[:4]]
 
     def encrypted(self, block):
         """The block enciphered."""
@@ -54,10 +57,13 @@ def _through(block, words, table, box, step):
     one, two, three, four = table
     state = [x ^ y for x, y in zip(struct.unpack(">4I", block), words)]
     for at in range(4, 4 * ROUNDS, 4):
-        state = [one[state[number] >> 24] ^ two[state[(number + step) % 4] >> 16 & 255] ^ three[state[(number + 2) % 4] >> 8 & 255]
+        state = [one[state[number] >> 24] ^ two[state[(number + step) % 4] >> 16 & 255] ^ three[
+            state[(number + 2) % 4] >> 8 & 255]
                  ^ four[state[(number + 3 * step) % 4] & 255] ^ words[at + number] for number in range(4)]
-    last = [(box[state[number] >> 24] << 24 | box[state[(number + step) % 4] >> 16 & 255] << 16 | box[state[(number + 2) % 4] >> 8 & 255] << 8
-             | box[state[(number + 3 * step) % 4] & 255]) ^ words[4 * ROUNDS + number] for number in range(4)]
+    last = [(box[state[number] >> 24] << 24 | box[state[(number + step) % 4] >> 16 & 255] << 16
+             | box[state[(number + 2) % 4] >> 8 & 255] << 8
+             | box[state[(number + 3 * step) % 4] & 255]) ^ words[4 * ROUNDS + number]
+            for number in range(4)]
     return struct.pack(">4I", *last)
 
 

@@ -85,7 +85,8 @@ REPLIES = (
 
 def judged(answers, *words, scripts=None):
     """The exit status and the lines of the judge of these answers to some scripts, or to the stored ones."""
-    scripts = scripts or sorted(os.path.join(DATA, name) for name in os.listdir(DATA) if name.endswith(".fsc"))
+    scripts = scripts or sorted(os.path.join(DATA, name) for name in os.listdir(DATA)
+                                if name.endswith(".fsc"))
     ended = subprocess.run(
         [os.path.join(PARTS, "linux", "judge"), *words, "--program", PROGRAM, answers, *scripts],
         check=False,
@@ -163,7 +164,8 @@ def bad_scripts(tally):
             with open(name, "w", encoding="utf-8") as file:
                 file.write(text)
         kernel = os.path.join(folder, "none")
-        command = [os.path.join(TOP, "tools", "linux"), "--kernel", kernel, "--threads", "0", "--program", PROGRAM]
+        command = [os.path.join(TOP, "tools", "linux"), "--kernel", kernel, "--threads", "0", "--program",
+                   PROGRAM]
         ended = subprocess.run([*command, *names], check=False, capture_output=True)
     told = ended.stderr.decode().splitlines()
     tally.wants("bad scripts are refused with 2", ended.returncode == 2 and not ended.stdout, str(told))

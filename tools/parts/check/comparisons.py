@@ -10,7 +10,8 @@ TEST_CRATES = ("callers", "cipher_tests", "fsc_speed", "mount_tests", "record_te
                "word_tests")
 
 # Variables and fields that hold secrets, or bytes from which one can be found.
-NAMES = ("key", "keystream", "passphrase", "password", "plain_key", "policy_key", "raw", "schedule", "secret",
+NAMES = ("key", "keystream", "passphrase", "password", "plain_key", "policy_key", "raw", "schedule",
+         "secret",
          "seed", "stream", "tag", "tag_key", "wrapping")
 NAME = rf"(?:{'|'.join(NAMES)})(?:\.(?:bytes|as_slice|as_bytes)\(\))?"
 COMPARED = re.compile(rf"\b{NAME}\s*[=!]=|[=!]=\s*[&*]*(?:\w+\.)*{NAME}\s*(?:[;,)&|{{]|$)")

@@ -1,4 +1,5 @@
-"""What lies on a mount's disk behind a script, from the script and its log, as docs/FORMATS.md and docs/MODEL.md have it."""
+"""What lies on a mount's disk behind a script, from the script and its log, as docs/FORMATS.md and
+docs/MODEL.md have it."""
 from base64 import urlsafe_b64encode
 from functools import lru_cache
 from hashlib import sha256
@@ -62,7 +63,8 @@ def in_units(raw, context, number, place, block, back=False):
     """A block of a file, enciphered unit by unit or deciphered."""
     size = 1 << context[4] if context[4] else BLOCK
     key, first = node_key(raw, context, CONTENTS), start(context, number) + place * (BLOCK // size)
-    return b"".join(in_xts(key, first + at // size, block[at:at + size], back) for at in range(0, BLOCK, size))
+    return b"".join(in_xts(key, first + at // size, block[at:at + size], back)
+                    for at in range(0, BLOCK, size))
 
 
 def no_key_text(stored):
@@ -72,7 +74,8 @@ def no_key_text(stored):
 
 
 class Node:
-    """A node: what it is, its policy with its nonce, and its entries, contents or target as they are in plain."""
+    """A node: what it is, its policy with its nonce, and its entries, contents or target as they are in
+    plain."""
 
     def __init__(self, number, kind, context, body):
         self.number, self.kind, self.context, self.body = number, kind, context, body
@@ -91,7 +94,8 @@ class Disk:
         return stored_name(self.raws[folder.context[8:24]], folder.context, folder.number, name)
 
     def found(self, folder, part):
-        """The plain name of an entry that a part of a path means: by that name, or by the text that stands for it."""
+        """The plain name of an entry that a part of a path means: by that name, or by the text that stands
+        for it."""
         if part in folder.body:
             return part
         return next(name for name in folder.body if no_key_text(self.stored(folder, name)) == part)
@@ -172,7 +176,8 @@ def disk_behind(script, log, seed):
             _, caller, _, *call = head.split(" ")
             number, words = turns[int(caller)].of(call, told.split(" "))
             if not told.startswith("refused"):
-                done(disk, int(caller), call, told.split(" "), words, drawn(seed, int(caller), number, 0, 16))
+                done(disk, int(caller), call, told.split(" "), words,
+                     drawn(seed, int(caller), number, 0, 16))
     return disk
 
 
@@ -207,5 +212,6 @@ def done(disk, caller, call, reply, words, nonce):
     elif verb == "open":
         disk.handles[caller, reply[1]] = disk.node(asked[0])
     elif verb == "write":
-        given = bytes([int(words[4])]) * int(words[3]) if words[0] == "fill" else bytes.fromhex(words[3].strip("-"))
+        given = bytes([int(words[4])]) * int(words[3]) if words[0] == "fill" else bytes.fromhex(
+            words[3].strip("-"))
         disk.write(disk.handles[caller, asked[0]], int(asked[1]), given)

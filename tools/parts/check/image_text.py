@@ -12,7 +12,8 @@ SAFE = "-._~"
 
 def image_of(disk):
     """The image of a disk: of the root, and of each node to which a name leads."""
-    named = {0} | {number for node in disk.nodes.values() if node.kind == "dir" for number in node.body.values()}
+    named = {0} | {number for node in disk.nodes.values() if node.kind == "dir"
+                   for number in node.body.values()}
     lines = [HEADER]
     for number in sorted(named & reached(disk)):
         lines += lines_of(disk, disk.nodes[number])
@@ -41,7 +42,8 @@ def lines_of(disk, node):
         return [f"{head} {target.hex()}".encode()]
     blocks = [node.body[at:at + BLOCK].ljust(BLOCK, b"\0") for at in range(0, len(node.body), BLOCK)]
     if node.context:
-        blocks = [in_units(raw, node.context, node.number, place, block) for place, block in enumerate(blocks)]
+        blocks = [in_units(raw, node.context, node.number, place, block) for place,
+                  block in enumerate(blocks)]
     return [f"{head} {len(node.body)}".encode(), *(b"block " + block.hex().encode() for block in blocks)]
 
 
@@ -70,7 +72,8 @@ def context_of(word):
     if word == b"-":
         return None
     context = bytes.fromhex(word.decode())
-    well = context[:3] == b"\2\1\4" and context[3] & ~0x0B == 0 and context[4] in (0, 9, 10, 11, 12) and context[5:8] == bytes(3)
+    well = context[:3] == b"\2\1\4" and context[3] & ~0x0B == 0 and context[4] in (
+        0, 9, 10, 11, 12) and context[5:8] == bytes(3)
     return context if well else False
 
 
@@ -79,7 +82,8 @@ def node_of(line):
     for kind in ("dir", "file", "link"):
         found = LINES[kind].fullmatch(line)
         if found and int(found[1]) < 2**32 and context_of(found[2]) is not False:
-            more = None if kind == "dir" else int(found[3]) if kind == "file" else bytes.fromhex(found[3].decode())
+            more = None if kind == "dir" else int(found[3]) if kind == "file" else bytes.fromhex(
+                found[3].decode())
             context = context_of(found[2])
             if kind == "file" and more > MOST_FILE or kind == "link" and context and len(more) < 16:
                 return None
@@ -118,7 +122,8 @@ def goes_on(nodes, left, line):
     if entry and nodes and nodes[-1].kind == "dir":
         return entry_goes_on(nodes[-1], int(entry[1]), bytes.fromhex(entry[2].decode()))
     node = node_of(line)
-    if node is None or (node.number <= nodes[-1].number if nodes else (node.number, node.kind, node.context) != (0, "dir", None)):
+    if node is None or (node.number <= nodes[-1].number if nodes
+                        else (node.number, node.kind, node.context) != (0, "dir", None)):
         return False
     node.left = -(-node.more // BLOCK) if node.kind == "file" else 0
     nodes.append(node)
@@ -161,7 +166,8 @@ def listing(nodes, raw=None):
     lines = []
     for node in nodes:
         if is_reached(node.number, places):
-            lines.append(f"{node.number} {place_of(node.number, places, raw)} {node.kind} {told(node, raw)}\n")
+            lines.append(
+                f"{node.number} {place_of(node.number, places, raw)} {node.kind} {told(node, raw)}\n")
     assert at[0]
     return "".join(lines).encode()
 
@@ -208,5 +214,6 @@ def told(node, raw):
         return f"{node.more} -"
     blocks = node.blocks
     if node.context:
-        blocks = [in_units(raw, node.context, node.number, place, block, back=True) for place, block in enumerate(blocks)]
+        blocks = [in_units(raw, node.context, node.number, place, block, back=True) for place,
+                  block in enumerate(blocks)]
     return f"{node.more} {sha256(b''.join(blocks)[:node.more]).hexdigest()}"

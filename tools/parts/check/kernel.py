@@ -1,4 +1,5 @@
-"""What Linux 6.1 answered, beside stored logs: no difference but those of docs/LINUX.md, and a changed refusal is found."""
+"""What Linux 6.1 answered, beside stored logs: no difference but those of docs/LINUX.md, and a changed
+refusal is found."""
 import collections
 import os
 import re
@@ -21,7 +22,8 @@ def unexplained(logs):
     with tempfile.NamedTemporaryFile("w", encoding="utf-8") as file:
         file.write(logs)
         file.flush()
-        ended = subprocess.run([os.path.join(PARTS, "linux", "compare"), file.name, os.path.join(DATA, "answers.txt")],
+        ended = subprocess.run([os.path.join(PARTS, "linux", "compare"), file.name,
+                                os.path.join(DATA, "answers.txt")],
                                check=False, capture_output=True)
     return ended.returncode, ended.stdout.decode().splitlines()[-1:]
 
@@ -35,17 +37,21 @@ def stored_answers(tally):
     cases = [("the stored logs", logs, 0)]
     for name in names:
         other = "quota" if name != "quota" else "too-big"
-        cases.append((f"{name} told as {other}", logs.replace(f" = refused {name}\n", f" = refused {other}\n", 1), 1))
+        cases.append((f"{name} told as {other}",
+                      logs.replace(f" = refused {name}\n", f" = refused {other}\n", 1), 1))
     for what, text, wanted in cases:
         status, last = unexplained(text)
         tally.wants(f"{what}, beside the kernel's answers, has {wanted} unexplained",
-                    status == wanted and last and last[0].endswith(f" lines, {wanted} unexplained"), str(last))
+                    status == wanted and last and last[0].endswith(f" lines, {wanted} unexplained"),
+                    str(last))
 
 
 def known_answers(tally):
-    """What Linux is known to answer otherwise it answered, by the row that is told, in each of the stored calls.
+    """What Linux is known to answer otherwise it answered, by the row that is told, in each of the stored
+    calls.
 
-    With its last close a key stays in Linux only where user 0 does not remove it again, as in scripts of mode raw.
+    With its last close a key stays in Linux only where user 0 does not remove it again, as in scripts of
+    mode raw.
     """
     logs, answers = (read(os.path.join(DATA, name)) for name in ("logs.txt", "answers.txt"))
     told = collections.Counter()
@@ -55,7 +61,8 @@ def known_answers(tally):
             if known is None or (known[1].startswith("the status after") and not step.raw):
                 continue
             words, kind = known[0].split(" "), kind_of(step)
-            is_so = step.theirs.split(" ")[:len(words)] == words and not same(step) and kind and kind.row == known[1]
+            is_so = step.theirs.split(" ")[:len(words)] == words and not same(
+                step) and kind and kind.row == known[1]
             tally.wants(f"Linux answered {step.line} by {known[1]}", is_so, step.theirs)
             told[known[1]] += 1
     for row in KNOWN:

@@ -1,4 +1,5 @@
-"""Runs on two mounts: each script of examples/linked/ beside both logs, and each script of one caller as on one mount."""
+"""Runs on two mounts: each script of examples/linked/ beside both logs, and each script of one caller as on
+one mount."""
 import os
 
 from parts import TOP
@@ -14,11 +15,13 @@ def examples_linked(tally):
     names = sorted(name[:-4] for name in os.listdir(FOLDER) if name.endswith(".fsc"))
     tally.wants("examples/linked/ has scripts", bool(names))
     for name in names:
-        with open(os.path.join(FOLDER, name + ".fsc"), "rb") as script, open(os.path.join(FOLDER, name + ".log"), "rb") as log:
+        with open(os.path.join(FOLDER, name + ".fsc"),
+                  "rb") as script, open(os.path.join(FOLDER, name + ".log"), "rb") as log:
             given, wanted = script.read(), log.read()
         for _ in range(2):
             status, got, _ = run(LINKED, given)
-            tally.wants(f"examples/linked/{name}.fsc prints both logs", (status, got) == (0, wanted), repr(got[:200]))
+            tally.wants(f"examples/linked/{name}.fsc prints both logs", (status, got) == (0, wanted),
+                        repr(got[:200]))
 
 
 def one_caller_linked(tally):
@@ -32,7 +35,8 @@ def one_caller_linked(tally):
             status, got, _ = run(LINKED, given)
             tally.wants(f"{path} has its log on mount 0", (status, got) == (0, wanted), repr(got[:200]))
     status, got, _ = run(LINKED, b"")
-    tally.wants("no caller has a call on either mount", (status, got) == (0, b"mount 0\nmount 1\n"), repr(got))
+    tally.wants("no caller has a call on either mount", (status, got) == (0, b"mount 0\nmount 1\n"),
+                repr(got))
 
 
 def of_caller_0(log):
@@ -42,8 +46,8 @@ def of_caller_0(log):
 
 
 def linked_in_threads(tally):
-    """In threads, callers of whom each works alone on a mount print what they print in turns; one that others reach
-    by links has the same lines, at other places."""
+    """In threads, callers of whom each works alone on a mount print what they print in turns; one that
+    others reach by links has the same lines, at other places."""
     with open(os.path.join(FOLDER, "linked_protector_on_two_mounts.fsc"), "rb") as script:
         given = script.read()
     apart, linked = run(LINKED, APART)[1], of_caller_0(run(LINKED, given)[1])
@@ -52,7 +56,8 @@ def linked_in_threads(tally):
         status, got, _ = run(LINKED_THREADED, APART)
         tally.wants("callers apart print the same in threads", (status, got) == (0, apart), repr(got[:200]))
         status, got, _ = run(LINKED_THREADED, given)
-        tally.wants("caller 0 has its lines in threads", (status, of_caller_0(got)) == (0, linked), repr(got[:200]))
+        tally.wants("caller 0 has its lines in threads", (status, of_caller_0(got)) == (0, linked),
+                    repr(got[:200]))
 
 
 CHECKS = (examples_linked, one_caller_linked, linked_in_threads)

@@ -1,4 +1,5 @@
-"""Allocations that fail, keys in a core of the program, wipes in its machine code, and what depends on a secret there."""
+"""Allocations that fail, keys in a core of the program, wipes in its machine code, and what depends on a
+secret there."""
 import shutil
 import subprocess
 import tempfile
@@ -9,7 +10,8 @@ from parts.faults.failing import Failing
 from parts.faults.out_of_memory import Judge, Wrong
 
 # A script with its session commands, one of names and contents, and one of eight callers.
-SCRIPTS = ("examples/failed-unlock.fsc", "examples/locked-directory.fsc", "examples/rows/eight_users_share_one_key.fsc")
+SCRIPTS = ("examples/failed-unlock.fsc", "examples/locked-directory.fsc",
+           "examples/rows/eight_users_share_one_key.fsc")
 NO_TOOL = 77
 NO_MEMORY, CLEARED = 8, b"\r\x1b[K"
 TWO_CALLS = b"caller 0\nmkdir /a\nlist /\n"
@@ -17,8 +19,10 @@ BAD = b"caller 0\nmkdri /a\n"
 
 
 def failing_allocations(tally):
-    """Three scripts in turns and in threads, with each allocation failing; tools/faults tries all of them."""
-    tool = subprocess.run([f"{TOP}/tools/faults", "--program", PROGRAM, *(f"{TOP}/{script}" for script in SCRIPTS)],
+    """Three scripts in turns and in threads, with each allocation failing; tools/faults tries all of
+    them."""
+    tool = subprocess.run([f"{TOP}/tools/faults", "--program", PROGRAM,
+                           *(f"{TOP}/{script}" for script in SCRIPTS)],
                           stdout=subprocess.PIPE, stderr=subprocess.STDOUT, check=False)
     if tool.returncode == NO_TOOL:
         print("check: there is no cc, so no allocation was made to fail")
@@ -28,7 +32,8 @@ def failing_allocations(tally):
 
 
 def shown_commands(tally):
-    """On a terminal nothing stands in front of the status of a run that found no memory, also in a command."""
+    """On a terminal nothing stands in front of the status of a run that found no memory, also in a
+    command."""
     if shutil.which("cc") is None:
         return
     with tempfile.TemporaryDirectory() as room:
@@ -39,12 +44,14 @@ def shown_commands(tally):
             if status == NO_MEMORY:
                 parts = shown.split(CLEARED)
                 in_commands += parts[-2:-1] in ([b"fsc: line 2: mkdir"], [b"fsc: line 3: list"])
-                tally.wants(f"the status stands alone where allocation {number} fails", parts[-1].startswith(b"fsc: no memory\r\n"), repr(shown))
+                tally.wants(f"the status stands alone where allocation {number} fails",
+                            parts[-1].startswith(b"fsc: no memory\r\n"), repr(shown))
         tally.wants("commands find no memory", in_commands > 0)
 
 
 def bad_lines_without_memory(tally):
-    """Where there is no memory to keep a text or to look at its line, the line's number is told, and what to do."""
+    """Where there is no memory to keep a text or to look at its line, the line's number is told, and what to
+    do."""
     if shutil.which("cc") is None:
         return
     known = b'"mkdri" is no command; fsc --help lists the commands'
@@ -62,8 +69,10 @@ def bad_lines_without_memory(tally):
             wanted = {head + b"line 2: " + message + b"\n" for message in (known, no_room)}
             if words[0] == "check":
                 # of a text that isn't kept nobody knows whether such a line is there
-                wanted = {head + parting + b"line 2: " + message + b"\n" for message in (known, no_room)} | {head + b"line 2: " + no_room + b"\n"}
-            tally.wants(f"{words[0]} tells of a line as far as there is memory", reasons == wanted, repr(reasons))
+                wanted = {head + parting + b"line 2: " + message + b"\n"
+                          for message in (known, no_room)} | {head + b"line 2: " + no_room + b"\n"}
+            tally.wants(f"{words[0]} tells of a line as far as there is memory", reasons == wanted,
+                        repr(reasons))
 
 
 def judged_logs(tally):
@@ -77,7 +86,8 @@ def judged_logs(tally):
         asked = line.split(" = ")[0]
         others = [line.replace("ok\n", "full\n"), "", line + line]
         if " = " in line:
-            others = [f"{asked} = refused no-space\n", f"{asked} = refused no-memory\n", "", line.replace(" 1000 ", " 1001 ")]
+            others = [f"{asked} = refused no-space\n", f"{asked} = refused no-memory\n", "",
+                      line.replace(" 1000 ", " 1001 ")]
         for other in others:
             if other != line:
                 tally.wants(f"a log is refused with {other!r} in place of line {at}",
@@ -96,25 +106,30 @@ def refuses(judge, log):
 
 def keys_in_core(tally):
     """No key stands more often in a core of the program than docs/SECURITY.md tells."""
-    tool = subprocess.run([f"{TOP}/tools/keys_in_core", PROGRAM], stdout=subprocess.PIPE, stderr=subprocess.STDOUT, check=False)
+    tool = subprocess.run([f"{TOP}/tools/keys_in_core", PROGRAM], stdout=subprocess.PIPE,
+                          stderr=subprocess.STDOUT, check=False)
     if tool.returncode == NO_TOOL:
         print("check: gdb is not there or may not trace, so no core was taken")
         return
-    tally.wants("no key stands more often than docs/SECURITY.md tells", tool.returncode == 0, tool.stdout.decode())
+    tally.wants("no key stands more often than docs/SECURITY.md tells", tool.returncode == 0,
+                tool.stdout.decode())
 
 
 def wipes_in_code(tally):
     """What the sources promise to overwrite is overwritten in the machine code."""
-    tool = subprocess.run([f"{TOP}/tools/wipes_in_code", PROGRAM], stdout=subprocess.PIPE, stderr=subprocess.STDOUT, check=False)
+    tool = subprocess.run([f"{TOP}/tools/wipes_in_code", PROGRAM], stdout=subprocess.PIPE,
+                          stderr=subprocess.STDOUT, check=False)
     if tool.returncode == NO_TOOL:
         print("check: there is no objdump, so no machine code was read")
         return
-    tally.wants("the machine code overwrites what the sources promise", tool.returncode == 0, tool.stdout.decode())
+    tally.wants("the machine code overwrites what the sources promise", tool.returncode == 0,
+                tool.stdout.decode())
 
 
 def secret_flow(tally):
     """No branch, address or division depends on a secret but those in the table of docs/SECURITY.md."""
-    tool = subprocess.run([f"{TOP}/tools/secret_flow", "--short", PROGRAM], stdout=subprocess.PIPE, stderr=subprocess.STDOUT,
+    tool = subprocess.run([f"{TOP}/tools/secret_flow", "--short", PROGRAM], stdout=subprocess.PIPE,
+                          stderr=subprocess.STDOUT,
                           check=False)
     output = tool.stdout.decode()
     if tool.returncode == NO_TOOL:
@@ -123,4 +138,5 @@ def secret_flow(tally):
     tally.wants("no other place depends on a secret than docs/SECURITY.md has", tool.returncode == 0, output)
 
 
-CHECKS = (failing_allocations, shown_commands, bad_lines_without_memory, judged_logs, keys_in_core, wipes_in_code, secret_flow)
+CHECKS = (failing_allocations, shown_commands, bad_lines_without_memory, judged_logs, keys_in_core,
+          wipes_in_code, secret_flow)

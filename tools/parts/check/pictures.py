@@ -39,7 +39,8 @@ def watched(first, second):
     asking = [f"key-status {key}" for key in RAW]
     sections = [("0", first)] + [("5", [question] * len(first)) for question in asking]
     sections += [("1000", second)] + [("5", [question] * len(second)) for question in asking]
-    return "".join(f"caller {user}\n" + "".join(command + "\n" for command in commands) for user, commands in sections)
+    return "".join(f"caller {user}\n" + "".join(command + "\n" for command in commands) for user,
+                   commands in sections)
 
 
 def parted(log):

@@ -1,11 +1,14 @@
-"""Records that were changed behind their users' backs: each digit, line and word, with how unlocking by them ends."""
+"""Records that were changed behind their users' backs: each digit, line and word, with how unlocking by them
+ends."""
 from parts.common.running import SERIAL, run
 
 RAW, PASS = "raw:" + "11" * 32, "pass:correct%20horse"
 MADE = ["caller 1000", f"protector login {PASS.replace('pass:', 'pass:1:8:1:')}", f"protector backup {RAW}",
         f"policy-new docs login {PASS}", f"policy-add docs login {PASS} backup {RAW}"]
-# What a digit of these words is part of: where it is another, the tag no longer fits, or the name of the key.
-FITS = {"iv": "wrong-key", "key": "wrong-key", "tag": "wrong-key", "descriptor": "bad-record", "id": "bad-record"}
+# What a digit of these words is part of: where it is another, the tag no longer fits, or the name of the
+# key.
+FITS = {"iv": "wrong-key", "key": "wrong-key", "tag": "wrong-key", "descriptor": "bad-record",
+        "id": "bad-record"}
 OF_WRAPS = ("wrap", "label", "iv", "key", "tag")
 LEAST_DIGITS = 16
 
@@ -38,11 +41,13 @@ def digits_changed(lines, label):
         for number, (name, word) in enumerate(zip(names, words)):
             if name in FITS and len(word) >= LEAST_DIGITS:
                 for other in other_digits(word):
-                    yield f"of another {words[0]}, {name}", put_in(lines, at, " ".join([*words[:number], other, *words[number + 1:]])), FITS[name]
+                    yield f"of another {words[0]}, {name}", put_in(
+                        lines, at, " ".join([*words[:number], other, *words[number + 1:]])), FITS[name]
 
 
 def lines_changed(lines):
-    """Each record without one of its lines, with one twice or cut, and with others in the places of the first two."""
+    """Each record without one of its lines, with one twice or cut, and with others in the places of the
+    first two."""
     for at, line in enumerate(lines):
         if not line.startswith("wrap "):
             yield f"without line {at + 1}", put_in(lines, at), "bad-record"
@@ -72,12 +77,14 @@ def kinds_changed(lines):
 
 
 def wraps_changed(lines):
-    """Policies with other wraps: a wrap under another label, fewer of them, and in another order, which still opens."""
+    """Policies with other wraps: a wrap under another label, fewer of them, and in another order, which
+    still opens."""
     wraps = [line for line in lines if line.startswith("wrap ")]
     head = put_in(lines[:-len(wraps)], len(lines))
     login, backup = (wrap + "\n" for wrap in wraps)
     yield "whose wrap has another label", head + login.replace(" login ", " other ") + backup, "not-listed"
-    yield "whose wraps have changed their labels", head + login.replace(" login ", " backup ") + backup.replace(" backup ", " login "), "wrong-key"
+    yield "whose wraps have changed their labels", head + login.replace(
+        " login ", " backup ") + backup.replace(" backup ", " login "), "wrong-key"
     yield "whose wraps have changed places", head + backup + login, "ok"
     yield "without another's wrap", head + login, "ok"
     yield "without the wrap", head + backup, "not-listed"
@@ -88,19 +95,23 @@ def wraps_changed(lines):
 def changed_records(tally):
     """Each changed record is stored, and its policy is unlocked: the note tells why it opens or doesn't."""
     policy = last_record([*MADE, "meta-get policy/docs"])
-    older = "".join(line + "\n" for line in policy.replace("fsc-policy 2", "fsc-policy 1").splitlines() if not line.startswith("options "))
+    older = "".join(line + "\n" for line in policy.replace("fsc-policy 2", "fsc-policy 1").splitlines()
+                    if not line.startswith("options "))
     tried = [("protector/login", "login", PASS, ""), ("protector/backup", "backup", RAW, ""),
              ("policy/docs", "login", PASS, policy), ("policy/docs", "login", PASS, older)]
     for name, label, secret, text in tried:
         lines = (text or last_record([*MADE, f"meta-get {name}"])).splitlines()
-        cases = [*lines_changed(lines), *digits_changed(lines, label), *(wraps_changed(lines) if text else kinds_changed(lines))]
+        cases = [*lines_changed(lines), *digits_changed(lines, label),
+                 *(wraps_changed(lines) if text else kinds_changed(lines))]
         first = 2 if text else 1
         script = list(MADE)
         for version, (_, record, _) in enumerate(cases, first):
-            script += [f"meta-put {name} {version} {record.encode().hex() or '-'}", f"unlock docs {label} {secret}"]
+            script += [f"meta-put {name} {version} {record.encode().hex() or '-'}",
+                       f"unlock docs {label} {secret}"]
         log = run(SERIAL, "".join(line + "\n" for line in script).encode())[1].decode()
         notes = [line.split(" ")[3] for line in log.splitlines() if line.startswith("note ")][len(MADE) - 1:]
-        tally.wants(f"each changed {name} is tried", len(notes) == len(cases), f"{len(notes)} of {len(cases)}")
+        tally.wants(f"each changed {name} is tried", len(notes) == len(cases),
+                    f"{len(notes)} of {len(cases)}")
         for (what, _, wanted), ended in zip(cases, notes):
             tally.wants(f"unlocking by {name} {what} ends with {wanted}", ended == wanted, ended)
 

@@ -68,12 +68,14 @@ def encrypted(key, block):
 
 def mixed(column):
     """A column of the state behind MixColumns (FIPS 197, 5.1.3)."""
-    return bytes(times(column[at], 2) ^ times(column[(at + 1) % 4], 3) ^ column[(at + 2) % 4] ^ column[(at + 3) % 4]
+    return bytes(times(column[at], 2) ^ times(column[(at + 1) % 4],
+                                              3) ^ column[(at + 2) % 4] ^ column[(at + 3) % 4]
                  for at in range(4))
 
 
-# The images of the bits of a byte in the basis in which the code inverts it, for the S-box and for its inverse
-# (after Hamburg, "Accelerating AES with vector permute instructions", 2009), and what the second adds.
+# The images of the bits of a byte in the basis in which the code inverts it, for the S-box and for its
+# inverse (after Hamburg, "Accelerating AES with vector permute instructions", 2009), and what the second
+# adds.
 BASIS = (0x70, 0x2A, 0x98, 0x08, 0x4D, 0x7C, 0x7D, 0x81)
 INVERSE_BASIS = (0x5F, 0x54, 0x04, 0x1A, 0x65, 0x05, 0xE6, 0x94)
 INVERSE_BASIS_CONSTANT = 0xE8
@@ -116,11 +118,13 @@ def inverse_keys(key):
         columns = b"".join(mixed_back(key[at:at + 4]) for at in range(0, 16, 4))
         based = bytes(byte ^ INVERSE_BASIS_CONSTANT for byte in in_basis(INVERSE_BASIS, columns))
         return rotated(based, (number + 1) % 4)
-    return b"".join(prepared(number, round_key) for number, round_key in enumerate(reversed(middle_keys(key))))
+    return b"".join(prepared(number, round_key) for number,
+                    round_key in enumerate(reversed(middle_keys(key))))
 
 
 def key_planes(key):
-    """These in planes of bits, as it has them for eight blocks at a time: a byte of ones for each bit that is set."""
+    """These in planes of bits, as it has them for eight blocks at a time: a byte of ones for each bit that
+    is set."""
     def planes(number, key):
         state = rotated(xored(key, SUBSTITUTION_CONSTANT), 3 - number % 4)
         return b"".join(bytes(255 * (byte >> bit & 1) for byte in state) for bit in range(8))
@@ -155,7 +159,8 @@ def expanded(name, key, info, length):
 
 
 def padded(name, key):
-    """HMAC's inner and outer key, as long as the key alone: behind it the pads are known to all (RFC 2104)."""
+    """HMAC's inner and outer key, as long as the key alone: behind it the pads are known to all (RFC
+    2104)."""
     assert len(key) <= hashlib.new(name).block_size
     return [bytes(byte ^ pad for byte in key) for pad in (0x36, 0x5C)]
 
@@ -201,7 +206,8 @@ TURNS = {
 
 
 def compressed(name, block):
-    """The state of SHA-256 or SHA-512 behind its first block, in words of the machine (FIPS 180-4, 6.2 and 6.4)."""
+    """The state of SHA-256 or SHA-512 behind its first block, in words of the machine (FIPS 180-4, 6.2 and
+    6.4)."""
     bits, rounds, big0, big1, small0, small1 = TURNS[name]
     most = 2**bits
 
@@ -217,7 +223,8 @@ def compressed(name, block):
     first = [root_bits(prime, 2, bits) for prime in primes()[:8]]
     words = list(struct.unpack(">16" + ("I" if bits == 32 else "Q"), block))
     for at in range(16, rounds):
-        words.append((small(words[at - 2], small1) + words[at - 7] + small(words[at - 15], small0) + words[at - 16]) % most)
+        words.append((small(words[at - 2], small1) + words[at - 7] + small(words[at - 15], small0)
+                      + words[at - 16]) % most)
     a, b, c, d, e, f, g, h = first
     for at in range(rounds):
         one = h + big(e, big1) + (e & f ^ ~e & g) + root_bits(primes()[at], 3, bits) + words[at]

@@ -1,13 +1,14 @@
 """The calls that each command of a script makes (docs/FORMATS.md, Scripts)."""
 
-# The calls of each session command in order: the verb and, of a call on a record, the record. A number in braces is
-# the command's argument with the record's label.
+# The calls of each session command in order: the verb and, of a call on a record, the record. A number in
+# braces is the command's argument with the record's label.
 SESSION_CALLS = {
     "protector": ["meta-put protector/{1}"],
     "protector-change": ["meta-get protector/{1}", "meta-put protector/{1}"],
     "protector-link": ["meta-put protector/{1}"],
     "policy-new": ["meta-get protector/{2}", "meta-put policy/{1}"],
-    "policy-add": ["meta-get protector/{2}", "meta-get policy/{1}", "meta-get protector/{4}", "meta-put policy/{1}"],
+    "policy-add": ["meta-get protector/{2}", "meta-get policy/{1}", "meta-get protector/{4}",
+                   "meta-put policy/{1}"],
     "policy-drop": ["meta-get policy/{1}", "meta-put policy/{1}"],
     "unlock": ["meta-get protector/{2}", "meta-get policy/{1}", "add-key"],
     "lock": ["meta-get policy/{1}", "remove-key"],
@@ -27,7 +28,8 @@ def is_session(name):
 
 
 def calls_of(words):
-    """How the calls of a command begin, in order, if none ends it; the command is its name and its arguments."""
+    """How the calls of a command begin, in order, if none ends it; the command is its name and its
+    arguments."""
     calls = SESSION_CALLS.get(words[0])
     if calls is None:
         return [OTHER_NAMES.get(words[0], words[0])]

@@ -25,13 +25,15 @@ def run(words, given=b"", program=PROGRAM, **more):
 
 
 def run_at_terminal(words, given=b"", program=PROGRAM, **more):
-    """The same with standard error on a terminal, which makes a carriage return and a line feed of each line feed."""
+    """The same with standard error on a terminal, which makes a carriage return and a line feed of each line
+    feed."""
     ours, theirs = pty.openpty()
     told = []
     reader = threading.Thread(target=lambda: told.extend(pieces(ours)))
     reader.start()
     try:
-        ended = subprocess.run([program, *words], input=given, stdout=subprocess.PIPE, stderr=theirs, timeout=SECONDS,
+        ended = subprocess.run([program, *words], input=given, stdout=subprocess.PIPE, stderr=theirs,
+                               timeout=SECONDS,
                                check=False, **more)
     finally:
         os.close(theirs)

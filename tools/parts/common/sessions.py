@@ -5,7 +5,8 @@ What is drawn, derived and wrapped is said in docs/FORMATS.md.
 import hashlib
 
 from parts.common.argon import argon2id
-from parts.common.ciphers import (expanded, extracted, forward_keys, inverse_keys, key_planes, keystream, mac,
+from parts.common.ciphers import (expanded, extracted, forward_keys, inverse_keys, key_planes, keystream,
+                                  mac,
                                 padded, round_keys, states, xored)
 
 PASSES, KIB = 1, 8
@@ -18,7 +19,8 @@ CALLER = 1
 HEADS = ["caller 1001", "drop-caches", "caller 1000"]
 
 
-# Each byte of a plane is 0 or 255, as in much other memory: so the eight planes of a round key are one piece.
+# Each byte of a plane is 0 or 255, as in much other memory: so the eight planes of a round key are one
+# piece.
 PLANES_OF_A_KEY = 128
 
 
@@ -29,7 +31,8 @@ class Key:
         self.row, self.value, self.has_words, self.piece = row, value, has_words, piece
 
     def forms(self):
-        """The bytes as they are, and as words of four and eight bytes with the last byte first, as a hash reads them."""
+        """The bytes as they are, and as words of four and eight bytes with the last byte first, as a hash
+        reads them."""
         yield self.value
         if self.has_words:
             for size in (4, 8):
@@ -128,8 +131,8 @@ PLAN = [
 ]
 NUMBERS = {name: number for number, (name, _) in enumerate(PLAN)}
 
-# The commands before which the run is stopped: the file is open and the key there; it is open and the key locked;
-# it is closed, and the key absent.
+# The commands before which the run is stopped: the file is open and the key there; it is open and the key
+# locked; it is closed, and the key absent.
 MOMENTS = {"open": "close f", "busy": "list busy", "absent": "list absent"}
 
 
@@ -153,8 +156,10 @@ class Session:
         return told | {"shared": self.shared.hex(), "shared_id": derived(self.shared, b"\x01", 16).hex()}
 
     def record(self):
-        """The record of the policy when it is made: its key is wrapped under the protector's, that under the secret."""
-        login, policy = drawn(NUMBERS["make login"], NONCE_OR_KEY, 32), drawn(NUMBERS["make docs"], NONCE_OR_KEY, 64)
+        """The record of the policy when it is made: its key is wrapped under the protector's, that under the
+        secret."""
+        login, policy = drawn(NUMBERS["make login"], NONCE_OR_KEY, 32), drawn(NUMBERS["make docs"],
+                                                                              NONCE_OR_KEY, 64)
         iv = drawn(NUMBERS["make docs"], IV, 16)
         wrapped, tag = wrap(login, iv, policy)
         return ["fsc-policy 2", "name docs", "id " + derived(policy, b"\x01", 16).hex(), "options 32 0",
@@ -168,9 +173,11 @@ class Session:
         return "\n".join([*HEADS, *(line.format(**words) for _, line in PLAN)]) + "\n"
 
     def told(self):
-        """What the log has to tell, so that the keys are known to be the run's: the records of protector and policy."""
+        """What the log has to tell, so that the keys are known to be the run's: the records of protector and
+        policy."""
         iv = drawn(NUMBERS["make login"], IV, 16)
-        wrapped, tag = wrap(self.secrets["login"].wrapping_key(), iv, drawn(NUMBERS["make login"], NONCE_OR_KEY, 32))
+        wrapped, tag = wrap(self.secrets["login"].wrapping_key(), iv,
+                            drawn(NUMBERS["make login"], NONCE_OR_KEY, 32))
         yield f"iv {iv.hex()}\nkey {wrapped.hex()}\ntag {tag.hex()}\n".encode().hex()
         yield "\n".join(self.record()).encode().hex()
         yield "added " + derived(self.shared, b"\x01", 16).hex()
@@ -179,12 +186,14 @@ class Session:
         """Each key of the run."""
         for secret in self.secrets.values():
             yield from secret.keys()
-        login, spare = (drawn(NUMBERS[command], NONCE_OR_KEY, 32) for command in ("make login", "make spare"))
+        login, spare = (drawn(NUMBERS[command], NONCE_OR_KEY, 32)
+                        for command in ("make login", "make spare"))
         policy = drawn(NUMBERS["make docs"], NONCE_OR_KEY, 64)
         for key in (login, spare):
             yield Key("protectors' keys", key)
         secrets = {name: secret.wrapping_key() for name, secret in self.secrets.items()}
-        for key, command in ((secrets["login"], "make login"), (secrets["spare"], "make spare"), (login, "make docs"),
+        for key, command in ((secrets["login"], "make login"), (secrets["spare"], "make spare"),
+                             (login, "make docs"),
                              (spare, "add spare"), (secrets["changed"], "change login")):
             yield from wrap_keys(key, drawn(NUMBERS[command], IV, 16))
         yield from raw_keys("the policy's raw key", policy)

@@ -1,5 +1,5 @@
-"""What `tools/edits` takes from an `rt ci` that runs beside it: word of each crate that is proved, its library, and the
-processors that the proofs leave idle.
+"""What `tools/edits` takes from an `rt ci` that runs beside it: word of each crate that is proved, its
+library, and the processors that the proofs leave idle.
 
 Used by `tools/edits` and `.ci/run`; nothing here knows of edits.
 """
@@ -13,7 +13,8 @@ from pathlib import Path
 # How `rt ci` tells of a crate that it proved, or proved earlier; and how the gate tells how `rt ci` ended.
 PROVED = re.compile(r"^rt: (\w+) (?:proved$|is kept: )", re.M)
 ENDED = re.compile(r"^gate: rt ci (passed|failed)$", re.M)
-# How long the processors are looked at, in seconds, and the part of one that must have been idle; and how often the file is read.
+# How long the processors are looked at, in seconds, and the part of one that must have been idle; and how
+# often the file is read.
 LOOK, IDLE, OFTEN = 2.0, 0.7, 0.5
 # What must be free of the memory, in bytes, for a check to begin beside the proofs.
 MEMORY = 5_000_000_000
@@ -32,14 +33,17 @@ def free_memory():
 
 
 class Beside:
-    """An `rt ci` whose lines go to this file, and a folder of this run alone for the libraries that it proved."""
+    """An `rt ci` whose lines go to this file, and a folder of this run alone for the libraries that it
+    proved."""
 
     def __init__(self, file, top, room):
-        self.file, self.top, self.room, self.seen, self.end = Path(file), top, Path(room), 0, threading.Event()
+        self.file, self.top, self.room, self.seen, self.end = Path(file), top, Path(
+            room), 0, threading.Event()
         self.has_failed, self.parent = False, os.getppid()
 
     def told(self):
-        """The crates that `rt ci` has told of as proved since the last call, or None where it has failed, or what began this run is gone."""
+        """The crates that `rt ci` has told of as proved since the last call, or None where it has failed, or
+        what began this run is gone."""
         if os.getppid() != self.parent or not self.file.is_file():
             return self.fail()
         with open(self.file, "rb") as file:
@@ -60,10 +64,12 @@ class Beside:
         self.end.set()
 
     def take(self, name):
-        """Takes a crate's library, by links where these can be made: when `rt ci` ends it puts back what lay there before."""
+        """Takes a crate's library, by links where these can be made: when `rt ci` ends it puts back what lay
+        there before."""
         made = self.top / "crates" / name / "out" / "rlib" / f"{name}.rlib"
         if made.is_dir():
-            shutil.copytree(made, self.room / name / f"{name}.rlib", copy_function=link_or_copy, dirs_exist_ok=True)
+            shutil.copytree(made, self.room / name / f"{name}.rlib", copy_function=link_or_copy,
+                            dirs_exist_ok=True)
 
     def folder(self, name):
         """Where a crate's library lies for this run."""

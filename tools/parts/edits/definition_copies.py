@@ -1,4 +1,5 @@
-"""Copies of definitions, up to a law that stands on them, in which wrong edits of definitions are tried beside each other.
+"""Copies of definitions, up to a law that stands on them, in which wrong edits of definitions are tried
+beside each other.
 
 Nothing here runs a prover. `tools/edits` tries the copies, `tools/parts/edits/test_edits` tries this.
 """
@@ -19,7 +20,8 @@ AS_IT_IS = Edit("(as it is)", ())
 
 @dataclass(frozen=True)
 class Copy:
-    """An edit, or None where nothing is changed; the copy of the law that is to refuse it; and the files that were copied for it."""
+    """An edit, or None where nothing is changed; the copy of the law that is to refuse it; and the files
+    that were copied for it."""
     edit: Edit
     home: Function
     files: tuple
@@ -27,7 +29,8 @@ class Copy:
 
 def modules_of(crate, texts):
     """What others call the modules of definitions and of lemmas, by their files."""
-    return {file: f"Rattle.{crate}.{file[:-5].replace('/', '.')}" for file in texts if MODULE.fullmatch(file)}
+    return {file: f"Rattle.{crate}.{file[:-5].replace('/', '.')}" for file in texts
+            if MODULE.fullmatch(file)}
 
 
 def cited(text, modules):
@@ -62,30 +65,35 @@ def without_idle(crate, text):
 
 
 def law_of(edit, texts):
-    """The law that is told to refuse the edit: the one function that it tells, if that is no method and lies in a module right below
-    the root."""
+    """The law that is told to refuse the edit: the one function that it tells, if that is no method and lies
+    in a module right below the root."""
     found = [function for function in every_function(texts) if place_of(function, texts) in edit.refused]
-    return found[0] if len(edit.refused) == len(found) == 1 and not found[0].of_type and found[0].is_plain and found[0].file.count("/") == 1 else None
+    return found[0] if len(edit.refused) == len(found) == 1 and not found[0].of_type and found[
+        0].is_plain and found[0].file.count("/") == 1 else None
 
 
 def is_copied(crate, edit, texts):
-    """Whether an edit is tried in copies: it changes definitions alone, and tells the one law that is to refuse it, which stands on them."""
+    """Whether an edit is tried in copies: it changes definitions alone, and tells the one law that is to
+    refuse it, which stands on them."""
     law = None if edit.function else law_of(edit, texts)
     modules = modules_of(crate, texts)
-    if not law or law.file in ("src/lib.rt", "src/main.rt") or not all(file in modules and file.startswith("specs/") for file, _, _ in edit.pairs):
+    if not law or law.file in ("src/lib.rt", "src/main.rt") or not all(
+        file in modules and file.startswith("specs/") for file, _, _ in edit.pairs):
         return False
     return {file for file, _, _ in edit.pairs} <= set(copied_for(crate, law, edit, texts)[1])
 
 
 def copied_for(crate, law, edit, texts):
-    """The texts of the law and of its proof as a copy has them, but for the names, by their files; and the files of the definitions and
-    lemmas to copy with it: those that stand on what is edited and on which the law stands."""
+    """The texts of the law and of its proof as a copy has them, but for the names, by their files; and the
+    files of the definitions and lemmas to copy with it: those that stand on what is edited and on which the
+    law stands."""
     modules, lines = modules_of(crate, texts), texts[law.file].split("\n")
     items = "".join(ITEM.findall("\n".join(lines[:law.first]) + "\n"))
     made = {law.file: without_idle(crate, items + "\n".join([*reduced(law, lines, edit.ensures), ""]))}
     folder = f"proofs/{place_of(law, texts).replace('::', '/')}/"
     for file in (text for text in texts if text.startswith(folder)):
-        text = answers(texts[file], edit.ensures) if edit.ensures and file.endswith("/Answers.antt") else texts[file]
+        text = answers(texts[file],
+                       edit.ensures) if edit.ensures and file.endswith("/Answers.antt") else texts[file]
         made[file] = without_idle(crate, text)
     cites = {module: cited(texts[module], modules) - {module} for module in modules}
     edited = {file for file, _, _ in edit.pairs}
@@ -94,8 +102,8 @@ def copied_for(crate, law, edit, texts):
 
 
 def with_copy(crate, edit, number, texts, is_edited=True):
-    """The texts with a copy of the law that is to refuse the edit and of all that stands between them, under names with this number,
-    in which the edit is made, or nothing; and the copy."""
+    """The texts with a copy of the law that is to refuse the edit and of all that stands between them, under
+    names with this number, in which the edit is made, or nothing; and the copy."""
     law, modules = law_of(edit, texts), modules_of(crate, texts)
     own, files = copied_for(crate, law, edit, texts)
     module = law.file[4:-3]
@@ -112,19 +120,21 @@ def with_copy(crate, edit, number, texts, is_edited=True):
     made.update({moved(file): renamed(text) for file, text in own.items()})
     root = "src/lib.rt" if "src/lib.rt" in texts else "src/main.rt"
     made[root] = f"{made[root].rstrip()}\n\nmod {module}_as_{number};\n"
-    home = next(function for function in every_function({moved(law.file): made[moved(law.file)]}) if function.name == law.name)
+    home = next(function for function in every_function({moved(law.file): made[moved(law.file)]})
+                if function.name == law.name)
     return made, Copy(edit if is_edited else None, home, tuple(sorted({*made} - {*texts})))
 
 
 def with_copies(crate, edits, texts):
-    """The texts with a copy for each of these edits, behind one for each law, or each clause of a law, that is to refuse some of them,
-    in which nothing is changed; and the copies."""
+    """The texts with a copy for each of these edits, behind one for each law, or each clause of a law, that
+    is to refuse some of them, in which nothing is changed; and the copies."""
     made, copies, once = texts, [], {}
     for edit in edits:
         once.setdefault((edit.refused, edit.ensures), []).append(edit)
     for like in once.values():
         # with all that is copied for any of them
-        every = Edit(AS_IT_IS.name, tuple(pair for edit in like for pair in edit.pairs), None, like[0].refused, like[0].ensures)
+        every = Edit(AS_IT_IS.name, tuple(pair for edit in like for pair in edit.pairs), None,
+                     like[0].refused, like[0].ensures)
         part, copy = with_copy(crate, every, len(copies) + 2, texts, False)
         made, copies = merged(made, part, texts), [*copies, copy]
     for edit in edits:
@@ -143,4 +153,5 @@ def merged(made, part, texts):
 def told_of(said, copies, inside):
     """For each copy the lines that refuse it: in the law, or in a file that was copied for it."""
     place = lambda line: re.match(r"(?:\./)?(proofs/\S+?\.antt):\d+:\d+: error\b", line)
-    return [[*inside[copy.home], *(line for line in said if (at := place(line)) and at[1] in copy.files and line not in inside[copy.home])] for copy in copies]
+    return [[*inside[copy.home], *(line for line in said if (at := place(line)) and at[1] in copy.files
+                                   and line not in inside[copy.home])] for copy in copies]

@@ -1,4 +1,5 @@
-"""What a check of a crate takes and what it came to: the crates, the toolchain's words, the libraries below, and a check's output.
+"""What a check of a crate takes and what it came to: the crates, the toolchain's words, the libraries below,
+and a check's output.
 
 Used by `tools/edits`; nothing here knows of edits.
 """
@@ -20,7 +21,8 @@ PARTS = ("src", "specs", "proofs")
 
 @dataclass(frozen=True)
 class Crate:
-    """A crate of crates.txt: its name, its line, and the libraries that it uses, the repository's own and the kit's."""
+    """A crate of crates.txt: its name, its line, and the libraries that it uses, the repository's own and
+    the kit's."""
     name: str
     line: str
     own: tuple
@@ -36,12 +38,14 @@ def crates_of(top):
             lines[words.split()[0]] = (" ".join(line.partition("#")[0].split()), below.split())
     found = {}
     while len(found) < len(lines):
-        ready = [crate for crate, (_, below) in lines.items() if crate not in found and all(low in found for low in below if low in lines)]
+        ready = [crate for crate, (_, below) in lines.items() if crate not in found
+                 and all(low in found for low in below if low in lines)]
         if not ready:
             raise SystemExit("crates of crates.txt stand on one another in a ring")
         for crate in ready:
             line, below = lines[crate]
-            found[crate] = Crate(crate, line, tuple(low for low in below if low in lines), tuple(low for low in below if low not in lines))
+            found[crate] = Crate(crate, line, tuple(low for low in below if low in lines),
+                                 tuple(low for low in below if low not in lines))
     return found
 
 
@@ -63,7 +67,8 @@ class Kit:
     """The toolchain: its line, and the words that a check of a crate takes."""
 
     def __init__(self):
-        told = lambda verb: subprocess.run(["rt", verb], capture_output=True, text=True, check=True).stdout.strip()
+        told = lambda verb: subprocess.run(["rt", verb], capture_output=True, text=True,
+                                           check=True).stdout.strip()
         self.version, self.top = told("version"), Path(told("doc")).parent
 
     def words(self, crates, name, root, folder_of):
@@ -76,19 +81,23 @@ class Kit:
             words += ["--extern", f"{crate}={folder_of(crate)}/{crate}.rlib"]
         for crate in below(crates, name):
             words += ["-L", f"dependency={folder_of(crate)}"]
-        words += ["--antt-project", f"{self.top}/rattle/logic/antt-project.json", "--logic-built", f"{self.top}/logic_built"]
+        words += ["--antt-project", f"{self.top}/rattle/logic/antt-project.json", "--logic-built",
+                  f"{self.top}/logic_built"]
         return [*words, "--links", f"{name}=", "--jobs", "1"]
 
 
 class Run:
-    """What a run of the prover in a crate's folder said, and what it took. It may give way to all others on this machine."""
+    """What a run of the prover in a crate's folder said, and what it took. It may give way to all others on
+    this machine."""
 
     running, are_ended = set(), False
 
     def __init__(self, kit, verb, words, folder, gives_way=False):
         began = time.monotonic()
-        with tempfile.TemporaryDirectory(prefix="fsc-prover-") as room, tempfile.TemporaryFile("w+", errors="replace") as out:
-            words = [f"{kit.top}/bin/rattle", verb, *words, *(["--stage-times", f"{room}/stages"] if verb == "check" else [])]
+        with tempfile.TemporaryDirectory(prefix="fsc-prover-") as room, tempfile.TemporaryFile(
+            "w+", errors="replace") as out:
+            words = [f"{kit.top}/bin/rattle", verb, *words,
+                     *(["--stage-times", f"{room}/stages"] if verb == "check" else [])]
             words = ["nice", "-n", "19", *words] if gives_way else words
             ran = subprocess.Popen(words, cwd=folder, stdin=subprocess.DEVNULL, stdout=out, stderr=out)
             Run.running.add(ran)
@@ -102,9 +111,9 @@ class Run:
         self.last = next((line for line in reversed(self.said) if line.strip()), "")
 
     def waited(self, ran, stages):
-        """Waits for the prover, and gives what it used. Once a check's verdict stands, as the file of its stages tells, it may open no
-        further file: it would go over all once more, a fourth of its work, to print files in which the open goals are to be answered.
-        It tells in a note that it can't."""
+        """Waits for the prover, and gives what it used. Once a check's verdict stands, as the file of its
+        stages tells, it may open no further file: it would go over all once more, a fourth of its work, to
+        print files in which the open goals are to be answered. It tells in a note that it can't."""
         pid = 0
         while not pid:
             time.sleep(0.05)
@@ -118,7 +127,8 @@ class Run:
 
     @staticmethod
     def end_all():
-        """Kills the provers that run, and those that begin later, so that nothing is known of what they check."""
+        """Kills the provers that run, and those that begin later, so that nothing is known of what they
+        check."""
         Run.are_ended = True
         for ran in [*Run.running]:
             with contextlib.suppress(ProcessLookupError):
@@ -133,7 +143,8 @@ class Run:
 
     def is_cut_off(self):
         """Whether it was killed, or wanted memory, so that nothing is known."""
-        return self.status < 0 or self.status > 128 or not (self.is_proved() or self.is_refused()) and any("memory" in line for line in self.said)
+        return self.status < 0 or self.status > 128 or not (self.is_proved() or self.is_refused()) and any(
+            "memory" in line for line in self.said)
 
     def cost(self):
         return f"{self.wall:.0f} s, {self.work:.0f} s of a processor"
@@ -144,33 +155,39 @@ class Run:
 
 
 class Libraries:
-    """The libraries that checks stand on: those that the gate, or a check, left in the checkout, where they are newer than all
-    that they were built from, and else statements, which are built into a folder of this machine by the sums of their texts."""
+    """The libraries that checks stand on: those that the gate, or a check, left in the checkout, where they
+    are newer than all that they were built from, and else statements, which are built into a folder of this
+    machine by the sums of their texts."""
 
     def __init__(self, kit, top, crates, sums, room):
         self.kit, self.top, self.crates, self.sums, self.room = kit, top, crates, sums, room
         self.times, self.lies_there, self.folder_of = {}, False, None
 
     def choose(self, needed):
-        """Takes all of these from the checkout, or none, since a library's statements fit those that it was built over."""
+        """Takes all of these from the checkout, or none, since a library's statements fit those that it was
+        built over."""
         self.lies_there = all(self.time(crate) for crate in needed)
 
     def time(self, name):
-        """When the checkout's library was built, or 0 where it isn't there or something that it was built from is newer."""
+        """When the checkout's library was built, or 0 where it isn't there or something that it was built
+        from is newer."""
         if name not in self.times:
             folder = self.top / "crates" / name
             made = folder / "out" / "rlib" / f"{name}.rlib"
             built = made.stat().st_mtime if made.is_dir() else 0
-            texts = [self.top / "crates.txt", self.kit.top / "KIT-ID", *(more for part in PARTS for more in [folder / part, *(folder / part).rglob("*")] if more.exists())]
+            texts = [self.top / "crates.txt", self.kit.top / "KIT-ID", *(more for part in PARTS for more in [
+                folder / part, *(folder / part).rglob("*")] if more.exists())]
             lower = [self.time(crate) for crate in self.crates[name].own]
-            is_new = built and all(lower) and max([*lower, *(text.stat().st_mtime for text in texts)]) <= built
+            is_new = built and all(lower) and max([*lower,
+                                                   *(text.stat().st_mtime for text in texts)]) <= built
             self.times[name] = built if is_new else 0
         return self.times[name]
 
     def folder(self, name):
         if self.folder_of:
             return self.folder_of(name)
-        return self.top / "crates" / name / "out" / "rlib" if self.lies_there else self.room / self.sums[name]
+        return self.top / "crates" / name / "out" / "rlib" if self.lies_there else self.room / self.sums[
+            name]
 
     def stands(self, name):
         return (self.folder(name) / f"{name}.rlib").is_dir()
@@ -179,9 +196,11 @@ class Libraries:
         """Proves a library and keeps its statements."""
         with tempfile.TemporaryDirectory(dir=self.room) as made:
             root = "src/lib.rt"
-            words = [*self.kit.words(self.crates, name, root, self.folder), "--statements", "-o", f"{made}/new/{name}.rlib"]
+            words = [*self.kit.words(self.crates, name, root, self.folder), "--statements", "-o",
+                     f"{made}/new/{name}.rlib"]
             os.mkdir(f"{made}/new")
-            shutil.copytree(self.top / "crates" / name, f"{made}/crate", ignore=shutil.ignore_patterns("out"))
+            shutil.copytree(self.top / "crates" / name, f"{made}/crate",
+                            ignore=shutil.ignore_patterns("out"))
             run = Run(self.kit, "build", words, f"{made}/crate")
             if run.is_proved() and not self.stands(name):
                 shutil.rmtree(self.folder(name), ignore_errors=True)
@@ -193,7 +212,8 @@ def sums_of(kit, top, crates, reading, read):
     """For each crate the sum of all that a verdict on it rests on, with its texts as they are read."""
     handles, found = (top / "HANDLES").read_text(encoding="utf-8"), {}
     for name, crate in crates.items():
-        made = hashlib.sha256(repr((reading, kit.version, handles, crate.line, [found[other] for other in crate.own])).encode())
+        made = hashlib.sha256(repr((reading, kit.version, handles, crate.line,
+                                    [found[other] for other in crate.own])).encode())
         made.update(repr(sorted(read(texts_of(top / "crates" / name)).items())).encode())
         found[name] = made.hexdigest()
     return found

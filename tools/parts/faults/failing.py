@@ -8,7 +8,8 @@ from parts.common.running import run
 
 
 class Failing:
-    """Runs a program in which some allocations fail. It needs cc and a C library that is linked dynamically."""
+    """Runs a program in which some allocations fail. It needs cc and a C library that is linked
+    dynamically."""
 
     def __init__(self, program, room):
         self.program = program
@@ -18,7 +19,8 @@ class Failing:
         subprocess.run(["cc", "-O2", "-shared", "-fPIC", "-o", self.library, source, "-ldl"], check=True)
 
     def run(self, words, given, first, last, how=run):
-        """Runs it while these allocations fail: its status, output and errors, and how many were asked for and failed."""
+        """Runs it while these allocations fail: its status, output and errors, and how many were asked for
+        and failed."""
         with open(self.counts, "wb") as file:
             file.write(bytes(16))
         told = {"LD_PRELOAD": self.library, "FSC_FAIL_COUNTS": self.counts,

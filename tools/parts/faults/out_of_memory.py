@@ -1,9 +1,9 @@
 """Whether a log is right where some calls of its run found no memory.
 
-A refused call changes nothing that any call tells (docs/ANSWERS.md), and each command of a session ends with the first
-call that is refused, where all its calls before only load records. So the others are answered as in a run of the
-script in which the command is one that does nothing, `drop-caches`. What that run tells comes from the program itself,
-which had memory then.
+A refused call changes nothing that any call tells (docs/ANSWERS.md), and each command of a session ends with
+the first call that is refused, where all its calls before only load records. So the others are answered as
+in a run of the script in which the command is one that does nothing, `drop-caches`. What that run tells
+comes from the program itself, which had memory then.
 """
 import collections
 
@@ -64,7 +64,8 @@ def parsed(log):
 
 def written(entries, notes):
     """The log of these."""
-    lines = [f"{at} {entry.caller} {entry.user} {entry.call} = {entry.reply}" for at, entry in enumerate(entries)]
+    lines = [f"{at} {entry.caller} {entry.user} {entry.call} = {entry.reply}" for at,
+             entry in enumerate(entries)]
     lines += [f"note {caller} {line} {outcome}" for (caller, line), outcome in sorted(notes.items())]
     return "".join(line + "\n" for line in lines)
 
@@ -79,7 +80,8 @@ def grouped(order, log):
 
 
 def owners_of(order, entries, notes):
-    """The command of each entry, where the entries are those of the commands in this order; None where they aren't."""
+    """The command of each entry, where the entries are those of the commands in this order; None where they
+    aren't."""
     owners = []
     for number, command in enumerate(order):
         here = entries[len(owners):]
@@ -120,7 +122,8 @@ def counts_of(command, entries, outcome):
 
 
 class Judge:
-    """Judges logs of one script's runs, by what `replay` makes of scripts: the log of a run that has memory."""
+    """Judges logs of one script's runs, by what `replay` makes of scripts: the log of a run that has
+    memory."""
 
     def __init__(self, script, replay):
         self.script, self.replay, self.known = script, replay, {}
@@ -133,7 +136,8 @@ class Judge:
             lines = self.script.split("\n")
             for number in refused:
                 lines[number - 1] = IDLE
-            idle = [command._replace(words=[IDLE]) if command.line in refused else command for command in self.order]
+            idle = [command._replace(words=[IDLE]) if command.line in refused else command
+                    for command in self.order]
             self.known[refused] = grouped(idle, self.replay("\n".join(lines)))
         return self.known[refused]
 
@@ -153,7 +157,8 @@ class Judge:
             command = due[at][0]
             if entries[at] != due[at][1]._replace(reply=REFUSED) or entries[at].call.split(" ")[0] in FREE:
                 raise Wrong(f"entry {at} is {entries[at]} in place of {due[at][1]}")
-            made[command.line] = [entry for owner, entry in due[:at] if owner.line == command.line] + [entries[at]]
+            made[command.line] = [entry for owner,
+                                  entry in due[:at] if owner.line == command.line] + [entries[at]]
             refused |= {command.line}
             at += 1
         self.check_notes(notes, refused)
@@ -169,7 +174,8 @@ class Judge:
     def check_notes(self, notes, refused):
         """Each note is as in the run without the refused commands, and theirs tell the want of memory."""
         due = dict(self.without(refused)[1])
-        due |= {(command.caller, command.line): "no-memory" for command in self.order if command.line in refused and is_session(command.words[0])}
+        due |= {(command.caller, command.line): "no-memory" for command in self.order
+                if command.line in refused and is_session(command.words[0])}
         if notes != due:
             raise Wrong(f"the notes are {notes} in place of {due}")
 

@@ -1,7 +1,9 @@
-"""Runs the program under gdb, takes a core of it at each moment, and tells what its heap and its stacks hold.
+"""Runs the program under gdb, takes a core of it at each moment, and tells what its heap and its stacks
+hold.
 
-A core has the registers too; they count as stack, where a call would spill them. How many copies a stack keeps depends
-on how its frames are aligned, so the program has no environment, and its path and its words have always one length.
+A core has the registers too; they count as stack, where a call would spill them. How many copies a stack
+keeps depends on how its frames are aligned, so the program has no environment, and its path and its words
+have always one length.
 """
 import os
 import pty
@@ -24,17 +26,19 @@ SHOWN = "\r\x1b[Kfsc: line "
 
 
 def gdb_lines(program, words, files, numbers, room):
-    """The commands for gdb: a stop where each of these commands of the session begins, and one where the log is written.
+    """The commands for gdb: a stop where each of these commands of the session begins, and one where the log
+    is written.
 
-    Standard error is a terminal, so the program tells each command that it begins, by one write with the command's
-    line in the script. The stop is at that write, and then at the first write to standard output.
+    Standard error is a terminal, so the program tells each command that it begins, by one write with the
+    command's line in the script. The stop is at that write, and then at the first write to standard output.
     """
     script, terminal = files
     yield from (*settings(program), "catch syscall write")
     begun = False
     for name, number in sorted(numbers.items(), key=lambda part: part[1]):
         line = enumerate(f"{len(HEADS) + 1 + number}:", len(SHOWN))
-        yield "condition 1 $rdi == 2" + "".join(f" && *(char *)($rsi + {at}) == '{digit}'" for at, digit in line)
+        yield "condition 1 $rdi == 2" + "".join(f" && *(char *)($rsi + {at}) == '{digit}'" for at,
+                                                digit in line)
         yield "continue" if begun else f"run {' '.join(words)} < {script} > /dev/null 2> {terminal}"
         yield from taken(name, room)
         begun = True
@@ -51,7 +55,8 @@ def settings(program):
 
 
 def lines_at_end(program, words, files, room, writes):
-    """The same with one stop: at the first write to standard output, or at the program's end where it writes none."""
+    """The same with one stop: at the first write to standard output, or at the program's end where it writes
+    none."""
     given, terminal = files
     yield from settings(program)
     yield from ("catch syscall write", "condition 1 $rdi == 1") if writes else ("catch syscall exit_group",)
@@ -72,13 +77,16 @@ def cores(program, words, script, numbers, room):
 
 
 def core_at_end(program, words, given, room, writes):
-    """The memory of a run whose text is about to be written, or which is about to end where it writes none."""
-    found = stopped(program, given, {"over"}, room, lambda place, files: lines_at_end(place, words, files, room, writes))
+    """The memory of a run whose text is about to be written, or which is about to end where it writes
+    none."""
+    found = stopped(program, given, {"over"}, room, lambda place,
+                    files: lines_at_end(place, words, files, room, writes))
     return found["over"]
 
 
 def stopped(program, given, moments, room, lines):
-    """The memory at each of these moments of a run under gdb, whose commands `lines` makes of program and files."""
+    """The memory at each of these moments of a run under gdb, whose commands `lines` makes of program and
+    files."""
     path, place = os.path.join(room, "script"), os.path.join(room, "fsc")
     shutil.copy(program, place)
     with open(path, "wb") as file:
@@ -90,7 +98,8 @@ def stopped(program, given, moments, room, lines):
     reader = threading.Thread(target=drained, args=(ours,), daemon=True)
     reader.start()
     try:
-        told = subprocess.run(["gdb", "-nx", "-batch", "-x", commands], stdin=subprocess.DEVNULL, timeout=SECONDS,
+        told = subprocess.run(["gdb", "-nx", "-batch", "-x", commands], stdin=subprocess.DEVNULL,
+                              timeout=SECONDS,
                               stdout=subprocess.PIPE, stderr=subprocess.STDOUT, check=False).stdout.decode()
     finally:
         os.close(theirs)
@@ -140,9 +149,11 @@ def memory_of(core, told):
 def stacks_of(told):
     """Where the stacks lie, from gdb's list of mappings: the main one, and each piece behind a guard page.
 
-    The C library takes an arena of the heap at a multiple of 64 MiB; that is how one is told from a thread's stack.
+    The C library takes an arena of the heap at a multiple of 64 MiB; that is how one is told from a thread's
+    stack.
     """
-    rows = re.findall(r"^\s*0x([0-9a-f]+)\s+0x([0-9a-f]+)\s+0x[0-9a-f]+\s+0x[0-9a-f]+\s+([-rwxps]{4})?[ \t]*(\S*)", told, re.M)
+    rows = re.findall(r"^\s*0x([0-9a-f]+)\s+0x([0-9a-f]+)\s+0x[0-9a-f]+\s+0x[0-9a-f]+\s+([-rwxps]{4})?[ "
+                      r"\t]*(\S*)", told, re.M)
     stacks, guarded = [], None
     for low, high, rights, name in rows:
         low, high = int(low, 16), int(high, 16)

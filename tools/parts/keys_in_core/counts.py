@@ -19,7 +19,8 @@ class Search:
                     self.pieces[form[at:at + key.piece]].append((number, form, at))
 
     def counts(self, memory):
-        """For each row its whole copies, and for each of its keys the most copies of one piece, all added up."""
+        """For each row its whole copies, and for each of its keys the most copies of one piece, all added
+        up."""
         whole, pieces = collections.Counter(), collections.Counter()
         for part in memory:
             for at, length in self.found(part):

@@ -1,7 +1,7 @@
 """What a log of fsc tells of its mount: its nodes, names, handles and claims.
 
-It takes each reply as the log has it and decides none. So it can say which facts hold where a kernel answers otherwise,
-and what a refusal may rest on.
+It takes each reply as the log has it and decides none. So it can say which facts hold where a kernel answers
+otherwise, and what a refusal may rest on.
 """
 import contextlib
 import dataclasses
@@ -62,7 +62,8 @@ class Bookkeeping:
     def entry(self, directory, part):
         """The node to which a part leads in a directory, as the mount shows its names.
 
-        A kernel is given its own name for a no-key text, so where its view is tried a text leads on in any case.
+        A kernel is given its own name for a no-key text, so where its view is tried a text leads on in any
+        case.
         """
         locked = self.locked(directory)
         if not locked and part in directory.entries:
@@ -204,7 +205,8 @@ class Bookkeeping:
         node.home.entries[node.name] = node
 
     def feed_close(self, caller, handle):
-        """With its last handle a key without claims goes, which in Linux lingers; so does that of what stands above."""
+        """With its last handle a key without claims goes, which in Linux lingers; so does that of what
+        stands above."""
         node = self.handles.pop((caller, handle))
         self.lingering |= {place.key for place in (node, *node.above()) if self.keyless(place)}
 

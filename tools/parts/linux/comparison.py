@@ -52,26 +52,30 @@ class Step:
 
 
 def same_listing(step):
-    """Texts are compared as the nodes that they name, with their lengths; of a page only how many there are."""
+    """Texts are compared as the nodes that they name, with their lengths; of a page only how many there
+    are."""
     node, ours, theirs = step.node(), names_of(step.ours), names_of(step.theirs)
     counted = step.ours.split(" ")[:3] == step.theirs.split(" ")[:3]
     if node is None or not counted or not any(our.startswith(NO_KEY) for our in ours):
         return False
     numbers = step.listed()
     names = {entry.number: entry.name for entry in node.entries.values()}
-    if not set(numbers) <= set(names) or any(names[number] == shown for number, shown in zip(numbers, theirs)):
+    if not set(numbers) <= set(names) or any(names[number] == shown for number,
+                                             shown in zip(numbers, theirs)):
         return False
     known = [step.books.text_of(our, node) for our in ours]
     if step.words[1] != "0" or "more=1" in step.ours or None in known:
         return True
-    return sorted(zip([node.number for node in known], map(len, ours))) == sorted(zip(numbers, map(len, theirs)))
+    return sorted(zip([node.number for node in known], map(len, ours))) == sorted(zip(numbers,
+                                                                                      map(len, theirs)))
 
 
 def same_target(step):
     """A locked link's target is a text, of which the kernel has another of the same length."""
     ours, theirs = step.ours.removeprefix("target "), step.theirs.removeprefix("target ")
     node = step.node()
-    return (node is not None and step.books.locked(node) and ours.startswith(NO_KEY) and len(ours) == len(theirs)
+    return (node is not None and step.books.locked(node) and ours.startswith(NO_KEY)
+            and len(ours) == len(theirs)
             and theirs != node.target)
 
 

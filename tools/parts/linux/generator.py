@@ -9,9 +9,11 @@ NAMES = ("f", "g", "h", "a%20b", "s", "t")
 PADS = (4, 8, 16, 32)
 LONG = "n" * 255
 POLICIES = ("0201040b", "03010403", "00010403", "02010503", "02090903", "02010404", "02010413", "02010480")
-WEIGHTS = {"create": 12, "mkdir": 6, "symlink": 3, "unlink": 6, "rmdir": 3, "rename": 8, "list": 8, "stat": 10, "open": 10,
+WEIGHTS = {"create": 12, "mkdir": 6, "symlink": 3, "unlink": 6, "rmdir": 3, "rename": 8, "list": 8,
+           "stat": 10, "open": 10,
            "close": 6, "read": 5, "write": 5, "fill": 2, "add-key": 6, "remove-key": 8, "remove-key-all": 2,
-           "key-status": 5, "set-policy": 4, "set-policy-bytes": 2, "get-policy": 4, "readlink": 2, "drop-caches": 1}
+           "key-status": 5, "set-policy": 4, "set-policy-bytes": 2, "get-policy": 4, "readlink": 2,
+           "drop-caches": 1}
 
 
 def identifier(key):
@@ -30,7 +32,8 @@ class Generator:
         self.home = "/a", KEYS[0]
 
     def script(self):
-        """Up to four callers with fifteen to sixty commands each, of which the first are likely to make something."""
+        """Up to four callers with fifteen to sixty commands each, of which the first are likely to make
+        something."""
         callers = self.random.randint(1, 4)
         sections = []
         for _ in range(callers):
@@ -66,16 +69,19 @@ class Generator:
         self.opened += 1
         self.made += [path] * 2
         return [f"mkdir {path}", f"create {path}/x", f"open {path}/x", f"unlink {path}/x", f"add-key {key}",
-                f"set-policy {path} raw:{key} 32", f"create {path}/f", f"remove-key raw:{key}", f"key-status raw:{key}"]
+                f"set-policy {path} raw:{key} 32", f"create {path}/f", f"remove-key raw:{key}",
+                f"key-status raw:{key}"]
 
     def removal(self):
-        """The key of the caller's first directory goes, something is open or not, and what is left is asked for."""
+        """The key of the caller's first directory goes, something is open or not, and what is left is asked
+        for."""
         path, key = self.home
         lines = [f"open {self.random.choice(self.made or [path])}"] * self.random.randint(0, 1)
         self.opened += len(lines)
         if lines and self.random.random() < 0.2:
             lines.append("unlink" + lines[0].removeprefix("open"))
-        asked = [f"key-status raw:{key}", f"list {path}", f"stat {self.path()}", f"rename {self.path()} {self.new_path()}",
+        asked = [f"key-status raw:{key}", f"list {path}", f"stat {self.path()}",
+                 f"rename {self.path()} {self.new_path()}",
                  f"open {self.path()}", f"remove-key raw:{key}", f"create {self.new_path()}"]
         return lines + [f"remove-key raw:{key}"] + self.random.sample(asked, 3)
 
@@ -126,8 +132,10 @@ class Generator:
         for _ in range(self.random.randint(0, 3)):
             star = f"{path}/*{self.random.randint(0, 2)}"
             lines.append(self.random.choice((
-                f"stat {star}", f"unlink {star}", f"open {star}", f"rename {star} {path}/x", f"rmdir {star}", f"list {star}",
-                f"get-policy {star}", f"readlink {star}", f"rename {star} /f", f"create {star}", f"mkdir {star}/x")))
+                f"stat {star}", f"unlink {star}", f"open {star}", f"rename {star} {path}/x", f"rmdir {star}",
+                f"list {star}",
+                f"get-policy {star}", f"readlink {star}", f"rename {star} /f", f"create {star}",
+                f"mkdir {star}/x")))
             self.opened += lines[-1].startswith("open")
         return lines
 

@@ -1,7 +1,7 @@
 """The kinds of difference between the mount and Linux, each with its row in docs/LINUX.md.
 
-A kind says of a step in which the two answered otherwise whether it is the difference that the row tells: what holds
-of the mount before the call, and both answers.
+A kind says of a step in which the two answered otherwise whether it is the difference that the row tells:
+what holds of the mount before the call, and both answers.
 """
 import dataclasses
 import itertools
@@ -28,7 +28,8 @@ def is_key_call(step):
 
 
 def told_held(reply):
-    """Whether a reply on a key without claims says that something of it is held; none where it says neither."""
+    """Whether a reply on a key without claims says that something of it is held; none where it says
+    neither."""
     if reply.startswith("removed others=0") or reply.startswith("status incomplete"):
         return not reply.endswith("busy=0")
     if reply.startswith("status absent") or reply == "refused no-key":
@@ -37,13 +38,16 @@ def told_held(reply):
 
 
 def held_otherwise(step, here):
-    """Whether of the mount and Linux just the one tells that a key is held, and all else that they tell is the same."""
+    """Whether of the mount and Linux just the one tells that a key is held, and all else that they tell is
+    the same."""
     rest = [reply.split(" ")[2:] for reply in (step.ours, step.theirs) if reply.startswith("status")]
-    return is_key_call(step) and (told_held(step.ours), told_held(step.theirs)) == (here, not here) and rest[:1] == rest[1:]
+    return is_key_call(step) and (told_held(step.ours),
+                                  told_held(step.theirs)) == (here, not here) and rest[:1] == rest[1:]
 
 
 def fits(step):
-    """Whether Linux's answer fits the view that is tried: a refusal has a cause there, and all else has none."""
+    """Whether Linux's answer fits the view that is tried: a refusal has a cause there, and all else has
+    none."""
     if step.verb == "list" and not step.refused and not step.denied:
         node = step.node()
         names = {entry.number: entry.name for entry in node.entries.values()} if node else {}
@@ -52,7 +56,8 @@ def fits(step):
     if step.verb == "stat" and not step.denied:
         node = step.node()
         wanted = "0" if node and step.books.locked(node) else "1"
-        return node is not None and step.theirs.split(" ")[2] == str(node.number) and step.theirs[-1] in ("?", wanted)
+        return node is not None and step.theirs.split(" ")[2] == str(node.number) and step.theirs[-1] in (
+            "?", wanted)
     return step.denied in causes(step) if step.denied else not causes(step)
 
 
@@ -85,7 +90,8 @@ def open_directory(step):
     if held_otherwise(step, True):
         return all(user.kind == "dir" for user in step.books.users_of(step.words[0]))
     books = step.books
-    kept = [directory for directory in step.directories() if directory.kind == "dir" and directory in books.open_nodes() and books.keyless(directory)]
+    kept = [directory for directory in step.directories() if directory.kind == "dir"
+            and directory in books.open_nodes() and books.keyless(directory)]
     return fits_some(step, kept, True)
 
 
@@ -111,7 +117,8 @@ def open_unlinked(step):
 
 
 def lingering(step):
-    """With its last close a key without claims goes here; in Linux it lingers, which drive lets it only if it is told.
+    """With its last close a key without claims goes here; in Linux it lingers, which drive lets it only if
+    it is told.
 
     The next removal takes it there, if nothing holds it any more.
     """
@@ -137,7 +144,8 @@ def kind_of_node(step):
 def opens_locked(step):
     """Linux opens a locked directory."""
     node = step.node()
-    return (step.verb == "open" and kind_of_node(step) == "dir" and step.books.locked(node) and step.refused == "no-key"
+    return (step.verb == "open" and kind_of_node(step) == "dir" and step.books.locked(node)
+            and step.refused == "no-key"
             and step.theirs.startswith("handle") and "dir" in step.told)
 
 
@@ -163,13 +171,15 @@ def policy_of_link(step):
 
 def opens_link(step):
     """Linux refuses to open a link as one."""
-    return step.verb == "open" and kind_of_node(step) == "link" and (step.refused, step.denied) == ("inval", "ELOOP")
+    return step.verb == "open" and kind_of_node(step) == "link" and (step.refused, step.denied) == ("inval",
+                                                                                                    "ELOOP")
 
 
 def policy_of_file(step):
     """A file has a policy, and Linux looks at it first."""
     node = step.node()
-    return (step.verb == "set-policy" and kind_of_node(step) == "file" and bool(node.policy) and step.refused == "not-dir"
+    return (step.verb == "set-policy" and kind_of_node(step) == "file" and bool(node.policy)
+            and step.refused == "not-dir"
             and (step.theirs == "ok") == (node.policy == step.words[1])
             and (step.theirs == "ok" or step.denied == "exists"))
 
@@ -190,7 +200,8 @@ def asked_of_locked_file(step):
 def quota(step):
     """The mount's own quota."""
     held = sum(step.user in claim for claim in step.books.claims.values())
-    return step.verb == "add-key" and step.refused == "quota" and held >= 64 and step.theirs.startswith("added")
+    return step.verb == "add-key" and step.refused == "quota" and held >= 64 and step.theirs.startswith(
+        "added")
 
 
 def short_key(step):
@@ -201,7 +212,8 @@ def short_key(step):
 
 def long_target(step):
     """Linux takes longer targets."""
-    return (step.verb == "symlink" and length_of(step.words[1]) > MOST_NAME and step.refused == "name-too-long"
+    return (step.verb == "symlink" and length_of(step.words[1]) > MOST_NAME
+            and step.refused == "name-too-long"
             and step.theirs == "ok")
 
 
@@ -221,7 +233,8 @@ def units(step):
 
 def other_policy(step):
     """Linux takes other modes, flags and versions."""
-    return (step.verb == "set-policy" and step.refused == "inval" and not is_policy(step.words[1]) and step.theirs == "ok")
+    return (step.verb == "set-policy" and step.refused == "inval" and not is_policy(step.words[1])
+            and step.theirs == "ok")
 
 
 def limits(step):
@@ -233,7 +246,8 @@ def limits(step):
         return step.refused == "too-big" and end > 1_048_576 and step.theirs == "ok"
     if step.verb in CREATIONS:
         home, _ = step.books.parent(step.words[0])
-        return step.refused == "no-space" and home is not None and len(home.entries) >= 4_096 and step.theirs == "ok"
+        return step.refused == "no-space" and home is not None and len(
+            home.entries) >= 4_096 and step.theirs == "ok"
     return False
 
 
@@ -275,7 +289,8 @@ def kind_of(step):
 
 
 def rows(head="what"):
-    """The first cells of the tables of differences in docs/LINUX.md that begin with this head, each with its line."""
+    """The first cells of the tables of differences in docs/LINUX.md that begin with this head, each with its
+    line."""
     found, within = {}, False
     with open(os.path.join(TOP, PAGE), encoding="utf-8") as page:
         for number, line in enumerate(page, 1):

@@ -1,6 +1,7 @@
 """What a refusal of a call may rest on, in whatever order the causes are asked.
 
-Each function tells the refusals for which there is a cause in the state before the call, as Linux names them.
+Each function tells the refusals for which there is a cause in the state before the call, as Linux names
+them.
 """
 import re
 
@@ -15,7 +16,8 @@ def is_policy(policy):
 
 
 def of_walk(books, path):
-    """The node at the end of a path, and why there is none; drive asks Linux not to follow links on the way."""
+    """The node at the end of a path, and why there is none; drive asks Linux not to follow links on the
+    way."""
     _, node, why = books.walk(parts_of(path))
     return node, {why, "ELOOP" if books.through_link(path) else ""} - {""}
 
@@ -49,7 +51,8 @@ def of_node(step):
         return causes
     if step.verb == "set-policy":
         return of_policy(books, node, step.user, step.words[1])
-    opened = {"ELOOP"} if node.kind == "link" else {"no-key"} if node.kind == "file" and books.locked(node) else set()
+    opened = {"ELOOP"} if node.kind == "link" else {"no-key"} if node.kind == "file" and books.locked(
+        node) else set()
     return {
         "list": {"not-dir"} if node.kind != "dir" else set(),
         "readlink": {"inval"} if node.kind != "link" else set(),
@@ -97,7 +100,8 @@ def of_rename(step):
     home, node, causes = of_entry(books, step.words[0])
     to, taken, others = of_entry(books, step.words[1])
     causes |= others
-    causes |= {"no-key"} if any(directory is not None and books.locked(directory) for directory in (home, to)) else set()
+    causes |= {"no-key"} if any(directory is not None
+                                and books.locked(directory) for directory in (home, to)) else set()
     causes |= {"not-found"} if home is not None and node is None else set()
     causes |= {"exists"} if taken is not None else set()
     if to is not None and node is not None:
@@ -138,7 +142,8 @@ def causes(step):
 
 
 def own_causes(step):
-    """The same as this mount names them: a file takes no policy, a locked directory isn't opened, the root stays."""
+    """The same as this mount names them: a file takes no policy, a locked directory isn't opened, the root
+    stays."""
     if names_root(step):
         return {"inval"} if step.verb in ("rmdir", "rename", "set-policy") else of_root(step)
     found, node = causes(step), step.node()

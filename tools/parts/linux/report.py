@@ -6,7 +6,8 @@ from parts.linux.comparison import same, scripts_of, steps
 from parts.linux.kinds import KINDS, PAGE, kind_of, rows
 
 MOST_SHOWN = 300
-REFUSALS = {"no-key", "access", "quota", "inval", "exists", "not-found", "not-dir", "is-dir", "not-empty", "x-dev", "no-data",
+REFUSALS = {"no-key", "access", "quota", "inval", "exists", "not-found", "not-dir", "is-dir", "not-empty",
+            "x-dev", "no-data",
             "bad-handle", "name-too-long", "too-big", "no-space"}
 
 
@@ -52,7 +53,8 @@ def compared(logs, answers):
 
 
 def planted(logs, answers):
-    """How many changes of one refusal to another there are where both agree, and how many of them are found."""
+    """How many changes of one refusal to another there are where both agree, and how many of them are
+    found."""
     made = found = 0
     for log, answer in zip(scripts_of(logs), scripts_of(answers), strict=True):
         for step in steps(log, answer):

@@ -9,7 +9,8 @@ SEED = "0" * 64
 FILLER = "key-status id:" + "f" * 32
 FILLED = "key-status " + "f" * 32 + " = status absent self=0 users=0"
 NO_KEY = "A" * 10
-PATHS = {"set-policy": 1, "get-policy": 1, "mkdir": 1, "create": 1, "symlink": 1, "readlink": 1, "unlink": 1, "rmdir": 1,
+PATHS = {"set-policy": 1, "get-policy": 1, "mkdir": 1, "create": 1, "symlink": 1, "readlink": 1, "unlink": 1,
+         "rmdir": 1,
          "rename": 2, "list": 1, "stat": 1, "open": 1}
 NOT_IN_LINUX = ("meta-get", "meta-put")
 MOST_STATS = 10_000
@@ -140,8 +141,8 @@ def stats_put(script, behind):
 def with_stats(program, script):
     """The script with a `stat PATH/*k` behind each name of a listing that is a no-key text, and its log.
 
-    The log then tells which node each text is. A command more changes what later ones draw, and so the order of
-    texts: it is tried until each listing has as many behind it as it needs.
+    The log then tells which node each text is. A command more changes what later ones draw, and so the order
+    of texts: it is tried until each listing has as many behind it as it needs.
     """
     behind = [0] * sum(command.startswith("list ") for _, command in script.rotation())
     while True:
@@ -189,7 +190,8 @@ class Calls:
             if verb in NOT_IN_LINUX:
                 continue
             if verb == "list":
-                learn_texts(self.books, log[at + 1:at + 1 + len(script.users) * MOST_SHOWN], caller, words[0])
+                learn_texts(self.books, log[at + 1:at + 1 + len(script.users) * MOST_SHOWN], caller,
+                            words[0])
             self.log.append(line)
             self.lines.append(self.call(line, command))
             self.books.feed(caller, user, verb, words, reply)
@@ -208,7 +210,8 @@ class Calls:
             words.append(str(self.books.made + 1))
         if verb == "open":
             words.append(reply.split(" ")[1] if expected == "ok" else "0")
-        return "\t".join(["X", str(caller), in_linux(user), expected, line.partition(" = ")[0], verb, *words])
+        return "\t".join(["X", str(caller), in_linux(user), expected, line.partition(" = ")[0], verb,
+                          *words])
 
     def shown(self, path):
         """The path with `@N=` before each part that is the no-key text of a node N."""

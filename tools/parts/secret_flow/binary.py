@@ -27,7 +27,8 @@ class Symbols:
 
     def addresses(self, name):
         """Where the functions of this name begin. The name may lack the path before one of its `::`."""
-        return sorted({at for at, function in self.rows if function == name or function.endswith("::" + name)})
+        return sorted({at for at,
+                       function in self.rows if function == name or function.endswith("::" + name)})
 
     def function_at(self, address):
         """The function at an address, and the address at which it begins."""

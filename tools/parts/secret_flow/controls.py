@@ -48,7 +48,8 @@ def begin(run, registers):
     """Marks the first argument, and at the return all that the arguments point to as public."""
     run.mark_secret("secret", registers["rdi"], SECRET_BYTES)
     pointers = [registers[register] for register in ("rdi", "rsi", "rdx")]
-    run.at_return(registers, lambda run, _: [run.mark_public("all", pointer, SECRET_BYTES) for pointer in pointers
+    run.at_return(registers, lambda run,
+                  _: [run.mark_public("all", pointer, SECRET_BYTES) for pointer in pointers
                                              if "__" not in run.undefined_bits(pointer, SECRET_BYTES)])
 
 
@@ -58,6 +59,7 @@ def faults_in_program(program):
     found = measure(program, TURNS, PASS, secrets={}).places
     if found:
         yield f"with nothing marked {len(found)} places are found, the first in {found[0].function}"
-    found = [place for place in measure(program, TURNS, RAW, with_public=False).places if not allowed_for(place)]
+    found = [place for place in measure(program, TURNS, RAW, with_public=False).places
+             if not allowed_for(place)]
     if not any(SEARCH_OF_RING in place.function for place in found):
         yield "with nothing public the search of the key ring is not found"

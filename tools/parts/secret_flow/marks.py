@@ -113,7 +113,8 @@ class ReadingMarks(Marks):
     def __init__(self, script, kinds):
         super().__init__({kind: script.written[kind] for kind in kinds}, {}, with_public=False)
         self.values = sum(script.secrets.values(), [])
-        self.actions = {function: self.reading for function in READERS} | {function: self.begin for function in FIRST_USES}
+        self.actions = {function: self.reading for function in READERS} | {function: self.begin
+                                                                           for function in FIRST_USES}
         self.actions[SEED_READER] = self.seed_reading
 
     def reading(self, run, registers):

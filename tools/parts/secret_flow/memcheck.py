@@ -96,7 +96,8 @@ class Run:
     def undefined_bits(self, at, length):
         """For each byte its undefined bits in hexadecimal digits, or `__` if the program doesn't own it."""
         lines = self.remote.monitor(f"get_vbits {at:#x} {length}").splitlines()
-        return re.findall(r"[0-9a-f]{2}|__", "".join(line for line in lines if not re.search("[^0-9a-f_ ]", line)))
+        return re.findall(r"[0-9a-f]{2}|__",
+                          "".join(line for line in lines if not re.search("[^0-9a-f_ ]", line)))
 
     def addresses_of(self, values):
         """Where each of these values is in the program's memory: pairs of an address and a length."""

@@ -112,7 +112,8 @@ def edited_script(is_raw, log_of):
     lines = [f"protector login {login.new_word()}", f"policy-new docs login {login.word()}"]
     secrets = {THE_SEED: [SEED], RAW_KEYS: [], RAW_SECRETS: [], PASSPHRASES: []}
     secrets[RAW_SECRETS if is_raw else PASSPHRASES].append(login.value)
-    asked = "".join(line + "\n" for line in [*HEADS, *lines, "meta-get protector/login", "meta-get policy/docs"])
+    asked = "".join(line + "\n"
+                    for line in [*HEADS, *lines, "meta-get protector/login", "meta-get policy/docs"])
     records = re.findall(r" meta-get (\S+) = record (\d+) ([0-9a-f]+)", log_of(asked.encode()).decode())
     for name, version, digits in records[-2:]:
         version, record = int(version), bytes.fromhex(digits).decode()

@@ -60,7 +60,8 @@ def allowed_for(place):
     through."""
     for allowed in ALLOWED:
         is_here = re.fullmatch(allowed.functions, place.function)
-        if place.kind in allowed.kinds and is_here and (allowed.secrets is ANY or place.secrets <= allowed.secrets):
+        if place.kind in allowed.kinds and is_here and (allowed.secrets is ANY
+                                                        or place.secrets <= allowed.secrets):
             return allowed
     return None
 
@@ -97,18 +98,21 @@ def argon_faults(measures):
     of them is read through the same number of addresses."""
     factors = set()
     for measure in measures:
-        addresses = [place for place in measure.places if place.function == READ_BLOCKS and place.kind == ADDRESS]
+        addresses = [place for place in measure.places if place.function == READ_BLOCKS
+                     and place.kind == ADDRESS]
         count = sum(address.times for address in addresses)
         if measure.blocks:
             factors.add(count / measure.blocks)
-        if bool(count) != bool(measure.blocks) or any(factor != int(factor) for factor in factors) or len(factors) > 1:
+        if bool(count) != bool(measure.blocks) or any(factor != int(factor)
+                                                      for factor in factors) or len(factors) > 1:
             yield f"{measure.name}: {count} addresses of {measure.blocks} dependent blocks of Argon2id"
 
 
 def verdict_faults(measures):
     """Each run in which the comparison of a tag takes more than one branch that depends on the tag."""
     for measure in measures:
-        count = sum(place.times for place in measure.places if place.function == UNWRAP and place.kind == BRANCH)
+        count = sum(place.times for place in measure.places if place.function == UNWRAP
+                    and place.kind == BRANCH)
         if count > measure.unwrappings:
             yield f"{measure.name}: {count} branches on tags in {measure.unwrappings} comparisons"
 

@@ -104,7 +104,8 @@ def encrypted(asking, root, is_mixed):
     """
     level, found = [Level(root, None)], []
     while level:
-        asked = [(directory, questions_of(directory.path, int(directory.stat.answer[3]))) for directory in level]
+        asked = [(directory, questions_of(directory.path, int(directory.stat.answer[3])))
+                 for directory in level]
         entries = iter(asking.replies([question for _, questions in asked for question in questions]))
         level = []
         for directory, questions in asked:
@@ -113,7 +114,8 @@ def encrypted(asking, root, is_mixed):
             if key and directory.readable() != directory.above:
                 found.append(Directory(directory.path, directory.stat.answer[2], key, directory.readable()))
             if not key or is_mixed(key):
-                level += [Level(one, directory.readable()) for one in rest if one.answer[:2] == ["stat", "dir"]]
+                level += [Level(one, directory.readable()) for one in rest
+                          if one.answer[:2] == ["stat", "dir"]]
     return found
 
 
@@ -152,7 +154,8 @@ class State:
         asked = [(at, f"key-status id:{key}") for key in self.keys for at in callers.values()]
         asked += [(handle.caller, f"read {handle.number} 0 0") for handle in given]
         *entries, root = asking.replies([*asked, (0, "stat /")])
-        self.statuses = {(entry.words[0], int(entry.user)): entry.answer for entry in entries if entry.verb == "key-status"}
+        self.statuses = {(entry.words[0], int(entry.user)): entry.answer for entry in entries
+                         if entry.verb == "key-status"}
         reads = [entry for entry in entries if entry.verb == "read"]
         self.handles = [handle for handle, read in zip(given, reads) if read.refusal() != "bad-handle"]
         self.directories = encrypted(asking, root, lambda key: self.state_of(key) == "incomplete")
@@ -163,7 +166,8 @@ class State:
 
     def key_of(self, handle):
         """The key of a handle's node; a directory may have got its policy after it was opened."""
-        return next((directory.key for directory in self.directories if directory.number == handle.node), handle.key)
+        return next((directory.key for directory in self.directories if directory.number == handle.node),
+                    handle.key)
 
     def key_line(self, key):
         """A key with its state, claims and open handles."""
@@ -174,7 +178,8 @@ class State:
             text += "; claims of " + ", ".join(user_text(self.users, claim) for claim in sorted(claims))
         handles = [handle for handle in self.handles if self.key_of(handle) == key]
         if handles:
-            named = (f"{self.users[handle.caller].name} {handle.number} on {handle.path}" for handle in handles)
+            named = (f"{self.users[handle.caller].name} {handle.number} on {handle.path}"
+                     for handle in handles)
             text += "; open: " + ", ".join(named)
         return text
 

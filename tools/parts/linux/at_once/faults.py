@@ -131,7 +131,8 @@ def faults_of_calls(script):
             and any(path == call.arguments[0][: len(path)] for path in moved)
         ):
             yield call.line, "lists a directory that may be renamed between Linux's open and its listing"
-        parts = [part for path in call.paths() for part in (path if call.verb not in LINK_VERBS else path[:-1])]
+        parts = [part for path in call.paths()
+                 for part in (path if call.verb not in LINK_VERBS else path[:-1])]
         if links & set(parts):
             yield call.line, "names a symlink, or leads through one, which Linux follows"
         if call.verb == "open" and call.arguments[0] in policies and not looked_into(script, call):
@@ -155,7 +156,8 @@ def claim_stays(script, key):
         return False
     removing = {call.user for call in calls if call.verb == "remove-key" and call.arguments[0] == key}
     return any(
-        call.verb == "add-key" and call.arguments[1] == key and call.phase == BEFORE and call.user not in removing
+        call.verb == "add-key" and call.arguments[1] == key and call.phase == BEFORE
+        and call.user not in removing
         for call in calls
     )
 

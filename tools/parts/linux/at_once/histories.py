@@ -46,7 +46,8 @@ class History:
         """Notes at each call what of other callers overlaps it, before any call is left out."""
         calls = self.all_calls()
         renames = [call for call in calls if call.verb == "rename" and call.reply == "ok"]
-        removals = [call for call in calls if call.verb in REMOVALS and call.reply.startswith("removed others=0")]
+        removals = [call for call in calls if call.verb in REMOVALS
+                    and call.reply.startswith("removed others=0")]
         writes = [call for call in calls if call.verb == "write" and call.reply == "ok"]
         for call in calls:
             beside = [other for other in calls if other is not call and call.overlaps(other)]
@@ -59,7 +60,8 @@ class History:
                 other.caller != call.caller and call.overlaps(other) for other in renames
             )
             call.check_apart = (
-                call.verb in CREATIONS and call.reply == "ok" and any(call.overlaps(other) for other in removals)
+                call.verb in CREATIONS and call.reply == "ok"
+                and any(call.overlaps(other) for other in removals)
             )
 
 

@@ -1,8 +1,8 @@
 """The kinds of what a kernel does at once and no mount does, each with its row in docs/LINUX.md.
 
 A line of a certified log that isn't the kernel's reply is of a kind of calls one at a time
-(tools/parts/linux/kinds.py), or of one of these: the line of a removal that is not one point, or a size or bytes
-within a write.
+(tools/parts/linux/kinds.py), or of one of these: the line of a removal that is not one point, or a size or
+bytes within a write.
 """
 from parts.linux.at_once import pages
 from parts.linux.at_once.calls import REMOVALS

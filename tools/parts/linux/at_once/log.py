@@ -57,7 +57,8 @@ class Log:
         """The script of the log."""
         lines = []
         for user, own in zip(self.history.users, self.history.calls):
-            lines += [f"caller {user}", *(self.changed.get((call.caller, call.index), call.text) for call in own)]
+            lines += [f"caller {user}",
+                      *(self.changed.get((call.caller, call.index), call.text) for call in own)]
         if self.section:
             lines += [f"caller {ONE_MORE_USER}", *self.section]
         return "".join(line + "\n" for line in lines)
@@ -71,7 +72,8 @@ class Log:
         if self.level == Level.AS_IS:
             return set()
         return {
-            above for number in state.handles.values() for above in state.above(number) if state.nodes[above].policy
+            above for number in state.handles.values() for above in state.above(number)
+            if state.nodes[above].policy
         }
 
     def own_call(self, command):
@@ -135,7 +137,8 @@ class Log:
         if reply.endswith(" locked"):
             reply = self.listing(call_now)
             theirs = reply if theirs is None else theirs
-        self.lines.append(Line(call_now.caller, call_now.user, call_now.shown, reply, reply if theirs is None else theirs))
+        self.lines.append(Line(call_now.caller, call_now.user, call_now.shown, reply,
+                               reply if theirs is None else theirs))
         if claimed:
             self.own_call(f"remove-key raw:{claimed}")
             self.witnesses.append((kinds.CREATION, call))

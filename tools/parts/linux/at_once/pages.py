@@ -12,7 +12,8 @@ def is_text(name):
 def beside(state, call, node):
     """The offsets and bytes of the writes to a node that overlap a call."""
     return [
-        write.arguments[1:] for write in call.writes if state.handles.get((write.caller, write.arguments[0])) == node
+        write.arguments[1:] for write in call.writes
+        if state.handles.get((write.caller, write.arguments[0])) == node
     ]
 
 

@@ -12,7 +12,8 @@ from parts.linux.at_once.search import search
 def changed(history, drawn):
     """The history with a reply that is another of its verb's in the history, or with the two swapped; or
     none."""
-    calls = [call for call in history.all_calls() if call.phase == TOGETHER and not call.reply.startswith("handle")]
+    calls = [call for call in history.all_calls() if call.phase == TOGETHER
+             and not call.reply.startswith("handle")]
     if not calls:
         return None
     one = drawn.choice(calls)

@@ -31,7 +31,8 @@ def checked(texts):
     wrong = [fault for name, text in texts for fault in faults(name, text, AtOnce)]
     names = [name for name, _ in texts]
     wrong += [
-        f"{name}: two scripts have this name" for name in sorted({twice for twice in names if names.count(twice) > 1})
+        f"{name}: two scripts have this name"
+        for name in sorted({twice for twice in names if names.count(twice) > 1})
     ]
     for fault in wrong:
         print(f"linux: {fault}", file=sys.stderr)

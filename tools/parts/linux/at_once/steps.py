@@ -19,12 +19,14 @@ def reply_at(state, level, call):
     checked = state.under_way.get(call.caller, ((), False))[1]
     try:
         resolved_call = resolved(state, call) if call.walks_apart else call
-        reply = answer(state, linux, resolved_call.user, resolved_call.caller, resolved_call.verb, resolved_call.arguments)
+        reply = answer(state, linux, resolved_call.user, resolved_call.caller, resolved_call.verb,
+                       resolved_call.arguments)
         if reply == "refused no-key" and checked and call.reply == "ok":
             reply = with_claim(state, linux, resolved_call)
     except Refused as why:
         reply = f"refused {why}"
-    state.under_way = {caller: under_way for caller, under_way in state.under_way.items() if caller != call.caller}
+    state.under_way = {caller: under_way for caller,
+                       under_way in state.under_way.items() if caller != call.caller}
     state.frozen = None
     return reply
 
@@ -205,9 +207,11 @@ def closed(state, level, point):
     lost = frozenset(
         number
         for number in before - new.held(True)
-        if number in new.nodes and new.nodes[number].policy and not new.present(new.nodes[number].key) and new.named(number)
+        if number in new.nodes and new.nodes[number].policy and not new.present(new.nodes[number].key)
+        and new.named(number)
     )
     if lost:
         new.pins |= lost
-        new.removing = tuple(sorted((*new.removing, *{(call.caller, new.nodes[number].key) for number in lost})))
+        new.removing = tuple(sorted((*new.removing,
+                                     *{(call.caller, new.nodes[number].key) for number in lost})))
     return [new]
