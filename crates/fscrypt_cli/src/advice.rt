@@ -1,4 +1,4 @@
-//! What is told of a command line that is no form: its first word at fault, and the remedy.
+//! What is printed for a command line that is no form: its first argument at fault, and the remedy.
 
 ghost use Rattle.std.specs.Prelude.{◌<◌, length};
 
@@ -12,8 +12,8 @@ use std::alloc::Global;
 use std::io::IsTerminal;
 use text_words::decimal_value;
 
-/// A word of a command line that is at fault, by its place from 0, and what to do. Behind the last a word is
-/// missing.
+/// An argument at fault, by its position from 0, and the remedy. The position after the last argument means
+/// that one is missing.
 #[derive(Clone, Copy)]
 pub(crate) struct WordFault {
     pub place: usize,
@@ -28,7 +28,7 @@ const VERSION_TELLS: &str = "--version tells the version";
 
 const REPLAY_FIRST: &str = "replay stands first: fsc replay --serial --seed HEX64";
 
-// First words that are no form, and what to do about each.
+// First arguments that are no form, and the remedy for each.
 static NO_FORMS: [(&str, &str); 9] = [
     ("-h", HELP_TELLS),
     ("-?", HELP_TELLS),
@@ -50,7 +50,7 @@ const DIGITS_OF_HALF_A_SEED: usize = 32;
 
 const NUMBER_OF_GEN: &str = "gen takes a number from 0 to 4294967295, without leading zeros";
 
-/// Tells on standard error that a script or an image is waited for, where it comes from a terminal.
+/// Prints on standard error that a script or an image is expected, if standard input is a terminal.
 pub(crate) fn tell_of_waiting(rt: &HostRuntime, words: &[String], asked: Asked) {
     let Some(input) = asked.input() else {
         return;
@@ -61,8 +61,9 @@ pub(crate) fn tell_of_waiting(rt: &HostRuntime, words: &[String], asked: Asked) 
     }
 }
 
-/// Tells on standard error that the words of the command line are no form: the first at fault by its number,
-/// the word itself unless it may be a seed or there is no memory for it, and what to do.
+/// Prints on standard error that the arguments are no form: the number of the first at fault, the argument
+/// itself, and the remedy. The argument itself is not printed if it may be a seed, or there is no memory
+/// for it.
 pub(crate) fn advise_words(rt: &HostRuntime, words: &[String]) {
     let _ = rt.eprintln(Status::Usage);
     match fault_of(words) {
@@ -72,7 +73,7 @@ pub(crate) fn advise_words(rt: &HostRuntime, words: &[String]) {
     }
 }
 
-// Tells of the word at fault.
+// Prints the argument at fault.
 fn tell_of_word(rt: &HostRuntime, words: &[String], fault: WordFault)
     requires { fault.place < length words.now }
 {
@@ -84,7 +85,7 @@ fn tell_of_word(rt: &HostRuntime, words: &[String], fault: WordFault)
     };
 }
 
-// What is shown of the word; none of one that may be a seed, or where there is no memory.
+// Returns the argument to print, or `None` if it may be a seed, or there is no memory.
 fn word_to_show(alloc: Global, words: &[String], place: usize) -> Option<String>
     requires { place < length words.now }
 {
@@ -94,8 +95,8 @@ fn word_to_show(alloc: Global, words: &[String], place: usize) -> Option<String>
     shown(alloc, words[place].as_bytes()).ok()
 }
 
-// Whether the word may be a seed, or have one in it: it stands behind `--seed`, begins with `--seed=`, or has
-// as many hexadecimal digits as half a seed.
+// Whether the argument may be a seed, or contain one: it follows `--seed`, begins with `--seed=`, or has as
+// many hexadecimal digits as half a seed.
 fn may_be_seed(words: &[String], place: usize) -> bool
     requires { place < length words.now }
 {
@@ -106,7 +107,7 @@ fn may_be_seed(words: &[String], place: usize) -> bool
         || word.as_bytes().iter().filter(is_digit).count() >= DIGITS_OF_HALF_A_SEED
 }
 
-// The first word at fault; none where the words are a form.
+// Returns the first argument at fault, or `None` if the arguments are a form.
 fn fault_of(words: &[String]) -> Option<WordFault> {
     let [first, behind @ ..] = words else {
         return at(0, NO_WORDS);
@@ -128,7 +129,7 @@ pub(crate) fn at(place: usize, remedy: &'static str) -> Option<WordFault> {
     Some(WordFault { place, remedy })
 }
 
-// What to give in place of a first word that is none.
+// Returns the remedy for a first argument that is none.
 fn remedy_of_first(word: &str) -> &'static str {
     for &(no_form, remedy) in &NO_FORMS {
         if word == no_form {
@@ -141,14 +142,14 @@ fn remedy_of_first(word: &str) -> &'static str {
     "a form begins with replay, replay-linked, gen, dump, inspect, check, --help or --version"
 }
 
-// Whether the word looks like the name of a file.
+// Whether the argument looks like the name of a file.
 pub(crate) fn is_path(word: &str) -> bool {
     word.as_bytes()
         .iter()
         .any(|byte| *byte == b'.' || *byte == b'/')
 }
 
-// The first word at fault behind `gen`.
+// Returns the first argument at fault after `gen`.
 fn fault_of_gen(words: &[String]) -> Option<WordFault> {
     match words {
         [] => at(1, "a number from 0 to 4294967295 stands behind gen"),

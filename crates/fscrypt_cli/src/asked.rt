@@ -1,6 +1,6 @@
 //! What a form reads from standard input, and writes.
 
-/// What is told of what standard input gives.
+/// Messages about what standard input contains.
 #[derive(Clone, Copy)]
 pub(crate) struct Input {
     pub(crate) name: &'static str,
@@ -23,14 +23,14 @@ const SCRIPT_WITH_LOG: Input = Input {
     awaited: "a script, a line --- and a log,",
 };
 
-/// What standard input gives.
+/// What standard input contains.
 #[derive(Clone, Copy)]
 pub(crate) enum Asked {
     /// A script, of whose run the log is written, or both logs.
     Log,
     /// A script, of whose run the image is written.
     Image,
-    /// An image, which is listed.
+    /// A script with a log after it, which is checked.
     Listing,
     /// A script with a log behind it, which is checked.
     Verdict,
@@ -39,7 +39,7 @@ pub(crate) enum Asked {
 }
 
 impl Asked {
-    /// What the first word asks for.
+    /// Returns what the first argument asks for.
     pub(crate) fn of(words: &[String]) -> Asked {
         let [first, ..] = words else {
             return Asked::Other;
@@ -53,7 +53,7 @@ impl Asked {
         }
     }
 
-    /// What standard input gives, if it is read.
+    /// Returns the messages about standard input, if it is read.
     pub(crate) fn input(self) -> Option<Input> {
         match self {
             Asked::Log | Asked::Image => Some(SCRIPT),
@@ -63,7 +63,7 @@ impl Asked {
         }
     }
 
-    /// How much standard input may give.
+    /// Returns the text about the maximal size of standard input.
     pub(crate) fn most(self) -> &'static str {
         match self {
             Asked::Listing => "an image has at most 268435456 bytes",
@@ -76,7 +76,7 @@ impl Asked {
         }
     }
 
-    /// What is written.
+    /// Returns the name of what is written.
     pub(crate) fn output(self) -> &'static str {
         match self {
             Asked::Log => "log",

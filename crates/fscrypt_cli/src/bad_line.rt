@@ -1,5 +1,5 @@
-//! What is told of a line at fault: its first word alone, since the words behind may be secrets, why it is at
-//! fault, and what to write in its place.
+//! What is printed for a line at fault: its first word alone, since the words after it may be secrets, why
+//! it is at fault, and the remedy.
 
 use crate::commands::form_named;
 use crate::help::remark;
@@ -7,31 +7,31 @@ use script_faults::{FaultyLine, LineFault, WordKind, line_fault_behind};
 use std::alloc::{AllocError, Global};
 use text_words::{next_line, nth_word};
 
-// The most characters that are shown of a word.
+// The maximal number of characters that are printed of a word.
 const MOST_SHOWN: usize = 60;
 
-/// The most lines at fault that are told in one run.
+/// The maximal number of lines at fault that are printed in one run.
 pub(crate) const MOST_LINES_TOLD: usize = 20;
 
-// More bytes than any input that is read, and so few that each line has a number.
+// More bytes than any input that is read has, and few enough that each line has a number.
 const MOST_NUMBERED_BYTES: usize = 4_294_967_295;
 
 const LISTED: &str = "fsc --help lists the commands";
 
-// It is told of a long log behind a script too, so it says both remedies.
+// It is printed for a long log after a script too, so it contains both remedies.
 const NO_ROOM: &str =
     "there was no room to tell why it is at fault; try the script alone, or where more memory is free";
 
 const COMMENT: &str = "a comment is a line of its own";
 
-// Of a line of too many words: how one of them begins, and what to do.
+// For a line of too many words: how one of them begins, and the remedy.
 static SPARE_WORDS: [(&str, &str); 3] = [
     ("#", COMMENT),
     ("pass:", "write a space in a passphrase as %20"),
     ("/", "write a space in a path as %20"),
 ];
 
-// What is told of a line at fault.
+// What is printed for a line at fault.
 #[derive(Drop)]
 struct ToldLine {
     word: String,
@@ -39,8 +39,8 @@ struct ToldLine {
     remedy: &'static str,
 }
 
-/// Tells on standard error of the lines at fault of a text, up to this many, of which the first has this number. Of a
-/// text that wasn't kept, or where there is no memory to look at it, that number alone is known.
+/// Prints up to `most` lines at fault of a text on standard error; `line` is the number of the first. If
+/// the text wasn't stored, or there is no memory to read it, only that number is known.
 pub(crate) fn show_lines(rt: &HostRuntime, text: Option<&[u8]>, line: u32, most: usize) {
     let is_told = match text {
         Some(text) => tell_lines(rt, text, most),
@@ -51,8 +51,9 @@ pub(crate) fn show_lines(rt: &HostRuntime, text: Option<&[u8]>, line: u32, most:
     }
 }
 
-// Tells of each line at fault, up to this many; false where there is no memory to find the first. Behind a line at fault
-// a caller counts as begun, so that no command is told only for want of one.
+// Prints each line at fault, up to `most` of them. Returns false if there is no memory to find the first.
+// After a line at fault a caller counts as begun, so that no command is printed only because no caller
+// precedes it.
 fn tell_lines(rt: &HostRuntime, text: &[u8], most: usize) -> bool {
     let mut reached = Reached {
         rest: text,
@@ -80,7 +81,7 @@ fn tell_lines(rt: &HostRuntime, text: &[u8], most: usize) -> bool {
     true
 }
 
-// How far a text was looked at: what is left, how many lines stand before it, and how many callers begin in them.
+// How far a text was read: the rest, the number of lines before it, and how many callers begin in them.
 #[derive(Drop)]
 struct Reached<'t> {
     rest: &'t [u8],
@@ -89,7 +90,7 @@ struct Reached<'t> {
 }
 
 impl<'t> Reached<'t> {
-    // The next line at fault, if there is one and memory to find it.
+    // Returns the next line at fault, if there is one and memory to find it.
     fn next_fault(&self, alloc: Global) -> Option<FaultyLine> {
         let room = MOST_NUMBERED_BYTES - self.lines as usize;
         if self.rest.len() > room || self.callers > self.lines as usize {
@@ -98,7 +99,7 @@ impl<'t> Reached<'t> {
         line_fault_behind(alloc, self.lines, self.callers, self.rest).ok()?
     }
 
-    // Goes on behind the line of this number, which is at fault, and gives it.
+    // Continues after the line of this number, which is at fault, and returns it.
     fn pass(&mut self, number: u32) -> &'t [u8] {
         let mut passed = self.rest;
         for _ in self.lines..number {
@@ -117,7 +118,7 @@ impl<'t> Reached<'t> {
     }
 }
 
-// Tells what is known of the line of this number.
+// Prints what is known of the line of this number.
 fn tell_line(rt: &HostRuntime, line: u32, told: &ToldLine) {
     let word = told.word.as_str();
     let fault = told.fault;
@@ -130,7 +131,7 @@ pub(crate) fn is_hexadecimal(digits: &[u8]) -> bool {
     digits.iter().all(|byte| byte.is_ascii_hexdigit())
 }
 
-/// What stands before the first character that is none from `!` to `~`.
+/// Returns the text before the first character that is not in the range from `!` to `~`.
 pub(crate) fn first_word(line: &[u8]) -> &[u8] {
     match line.split(|byte| !byte.is_ascii_graphic()).next() {
         Some(word) => word,
@@ -138,7 +139,7 @@ pub(crate) fn first_word(line: &[u8]) -> &[u8] {
     }
 }
 
-/// The first word of a text, cut to 60 characters.
+/// Returns the first word of a text, cut to 60 characters.
 pub(crate) fn shown(alloc: Global, text: &[u8]) -> Result<String, AllocError> {
     let mut word = String::new(alloc);
     for byte in first_word(text).iter().take(MOST_SHOWN) {
@@ -147,7 +148,7 @@ pub(crate) fn shown(alloc: Global, text: &[u8]) -> Result<String, AllocError> {
     Ok(word)
 }
 
-// What to do about a line that is at fault.
+// Returns the remedy for a line that is at fault.
 fn remedy(line: &[u8], fault: LineFault) -> &'static str {
     match fault {
         LineFault::NotEnded => "end the last line by a line feed",
@@ -165,7 +166,7 @@ fn remedy(line: &[u8], fault: LineFault) -> &'static str {
     }
 }
 
-// What to write in place of a word that isn't of this kind.
+// Returns the remedy for a word that isn't of this kind.
 fn remedy_of_word(word: &[u8], kind: WordKind) -> &'static str {
     if word.starts_with(b"#") {
         return COMMENT;
@@ -179,7 +180,7 @@ fn remedy_of_word(word: &[u8], kind: WordKind) -> &'static str {
     }
 }
 
-// The part of a word of this kind that is to be digits which spell bytes, if it has one.
+// Returns the part of a word of this kind that is to be digits which spell bytes, if it has one.
 fn digits_of(word: &[u8], kind: WordKind) -> Option<&[u8]> {
     match kind {
         WordKind::AddedBytes
@@ -193,7 +194,7 @@ fn digits_of(word: &[u8], kind: WordKind) -> Option<&[u8]> {
     }
 }
 
-// What to write in place of digits that spell no bytes.
+// Returns the remedy for digits that spell no bytes.
 fn remedy_of_digits(digits: &[u8]) -> &'static str {
     if digits.starts_with(b"0x") {
         return "write the digits without 0x";
@@ -204,7 +205,7 @@ fn remedy_of_digits(digits: &[u8]) -> &'static str {
     LISTED
 }
 
-// What to write in place of a word of this kind that has no such digits.
+// Returns the remedy for a word of this kind that has no such digits.
 fn remedy_of_spelling(word: &[u8], kind: WordKind) -> &'static str {
     match kind {
         WordKind::Path | WordKind::Target | WordKind::Secret | WordKind::NewSecret
@@ -217,7 +218,7 @@ fn remedy_of_spelling(word: &[u8], kind: WordKind) -> &'static str {
     }
 }
 
-// What to do about a line of more words than its command takes.
+// Returns the remedy for a line of more words than its command takes.
 fn remedy_of_words(line: &[u8]) -> &'static str {
     for &(start, remedy) in &SPARE_WORDS {
         if has_word(line, start.as_bytes()) {
@@ -227,7 +228,7 @@ fn remedy_of_words(line: &[u8]) -> &'static str {
     form_of(line)
 }
 
-// The words of the line's command.
+// Returns the words of the line's command.
 fn form_of(line: &[u8]) -> &'static str {
     let name = first_word(line);
     if name == b"caller".as_slice() {

@@ -1,9 +1,9 @@
-//! A sink that keeps why a write failed.
+//! A sink that stores why a write failed.
 
 use fsc_outside::{Failed, Sink};
 use std::io::{ErrorKind, Write};
 
-/// A writer as a sink, as `StdSink` of `fsc_outside` is; it keeps whether its reader has gone.
+/// A writer as a sink, as `StdSink` of `fsc_outside` is. It stores whether its reader is closed.
 #[derive(Drop)]
 pub(crate) struct CausedSink<W: Write + Drop> {
     writer: W,
@@ -20,7 +20,7 @@ impl<W: Write + Drop> CausedSink<W> {
         }
     }
 
-    /// Whether a write failed since nobody reads on the other side of a pipe.
+    /// Whether a write failed because the other end of a pipe is closed.
     pub(crate) fn is_closed(&self) -> bool {
         self.closed
     }

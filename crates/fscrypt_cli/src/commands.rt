@@ -6,12 +6,12 @@ pub(crate) struct Group {
     pub(crate) lines: &'static [(&'static str, &'static str)],
 }
 
-/// The name of a command that the word is, if it is one.
+/// Returns the name of the command that the word is, if it is one.
 pub(crate) fn verb_named(word: &[u8]) -> Option<&'static str> {
     form_named(word).map(name_of)
 }
 
-/// The words of the command of this name, if there is one: `read HANDLE OFFSET LENGTH`.
+/// Returns the words of the command of this name, if there is one: `read HANDLE OFFSET LENGTH`.
 pub(crate) fn form_named(word: &[u8]) -> Option<&'static str> {
     for group in GROUPS.iter() {
         for &(form, _) in group.lines.iter() {
@@ -23,7 +23,7 @@ pub(crate) fn form_named(word: &[u8]) -> Option<&'static str> {
     None
 }
 
-// The name that a form begins with.
+// Returns the name that a form begins with.
 fn name_of(form: &'static str) -> &'static str {
     match form.split_once(' ') {
         Some((name, _)) => name,

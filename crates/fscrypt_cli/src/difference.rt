@@ -1,14 +1,14 @@
-//! What is told of a refused log beside its place: what the log has there, and what a run has.
+//! What is printed for a refused log with its place: what the log has there, and what a run has.
 
 use crate::help::remark;
 use fsc_tool::Difference;
 use item_list::Bytes;
 use std::alloc::{AllocError, Global};
 
-// The most characters that are shown of a line.
+// The maximal number of characters that are printed of a line.
 const MOST_SHOWN_OF_A_LINE: usize = 400;
 
-/// Tells on standard error what the log has where it is refused, and what a run has there.
+/// Prints on standard error what the log has at the place of its refusal, and what a run has there.
 pub(crate) fn tell_difference(rt: &HostRuntime, found: &Difference) {
     if found.is_last {
         remark(rt, "that is after the last entry of the log");
@@ -24,7 +24,7 @@ pub(crate) fn tell_difference(rt: &HostRuntime, found: &Difference) {
     }
 }
 
-// Tells why the log is refused if both lines look the same.
+// Prints why the log is refused if both lines look the same.
 fn tell_of_equal_lines(rt: &HostRuntime, found: &Difference) {
     let (Some(own), Some(other)) = (&found.in_log, &found.in_run) else {
         return;
@@ -38,7 +38,7 @@ fn tell_of_equal_lines(rt: &HostRuntime, found: &Difference) {
     }
 }
 
-// The beginning of a line that is shown.
+// Returns the beginning of a line that is printed.
 fn shown_part(line: &[u8]) -> &[u8] {
     match line.get(..MOST_SHOWN_OF_A_LINE) {
         Some(part) => part,
@@ -46,7 +46,7 @@ fn shown_part(line: &[u8]) -> &[u8] {
     }
 }
 
-// Tells who has which line, and of a call in which line of the script its command stands.
+// Prints which side has which line, and for a call the line of the script with its command.
 fn tell_line(rt: &HostRuntime, who: &str, line: Option<&Bytes>, command: Option<u32>) {
     let Some(line) = line else {
         let _ = eprintln!(rt; "fsc: {who}: nothing more");
@@ -61,7 +61,7 @@ fn tell_line(rt: &HostRuntime, who: &str, line: Option<&Bytes>, command: Option<
     };
 }
 
-// The line as far as it is shown, with a question mark for each byte outside of printable ASCII.
+// Returns the printed part of the line, with a question mark for each byte outside of printable ASCII.
 fn printable(alloc: Global, line: &[u8]) -> Result<String, AllocError> {
     let mut text = String::new(alloc);
     for byte in shown_part(line) {

@@ -1,4 +1,4 @@
-//! What the program tells of itself, and behind a status what to do.
+//! The help text of the program, and after a status the remedy.
 
 use crate::asked::Asked;
 use crate::bad_line::{MOST_LINES_TOLD, first_word, show_lines};
@@ -51,7 +51,7 @@ A script has a section for each of up to eight callers, which begins with
 that begins with # says nothing.
 ";
 
-// The column that the meaning of a command stands in, where its words leave room.
+// The column of a command's meaning, if its words leave space for it.
 const WIDTH_OF_FORMS: usize = 34;
 
 const BEHIND_COMMANDS: &str = "
@@ -91,7 +91,7 @@ const NO_PARTING_LINE: &str = "no line --- stands between the script and its log
 
 const REFUSED: &str = "no run has a log that goes on so: places count from 0, a line each";
 
-/// What `--help` prints: the forms, each command, and where to read on.
+/// Returns what `--help` prints: the forms, each command, and where to read on.
 pub(crate) fn help_text(alloc: Global) -> Result<String, AllocError> {
     let mut text = String::new(alloc);
     push_help(&mut text)?;
@@ -106,7 +106,7 @@ fn push_help(text: &mut String) -> Result<(), AllocError> {
     text.push_str(BEHIND_COMMANDS)
 }
 
-// The group's title, and the words of each of its commands with what it does.
+// Appends the group's title, and the words of each of its commands with what it does.
 fn push_group(text: &mut String, title: &str, lines: &[(&str, &str)]) -> Result<(), AllocError> {
     let mut listed = false;
     for &(form, meaning) in lines.iter() {
@@ -132,13 +132,13 @@ fn push_all(text: &mut String, pieces: &[&str]) -> Result<(), AllocError> {
     Ok(())
 }
 
-/// Tells a remark on standard error.
+/// Prints a remark on standard error.
 pub(crate) fn remark(rt: &HostRuntime, text: &str) {
     let _ = eprintln!(rt; "fsc: {text}");
 }
 
-/// Tells on standard error what to do about a status of a form. The text is what the source gave; none where it
-/// wasn't kept.
+/// Prints on standard error the remedy for a status of a form. `text` is what the source gave, or `None` if
+/// it wasn't stored.
 pub(crate) fn advise(rt: &HostRuntime, asked: Asked, status: Status, text: Option<&[u8]>) {
     match status {
         Status::Done => {}
@@ -153,7 +153,7 @@ pub(crate) fn advise(rt: &HostRuntime, asked: Asked, status: Status, text: Optio
     }
 }
 
-// What to do about the line of this number.
+// Prints the remedy for the line of this number.
 fn advise_on_line(rt: &HostRuntime, asked: Asked, line: u32, text: Option<&[u8]>) {
     match asked {
         Asked::Listing => remark(
@@ -174,7 +174,8 @@ fn advise_on_line(rt: &HostRuntime, asked: Asked, line: u32, text: Option<&[u8]>
     }
 }
 
-// What is before the line `---`; all if there is none. A last `---` without a line feed is no such line.
+// Returns the lines before the line `---`, or the whole text if there is none. A last `---` without a line
+// feed is no such line.
 fn script_part(text: &[u8]) -> &[u8] {
     let mut rest = text;
     for _ in 0..text.len() {
@@ -198,8 +199,8 @@ fn is_parted(text: Option<&[u8]>) -> bool {
     }
 }
 
-// Whether the line of this number stands behind the text's last one, where the text is known. A last piece counts as
-// a line, as where the text was read.
+// Whether the line of this number is after the text's last one, if the text is known. A last piece without
+// a line feed counts as a line, as it does when the text is read.
 fn is_behind(text: Option<&[u8]>, line: u32) -> bool {
     match text {
         Some(text) => line_count(text) < line as usize,
@@ -207,7 +208,7 @@ fn is_behind(text: Option<&[u8]>, line: u32) -> bool {
     }
 }
 
-// What to do where standard input failed.
+// Prints the remedy if standard input failed.
 fn tell_of_input(rt: &HostRuntime, asked: Asked) {
     let input = match asked.input() {
         Some(input) => input.name,
@@ -216,7 +217,7 @@ fn tell_of_input(rt: &HostRuntime, asked: Asked) {
     let _ = eprintln!(rt; "fsc: standard input failed: give the {input} by < FILE");
 }
 
-// What to do where the output failed.
+// Prints the remedy if the output failed.
 fn tell_of_output(rt: &HostRuntime, asked: Asked) {
     let output = asked.output();
     let _ = eprintln!(rt;

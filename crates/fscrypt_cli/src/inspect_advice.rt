@@ -1,4 +1,4 @@
-//! What is told of the words behind `inspect` that are no form: the first at fault, and the remedy.
+//! What is printed for the arguments after `inspect` that are no form: the first at fault, and the remedy.
 
 use crate::advice::{WordFault, at, is_path};
 use crate::bad_line::is_hexadecimal;
@@ -9,7 +9,7 @@ const LEAST_KEY_DIGITS: usize = 64;
 
 const MOST_KEY_DIGITS: usize = 128;
 
-// The first word at fault behind `inspect`.
+// Returns the first argument at fault after `inspect`.
 pub(crate) fn fault_of_inspect(words: &[String]) -> Option<WordFault> {
     match words {
         [] => None,
@@ -30,7 +30,7 @@ fn is_raw_key(word: &str) -> bool {
         && is_hexadecimal(digits)
 }
 
-// What to do about a word in the place of a raw key.
+// Returns the remedy for an argument in the place of a raw key.
 fn remedy_of_raw_key(word: &str) -> &'static str {
     if word.starts_with("id:") {
         return "an identifier opens nothing: give the key itself by raw:HEX";

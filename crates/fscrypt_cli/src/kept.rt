@@ -1,4 +1,4 @@
-//! What standard input gave is kept for a line at fault, until the first command begins.
+//! What standard input gave is stored for messages on a line at fault, until the first command begins.
 
 use crate::lines::{CommandLine, CommandLines};
 use byte_words::wipe;
@@ -7,19 +7,19 @@ use fsc_tool::MOST_INPUT_BYTES;
 use std::alloc::Global;
 use std::sync::{Mutex, OnceLock};
 
-/// The text that came in, and the lines of its commands. The source that keeps it and the gate that lets go of
-/// it share it: no call waits for its lock, since the source is done when the gate begins.
+/// The text that was read, and the lines of its commands. The source that stores it and the gate that drops
+/// it share it. No call waits for its lock, since the source is done when the gate begins.
 #[derive(Drop)]
 pub(crate) struct KeptText {
-    // None where it couldn't be kept whole, and behind `forget`.
+    // `None` if the whole text couldn't be stored, and after `forget`.
     text: Mutex<Option<Vec<u8>>>,
-    // What was found at the end of the text, where it is asked for.
+    // What was found at the end of the text, if the lines are asked for.
     lines: OnceLock<CommandLines>,
     finds_lines: bool,
 }
 
 impl KeptText {
-    /// No text so far. It takes no memory.
+    /// Returns an empty text. Takes no memory.
     pub(crate) fn new(alloc: Global, finds_lines: bool) -> KeptText {
         KeptText {
             text: Mutex::new(Some(Vec::new(alloc))),
@@ -28,7 +28,7 @@ impl KeptText {
         }
     }
 
-    // Keeps the bytes behind those before. A text of which some can't be kept is let go of.
+    // Appends the bytes to the text. If some bytes can't be stored, the whole text is wiped and dropped.
     fn keep(&self, bytes: &[u8]) {
         let is_kept = match self.text.try_lock() {
             Some(mut kept) => match kept.as_mut() {
@@ -56,8 +56,8 @@ impl KeptText {
         }
     }
 
-    /// Overwrites the text, and lets go of it.
-    // Not inlined, so that the machine code has it by its name, by which its overwriting is looked for.
+    /// Wipes the text, and drops it.
+    // Not inlined, so that the machine code has a function of this name, in which tools look for the wipe.
     #[inline(never)]
     pub(crate) fn forget(&self) {
         if let Some(mut text) = self.take() {
@@ -65,25 +65,27 @@ impl KeptText {
         }
     }
 
-    /// The line of the caller's command of this number, both counted from 0; none where no lines were found.
+    /// Returns the line of the caller's command of this number, both counted from 0, or `None` if no lines
+    /// were found.
     pub(crate) fn line_of(&self, caller: u32, number: u64) -> Option<CommandLine> {
         self.lines.get()?.command(caller, number)
     }
 
-    /// Takes the text, where it is still kept.
+    /// Takes the text, if it is still stored.
     pub(crate) fn take(&self) -> Option<Vec<u8>> {
         self.text.try_lock()?.take()
     }
 }
 
-// Puts bytes behind a text, which has room for the longest one, so that none is moved when more of it comes: a
-// move would leave its secrets in freed memory. False where the text is longer than a script, or there was no memory.
+// Appends bytes to a text, which has capacity for the longest one, so that the text is never moved when it
+// grows: a move would leave its secrets in freed memory. Returns false if the text is longer than a script,
+// or there was no memory.
 fn put_behind(text: &mut Vec<u8>, bytes: &[u8]) -> bool {
     let room = (MOST_INPUT_BYTES + 1).saturating_sub(text.len());
     bytes.len() <= room && text.reserve_exact(room).is_ok() && text.extend_from_slice(bytes).is_ok()
 }
 
-/// A source whose bytes are kept.
+/// A source whose bytes are stored.
 #[derive(Drop)]
 pub(crate) struct KeptSource<'a, S: Source + Drop> {
     source: S,

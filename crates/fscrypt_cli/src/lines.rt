@@ -1,4 +1,4 @@
-//! Where the commands of a script stand.
+//! The lines of a script's commands.
 
 use crate::bad_line::first_word;
 use crate::commands::verb_named;
@@ -13,14 +13,15 @@ pub(crate) struct CommandLine {
     pub(crate) verb: &'static str,
 }
 
-/// The commands of each caller of a script, in order. The words behind a verb may be secrets: none is here.
+/// The commands of each caller of a script, in order. The words after a verb may be secrets: none of them
+/// is stored here.
 #[derive(Drop)]
 pub(crate) struct CommandLines {
     callers: Vec<Vec<CommandLine>>,
 }
 
 impl CommandLines {
-    /// Those of a text that is a script.
+    /// Returns the commands of a text that is a script.
     pub(crate) fn of_script(alloc: Global, text: &[u8]) -> Result<CommandLines, AllocError> {
         let mut found = CommandLines {
             callers: Vec::new(alloc),
@@ -37,7 +38,8 @@ impl CommandLines {
         Ok(found)
     }
 
-    // Adds what the line with that number and that first word says: a further caller, or a command of the last.
+    // Adds what the line with that number and that first word is: a further caller, or a command of the
+    // last one.
     fn add(&mut self, alloc: Global, line: usize, word: &[u8]) -> Result<(), AllocError> {
         if word == b"caller".as_slice() {
             self.callers.push(Vec::new(alloc))?;
@@ -51,7 +53,7 @@ impl CommandLines {
         Ok(())
     }
 
-    /// The caller's command of this number, both counted from 0.
+    /// Returns the caller's command of this number, both counted from 0.
     pub(crate) fn command(&self, caller: u32, number: u64) -> Option<CommandLine> {
         let commands = self.callers.get(caller as usize)?;
         commands.get(number as usize).copied()

@@ -31,7 +31,7 @@ use std::thread::Threads;
 use std::{env, mem};
 use telling::{TellingGate, clear_command};
 
-// How it ended, and whether its output was read by nobody any more.
+// How it ended, and whether the reader of its output was closed.
 #[derive(Clone, Copy)]
 struct Ended {
     status: Status,
@@ -45,7 +45,7 @@ const NO_MEMORY: Ended = Ended {
 
 const NO_READER: &str = "nobody reads the output any more; what was read is a beginning of it";
 
-// Inlined, so that what a run overwrites stands in one function of the machine code, which tools can name.
+// Inlined, so that all that a run wipes is in one function of the machine code, which tools can name.
 #[inline(always)]
 fn main(rt: HostRuntime) -> ExitCode {
     let mut words = match words_of(&rt) {
@@ -65,7 +65,7 @@ fn main(rt: HostRuntime) -> ExitCode {
     }
 }
 
-// The words of the command line without the program's own name. One that isn't text is Usage.
+// Returns the arguments of the command line without the program's own name, or Usage if one isn't text.
 fn words_of(rt: &HostRuntime) -> Result<Vec<String>, Status> {
     let words = match env::args(rt) {
         Ok(words) => words,
@@ -78,7 +78,7 @@ fn words_of(rt: &HostRuntime) -> Result<Vec<String>, Status> {
         .map_err(|_| Status::NoMemory)
 }
 
-// Prints what `--help` tells.
+// Prints the help text.
 fn tell_help(rt: &HostRuntime) -> ExitCode {
     match help_text(rt.alloc()) {
         Ok(text) => tell(rt, text.as_str()),
@@ -100,8 +100,8 @@ fn tell(rt: &HostRuntime, text: &str) -> ExitCode {
     end(rt, Asked::Other, ended, None)
 }
 
-// Runs the tool, tells how that ended, and overwrites what came in. `threads` is the runtime too, as what starts
-// threads and waits: what runs in them asks for no more.
+// Runs the tool, prints how that ended, and wipes the input. `threads` is the runtime too, which starts
+// threads and waits: code in the threads needs no more of it.
 fn run<R: Threads + Wait + Sync>(
     rt: &HostRuntime,
     threads: &R,
@@ -126,7 +126,8 @@ fn run<R: Threads + Wait + Sync>(
     code
 }
 
-// Hands the words, the standard streams and two empty mounts to the tool, and takes what it found of a refused log.
+// Passes the arguments, the standard streams and two empty mounts to the tool, and returns what it found of
+// a refused log.
 fn run_tool<R: Threads + Wait + Sync>(
     rt: &HostRuntime,
     threads: &R,
@@ -158,7 +159,8 @@ fn run_tool<R: Threads + Wait + Sync>(
     }
 }
 
-// The same as `end` for a run, whose input is shown where a line of it is at fault, and overwritten then.
+// The same as `end` for a run. If a line of its input is at fault, the line is printed; then the input is
+// wiped.
 fn end_run(rt: &HostRuntime, asked: Asked, ended: Ended, kept: &KeptText) -> ExitCode {
     let Some(mut text) = kept.take() else {
         return end(rt, asked, ended, None);
@@ -168,8 +170,8 @@ fn end_run(rt: &HostRuntime, asked: Asked, ended: Ended, kept: &KeptText) -> Exi
     code
 }
 
-// Prints the status and what to do on standard error, unless the run is done, and ends with its number. The text is
-// what came in; none where it wasn't kept.
+// Prints the status and the remedy on standard error, unless the run is done, and ends with its number.
+// `text` is the input, or `None` if it wasn't stored.
 fn end(rt: &HostRuntime, asked: Asked, ended: Ended, text: Option<&[u8]>) -> ExitCode {
     let status = ended.status;
     if status == Status::NoMemory {

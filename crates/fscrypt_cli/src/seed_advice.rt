@@ -1,17 +1,18 @@
-//! What is told of the words of a form with a seed that are none: the first at fault, and the remedy.
+//! What is printed for the arguments of a form with a seed that are none: the first at fault, and the
+//! remedy.
 
 ghost use Rattle.std.specs.Prelude.{◌≤◌};
 
 use crate::advice::{SCRIPT_BY_INPUT, WordFault, at};
 use crate::bad_line::is_hexadecimal;
 
-/// What is told of words that a form with a seed doesn't take.
+/// The remedies for arguments that a form with a seed doesn't take.
 pub(crate) struct SeedForm {
-    // Of a word in the place of its options, or where they are missing.
+    // For an argument in the place of its options, or if they are missing.
     options: &'static str,
-    // Of --serial behind the seed.
+    // For `--serial` after the seed.
     serial: &'static str,
-    // Of a word there that is no option, as a file's name.
+    // For an argument there that is no option, as a file's name.
     file: &'static str,
 }
 
@@ -66,7 +67,7 @@ const ONE_SERIAL: &str = "one --serial is enough";
 
 const SEED_DIGITS: usize = 64;
 
-/// The first word at fault behind `replay`.
+/// Returns the first argument at fault after `replay`.
 pub(crate) fn fault_of_replay(words: &[String]) -> Option<WordFault> {
     match words {
         [option, behind @ ..] if option.as_str() == "--serial" => fault_of_any_seed(behind, 2),
@@ -74,7 +75,7 @@ pub(crate) fn fault_of_replay(words: &[String]) -> Option<WordFault> {
     }
 }
 
-// The first word at fault of those of a replay from this place on, which are a seed or none.
+// Returns the first argument at fault of those of a replay from this position on, which are a seed or none.
 fn fault_of_any_seed(words: &[String], place: usize) -> Option<WordFault>
     requires { place ≤ 2 }
 {
@@ -89,7 +90,7 @@ fn fault_of_any_seed(words: &[String], place: usize) -> Option<WordFault>
     }
 }
 
-// What to do about a word in the place of an option.
+// Returns the remedy for an argument in the place of an option.
 fn remedy_of_option(word: &str) -> &'static str {
     if word == "--serial" {
         return ONE_SERIAL;
@@ -106,7 +107,7 @@ fn remedy_of_option(word: &str) -> &'static str {
     SCRIPT_BY_INPUT
 }
 
-/// The first word at fault behind `replay-linked`.
+/// Returns the first argument at fault after `replay-linked`.
 pub(crate) fn fault_of_linked(words: &[String]) -> Option<WordFault> {
     match words {
         [option, behind @ ..] if option.as_str() == "--serial" => fault_of_seed(
@@ -118,7 +119,7 @@ pub(crate) fn fault_of_linked(words: &[String]) -> Option<WordFault> {
     }
 }
 
-/// The first word at fault behind `check`.
+/// Returns the first argument at fault after `check`.
 pub(crate) fn fault_of_check(words: &[String]) -> Option<WordFault> {
     match words {
         [option, behind @ ..] if option.as_str() == "--strict" => fault_of_seed(
@@ -130,7 +131,7 @@ pub(crate) fn fault_of_check(words: &[String]) -> Option<WordFault> {
     }
 }
 
-/// The first word at fault of those from this place on, which are a seed alone of this form.
+/// Returns the first argument at fault of those from this position on, which are a seed alone of this form.
 pub(crate) fn fault_of_seed(words: &[String], place: usize, form: &SeedForm) -> Option<WordFault>
     requires { place ≤ 2 }
 {
@@ -144,7 +145,7 @@ pub(crate) fn fault_of_seed(words: &[String], place: usize, form: &SeedForm) -> 
     }
 }
 
-// The first word at fault of those behind `--seed`, from this place on.
+// Returns the first argument at fault of those after `--seed`, from this position on.
 fn fault_of_digits(words: &[String], place: usize, form: &SeedForm) -> Option<WordFault>
     requires { place ≤ 3 }
 {
@@ -167,7 +168,7 @@ fn remedy_of_seed(word: &str) -> &'static str {
     "a seed is 64 hexadecimal digits"
 }
 
-// What to do about a word behind the seed.
+// Returns the remedy for an argument after the seed.
 fn remedy_behind_seed(word: &str, form: &SeedForm) -> &'static str {
     match word {
         "--serial" => form.serial,

@@ -1,4 +1,4 @@
-//! What is told of a run while it goes on.
+//! What is printed of a run while it runs.
 
 use crate::kept::KeptText;
 use crate::lines::CommandLine;
@@ -8,17 +8,17 @@ use std::io::IsTerminal;
 // Goes back to the start of the line, and clears it.
 const CLEARED: &str = "\r\x1b[K";
 
-/// Clears what stands of a command that found no memory: its gate isn't called behind it.
+/// Clears the message on a command that was out of memory: its gate isn't called after it.
 pub(crate) fn clear_command(rt: &HostRuntime) {
     if rt.stderr().is_terminal() {
         let _ = rt.eprint(CLEARED);
     }
 }
 
-/// Lets go of the text that came in when the first command begins: no line is at fault from then on. Tells on
-/// standard error which line of the script runs, where that is a terminal; of a script that did not come in, and
-/// where there was no memory to find the lines, the caller and its command's number. Nothing is left of it behind a
-/// command that found memory.
+/// A gate that drops the stored text when the first command begins, since no line is at fault from then on.
+/// On a terminal, prints on standard error which line of the script runs. If the script wasn't read from
+/// standard input, or there was no memory to find the lines, it prints the caller and the number of its
+/// command. The message is cleared after a command that had memory.
 #[derive(Drop)]
 pub(crate) struct TellingGate<'a> {
     rt: &'a HostRuntime,
