@@ -7,7 +7,7 @@ use Rattle.blake2_core.specs.declared.Blake2b.{Blake2b}
 abbrev pub output_length : Blake2b → ℕ
 output_length hasher = hasher.size
 
--- the hasher has taken the first n blocks of the message into its state, and keeps the rest
+-- the hasher has taken the first n blocks of the message into its state, and buffers the rest
 pub record Follows (hasher : Blake2b) (message : List ℕ) (n : ℕ) : Type 0 where
   pub counted : length message ≡ 128 * n + hasher.used
   pub absorbed : hasher.state ≡ state_after hasher.size message n

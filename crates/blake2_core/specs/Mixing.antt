@@ -17,8 +17,7 @@ mixed a b c d x y =
     let b2 = rotate_right w64 (bit_xor b1 c2) 63 in
     a2 ∷ b2 ∷ c2 ∷ d2 ∷ []
 
--- a round on the work vector v, which stands in four rows of four: G on each column, then on
--- each diagonal (3.2)
+-- a round on the work vector v, in four rows of four: G on each column, then on each diagonal (3.2)
 unfoldable pub mixed_round : List ℕ → List ℕ → ℕ → List ℕ
 mixed_round words v r =
     let word = λ (turn : ℕ). slice_index words (word_number r turn) in

@@ -53,14 +53,14 @@ module _ {C R : Type 0} where
   AllFrom_weaker k j [] l all = tt
   AllFrom_weaker k j (y ∷ ys) l all = let lower : k ≤ y.0 = all.0 in (omega arith, AllFrom_weaker k j ys l all.1)
 
-  -- the entry of the lowest place comes first, wherever it stood
+  -- the entry of the lowest place is the first, whatever its position was
   first_out : (x : ℕ × Entry C R) (ps qs : PlacedList C R) → AllFrom (x.0 + 1) (ps ++ qs) → in_order (ps ++ x ∷ qs) ≡ x ∷ in_order (ps ++ qs)
   first_out x [] qs all = inserted_first x (in_order qs) (AllFrom_weaker (x.0 + 1) x.0 (in_order qs) (omega arith) (AllFrom-in_order (x.0 + 1) qs all))
   first_out x (p ∷ ps) qs all =
       let above : x.0 + 1 ≤ p.0 = all.0 in
       ap (inserted p) (first_out x ps qs all.1) ∙ inserted_after p x (in_order (ps ++ qs)) (omega arith)
 
-  -- where a caller's first entry stands among all
+  -- the position of a caller's first entry among all
   record Found (x : ℕ × Entry C R) (xs : PlacedList C R) : Type 0 where
     before : PlacedList C R
     after : PlacedList C R
@@ -105,7 +105,7 @@ module _ {C R : Type 0} where
       = AllFrom_callers (k + 1) (ps ++ qs) (λ c. subst (AllFrom (k + 1)) (sym (less c)) (AllFrom-by (k + 1) c (numbered (k + 1) h) (AllFrom-numbered (k + 1) (k + 1) h (omega arith)))) in
       ap in_order there.is ∙ (first_out x ps qs all ∙ ap (λ (l : PlacedList C R). x ∷ l) (in_order_by_callers (k + 1) h (ps ++ qs) less))
 
-  -- a history already stands in order of place
+  -- a history already is in order of place
   pub in_order-numbered : (k : ℕ) (h : History C R) → in_order (numbered k h) ≡ numbered k h
   in_order-numbered k h = in_order_by_callers k h (numbered k h) (λ c. refl)
 

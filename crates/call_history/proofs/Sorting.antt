@@ -1,4 +1,4 @@
--- Entries sorted by place, where those of one place stay in their order, are the entries in order of place.
+-- Entries sorted by place, with those of one place in their order, are the entries in order of place.
 use Rattle.std.proofs.Common.{◌≡◌, ℕ, suc, zero, nat_cmp, filter, ◌<◌, ◌≤◌, Bool, true, false, cond, not, ◌&&◌, leb, eqb, [], ◌∷◌, length, drop, get_or, sym, refl, ap, ap₂, ◌∙◌, subst, ⊎_elim, arith}
 use Rattle.std.specs.Prelude.{slice_index_or}
 use Rattle.std.specs.Ordering.{is_lt}
@@ -73,7 +73,7 @@ module _ {C R : Type 0} where
   none_below j k (x ∷ xs) all below = let above = all.0 in
       at-other j x xs (λ same. omega (arith, same, above, below)) ∙ none_below j k xs all.1 below
 
-  -- entries in order are told by those of each place
+  -- entries in order are determined by those of each place
   told_by_places : (xs ys : PlacedList C R) → Rises xs → Rises ys → ((k : ℕ) → at k xs ≡ at k ys) → xs ≡ ys
   told_by_places [] [] up up' each = refl
   told_by_places [] (y ∷ ys) up up' each = let long = ap length (each y.0 ∙ at-own y.0 y ys refl) in absurd (omega (arith, long))
@@ -109,7 +109,7 @@ module _ {C R : Type 0} where
       ap (λ (b : Bool). cond b (y ∷ filter (ties (λ x y. is_lt (nat_cmp x.0 y.0)) x) ys) (filter (ties (λ x y. is_lt (nat_cmp x.0 y.0)) x) ys)) (tie x.0 y.0)
       ∙ ap (λ (l : PlacedList C R). cond (eqb y.0 x.0) (y ∷ l) l) (at-ties x ys)
     where
-      -- two tests that say so of the two orders
+      -- two tests that mean this of the two orders
       told : (p q : Ordering) (a b : ℕ) (same : Bool) → p ≡ nat_cmp a b → q ≡ nat_cmp b a → not (is_lt p) && not (is_lt q) ≡ same
           → not (is_lt (nat_cmp a b)) && not (is_lt (nat_cmp b a)) ≡ same
       told p q a b same one two is = ap₂ (λ (r s : Ordering). not (is_lt r) && not (is_lt s)) (sym one) (sym two) ∙ is
@@ -139,7 +139,7 @@ module _ {C R : Type 0} where
   at_stable (x ∷ xs) new stable k =
       let one : ℕ × Entry C R = (k, x.1) in sym (at-ties one new) ∙ stable one ∙ at-ties one (x ∷ xs)
 
-  -- sorted entries, where those of one place stay in their order, are the entries in order of place
+  -- sorted entries, with those of one place in their order, are the entries in order of place
   pub sorted_in_order : (old new : PlacedList C R) → IsNonDecreasingBy (λ x. x.0) new → IsStableByKey (λ x. x.0) nat_cmp old new
       → new ≡ in_order old
   sorted_in_order old new up stable =

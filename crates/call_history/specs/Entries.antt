@@ -14,7 +14,7 @@ module _ {C R : Type 0} where
   abbrev pub entry : ℕ → C → R → Entry C R
   entry who call reply = record { who = who; call = call; reply = reply }
 
-  -- each entry with its place, where the first has the place k
+  -- each entry with its place, if the first has the place k
   abbrev pub numbered : ℕ → History C R → PlacedList C R
   numbered k [] = []
   numbered k (e ∷ es) = (k, e) ∷ numbered (k + 1) es
@@ -32,7 +32,7 @@ module _ {C R : Type 0} where
   inserted x [] = x ∷ []
   inserted x (y ∷ ys) = if nat_le x.0 y.0 then x ∷ y ∷ ys else y ∷ inserted x ys
 
-  -- the same entries in order of place, those of one place as they stood
+  -- the same entries in order of place, those of one place in the order that they had
   abbrev pub in_order : PlacedList C R → PlacedList C R
   in_order [] = []
   in_order (x ∷ xs) = inserted x (in_order xs)

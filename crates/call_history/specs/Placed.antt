@@ -1,4 +1,4 @@
--- Placed entries without their places.
+-- Entries with places, without their places.
 use Rattle.std.specs.Prelude.{map}
 use Rattle.call_history.specs.Entries.{History, PlacedList}
 

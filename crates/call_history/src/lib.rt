@@ -10,5 +10,5 @@ pub use entry::Entry;
 pub use laws::callers_determine_history;
 pub use order::sort_by_place;
 
-/// The most places that a history may have, 2^40.
+/// The maximal number of places of a history, 2^40.
 pub const MOST_PLACES: u64 = 1_099_511_627_776;

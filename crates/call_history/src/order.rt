@@ -6,9 +6,9 @@ ghost use Rattle.call_history.specs.Entries.{History, by, entries_by, in_order, 
 use crate::entry::Entry;
 use std::alloc::AllocError;
 
-/// Puts entries in order of place; those of one place stay in their order. Those that are, caller by
-/// caller, the entries of a history are then that history's, one after another. For want of memory they
-/// stay as they were.
+/// Puts entries in order of place; those of one place stay in their order. Entries that are, caller by
+/// caller, those of a history are then that history's, one after another. If out of memory, they stay as
+/// they were.
 pub fn sort_by_place<C, R>(entries: &mut Vec<(u64, Entry<C, R>)>) -> Result<(), AllocError>
     ensures sorted { OnOk result (entries.new.items ≡ in_order entries.old.items) }
     ensures history { OnOk result ((history : History C R)

@@ -53,7 +53,7 @@ used_no_more old new dir name is = λ pair held.
 pub used_stays : (old new : NameList) (dir : ℕ) (name : List ℕ) → new ≡ used old dir name → cached new dir name ≡ cached old dir name
 used_stays old new dir name is = ap (λ (n : NameList). cached n dir name) is ∙ promoted_found (is_name dir name) old.pairs
 
--- ---- keep
+-- ---- caching
 
 take_all : (n : ℕ) (es : List Pair) → length es ≤ n → take n es ≡ es
 take_all n [] few = take_none n

@@ -28,7 +28,7 @@ module _ {K : Type 0} (test : K → Bool) where
           ap (λ b. cond b (Some e.1) (lookup test (remove_entry test es))) (Contains-lookup_entry test es e found).1
           ∙ sym (number_of es ∙ ap (option_map (λ (e : K × ℕ). e.1)) found)
 
-  -- where no key passes, nothing goes
+  -- if no key passes, nothing is removed
   pub removed_none : (es : List (K × ℕ)) → lookup_entry test es ≡ None → remove_entry test es ≡ es
   removed_none [] none = refl
   removed_none (e ∷ es) none =
@@ -57,7 +57,7 @@ module _ {K : Type 0} (test : K → Bool) where
   others_fail eq k [] same all = tt
   others_fail eq k (y ∷ ks) same all = (same y ∙ all.0, others_fail eq k ks same all.1)
 
-  -- where no two keys are equal, none that is left passes
+  -- if no two keys are equal, none that is left passes
   pub removed_all : (eq : K → K → Bool) → ((x y : K) → test x ≡ true → test y ≡ eq x y) → (es : List (K × ℕ))
       → IsDistinct eq (keys_of es) → (e : K × ℕ) → Contains (remove_entry test es) e → test e.0 ≡ false
   unfolding IsDistinct
@@ -71,7 +71,7 @@ module _ {K : Type 0} (test : K → Bool) where
         ]
       ]) refl held
 
-  -- a filter that leaves out whatever passes doesn't tell that one is gone
+  -- a filter that leaves out each one that passes gives the same after one is removed
   pub filter_removed : (keeps : K × ℕ → Bool) → ((e : K × ℕ) → test e.0 ≡ true → keeps e ≡ false) → (es : List (K × ℕ))
       → filter keeps (remove_entry test es) ≡ filter keeps es
   filter_removed keeps apart [] = refl
@@ -82,7 +82,7 @@ module _ {K : Type 0} (test : K → Bool) where
       ]) refl
 
 module _ {X : Type 0} (p : X → Bool) where
-  -- where none passes, all fail
+  -- if none passes, all fail
   pub filter_none : (xs : List X) → find p xs ≡ None → filter (λ x. not (p x)) xs ≡ xs
   filter_none [] none = refl
   filter_none (x ∷ xs) none =

@@ -3,7 +3,7 @@
 use Rattle.std.specs.Prelude.{◌≡◌, ℕ, false, List, Contains, ◌⊎◌}
 use Rattle.dentry_cache.specs.Names.{Pair, NameList, is_name, is_in}
 
--- no name is cached that wasn't, and none leads elsewhere
+-- no name is cached that wasn't, and none resolves to another node
 abbrev pub HoldsNoMore : NameList → NameList → Type 0
 HoldsNoMore old new = (pair : Pair) → Contains new.pairs pair → Contains old.pairs pair
 

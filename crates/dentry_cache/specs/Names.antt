@@ -1,16 +1,16 @@
--- Names that are cached: the node that each leads to, the most recently used first.
+-- Names that are cached: the node that each resolves to, most recently used first.
 use Rattle.std.specs.Prelude.{ℕ, Bool, List, [], not, ◌&&◌, ◌==◌, Option}
 use Rattle.std.specs.Map.{lookup}
 use Rattle.std.specs.Str.{bytes_eq}
 use Rattle.dentry_cache.specs.declared.key.NameKey.{NameKey}
 
--- a name of a directory, with the number of the node that it leads to
+-- a name of a directory, with the number of the node that it resolves to
 abbrev pub Pair : Type 0
 Pair = NameKey × ℕ
 
 pub record NameList : Type 0 where
   pub pairs : List Pair
-  -- how often a name was not kept, for want of memory
+  -- how often a name was not cached, since there was no memory
   pub refused : ℕ
 
 abbrev pub no_names : NameList
@@ -33,6 +33,6 @@ is_in dir pair = pair.0.dir == dir
 abbrev pub is_elsewhere : ℕ → Pair → Bool
 is_elsewhere dir pair = not (is_in dir pair)
 
--- the node to which the name leads, where that is cached
+-- the node that the name resolves to, if that is cached
 abbrev pub cached : NameList → ℕ → List ℕ → Option ℕ
 cached names dir name = lookup (is_name dir name) names.pairs

@@ -1,5 +1,4 @@
--- That what is seen of the cache is all that there is of names: a part that lay beside what is named here
--- would be one of which this doesn't hold.
+-- That the named parts of the cache are all that it has of names: with a further part, this would not hold.
 use Rattle.std.specs.Prelude.{◌≡◌}
 use Rattle.dentry_cache.specs.declared.cache.NameCache.TheInside as cache
 

@@ -14,8 +14,8 @@ use std::alloc::{AllocError, Global};
 use std::marker::Model;
 use std::num::NonZeroUsize;
 
-/// Names with the nodes that they lead to, at most `MOST_CACHED_NAMES`, the most recently used first; and how
-/// often a name was not kept, for want of memory.
+/// Names with the nodes that they resolve to, at most `MOST_CACHED_NAMES`, by most recent use; and how
+/// often a name was not cached, since there was no memory.
 pub struct NameCache {
     pairs: LruCache<NameKey, u32>,
     refused: u64,
@@ -65,14 +65,14 @@ impl NameCache {
         })
     }
 
-    /// How often a name was not kept, for want of memory.
+    /// Returns how often a name was not cached, since there was no memory.
     pub fn refused(&self) -> u64
         ensures { result ≡ self.now.refused }
     {
         self.refused
     }
 
-    /// The node to which the name leads, where that is cached. The name is then the most recently used.
+    /// Returns the node that the name resolves to, if that is cached. The name is then the last one used.
     pub fn find(&mut self, dir: u32, name: &[u8]) -> Option<u32>
         requires short { length name.now ≤ MOST_CACHED_NAME_BYTES }
         ensures value { result ≡ cached self.old dir name.now }
@@ -83,8 +83,9 @@ impl NameCache {
         self.pairs.get(&NameKey::of(dir, name)).copied()
     }
 
-    /// Caches that the name leads to the node. Where there are as many names as may be, the one that was not
-    /// used for longest goes. Where there is no memory all stays, and one more is counted as refused.
+    /// Caches that the name resolves to the node. If the cache is full, the name that was not used for
+    /// longest is removed. If there is no memory, the cache is as before, and one more is counted as
+    /// refused.
     pub fn keep(&mut self, dir: u32, name: &[u8], number: u32) -> Result<(), AllocError>
         requires short { length name.now ≤ MOST_CACHED_NAME_BYTES }
         ensures kept { OnOk result (self.new ≡ kept self.old dir name.now number) }
@@ -93,7 +94,7 @@ impl NameCache {
         ensures beside { HoldsBeside self.old self.new (key_of dir name.now, number) }
         ensures few { length self.new.pairs ≤ MOST_CACHED_NAMES }
     {
-        // That there are at most so many.
+        // That there are at most `MOST_CACHED_NAMES`.
         let _few = self.pairs.len();
         match self.pairs.put(NameKey::of(dir, name), number) {
             Ok(_) => Ok(()),
@@ -104,14 +105,15 @@ impl NameCache {
         }
     }
 
-    /// Forgets where the name leads. It takes no memory.
+    /// Removes the cached name. Takes no memory.
     pub fn forget(&mut self, dir: u32, name: &[u8])
         requires short { length name.now ≤ MOST_CACHED_NAME_BYTES }
         ensures gone { self.new ≡ forgotten self.old dir name.now }
         ensures none { HoldsNone self.new dir name.now }
         ensures no_more { HoldsNoMore self.old self.new }
     {
-        // An empty cache is frequent, and a key has 264 bytes. A length says too that no two pairs have one name.
+        // An empty cache is frequent, and a key has 264 bytes. A length also states that no two pairs have
+        // one name.
         let count = self.pairs.len();
         if count == 0 {
             return;
@@ -142,7 +144,7 @@ impl NameCache {
         None
     }
 
-    // Forgets where the name leads.
+    // Removes the cached name.
     fn take(&mut self, key: &NameKey)
         ensures { self.new ≡ forgotten self.old key.now.dir key.now.name }
     {

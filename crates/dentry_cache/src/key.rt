@@ -6,7 +6,7 @@ use crate::limits::MOST_CACHED_NAME_BYTES;
 use short_bytes::Filled;
 use std::hash::{Hash, Hasher};
 
-/// A name of a directory, under which the node that it leads to is cached.
+/// A name of a directory, under which the node that it resolves to is cached.
 #[derive(Clone, Copy, Debug, PartialEq, Eq)]
 pub struct NameKey {
     /// The number of the directory.
@@ -28,7 +28,7 @@ impl NameKey {
     }
 }
 
-// By hand: the bytes are fed in one piece.
+// Implemented manually: the bytes are fed in one piece.
 impl Hash for NameKey {
     ghost use Rattle.std.specs.Prelude.{[], ◌∷◌, ◌++◌};
     ghost use Rattle.std.specs.Cmp.{unsigned_Decides};

@@ -1,4 +1,4 @@
-//! Names that are cached, each with the node that it leads to, so that a look-up enciphers nothing.
+//! Cached names, each with the node that it resolves to, so that a look-up encrypts nothing.
 #![tactic(auto)]
 
 mod cache;

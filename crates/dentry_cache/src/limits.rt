@@ -1,7 +1,7 @@
 //! The limits of the cache.
 
-/// The most names that are cached.
+/// The maximal number of cached names.
 pub const MOST_CACHED_NAMES: usize = 256;
 
-/// The most bytes of a cached name: as many as a name may have.
+/// The maximal length of a cached name in bytes: that of any name.
 pub const MOST_CACHED_NAME_BYTES: usize = 255;

@@ -32,7 +32,7 @@ pub(crate) enum Asked {
     Image,
     /// A script with a log after it, which is checked.
     Listing,
-    /// A script with a log behind it, which is checked.
+    /// A script and, after it, a log, which is checked.
     Verdict,
     /// Nothing.
     Other,

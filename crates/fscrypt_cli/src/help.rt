@@ -91,7 +91,7 @@ const NO_PARTING_LINE: &str = "no line --- stands between the script and its log
 
 const REFUSED: &str = "no run has a log that goes on so: places count from 0, a line each";
 
-/// Returns what `--help` prints: the forms, each command, and where to read on.
+/// Returns what `--help` prints: the forms, each command, and the pages to read next.
 pub(crate) fn help_text(alloc: Global) -> Result<String, AllocError> {
     let mut text = String::new(alloc);
     push_help(&mut text)?;

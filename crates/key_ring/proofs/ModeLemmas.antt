@@ -140,7 +140,7 @@ AreUsed-none = record {
   fit = λ id. let none = ap (λ o. option_map_or (λ (m : ModeKey). m.users) o 0) (get-empty id_cmp id) in omega arith;
 }
 
--- ---- as they are kept
+-- ---- as they are stored
 
 module _ (m : BTreeMap KeyId ModeBox) (id : KeyId) where
   pub mode_kept : (o : Option ModeBox) → o ≡ tree.get id_cmp m id → map.get (modes_of m.entries) id ≡ option_map (λ mode. mode.value) o

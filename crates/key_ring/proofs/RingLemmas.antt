@@ -1,4 +1,4 @@
--- A secret stands exactly where a claim does, after each call.
+-- After each call a secret is held exactly when there is a claim.
 use Rattle.std.proofs.Common.{◌≡◌, ℕ, Bool, true, false, cond, eqb, not, ◌||◌, List, Result, Ok, Err, is_err, is_ok, OnOk, OnErr, Some, None, is_some, sym, refl, ap, ◌∙◌, subst, ⊎_elim, arith}
 use Rattle.std.specs.Ordering.{eq_by_cmp}
 use Rattle.std.specs.FinMap as map
@@ -18,7 +18,7 @@ tie : (id q : KeyId) → eq_by_cmp id_cmp q id ≡ same_id id q
 tie id q = sym (id_ties q id) ∙ same_id-symm q id
 
 module _ (claims : ClaimSet) (secrets : SecretMap) (exact : HoldsClaimedSecrets (record { claims = claims; secrets = secrets })) where
-  -- a secret came with a claim
+  -- a secret was added with a claim
   pub exact_taken : (id : KeyId) (user : ℕ) (raw : List ℕ) → HoldsClaimedSecrets (record { claims = with_claim claims id user; secrets = map.insert secrets id raw })
   exact_taken id user raw q =
       ap is_some (get-insert id_cmp_total secrets id raw q) ∙ (ap (λ b. is_some (cond b (Some raw) (map.get secrets q))) (tie id q) ∙ (⊎_elim
@@ -47,7 +47,7 @@ module _ (claims : ClaimSet) (secrets : SecretMap) (exact : HoldsClaimedSecrets 
       (λ apart. sym (is_present-without_claim_other claims id user q apart))
       (cases_Bool (same_id id q))
 
-  -- where no room was found for a secret, the claim was the key's first
+  -- if there was no space for a secret, the claim was the key's first
   pub unheld : {T E : Type 0} (id : KeyId) (user : ℕ) (r : Result T E) → is_err r ≡ true → (map.contains_key secrets id ≡ true → is_ok r ≡ true) → has_claim claims id user ≡ false
   unheld id user r failed room = ⊎_elim
       (λ held. absurd (not_both r failed (room (exact id ∙ is_present-held claims id user held))))

@@ -13,11 +13,11 @@ pub record Holding : Type 0 where
   pub claims : ClaimSet
   pub secrets : SecretMap
 
--- the secret of the key, where the ring holds it
+-- the secret of the key, if the ring holds it
 abbrev pub secret_of : Holding → KeyId → Option (List ℕ)
 secret_of ring id = map.get ring.secrets id
 
--- a secret stands exactly where a claim does
+-- a secret is held exactly when there is a claim
 abbrev pub HoldsClaimedSecrets : Holding → Type 0
 HoldsClaimedSecrets ring = (id : KeyId) → is_some (secret_of ring id) ≡ is_present ring.claims id
 

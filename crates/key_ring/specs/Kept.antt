@@ -1,4 +1,4 @@
--- How secrets are kept; words of private functions.
+-- How secrets are stored; words of private functions.
 use Rattle.std.specs.Prelude.{ℕ, List}
 use Rattle.std.specs.Global.{Global}
 use Rattle.std.specs.declared.boxed.Box.{Box}

@@ -1,4 +1,4 @@
--- How mode keys are kept; a word of private functions.
+-- How mode keys are stored; a word of private functions.
 use Rattle.std.specs.Prelude.{List}
 use Rattle.std.specs.Global.{Global}
 use Rattle.std.specs.declared.boxed.Box.{Box}

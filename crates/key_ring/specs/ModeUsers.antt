@@ -7,7 +7,7 @@ use Rattle.fsc_keys.specs.declared.file_keys.FileKey.{FileKey}
 use Rattle.key_ring.specs.declared.mode_key.ModeKey.{ModeKey}
 use Rattle.key_ring.specs.Modes.{ModeMap, Modes}
 
--- how many users the mode key of this identifier has; 0 where none stands
+-- how many users the mode key of this identifier has; 0 if there is none
 abbrev pub users_in : ModeMap → KeyId → ℕ
 users_in those id = option_map_or (λ mode. mode.users) (map.get those id) 0
 
@@ -15,7 +15,7 @@ users_in those id = option_map_or (λ mode. mode.users) (map.get those id) 0
 abbrev pub users_of : Modes → KeyId → ℕ
 users_of modes id = users_in modes.contents id + users_in modes.names id
 
--- more users: a key that stands stays, else this one comes
+-- more users: a key that is held stays, else this one is added
 abbrev pub more_users : FileKey → ℕ → Option ModeKey → ModeKey
 more_users key users None = record { key = key; users = users }
 more_users key users (Some mode) = record mode { users = mode.users + users }
@@ -33,7 +33,7 @@ one_user_less those id (Some mode) =
 abbrev pub without_user : ModeMap → KeyId → ModeMap
 without_user those id = one_user_less those id (map.get those id)
 
--- a mode key stands only where it has users
+-- a mode key is held only if it has users
 abbrev pub IsUsed : ModeMap → Type 0
 IsUsed those = (id : KeyId) (mode : ModeKey) → map.get those id ≡ Some mode → 1 ≤ mode.users
 

@@ -1,5 +1,5 @@
--- That what is seen of a ring and of mode keys is all that there is: a part that lay beside what is named
--- here would be one of which these don't hold.
+-- That the named parts of a ring and of mode keys are all that they have: with a further part, these would
+-- not hold.
 use Rattle.std.specs.Prelude.{◌≡◌}
 use Rattle.key_ring.specs.declared.ring.KeyRing.TheInside as ring
 use Rattle.key_ring.specs.declared.mode_keys.ModeKeys.TheInside as modes

@@ -2,8 +2,8 @@
 
 ghost use Rattle.key_ring.specs.Whole.{RingsAreTheirParts, ModesAreTheirParts};
 
-/// A ring is its claims and its secrets, which are all seen, and nothing else: no copy of a secret lies
-/// beside them.
+/// A ring is its claims and its secrets, which are all visible, and nothing else: it holds no further copy
+/// of a secret.
 pub fn a_ring_is_what_is_seen_of_it()
     ensures { RingsAreTheirParts }
 {}

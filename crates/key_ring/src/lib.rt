@@ -1,5 +1,5 @@
-//! The ring of master keys: who claims which, and the secret of each key that has a claim; and the
-//! keys of modes with their users.
+//! The ring of master keys: which users claim which key, and the secret of each key that has a claim; and
+//! the keys of modes with their users.
 #![tactic(auto)]
 
 mod laws;

@@ -1,4 +1,4 @@
-//! A mode key as it is kept, with the number of its users.
+//! A mode key as it is stored, with the number of its users.
 
 use fsc_keys::FileKey;
 

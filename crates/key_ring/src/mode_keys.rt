@@ -1,4 +1,4 @@
-//! The keys of modes: each stands exactly where it has users.
+//! The keys of modes: each is held exactly when it has users.
 
 ghost use Rattle.std.specs.Prelude.{◌≡◌, ◌+◌, ◌<◌, ◌≤◌, ◌^◌, IsSome, IsOk, OnOk, OnErr, option_copied};
 ghost use Rattle.std.specs.Option.{option_map};
@@ -16,10 +16,10 @@ use std::marker::Model;
 /// The mode keys of one kind, each in a box of its own.
 type Kept = BTreeMap<KeyId, Box<ModeKey>>;
 
-/// Mode keys by identifier and kind, seen as the finite maps of the two kinds. A key stands exactly
-/// where it has users, and is overwritten when it goes.
+/// Mode keys by identifier and kind, seen as the finite maps of the two kinds. A key is held exactly when
+/// it has users, and is wiped when it is removed.
 ///
-/// Every call takes a time that grows with the logarithm of how many there are.
+/// The time of every call grows with the logarithm of the number of keys.
 pub struct ModeKeys {
     contents: Kept,
     names: Kept,
@@ -70,9 +70,9 @@ impl ModeKeys {
         }
     }
 
-    /// Adds users to the mode key, or lets it stand with these users where it doesn't yet. A key that
-    /// stands stays and takes no memory, and the one that is handed in is overwritten, as it is where
-    /// there is no memory; then all is as before.
+    /// Adds users to the mode key, or holds it with these users if it isn't held yet. If it is held, the
+    /// held key stays, no memory is taken, and the passed one is wiped. If there is no memory, the passed
+    /// key is wiped too, and all is as before.
     pub fn hold(
         &mut self,
         alloc: Global,
@@ -94,8 +94,7 @@ impl ModeKeys {
         }
     }
 
-    /// Takes one user of the mode key away. With the last one the key is overwritten and goes. It takes
-    /// no memory.
+    /// Removes one user of the mode key. With the last one the key is wiped and removed. Takes no memory.
     pub fn release(&mut self, id: &KeyId, kind: KeyKind)
         requires { 1 ≤ users_in (of_kind self.old kind) id.now }
         ensures { self.new ≡ with_kind self.old kind (without_user (of_kind self.old kind) id.now) }
@@ -106,7 +105,7 @@ impl ModeKeys {
         }
     }
 
-    /// The mode key of the identifier and kind, where it has users.
+    /// Returns the mode key of the identifier and kind, if it has users.
     pub fn key_of(&self, id: &KeyId, kind: KeyKind) -> Option<&FileKey>
         ensures { option_copied result ≡ option_map (λ mode. mode.key) (mode_at self.now id.now kind) }
     {

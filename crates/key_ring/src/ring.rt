@@ -1,4 +1,4 @@
-//! The ring: claims, and a secret exactly where a claim stands.
+//! The ring: claims, and a secret exactly when there is a claim.
 
 ghost use Rattle.std.specs.Prelude.{◌≡◌, ◌↔◌, IsTrue, IsOk, IsErrOf, IfOk, OnOk, OnErr, option_copied};
 ghost use Rattle.std.specs.FinMap as map;
@@ -69,9 +69,9 @@ impl KeyRing {
         }
     }
 
-    /// The user claims the key, whose secret is then this raw key. Refused as the claim is: `Quota`
-    /// where it would be a new one and the user has 64. A claim that is held takes no memory; after a
-    /// refusal the ring is as before, and no copy of the raw key is left.
+    /// Adds the user's claim on the key, whose secret is then this raw key. Returns the key's identifier.
+    /// Refused as the claim is: `Quota` if it would be a new one and the user has 64. A claim that is held
+    /// takes no memory. After a refusal the ring is as before, and no copy of the raw key is left.
     pub fn add(&mut self, alloc: Global, raw: &RawKey, uid: u32) -> Result<KeyId, ClaimFault>
         ensures id { IfOk result (λ id. id ≡ key_id_of raw.now) }
         ensures claimed { OnOk result (self.new.claims ≡ with_claim self.old.claims (key_id_of raw.now) uid) }
@@ -89,15 +89,15 @@ impl KeyRing {
             return Err(fault);
         }
         if secrets::keep(&mut self.secrets, alloc, id, key).is_err() {
-            // A key with a claim has a secret, for which there is room: so this claim is the key's first.
+            // A key with a claim has a secret, for which there is space: so this claim is the key's first.
             self.claims.unclaim(&id, uid);
             return Err(ClaimFault::NoMemory);
         }
         Ok(id)
     }
 
-    /// Takes away the user's claim on the key, and answers how many users still have one. With the
-    /// last one the secret is overwritten and dropped. It takes no memory.
+    /// Removes the user's claim on the key. Returns how many users still have one. With the last one the
+    /// secret is wiped and dropped. Takes no memory.
     pub fn take_claim(&mut self, id: &KeyId, uid: u32) -> u32
         requires held { IsTrue (has_claim self.old.claims id.now uid) }
         ensures claims { self.new.claims ≡ without_claim self.old.claims id.now uid }
@@ -112,7 +112,7 @@ impl KeyRing {
         left
     }
 
-    /// Takes away every claim on the key, and overwrites and drops its secret. It takes no memory.
+    /// Removes every claim on the key, and wipes and drops its secret. Takes no memory.
     pub fn clear(&mut self, id: &KeyId)
         ensures claims { self.new.claims ≡ without_id self.old.claims id.now }
         ensures secrets { self.new.secrets ≡ map.remove self.old.secrets id.now }
@@ -121,7 +121,7 @@ impl KeyRing {
         secrets::forget(&mut self.secrets, id);
     }
 
-    /// The key's secret, from which keys are drawn: there exactly where some user has a claim.
+    /// Returns the key's secret, from which keys are derived: `Some` exactly when some user has a claim.
     pub fn secret_of(&self, id: &KeyId) -> Option<&PreparedKey>
         ensures { option_copied result ≡ secret_of self.now id.now }
     {

@@ -1,5 +1,5 @@
-//! The secrets as they are kept: each in a box of its own, so that no map ever moves its bytes. The
-//! bytes of one that goes are overwritten where they stand.
+//! The secrets as they are stored: each in a box of its own, so that no map ever moves its bytes. The bytes
+//! of a secret that is removed are wiped in place.
 
 ghost use Rattle.std.specs.Prelude.{◌≡◌, IsTrue, IsOk, OnOk, OnErr, length, replicate, option_copied};
 ghost use Rattle.std.specs.FinMap as map;
@@ -12,7 +12,7 @@ use std::collections::BTreeMap;
 /// Secrets by the identifiers of their keys.
 pub(crate) type Secrets = BTreeMap<KeyId, Box<PreparedKey>>;
 
-// The key's secret, where it is kept.
+// Returns the key's secret, if it is stored.
 pub(crate) fn get<'a>(secrets: &'a Secrets, id: &KeyId) -> Option<&'a PreparedKey>
     ensures { option_copied result ≡ map.get (secrets_of secrets.now.entries) id.now }
 {
@@ -22,7 +22,7 @@ pub(crate) fn get<'a>(secrets: &'a Secrets, id: &KeyId) -> Option<&'a PreparedKe
     }
 }
 
-// The secret with zeros written over it, where it stands.
+// Returns the secret with its bytes wiped in place.
 fn wiped(mut secret: Box<PreparedKey>) -> Box<PreparedKey>
     ensures { result.value ≡ replicate (length secret.value) 0 }
 {
@@ -30,8 +30,8 @@ fn wiped(mut secret: Box<PreparedKey>) -> Box<PreparedKey>
     secret
 }
 
-// Keeps the key as the secret of the identifier. Only a key without a secret takes memory; where there
-// is none, the key is overwritten.
+// Stores the key as the secret of the identifier. Only a key without a secret takes memory. If there is
+// none, the key is wiped.
 pub(crate) fn keep(
     secrets: &mut Secrets,
     alloc: Global,
@@ -65,7 +65,7 @@ pub(crate) fn keep(
     }
 }
 
-// Overwrites the secret of the identifier, and lets it go.
+// Wipes the secret of the identifier, and drops it.
 pub(crate) fn forget(secrets: &mut Secrets, id: &KeyId)
     ensures { secrets_of secrets.new.entries ≡ map.remove (secrets_of secrets.old.entries) id.now }
 {

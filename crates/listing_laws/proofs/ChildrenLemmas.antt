@@ -1,4 +1,4 @@
--- In the image of a mount each entry leads to a node of its own, other than the root.
+-- In the image of a mount each entry resolves to a node of its own, other than the root.
 use Rattle.std.proofs.Common.{◌≡◌, ◌≢◌, ℕ, Bool, true, false, List, [], ◌∷◌, ◌++◌, map, nat_eq, Option, Some, refl, sym, ap, ◌∙◌, subst, inl, inr}
 use Rattle.std.specs.Prelude.{Contains, filter}
 use Rattle.std.specs.List.{AllByRecursion, IsDistinct, flat_map}
@@ -139,7 +139,7 @@ module _ (m : PlainMount) (tree : IsTree m.nodes m.next) where
     children_apart d cs apart.1 (λ x there. each x (inr there)),
   )
 
--- what the entries of a node lead to
+-- the numbers that the entries of a node resolve to
 abbrev pub led_by : ImageNode → List ℕ
 led_by node = map (λ e. e.1) (entries_of node.body)
 
@@ -149,7 +149,7 @@ joined_children (node ∷ image) =
     map-append (λ (e : List ℕ × ℕ). e.1) (entries_of node.body) (all_entries image) ∙ ap (λ (l : List ℕ). led_by node ++ l) (joined_children image)
 
 module _ (m : PlainMount) (tree : IsTree m.nodes m.next) where
-  -- what leads to a number in the image leads there in the mount
+  -- an entry for a number in the image is an entry for it in the mount
   pub led_in_mount : (node : ImageNode) (k : ℕ) → In node (mount_image m) → In k (led_by node)
       → (name : Name) × (entry m.nodes node.number name ≡ Some k)
   led_in_mount node k there led =

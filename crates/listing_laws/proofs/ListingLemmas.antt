@@ -63,7 +63,7 @@ map_agree : {A B D : Type 0} (f : B → D) (g : A → B) (h : A → D) (xs : Lis
 map_agree f g h [] each = refl
 map_agree f g h (x ∷ xs) each = λ i. each x (inl refl) i ∷ map_agree f g h xs (λ y there. each y (inr there)) i
 
--- ---- what a well-formed mount says
+-- ---- what holds in a well-formed mount
 
 plain_name : (name : Name) → IsName name → IsPlain name
 plain_name name is = (is.0.size.0, is.1, is.0.nul)
@@ -76,7 +76,7 @@ module _ (m : PlainMount) (well : IsWellFormed m) where
   tree : IsTree m.nodes m.next
   tree = well.nodes.tree
 
-  -- the entry of the image that leads where a name leads
+  -- the entry of the image that resolves as a name does
   entry_is : (d : ℕ) (v : Node) (c : Name × ℕ) → get m.nodes d ≡ Some v → v.named ≡ true → In c (children_of v.body)
       → entry_to (mount_image m) c.1 ≡ Some (of_mount m.raws (d, v), stored_child m.raws (d, v) c)
   entry_is d v c got named there =

@@ -128,7 +128,7 @@ apart_both (x ∷ xs) ys front back other =
     itself : (k : ℕ) → nat_eq k k ≡ true
     itself k = eq-eqb k k refl
 
--- the numbers that each of some nodes has, where the nodes have numbers that are apart
+-- the numbers that each of some nodes has, if the nodes have distinct numbers
 pub apart_joined : {A : Type 0} (number : A → ℕ) (f : A → List ℕ) (xs : List A) → IsDistinct nat_eq (map number xs)
     → ((x : A) → In x xs → IsDistinct nat_eq (f x))
     → ((x y : A) (k : ℕ) → In x xs → In y xs → In k (f x) → In k (f y) → number x ≡ number y)

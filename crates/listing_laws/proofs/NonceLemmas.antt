@@ -1,4 +1,4 @@
--- Each call leaves nonces of 16 bytes, where its own is one.
+-- Each call leaves nonces of 16 bytes, if its own is one.
 use Rattle.std.proofs.Common.{◌≡◌, ℕ, ◌||◌, true, List, [], ◌∷◌, Option, Some, None, refl, sym, ap, ◌∙◌, subst}
 use Rattle.std.specs.Prelude.{All}
 use Rattle.std.specs.FinMap.{get-empty}

@@ -1,4 +1,4 @@
--- What a tree of plain nodes says of the entries of its directories.
+-- What holds in a tree of plain nodes of the entries of its directories.
 use Rattle.std.proofs.Common.{◌≡◌, ◌≢◌, ℕ, Bool, true, false, [], ◌∷◌, Option, Some, None, bytes_eq, refl, sym, ap, ◌∙◌, subst, inl, inr}
 use Rattle.std.specs.List.{IsDistinct}
 use Rattle.std.specs.Map.{lookup, keys_of}

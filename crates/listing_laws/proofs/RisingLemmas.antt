@@ -1,4 +1,4 @@
--- The entries of a directory in order: their names rise, where no two are one.
+-- The entries of a directory in order: their names rise, if no two are the same.
 use Rattle.std.proofs.Common.{◌≡◌, ◌≢◌, ℕ, true, false, List, [], ◌∷◌, bytes_eq, refl, sym, ap, ◌∙◌, subst, inl, inr}
 use Rattle.std.specs.List.{IsDistinct}
 use Rattle.std.specs.List.Sorted.{IsStrictlySortedBy}

@@ -1,4 +1,4 @@
--- What is seen of stored names and blocks is what is shown of the plain ones.
+-- What is visible of stored names and blocks is what is visible of the plain ones.
 use Rattle.std.proofs.Common.{◌≡◌, ℕ, ◌*◌, ◌^◌, ◌≤◌, Bool, true, false, List, [], ◌∷◌, length, option_map, Option, Some, None, is_some, refl, sym, ap, ◌∙◌, arith}
 use Rattle.std.specs.Prelude.{⊤, if◌then◌else◌}
 use Rattle.std.specs.Option.{unwrap_or}
@@ -97,7 +97,7 @@ module _ (raws : Raws) (raw : List ℕ) (c : Context) (good : IsGood raws c) (ow
       let unit = unit_is in
       λ i. Some (record { key = key i; start = start i; unit = unit i })
 
--- whether a context is of the key is told alike by its bytes
+-- whether a context is of the key is decided alike by its bytes
 sight_is : (raws : Raws) (raw : List ℕ) (c : Context) → IsGood raws c
     → sight_of (Some raw) (Some (context_bytes c)) ≡ (if same_id (key_id_of raw) c.policy.id then Under raw (context_bytes c) else Locked)
 sight_is raws raw c good =

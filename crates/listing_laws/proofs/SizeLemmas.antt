@@ -180,7 +180,7 @@ nodes_short (node ∷ nodes) all =
     (lines_longer (node_lines node) (flat_map node_lines nodes)) long (length-append (entries_of node.body) (all_entries nodes))
     (node_short node (All-head IsNode node nodes all)) (nodes_short nodes (All-tail IsNode node nodes all))
 
--- an entry leads to each node but the root at most once
+-- at most one entry resolves to each node but the root
 or_right : (b c : Bool) → c ≡ true → (b || c) ≡ true
 or_right true c h = refl
 or_right false c h = h

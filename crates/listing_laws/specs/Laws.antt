@@ -20,11 +20,12 @@ abbrev pub IsOnlyKey : Raws → Option (List ℕ) → Type 0
 IsOnlyKey raws None = ⊤
 IsOnlyKey raws (Some raw) = (other : List ℕ) → raw_in raws (key_id_of raw) ≡ Some other → other ≡ raw
 
--- in the image of a mount each entry leads to a node of its own, other than the root
+-- in the image of a mount each entry resolves to a node of its own, other than the root
 abbrev pub ChildrenAreGood : Type 0
 ChildrenAreGood = (m : PlainMount) → IsWellFormed m → HasGoodChildren (mount_image m)
 
--- the listing of a mount's image, with a raw key or without one, is what the mount shows to who has the key, or none
+-- the listing of a mount's image, with a raw key or without one, is what is visible of the mount with that
+-- key, or with none
 abbrev pub ListingsTell : Type 0
 ListingsTell = (m : PlainMount) → IsWellFormed m →
     (raw : Option (List ℕ)) → IsOnlyKey m.raws raw → (text : List ℕ) →

@@ -31,7 +31,7 @@ CarriesNonce op.DropCaches = ⊤
 CarriesNonce (op.MetaLoad name) = ⊤
 CarriesNonce (op.MetaStore name expected bytes) = ⊤
 
--- each nonce of the mount that a history leaves is 16 bytes, where those of its calls are
+-- each nonce of the mount that a history reaches is 16 bytes, if those of its calls are
 abbrev pub MountsHaveNonces : Type 0
 MountsHaveNonces = (history : History) → All (λ e. CarriesNonce e.call.op) history
     → HasNonces (mount_after history).nodes

@@ -14,6 +14,6 @@ names_in dir = map (λ e. (dir, e)) (children_of dir.1.body)
 abbrev pub placed_names : Nodes → List PlacedName
 placed_names nodes = flat_map names_in (entries nodes)
 
--- the name that leads to node n
+-- the name that resolves to node n
 abbrev pub name_to : Nodes → ℕ → Option PlacedName
 name_to nodes n = find (λ placed. placed.1.1 == n) (placed_names nodes)

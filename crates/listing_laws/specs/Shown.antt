@@ -1,4 +1,5 @@
--- What a mount shows to somebody who has a raw key, or none: its nodes that have a name, as the lines of a listing.
+-- What is visible of a mount with a raw key, or with none: its nodes that have a name, as the lines of a
+-- listing.
 use Rattle.std.specs.Prelude.{ℕ, Bool, false, List, length, map, filter, Option, None, Some, if◌then◌else◌}
 use Rattle.std.specs.Option.{option_map}
 use Rattle.sha2.specs.Sha256.{sha256}
@@ -14,18 +15,19 @@ use Rattle.tree_listing.specs.ListingText.{ListedBody, ListedNode, listing_text}
 use Rattle.tree_listing.specs.ListingText as listed
 use Rattle.listing_laws.specs.PlacedNames.{PlacedName, name_to}
 
--- whether who has the key of this identifier, or none, sees what lies under the policy of a context
+-- whether a reader with the key of this identifier, or with none, sees what is encrypted under a context's
+-- policy
 abbrev pub opens : Option KeyId → Context → Bool
 opens None c = false
 opens (Some id) c = same_id id c.policy.id
 
--- how a name of the directory n, or the target of the symlink n, is shown: as a word where it is seen, else by the
--- text that stands for it
+-- the visible form of a name of the directory n, or of the target of the symlink n: a word if it can be
+-- read, else the text in its place
 abbrev pub word_shown : Raws → Option KeyId → ℕ → Option Context → Name → List ℕ
 word_shown raws key n None name = word_text name
 word_shown raws key n (Some c) name = if opens key c then word_text name else texts raws n c name
 
--- the SHA-256 of contents, where they are seen
+-- the SHA-256 of contents, if they can be read
 abbrev pub digest_shown : Option KeyId → Option Context → List ℕ → Option (List ℕ)
 digest_shown key None contents = Some (sha256 contents)
 digest_shown key (Some c) contents = if opens key c then Some (sha256 contents) else None

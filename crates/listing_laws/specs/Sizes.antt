@@ -9,13 +9,14 @@ use Rattle.tree_image.specs.Images.{mount_image}
 use Rattle.listing_laws.specs.Laws.{HasNonces}
 use Rattle.listing_laws.specs.declared.sizes.TheConstants.{MOST_MOUNT_IMAGE_BYTES}
 
--- the most bytes of an image of that many nodes and blocks: 12 of its first line, 613 of the line of a node,
--- 528 of that of an entry, of which at most one leads to each node but the root, and 8,199 of that of a block
+-- the maximal number of bytes of an image of that many nodes and blocks: 12 of its first line, 613 of the
+-- line of a node, 528 of that of an entry, and 8,199 of that of a block. At most one entry resolves to each
+-- node but the root
 abbrev pub most_bytes : ℕ → ℕ → ℕ
 most_bytes nodes blocks = 12 + nodes * 613 + (nodes - 1) * 528 + blocks * 8199
 
--- the image of a mount has no more than one of the most nodes and blocks, and fewer than a text that is read as
--- an image may have
+-- the image of a mount has at most as many bytes as one of the maximal numbers of nodes and blocks, and
+-- fewer than a text that is read as an image may have
 pub record IsShort (m : PlainMount) : Type 0 where
   pub counted : length (image_text (mount_image m)) ≤ most_bytes MOST_NODES MOST_BLOCKS
   pub most : length (image_text (mount_image m)) ≤ MOST_MOUNT_IMAGE_BYTES

@@ -9,8 +9,8 @@ use image_lines::images_are_texts;
 use name_crypt::names_come_back;
 use tree_listing::listings_are_one;
 
-/// The listing of a mount's image, with a raw key or without one, is what the mount shows to who has that key,
-/// or none.
+/// The listing of a mount's image, with a raw key or without one, is what is visible of the mount with that
+/// key, or with none.
 pub fn listings_tell()
     ensures { ListingsTell }
 {
@@ -20,8 +20,8 @@ pub fn listings_tell()
     listings_are_one();
 }
 
-/// The image of a mount is an image, where each nonce of the mount has 16 bytes, and so is read from its text. Each
-/// entry of it leads to a node of its own, other than the root, whatever the nonces are.
+/// The image of a mount is an image, if each nonce of the mount has 16 bytes, and so is read from its text.
+/// Each entry of it resolves to a node of its own, other than the root, whatever the nonces are.
 pub fn mount_images_are_images()
     ensures images { MountImagesAreImages }
     ensures read { MountImagesAreRead }
@@ -32,8 +32,8 @@ pub fn mount_images_are_images()
     images_are_texts();
 }
 
-/// Whoever reads the text of a mount's image, and lists what was read with a raw key or without one, tells what the
-/// mount shows.
+/// Reading the text of a mount's image, and listing the result with a raw key or without one, gives what is
+/// visible of the mount.
 pub fn mounts_are_told()
     ensures { MountsAreTold }
 {

@@ -1,4 +1,4 @@
-//! That the nonces of a mount are 16 bytes. The functions do nothing: their contracts say it.
+//! That the nonces of a mount are 16 bytes. The functions do nothing: their contracts state it.
 
 ghost use Rattle.byte_words.specs.Bytes.{AreBytesOfLength};
 ghost use Rattle.listing_laws.specs.Nonces.{CarriesNonce, MountsHaveNonces};
@@ -43,7 +43,7 @@ fn is_nonce(nonce: &[u8; 16])
     slice_is_bytes(nonce);
 }
 
-/// Each nonce of the mount that a history leaves is 16 bytes, where those of its calls are.
+/// Each nonce of the mount that a history reaches is 16 bytes, if those of its calls are.
 pub fn mounts_have_nonces()
     ensures { MountsHaveNonces }
 {}

@@ -1,4 +1,4 @@
--- Two maps go on agreeing after the same change, where what the one has may depend on the number too.
+-- Two maps still agree after the same change, also if what the one has depends on the number.
 use Rattle.std.proofs.Common.{◌≡◌, ℕ, Option, Some, None, option_map, inl, inr, refl, sym, ap, ◌∙◌}
 use Rattle.std.proofs.lemmas.Bool.{cases_eq}
 use Rattle.number_map.specs.Numbered.{Numbered, get, insert, remove, changed}

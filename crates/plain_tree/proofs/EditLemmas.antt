@@ -1,4 +1,4 @@
--- The two edits of a directory: what its names lead to after a name was put in, or taken out.
+-- The two edits of a directory: what its names resolve to after a name was added or removed.
 use Rattle.std.proofs.Common.{◌≡◌, ◌≢◌, ℕ, ◌+◌, ◌≤◌, true, [], length, Option, Some, None, option_map, is_some, bytes_eq, inl, inr, ◌⊎◌, refl, sym, ap, subst, ◌∙◌, arith}
 use Rattle.std.proofs.lemmas.Bool.{cases_eq}
 use Rattle.std.specs.List.{IsDistinct}
@@ -80,7 +80,7 @@ module _ (nodes : Nodes) (d : ℕ) (name : Name) (x : ℕ) (dir : is_dir_at node
     | inr differ ↦ ap (lookup (bytes_eq n)) (edit_others nodes d (with_child name x) q differ)
   ]
 
-  -- a name that led to a node leads to it still
+  -- a name that resolved to a node still resolves to it
   pub put_kept : entry nodes d name ≡ None → (q : ℕ) (n : Name) (z : ℕ) → entry nodes q n ≡ Some z → entry (name_put nodes d name x) q n ≡ Some z
   put_kept free q n z found =
       put_apart q n (λ is same. let lacks : None ≡ Some z = sym free ∙ ap (entry nodes d) (sym same) ∙ ap (λ y. entry nodes y n) (sym is) ∙ found in absurd (cc)) ∙ found
@@ -147,7 +147,7 @@ module _ (nodes : Nodes) (d : ℕ) (name : Name) where
     pub taken_fewer : length (children (name_taken nodes d name) d) + 1 ≡ length (children nodes d)
     taken_fewer = ap (λ cs. length cs + 1) taken_children ∙ taken_one (bytes_eq name) (children nodes d) x led
 
-    -- a name that is left led where it leads, and not to x
+    -- a name that is left resolved to the same node before, and not to x
     pub taken_from : (q : ℕ) (n : Name) (z : ℕ) → entry (name_taken nodes d name) q n ≡ Some z → (entry nodes q n ≡ Some z) × (z ≢ x)
     taken_from q n z found = elim (cases_eq q d) [
       | inl is ↦ elim (cases_name n name) [
@@ -164,7 +164,7 @@ module _ (nodes : Nodes) (d : ℕ) (name : Name) where
             let was : entry nodes q n ≡ Some z = sym (taken_apart q n apart) ∙ found in
             (was, λ same. let one = names.once q d n name x (was ∙ ap (λ y. Some y) same) led in apart one.0 one.1)
 
-    -- and each name that did not lead to x is left
+    -- and each name that did not resolve to x is left
     pub taken_kept : (q : ℕ) (n : Name) (z : ℕ) → entry nodes q n ≡ Some z → (z ≢ x) → entry (name_taken nodes d name) q n ≡ Some z
     taken_kept q n z found differ =
         taken_apart q n (λ is same.

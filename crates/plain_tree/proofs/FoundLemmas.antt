@@ -1,4 +1,4 @@
--- What a search by any test of names finds stands under some name.
+-- What a search by any test of names finds is stored under some name.
 use Rattle.std.proofs.Common.{◌≡◌, ℕ, Bool, true, false, cond, [], ◌∷◌, Option, Some, None, option_map, bytes_eq, inl, inr, refl, sym, ap, ◌∙◌}
 use Rattle.std.proofs.lemmas.Bool.{cases_Bool}
 use Rattle.std.specs.Map.{lookup, lookup_entry}
@@ -49,7 +49,7 @@ module _ (test : Name → Bool) where
 pub found_entry : (nodes : Nodes) (d : ℕ) (test : Name → Bool) (e : Name × ℕ) → lookup_entry test (children nodes d) ≡ Some e → entry nodes d e.0 ≡ Some e.1
 found_entry nodes d test e found = found_under test (children nodes d) e found
 
--- a value that any test finds stands under some name
+-- a value that any test finds is stored under some name
 pub found_named : (nodes : Nodes) (d : ℕ) (test : Name → Bool) (x : ℕ) → lookup test (children nodes d) ≡ Some x → (name : Name) × (entry nodes d name ≡ Some x) × (test name ≡ true)
 found_named nodes d test x found = by_case (lookup_entry test (children nodes d)) refl
   where

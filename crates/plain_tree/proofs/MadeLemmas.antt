@@ -42,7 +42,7 @@ module _ (nodes : Nodes) (d : ℕ) (name : Name) (x : ℕ) (v : Node) (lacks : g
   pub still_free : get (name_put nodes d name x) x ≡ None
   still_free = changed_other nodes d (on_children (with_child name x)) x new_elsewhere ∙ lacks
 
-  -- what is read of each node, where the new one reads as none
+  -- what is read of each node, if the new one reads as none
   pub made_reads : {A : Type 0} (read : Option Node → A) → read (Some v) ≡ read None → (q : ℕ) → read (get (made nodes d name x v) q) ≡ read (get (name_put nodes d name x) q)
   made_reads read same q = read_inserted read (name_put nodes d name x) x v (same ∙ ap read (sym still_free)) q
 
@@ -71,7 +71,7 @@ module _ (nodes : Nodes) (next d : ℕ) (name : Name) (v : Node) (tree : IsTree 
   pub made_kept : (q : ℕ) (n : Name) (z : ℕ) → entry nodes q n ≡ Some z → entry after q n ≡ Some z
   made_kept q n z found = entry_after q n ∙ put_kept nodes d name next can.dir can.free q n z found
 
-  -- a name leads where it led, or is the new one
+  -- a name resolves as before, or is the new one
   pub made_from : (q : ℕ) (n : Name) (z : ℕ) → entry after q n ≡ Some z → (entry nodes q n ≡ Some z) ⊎ ((q ≡ d) × (n ≡ name) × (z ≡ next))
   made_from q n z found = put_from nodes d name next can.dir can.free q n z (sym (entry_after q n) ∙ found)
 
@@ -91,7 +91,7 @@ module _ (nodes : Nodes) (next d : ℕ) (name : Name) (v : Node) (tree : IsTree 
   named_before : (q : ℕ) → (q ≢ next) → is_named after q ≡ is_named nodes q
   named_before = made_before is_named_in (edit_named nodes d (with_child name next))
 
-  -- no name led to the new number
+  -- no name resolved to the new number
   pub made_unled : (q : ℕ) (n : Name) → entry nodes q n ≡ Some next → ⊥
   made_unled q n found =
       let named : is_named nodes next ≡ true = (tree.names.leads q n next found).1 in

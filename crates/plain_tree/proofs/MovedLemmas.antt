@@ -49,7 +49,7 @@ module _ (nodes : Nodes) (d : ℕ) (name : Name) (to : ℕ) (new_name : Name) (x
             let lacks : entry nodes to new_name ≡ None = can.free in
             absurd (cc)
 
-    -- a name that is there was there and leads elsewhere than to x, or is the new one
+    -- a name that is there was there and doesn't resolve to x, or is the new one
     pub moved_from : (q : ℕ) (n : Name) (z : ℕ) → entry after q n ≡ Some z → ((entry nodes q n ≡ Some z) × (z ≢ x)) ⊎ ((q ≡ to) × (n ≡ new_name) × (z ≡ x))
     moved_from q n z found = elim (put_from taken to new_name x dir free q n z found) [
       | inl was ↦ inl (taken_from nodes d name x tree.names can.led q n z was)

@@ -7,7 +7,7 @@ use Rattle.plain_tree.specs.Nodes.{Name, Nodes}
 use Rattle.plain_tree.specs.NodesByNumber.{children, is_named, entry}
 use Rattle.plain_tree.specs.Tree.{IsReached, IsReachedWithout, HasRoot, HasNames}
 
--- a node without entries has no name that leads on
+-- in a node without entries no name resolves
 pub childless : (nodes : Nodes) (d : ℕ) (name : Name) (x : ℕ) → children nodes d ≡ [] → entry nodes d name ≡ Some x → ⊥
 childless nodes d name x none found =
     let lacks : None ≡ Some x = sym (ap (lookup (bytes_eq name)) none) ∙ found in absurd (cc)
@@ -23,18 +23,18 @@ reached_anyhow nodes y IsReachedWithout.root = IsReached.root
 reached_anyhow nodes y (IsReachedWithout.step d name x found differ there) = IsReached.step d name x found (reached_anyhow nodes y there)
 
 module _ (before after : Nodes) where
-  -- where each name is kept
+  -- if each name is retained
   pub reached_kept : ((d : ℕ) (name : Name) (x : ℕ) → entry before d name ≡ Some x → entry after d name ≡ Some x) → {q : ℕ} → IsReached before q → IsReached after q
   reached_kept kept IsReached.root = IsReached.root
   reached_kept kept (IsReached.step d name x found there) = IsReached.step d name x (kept d name x found) (reached_kept kept there)
 
   module _ (y : ℕ) (kept : (d : ℕ) (name : Name) (x : ℕ) → entry before d name ≡ Some x → (x ≢ y) → entry after d name ≡ Some x) where
-    -- where each name but those for y is kept
+    -- if each name but those for y is retained
     pub reached_outside : {q : ℕ} → IsReachedWithout before y q → IsReached after q
     reached_outside IsReachedWithout.root = IsReached.root
     reached_outside (IsReachedWithout.step d name x found differ there) = IsReached.step d name x (kept d name x found differ) (reached_outside there)
 
-    -- and y leads nowhere
+    -- and no name resolves in y
     pub reached_beside : ((name : Name) (x : ℕ) → entry before y name ≡ Some x → ⊥) → {q : ℕ} → (q ≢ y) → IsReached before q → IsReached after q
     reached_beside nowhere differ IsReached.root = IsReached.root
     reached_beside nowhere differ (IsReached.step d name x found there) =

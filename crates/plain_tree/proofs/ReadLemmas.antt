@@ -37,6 +37,6 @@ module _ {A : Type 0} (read : Option Node → A) (nodes : Nodes) where
     | inr differ ↦ ap read (remove_other nodes k x differ)
   ]
 
--- what holds of a node after a change of it, where it is there
+-- what holds of a node after a change of it, if there is one
 pub changed_there : (nodes : Nodes) (k : ℕ) (f : Node → Node) (v : Node) → get nodes k ≡ Some v → get (changed nodes k f) k ≡ Some (f v)
 changed_there nodes k f v there = changed_here nodes k f ∙ ap (option_map f) there

@@ -1,4 +1,4 @@
--- Texts that stand for names: a clash, a look-up by text, and seals after changes that leave entries.
+-- Texts in place of names: a clash, a look-up by text, and seals after changes that leave entries.
 use Rattle.std.proofs.Common.{◌≡◌, ◌≢◌, ℕ, Bool, true, false, ◌||◌, cond, List, [], ◌∷◌, Option, Some, None, option_map, is_some, bytes_eq, inl, inr, refl, sym, ap, ◌∙◌}
 use Rattle.std.proofs.lemmas.Bool.{cases_Bool}
 use Rattle.std.specs.List.{list_any}
@@ -35,7 +35,7 @@ module _ (text_of : Name → List ℕ) where
       or_false true c is = absurd (cc)
       or_false false c is = (refl, is)
 
-  -- where no other name has the text of this one, the text leads where the name leads
+  -- if no other name has the text of this one, the text resolves as the name does
   pub text_leads : (cs : Children) (name : Name) (x : ℕ) → lookup (bytes_eq name) cs ≡ Some x
       → ((a : Name) → is_some (lookup (bytes_eq a) cs) ≡ true → text_of name ≡ text_of a → name ≡ a)
       → lookup (λ a. bytes_eq (text_of name) (text_of a)) cs ≡ Some x

@@ -6,7 +6,7 @@ use Rattle.plain_tree.specs.BodyChanges.{without_child}
 use Rattle.plain_tree.specs.Stored.{stored_children, IsNameOf, SearchesAgree, PutsAgree, RemovalsAgree, StoredFormsDiffer}
 use Rattle.plain_tree.proofs.ChildLemmas.{itself, other_name, cases_name}
 
--- a name of the entries behind the first, and the first name itself
+-- a name of the entries after the first, and the first name itself
 pub name_behind : (e : Name × ℕ) (cs : Children) (a : Name) → IsNameOf cs a → IsNameOf (e ∷ cs) a
 name_behind e cs a there = elim (bytes_eq a e.0) as (λ b. is_some (cond b (Some e.1) (lookup (bytes_eq a) cs)) ≡ true) [ true ↦ refl | false ↦ there ]
 

@@ -15,7 +15,7 @@ with_contents f (Dir children) = Dir children
 with_contents f (File contents) = File (f contents)
 with_contents f (Link target) = Link target
 
--- a new entry stands last; where one goes the others keep their order
+-- a new entry is the last one; when an entry is removed, the others stay in their order
 abbrev pub with_child : Name → ℕ → Children → Children
 with_child name x children = children ++ (name, x) ∷ []
 

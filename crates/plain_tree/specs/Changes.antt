@@ -34,7 +34,7 @@ name_taken nodes d name = changed nodes d (on_children (without_child name))
 abbrev pub first_nodes : Nodes
 first_nodes = insert empty 0 (record { named = true; context = None; body = Dir [] })
 
--- node x comes, and the directory's name leads to it
+-- node x is added, and the directory's name resolves to it
 abbrev pub made : Nodes → ℕ → Name → ℕ → Node → Nodes
 made nodes d name x v = insert (name_put nodes d name x) x v
 
@@ -46,7 +46,7 @@ dropped nodes d name x = changed (name_taken nodes d name) x (named_as false)
 abbrev pub gone : Nodes → ℕ → Nodes
 gone nodes x = remove nodes x
 
--- the name goes from the one directory, and the new name in the other, or in the same, leads to x
+-- the name is removed from the one directory, and the new name in the other, or in the same, resolves to x
 abbrev pub moved : Nodes → ℕ → Name → ℕ → Name → ℕ → Nodes
 moved nodes d name to new_name x = name_put (name_taken nodes d name) to new_name x
 

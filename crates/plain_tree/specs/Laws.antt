@@ -13,7 +13,7 @@ pub record IsNew (v : Node) : Type 0 where
   pub named : v.named ≡ true
   pub empty : children_of v.body ≡ []
 
--- a name that a directory of the tree can get: it has none such, and there is room
+-- a name that a directory of the tree can get: it has none such, and there is space
 pub record CanBeMade (nodes : Nodes) (d : ℕ) (name : Name) : Type 0 where
   pub reached : IsReached nodes d
   pub dir : is_dir_at nodes d ≡ true
@@ -21,7 +21,7 @@ pub record CanBeMade (nodes : Nodes) (d : ℕ) (name : Name) : Type 0 where
   pub few_nodes : len nodes < MOST_NODES
   pub few_children : length (children nodes d) < MOST_CHILDREN
 
--- the new directory is neither the node nor below it; within one directory there is always room
+-- the new directory is neither the node nor below it; within one directory there is always space
 pub record CanBeMoved (nodes : Nodes) (d : ℕ) (name : Name) (to : ℕ) (new_name : Name) (x : ℕ) : Type 0 where
   pub led : entry nodes d name ≡ Some x
   pub reached : IsReachedWithout nodes x to

@@ -1,5 +1,5 @@
--- The nodes of a mount as plain data: a map from numbers to nodes, each a directory, a file or a
--- symlink, as they are before anything is enciphered.
+-- The nodes of a mount as plain data: a map from numbers to nodes, each a directory, a file or a symlink,
+-- before any encryption.
 use Rattle.std.specs.Prelude.{ℕ, Bool, true, false, List, [], Option}
 use Rattle.policy_ctx.specs.declared.policy.Context.{Context}
 use Rattle.number_map.specs.Numbered.{Numbered}
@@ -18,7 +18,7 @@ pub data Body : Type 0 where
   Link : List ℕ → Body
 
 pub record Node : Type 0 where
-  -- an entry leads to it; the root counts as named
+  -- an entry resolves to it; the root counts as named
   pub named : Bool
   -- its policy, and the nonce that its own keys are derived with
   pub context : Option Context

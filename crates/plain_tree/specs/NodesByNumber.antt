@@ -1,4 +1,4 @@
--- What stands under a number; where there is no node: no entries, no context, no name.
+-- What a number has; if there is no node: no entries, no context, no name.
 use Rattle.std.specs.Prelude.{ℕ, Bool, false, [], Option, Some, None, option_map}
 use Rattle.std.specs.Str.{bytes_eq}
 use Rattle.std.specs.Map.{lookup}
@@ -38,6 +38,6 @@ is_named nodes x = is_named_in (get nodes x)
 abbrev pub is_dir_at : Nodes → ℕ → Bool
 is_dir_at nodes d = is_dir_in (get nodes d)
 
--- the node to which the name leads in the directory
+-- the node that the name resolves to in the directory
 abbrev pub entry : Nodes → ℕ → Name → Option ℕ
 entry nodes d name = lookup (bytes_eq name) (children nodes d)

@@ -1,5 +1,5 @@
--- The laws of seals: each kind of change of a sealed tree leaves it sealed, and a text leads where its
--- name leads.
+-- The laws of seals: each kind of change of a sealed tree leaves it sealed, and a text resolves as its name
+-- does.
 use Rattle.std.specs.Prelude.{◌≡◌, ℕ, false, List, [], Some, None}
 use Rattle.policy_ctx.specs.declared.policy.Context.{Context}
 use Rattle.plain_tree.specs.Nodes.{Name, Node, Nodes}
@@ -42,14 +42,14 @@ EncryptingKeepsSeals = (texts : Texts) (nodes : Nodes) (x : ℕ) (context : Cont
     → context_at nodes x ≡ None → children nodes x ≡ []
     → IsSealed texts nodes → IsSealed texts (encrypted nodes x context)
 
--- where a key comes that no text rested on, the texts are as before
+-- if a key is added that no text rested on, the texts are as before
 abbrev pub SameTextsKeepSeals : Type 0
 SameTextsKeepSeals = (texts others : Texts) (nodes : Nodes) → IsSealed texts nodes
     → ((d : ℕ) (context : Context) (name : Name) → context_at nodes d ≡ Some context
     → others d context name ≡ texts d context name)
     → IsSealed others nodes
 
--- the text of a name leads to the node to which the name leads
+-- the text of a name resolves to the node that the name resolves to
 abbrev pub TextsLead : Type 0
 TextsLead = (texts : Texts) (nodes : Nodes) (d : ℕ) (context : Context) (name : Name) (x : ℕ)
     → IsSealed texts nodes

@@ -1,5 +1,5 @@
--- What encryption asks of a tree, whatever the keys are: under a policy all nodes have that policy,
--- and no two names of a directory have one text where they can't be read.
+-- What encryption requires of a tree, whatever the keys are: under a policy all nodes have that policy, and
+-- no two names of a directory have one text when they can't be read.
 use Rattle.std.specs.Prelude.{◌≡◌, ℕ, Bool, List, Option, Some}
 use Rattle.std.specs.List.{list_any}
 use Rattle.std.specs.Str.{bytes_eq}
@@ -8,7 +8,7 @@ use Rattle.policy_ctx.specs.declared.policy.Context.{Context}
 use Rattle.plain_tree.specs.Nodes.{Name, Nodes}
 use Rattle.plain_tree.specs.NodesByNumber.{children, context_at, policy_at, entry}
 
--- the text that stands for a name of the directory of this number and context where it can't be read
+-- the text in place of a name that can't be read, in the directory of this number and context
 abbrev pub Texts : Type 0
 Texts = ℕ → Context → Name → List ℕ
 
@@ -16,7 +16,7 @@ Texts = ℕ → Context → Name → List ℕ
 abbrev pub has_text : Texts → Nodes → ℕ → Context → List ℕ → Bool
 has_text texts nodes d context text = list_any (λ e. bytes_eq text (texts d context e.0)) (children nodes d)
 
--- the node to which the text leads
+-- the node that the text resolves to
 abbrev pub entry_by_text : Texts → Nodes → ℕ → Context → List ℕ → Option ℕ
 entry_by_text texts nodes d context text =
     lookup (λ name. bytes_eq text (texts d context name)) (children nodes d)

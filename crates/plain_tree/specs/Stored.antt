@@ -26,14 +26,14 @@ PutsAgree = (store : Name → List ℕ) (name : Name) (x : ℕ) (children : Chil
     → stored_children store (with_child name x children)
     ≡ with_child (store name) x (stored_children store children)
 
--- a name taken out is its stored form taken out, where no other name is stored alike
+-- removing a name removes its stored form, if no other name is stored alike
 abbrev pub RemovalsAgree : Type 0
 RemovalsAgree = (store : Name → List ℕ) (name : Name) (children : Children)
     → ((other : Name) → IsNameOf children other → store name ≡ store other → name ≡ other)
     → stored_children store (without_child name children)
     ≡ without_child (store name) (stored_children store children)
 
--- texts made of stored forms tell them apart, where they tell the names apart
+-- if texts are made of stored forms, and no two names have one text, no two names have one stored form
 abbrev pub StoredFormsDiffer : Type 0
 StoredFormsDiffer = (store text : Name → List ℕ) (show : List ℕ → List ℕ) (children : Children)
     → ((name : Name) → text name ≡ show (store name))

@@ -25,7 +25,7 @@ pub record HasRoot (nodes : Nodes) : Type 0 where
   pub dir : is_dir_at nodes 0 ≡ true
   pub plain : context_at nodes 0 ≡ None
 
--- an entry leads to a named node other than the root, no two entries lead to one node, no two of a
+-- an entry resolves to a named node other than the root, no two entries resolve to one node, no two of a
 -- directory have one name, and a node without name has no entries
 pub record HasNames (nodes : Nodes) : Type 0 where
   pub leads : (d : ℕ) (name : Name) (x : ℕ) → entry nodes d name ≡ Some x
@@ -35,7 +35,7 @@ pub record HasNames (nodes : Nodes) : Type 0 where
   pub distinct : (d : ℕ) → IsDistinct bytes_eq (keys_of (children nodes d))
   pub nameless : (x : ℕ) → is_named nodes x ≡ false → children nodes x ≡ []
 
--- the numbers lie below next, and there are no more nodes, and entries of a directory, than may be
+-- the numbers are below next, and there are no more nodes, and entries of a directory, than may be
 pub record HasRoom (nodes : Nodes) (next : ℕ) : Type 0 where
   pub below : (x : ℕ) → is_some (get nodes x) ≡ true → x < next
   pub few_nodes : len nodes ≤ MOST_NODES

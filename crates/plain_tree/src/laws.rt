@@ -32,13 +32,13 @@ pub fn changes_keep_seals()
     ensures same_texts { seal.SameTextsKeepSeals }
 {}
 
-/// In a sealed tree the text of a name leads to the node to which the name leads.
+/// In a sealed tree the text of a name resolves to the node that the name resolves to.
 pub fn texts_lead()
     ensures { seal.TextsLead }
 {}
 
-/// Entries with their names in stored form are searched and edited as the plain ones are, whatever
-/// the stored form is, where no two names of the directory are stored alike.
+/// Entries with their names in stored form are searched and edited as the plain ones are, whatever the
+/// stored form is, if no two names of the directory are stored alike.
 pub fn stored_entries_agree()
     ensures searches { stored.SearchesAgree }
     ensures puts { stored.PutsAgree }

@@ -1,4 +1,4 @@
-//! Keys that are drawn from raw keys.
+//! Keys that are derived from raw keys.
 
 use crate::linux::raw_key_of;
 use crate::spelled::{expect_digits, expect_same};
@@ -39,7 +39,7 @@ fn identifiers_are_those_of_linux(rt: HostRuntime) {
     }
 }
 
-// The keys that Python's hmac and hashlib draw for these nonces.
+// The keys that Python's hmac and hashlib derive for these nonces.
 #[test]
 fn file_keys_are_those_of_python(rt: HostRuntime) {
     let cases = [
@@ -79,7 +79,7 @@ fn file_keys_are_those_of_python(rt: HostRuntime) {
     }
 }
 
-// The keys of modes that Python's hmac and hashlib draw.
+// The keys of modes that Python's hmac and hashlib derive.
 #[test]
 fn mode_keys_are_those_of_python(rt: HostRuntime) {
     let cases = [

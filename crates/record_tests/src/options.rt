@@ -27,7 +27,7 @@ fn record_with_options(alloc: Global, lines: usize) -> Result<Vec<u8>, AllocErro
     Ok(text)
 }
 
-// The lines before the wraps, with another in the place of this number, and a wrap behind them.
+// The lines before the wraps, with another in the place of this number, and a wrap after them.
 fn wrapped_behind(alloc: Global, number: u32, said: &[u8]) -> Result<Vec<u8>, AllocError> {
     let mut text = with_line(alloc, &WITH_OPTIONS, number, said)?;
     push_wrap(&mut text, b'a')?;
@@ -82,7 +82,7 @@ fn options_outlast_a_change_of_protectors(rt: HostRuntime) {
     expect_written(&rt, alloc, &policy, &text);
 }
 
-// The wrap is added behind the others, and dropped again.
+// The wrap is added after the others, and dropped again.
 fn add_and_drop<A: Abort>(rt: &A, policy: &mut PolicyFile, wrap: &Wrap) {
     assert!(rt; add_protector(policy, *wrap) == Ok(()));
     assert!(rt; drop_protector(policy, &wrap.protector) == Ok(()));

@@ -37,7 +37,7 @@ fn push_line(text: &mut Vec<u8>, line: &[u8]) -> Result<(), AllocError> {
     Ok(())
 }
 
-// Adds the lines with a line feed behind each.
+// Appends the lines with a line feed after each.
 pub(crate) fn push_lines(text: &mut Vec<u8>, lines: &[&[u8]]) -> Result<(), AllocError> {
     for line in lines {
         push_line(text, line)?;
@@ -45,7 +45,7 @@ pub(crate) fn push_lines(text: &mut Vec<u8>, lines: &[&[u8]]) -> Result<(), Allo
     Ok(())
 }
 
-// The lines with a line feed behind each.
+// The lines with a line feed after each.
 pub(crate) fn record(alloc: Global, lines: &[&[u8]]) -> Result<Vec<u8>, AllocError> {
     let mut text = Vec::new(alloc);
     push_lines(&mut text, lines)?;

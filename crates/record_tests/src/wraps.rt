@@ -26,7 +26,7 @@ pub(crate) static DOCS: [&[u8]; 5] = [
       12cd0dbaceaed77d974f585734602d5c7dbb0fa8756bc636eca3469b0e8fce8b",
 ];
 
-/// What stands behind the label in a wrap line.
+/// The text after the label in a wrap line.
 const WRAPPED: &[u8] = b" 374e522006d06f2545e9e210c82db0d4 \
       7a12fde15e57c88d43239254c453e4d32509cab2b2ab0632bc979e1e38aabb62\
       ebcd679fcc667a8e220405b40d47aedb12f30ead31df925aaf44501fb92f2d76 \
@@ -137,7 +137,7 @@ fn wraps_keep_their_order(rt: HostRuntime) {
     drop_all(&rt, alloc, &mut policy);
 }
 
-// The wrap of b is dropped, and added again behind the others.
+// The wrap of b is dropped, and added again after the others.
 fn drop_and_add<A: Abort>(rt: &A, alloc: Global, policy: &mut PolicyFile, wrap: &Wrap) {
     assert!(rt; drop_protector(policy, &wrap.protector) == Ok(()));
     assert!(rt; drop_protector(policy, &wrap.protector) == Err(WrapFault::NotListed));

@@ -57,7 +57,7 @@ not_spelled text n None e digits = refl
 not_spelled text n (Some bytes) e digits =
     absurd (cc (sym digits ∙ list_all-from_AllPass is_hex_digit text (spells text n bytes (sym e)).2))
 
--- what the reader answers where a byte is no digit
+-- what the reader returns if a byte is no digit
 pub reads_no_digits : (text old : List ℕ) → list_all is_hex_digit text ≡ false
     → ReadsInto (hex_bytes_of_length (length old) text) old old false
 reads_no_digits text old digits = rw (not_spelled text (length old) _ refl digits) (refl, refl)
@@ -212,7 +212,7 @@ pair_decoded high low i u v h l =
     let order : u * 16 + v ≡ 16 * u + v = omega arith in
     rw (h, l) (ap Ok order)
 
--- what the reader answers where the text is digits of the right number, and where their number is another
+-- what the reader returns if the text is digits of the right number, and if their number is another
 pub reads_spelled : (text old new : List ℕ) → length text ≡ 2 * length old → decode_pairs 0 text ≡ Ok new
     → ReadsInto (hex_bytes_of_length (length old) text) old new true
 reads_spelled text old new len is =

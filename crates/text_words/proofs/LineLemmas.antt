@@ -28,7 +28,7 @@ pub pieces_none : (p : ℕ → Bool) (xs : List ℕ) (end : ℕ) → end ≡ pos
     → slice_split p xs ≡ xs ∷ []
 pieces_none p xs end e le = slice_split_none p xs (λ k d lt. fails_before_first p xs k d (omega arith))
 
--- a list is what stands before the first that passes, that element and the rest
+-- a list is the elements before the first that passes, that element and the rest
 pub whole_first : (xs : List ℕ) (end : ℕ) → end ≡ position_or_len is_line_feed xs → end < length xs
     → xs ≡ take end xs ++ (10 ∷ take (length xs - (end + 1)) (drop (end + 1) xs))
 whole_first xs end e lt =

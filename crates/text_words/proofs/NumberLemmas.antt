@@ -1,4 +1,4 @@
--- A text is a numeral of a number exactly where it is what `decimal_of` writes of it.
+-- A text is a numeral of a number exactly when it is what `decimal_of` writes of it.
 use Rattle.std.proofs.Common.{◌≡◌, ℕ, zero, suc, ◌^◌, ◌<◌, ◌≤◌, ◌*◌, ◌+◌, ◌-◌, ◌==◌, Bool, true, false, ◌&&◌, ◌||◌, not, List, [], ◌∷◌, length, get_or, take, Option, Some, None, refl, sym, ap, ◌∙◌, arith, rules}
 use Rattle.std.specs.Prelude.{nat_lt, IfSome, slice_index, if◌then◌else◌}
 use Rattle.std.specs.List.{list_all}
@@ -50,7 +50,7 @@ digits_value-more text i h lt =
     plain : (c : ℕ) → 48 ≤ c → c ≤ 57 → digit_value c ≡ c - 48
     plain c low high = grind (arith, nat_tests)
 
--- where the number has grown too large, it stays so
+-- if the number has grown too large, it stays so
 pub digits_value-large : (text : List ℕ) (i top : ℕ) → list_all is_ascii_digit text ≡ true → i < length text
     → top ≤ digits_value 10 (take i text) * 10 + (get_or text i 0 - 48) → top ≤ digits_value 10 text
 digits_value-large text i top h lt large =
@@ -62,7 +62,7 @@ no_zero-from_test first len h e = grind (arith, nat_tests)
 test-from_no_zero : (first len : ℕ) → (first ≡ 48 → len ≡ 1) → (not (first == 48) || len == 1) ≡ true
 test-from_no_zero first len h = grind (arith, nat_tests)
 
--- what the test of a numeral says
+-- what the test of a numeral means
 pub IsDecimal-from_test : (text : List ℕ) → is_decimal text ≡ true → IsDecimal text (digits_value 10 text)
 IsDecimal-from_test text h =
     let parts = and_parts (nat_lt 0 (length text) && list_all is_ascii_digit text) _ h in
@@ -118,7 +118,7 @@ decimal_of-number_below limit text n top h =
     chosen true x n h = (refl, cc)
     chosen false x n h = absurd (cc h)
 
--- what a reader of numbers below the limit says of a text
+-- what the result of a reader of numbers below the limit means
 pub numeral_of : (limit : ℕ) (text : List ℕ) (o : Option ℕ) → limit ≤ 2 ^ 64 → o ≡ number_below limit text
     → IfSome o (λ n. text ≡ decimal_of n)
 numeral_of limit text None top h = tt

@@ -1,4 +1,4 @@
--- Lists cut at a byte that does not stand in their parts, and joined again.
+-- Lists cut at a byte that is not in their parts, and joined again.
 use Rattle.std.proofs.Common.{◌≡◌, ℕ, ◌<◌, ◌==◌, Bool, true, not, List, [], ◌∷◌, ◌++◌, length, Some, refl, sym, ap, ◌∙◌, arith, append_assoc}
 use Rattle.std.specs.List.{list_all, slice_split, slice_get, join_with_byte}
 use Rattle.std.proofs.lemmas.Bool.{not-true, eq-eqb, and_from}
@@ -7,7 +7,7 @@ use Rattle.std.proofs.lemmas.List.Sums.{AllPass-from_list_all}
 use Rattle.std.proofs.lemmas.List.Splits.{slice_split_at, slice_split_none, length-slice_split, join_with_byte-slice_split}
 use Rattle.text_words.specs.Lines.{ended, is_line_feed, pieces_of}
 
--- whether a byte does not stand in a list
+-- whether a byte is not in a list
 abbrev pub is_free_of : ℕ → List ℕ → Bool
 is_free_of c xs = list_all (λ b. not (b == c)) xs
 

@@ -1,4 +1,5 @@
--- What stands behind a word, and the bytes that digits spell: each is read from what it is spelled as, and from nothing else.
+-- The text after a word, and the bytes that digits spell: each is read from its spelling, and from no other
+-- text.
 use Rattle.std.proofs.Common.{◌≡◌, ℕ, ◌<◌, ◌^◌, ◌==◌, Bool, true, false, not, ◌&&◌, List, ◌++◌, [], ◌∷◌, length, take, drop, Option, Some, None, refl, sym, ap, ◌∙◌, subst, arith}
 use Rattle.std.specs.Prelude.{nat_lt, if◌then◌else◌}
 use Rattle.std.specs.List.{list_all}
@@ -23,7 +24,7 @@ pub chose : {A : Type 0} (b : Bool) (o : Option A) (x : A) → (let r : Option A
 chose true o x h = (refl, h)
 chose false o x h = absurd (cc h)
 
--- ---- behind a word
+-- ---- after a word
 
 same_bytes : (xs : List ℕ) → bytes_eq xs xs ≡ true
 same_bytes xs = nat_list_eq_equiv.refl xs
@@ -65,7 +66,7 @@ pub digits_are_lower : (bytes : List ℕ) → IsBytes bytes → list_all is_lowe
 digits_are_lower bytes are =
     (chose (list_all is_lower_hex_digit (encode_lower bytes)) (hex_bytes_of_length (length bytes) (encode_lower bytes)) bytes (digits_again (length bytes) bytes refl are)).0
 
--- ---- bytes that stand among no digits and in no number
+-- ---- bytes that are neither digits nor in a number
 
 pub implied : (p q : ℕ → Bool) → ((x : ℕ) → p x ≡ true → q x ≡ true) → (xs : List ℕ) → list_all p xs ≡ true → list_all q xs ≡ true
 implied p q h [] all = refl

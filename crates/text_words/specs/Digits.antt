@@ -9,7 +9,7 @@ use Rattle.hex.specs.Hex.{decode_of}
 abbrev pub hex_bytes : List ℕ → Option (List ℕ)
 hex_bytes text = result_ok (decode_of text)
 
--- the same, where they are to be n bytes
+-- the same, if they are to be n bytes
 abbrev pub hex_bytes_of_length : ℕ → List ℕ → Option (List ℕ)
 hex_bytes_of_length n text = if length text == 2 * n then hex_bytes text else None
 
@@ -17,7 +17,7 @@ hex_bytes_of_length n text = if length text == 2 * n then hex_bytes text else No
 abbrev pub is_lower_hex_digit : ℕ → Bool
 is_lower_hex_digit c = nat_le 48 c && nat_le c 57 || nat_le 97 c && nat_le c 102
 
--- the n bytes that digits spell, where no upper-case letter stands among them
+-- the n bytes that digits spell, if no upper-case letter is among them
 abbrev pub lower_hex_bytes_of_length : ℕ → List ℕ → Option (List ℕ)
 lower_hex_bytes_of_length n text =
     if list_all is_lower_hex_digit text then hex_bytes_of_length n text else None

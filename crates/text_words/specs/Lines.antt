@@ -8,7 +8,7 @@ use Rattle.std.specs.Option.{option_map_or}
 abbrev pub is_line_feed : ℕ → Bool
 is_line_feed b = b == 10
 
--- what stands before, between and after the line feeds of a text: one piece more than there are line feeds
+-- the text before, between and after the line feeds: one piece more than there are line feeds
 abbrev pub pieces_of : List ℕ → List (List ℕ)
 pieces_of text = slice_split is_line_feed text
 

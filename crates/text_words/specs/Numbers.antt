@@ -10,8 +10,8 @@ use Rattle.std.specs.Str.Parse.{IsNumeral, digits_value}
 abbrev pub decimal_of : ℕ → List ℕ
 decimal_of n = decimal n
 
--- the text is a numeral of the number n: one digit or more, of which the first is 0 only where it
--- stands alone
+-- the text is a numeral of the number n: one digit or more, of which the first is 0 only if it is the only
+-- one
 pub record IsDecimal (text : List ℕ) (n : ℕ) : Type 0 where
   pub numeral : IsNumeral 10 text
   pub no_leading_zero : slice_index text 0 ≡ 48 → length text ≡ 1

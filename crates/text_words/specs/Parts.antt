@@ -1,4 +1,4 @@
--- Which bytes may stand as a part of a path.
+-- Which bytes may be a part of a path.
 use Rattle.std.specs.Prelude.{ℕ, ◌==◌, Bool, not, ◌&&◌, ◌||◌, List, codes}
 use Rattle.std.specs.List.{list_any}
 use Rattle.std.specs.Str.{bytes_eq}

@@ -1,4 +1,4 @@
--- Words of a line: they are parted by one space each.
+-- Words of a line: they are separated by one space each.
 use Rattle.std.specs.Prelude.{ℕ, ◌==◌, Bool, List, length, take, drop, Option, Some, None, if◌then◌else◌}
 use Rattle.std.specs.List.{slice_split}
 use Rattle.std.specs.Str.{bytes_eq}
@@ -7,11 +7,11 @@ use Rattle.std.specs.Str.{bytes_eq}
 abbrev pub is_space : ℕ → Bool
 is_space b = b == 32
 
--- the words: what stands before, between and after the spaces. Two spaces in a row have an empty word
--- between them
+-- the words: the text before, between and after the spaces. Two spaces in a row have an empty word between
+-- them
 abbrev pub words_of : List ℕ → List (List ℕ)
 words_of line = slice_split is_space line
 
--- what stands behind a word with which the text begins
+-- the text after a word with which it begins
 abbrev pub behind : List ℕ → List ℕ → Option (List ℕ)
 behind word text = if bytes_eq (take (length word) text) word then Some (drop (length word) text) else None

@@ -7,8 +7,8 @@ ghost use Rattle.hex.specs.Hex.{IsBytes, decode_pairs, encode_lower, hex_digit_v
 ghost use Rattle.text_words.specs.Digits.{hex_bytes_of_length, lower_hex_bytes_of_length};
 ghost use Rattle.text_words.specs.Digits.{is_lower_hex_digit, ReadsInto};
 
-/// Reads the bytes that digits of either case spell into `out`. False, and `out` as it was, where
-/// the text is not just two digits for each byte of `out`.
+/// Reads the bytes that digits of either case spell into `out`. Returns false, and leaves `out` as it was,
+/// unless the text is exactly two digits for each byte of `out`.
 pub fn hex_bytes_into(text: &[u8], out: &mut [u8]) -> bool
     ensures value { ReadsInto (hex_bytes_of_length (length out.old) text.now) out.old out.new result }
     ensures exact { IsTrue result ↔ ((length text.now ≡ 2 * length out.old) × AllPass is_hex_digit text.now) }
@@ -16,8 +16,8 @@ pub fn hex_bytes_into(text: &[u8], out: &mut [u8]) -> bool
     read_digits(text, out)
 }
 
-/// Reads the bytes that digits spell into `out`, where no upper-case letter stands among them.
-/// False, and `out` as it was, where the text is not just two such digits for each byte of `out`.
+/// Reads the bytes that digits spell into `out`, if no upper-case letter is among them. Returns false, and
+/// leaves `out` as it was, unless the text is exactly two such digits for each byte of `out`.
 pub fn lower_hex_bytes_into(text: &[u8], out: &mut [u8]) -> bool
     ensures value { ReadsInto (lower_hex_bytes_of_length (length out.old) text.now) out.old out.new result }
     ensures written { OnTrue result (text.now ≡ encode_lower out.new) }
@@ -39,8 +39,8 @@ pub fn hex_bytes<const N: usize>(text: &[u8]) -> Option<[u8; N]>
     }
 }
 
-/// The `N` bytes that digits spell, where no upper-case letter stands among them. None for another
-/// text.
+/// Returns the `N` bytes that digits spell, if no upper-case letter is among them. Returns `None` for any
+/// other text.
 pub fn lower_hex_bytes<const N: usize>(text: &[u8]) -> Option<[u8; N]>
     ensures value { result ≡ lower_hex_bytes_of_length N text.now }
     ensures written { IfSome result (λ bytes. text.now ≡ encode_lower bytes) }

@@ -1,6 +1,6 @@
-//! Numbers, hexadecimal digits, lines and words of a text, read and written, and parts of a path.
-//! What each reader takes is exactly what `specs/` says of the text; none takes memory. The writers
-//! put digits at the end of a text, and take memory for these alone.
+//! Numbers, hexadecimal digits, lines and words of a text, read and written, and parts of a path. What each
+//! reader accepts is exactly what `specs/` defines; none takes memory. The writers append digits to a text,
+//! and take memory for these alone.
 #![tactic(auto)]
 
 mod digits;

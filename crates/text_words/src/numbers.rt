@@ -9,7 +9,7 @@ ghost use Rattle.text_words.specs.Numbers.{decimal_of, number_below};
 
 use std::marker::Model;
 
-/// The most digits that a number below 2^64 has.
+/// The maximal number of digits of a number below 2^64.
 const MOST_DIGITS: usize = 20;
 
 /// The decimal numeral of a number: 1 to 20 digits.

@@ -1,4 +1,4 @@
-//! Words of a line: they are parted by one space each.
+//! Words of a line: they are separated by one space each.
 
 ghost use Rattle.std.specs.Prelude.{◌≡◌, ◌≢◌, ◌∷◌, [], MatchOption, length, slice_get};
 ghost use Rattle.std.specs.Option.{option_map};
@@ -30,7 +30,7 @@ pub fn two_words(line: &[u8]) -> Option<(&[u8], &[u8])>
     Some((nth_word(line, 0)?, nth_word(line, 1)?))
 }
 
-/// What stands behind a word with which the text begins.
+/// Returns the text after a word with which it begins, or `None` if it doesn't begin so.
 pub fn behind<'a>(text: &'a [u8], word: &[u8]) -> Option<&'a [u8]>
     ensures { option_map (λ rest. rest.now) result ≡ spec.behind word.now text.now }
 {

@@ -7,8 +7,7 @@ ghost use Rattle.text_words.specs.Numbers.{decimal_of};
 use crate::numbers::decimal_digits;
 use std::alloc::AllocError;
 
-/// Writes the decimal numeral of a number at the end of the text. After want of memory the text is
-/// as before.
+/// Appends the decimal numeral of a number to the text. If out of memory, the text is as before.
 pub fn push_decimal(text: &mut Vec<u8>, number: u64) -> Result<(), AllocError>
     ensures written { OnOk result (text.new.items ≡ text.old.items ++ decimal_of number) }
     ensures kept { OnErr result (text.new.items ≡ text.old.items) }
@@ -16,8 +15,8 @@ pub fn push_decimal(text: &mut Vec<u8>, number: u64) -> Result<(), AllocError>
     text.extend_from_slice(decimal_digits(number).as_bytes())
 }
 
-/// Writes two lower-case hexadecimal digits for each byte at the end of the text, the high four bits
-/// first. After want of memory the text is as before.
+/// Appends two lower-case hexadecimal digits for each byte to the text, the high four bits first. If out of
+/// memory, the text is as before.
 pub fn push_lower_hex(text: &mut Vec<u8>, bytes: &[u8]) -> Result<(), AllocError>
     ensures written { OnOk result (text.new.items ≡ text.old.items ++ encode_lower bytes.now) }
     ensures kept { OnErr result (text.new.items ≡ text.old.items) }
@@ -29,7 +28,7 @@ pub fn push_lower_hex(text: &mut Vec<u8>, bytes: &[u8]) -> Result<(), AllocError
     Ok(())
 }
 
-// Writes the digits over the text, which has room for just so many.
+// Writes the digits over the text, whose length is exactly theirs.
 fn write_lower_hex(text: &mut [u8], bytes: &[u8])
     requires { length text.old ≡ 2 * length bytes.now }
     ensures { text.new ≡ encode_lower bytes.now }
