@@ -11,3 +11,4 @@ pub mod SearchLemmas
 pub mod ChildRounds
 pub mod Answered
 pub mod NodeLemmas
+pub mod PlaceLemmas

@@ -11,7 +11,7 @@ use Rattle.image_lines.specs.Lines.{node_told}
 use Rattle.image_lines.specs.Told.{nodes_at, node_at, with_node_at}
 use Rattle.image_lines.specs.LineFaults.{may_end, or_fault, line_fault_from}
 use Rattle.image_lines.specs.NextPlaces.{step}
-use Rattle.image_lines.specs.Places.{node_of_place, place_told}
+use Rattle.image_lines.specs.Places.{node_of_place, place_told, places_from}
 use Rattle.text_words.proofs.PieceLemmas.{first_piece}
 
 -- ---- the line at fault
@@ -73,12 +73,36 @@ last = refl
 pub none_left : (text : List ℕ) → (length text == 0) ≡ true → nodes_at (pieces_of text) ≡ []
 none_left text none = ap (λ l. nodes_at (pieces_of l)) (nil_from_length text (eqb-true (length text) 0 none)) ∙ last
 
+-- ---- the places
+
+pub placed_more : (line rest : List ℕ) (at behind : ℕ) (old new : List NodePlace) (pieces : List (List ℕ)) → new ≡ old ++ place_told (node_told line) at
+    → pieces ≡ line ∷ pieces_of rest → behind ≡ at + length line + 1
+    → new ++ places_from behind (pieces_of rest) ≡ old ++ places_from at pieces
+unfolding places_from
+placed_more line rest at behind old new pieces pushed cut on =
+    (λ i. pushed i ++ places_from (on i) (pieces_of rest))
+    ∙ append_assoc old (place_told (node_told line) at) (places_from (at + length line + 1) (pieces_of rest))
+    ∙ ap (λ ps. old ++ places_from at ps) (sym cut)
+
+no_place : (at : ℕ) → places_from at ([] ∷ []) ≡ []
+unfolding places_from node_told
+no_place at = refl
+
+pub placed_none : (text : List ℕ) (at : ℕ) → (length text == 0) ≡ true → places_from at (pieces_of text) ≡ []
+placed_none text at none = ap (λ l. places_from at (pieces_of l)) (nil_from_length text (eqb-true (length text) 0 none)) ∙ no_place at
+
 -- ---- the rest of a text
 
 pub shorter : (old bytes rest : List ℕ) → old ≡ bytes ++ 10 ∷ rest → length rest < length old
 shorter old bytes rest whole =
     let long = ap length whole ∙ length-append bytes (10 ∷ rest) in
     omega (arith, long)
+
+-- the next line begins after the line feed of this one
+pub on_at : (long : ℕ) (old bytes rest : List ℕ) → old ≡ bytes ++ 10 ∷ rest → length old ≤ long → long - length rest ≡ (long - length old) + length bytes + 1
+on_at long old bytes rest whole within =
+    let cut = ap length whole ∙ length-append bytes (10 ∷ rest) in
+    omega (arith, cut, within)
 
 -- if the rest is the end of a text, so is what follows its first line
 pub dropped : (text old bytes rest : List ℕ) → old ≡ drop (length text - length old) text → old ≡ bytes ++ 10 ∷ rest → length old ≤ length text

@@ -1,5 +1,5 @@
 -- Where nodes are in a text, and what is read there.
-use Rattle.std.specs.Prelude.{ℕ, List, [], ◌∷◌, map, drop, Option, None, Some}
+use Rattle.std.specs.Prelude.{ℕ, ◌+◌, List, [], ◌∷◌, ◌++◌, length, map, drop, Option, None, Some}
 use Rattle.std.specs.List.Sorted.{IsStrictlySortedBy}
 use Rattle.std.specs.Ordering.{nat_cmp}
 use Rattle.text_words.specs.Lines.{pieces_of}
@@ -32,6 +32,15 @@ node_of_place text place =
 abbrev pub place_told : Option NodeLine → ℕ → List NodePlace
 place_told None at = []
 place_told (Some node) at = record { number = node.number; at = at } ∷ []
+
+-- the places of the nodes among these lines, of which the first begins at this index
+unfoldable pub places_from : ℕ → List (List ℕ) → List NodePlace
+places_from at [] = []
+places_from at (line ∷ lines) = place_told (node_told line) at ++ places_from (at + length line + 1) lines
+
+-- the places of the nodes of a text
+abbrev pub places_in : List ℕ → List NodePlace
+places_in text = places_from 0 (pieces_of text)
 
 -- the numbers of the nodes at places
 abbrev pub numbers_at : List NodePlace → List ℕ

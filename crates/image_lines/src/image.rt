@@ -6,8 +6,8 @@ ghost use Rattle.image_lines.specs.Image.{numbers_of};
 ghost use Rattle.image_lines.specs.ImageText.{image_text};
 ghost use Rattle.image_lines.specs.Rules.{IsImage};
 ghost use Rattle.image_lines.specs.Reading.{image_read};
-ghost use Rattle.image_lines.specs.Nodes.{IsRestOf, node_in};
-ghost use Rattle.image_lines.specs.Places.{node_of_place};
+ghost use Rattle.image_lines.specs.Nodes.{IsRestOf, node_in, text_after};
+ghost use Rattle.image_lines.specs.Places.{node_of_place, places_in};
 ghost use Rattle.image_lines.specs.ReadFaults.{IsReadFault};
 ghost use Rattle.image_lines.specs.Marks.{IsIndexOf};
 ghost use Rattle.image_lines.specs.declared.fault.ImageFault.TheVariants.{NoMemory};
@@ -36,7 +36,7 @@ impl<'a> Model for Image<'a> {
     ghost use Rattle.std.specs.Prelude.{◌≡◌, ◌≤◌, List, length, map, Ok};
     ghost use Rattle.image_lines.specs.Image.{ImageNode};
     ghost use Rattle.image_lines.specs.Reading.{image_read};
-    ghost use Rattle.image_lines.specs.Places.{node_of_place};
+    ghost use Rattle.image_lines.specs.Places.{node_of_place, places_in};
     ghost use Rattle.image_lines.specs.declared.TheConstants.{MOST_IMAGE_BYTES};
 
     ghost Value = { List ImageNode };
@@ -44,7 +44,8 @@ impl<'a> Model for Image<'a> {
     ghost view = { λ image. map (node_of_place image.text.now) image.places.items };
 
     ghost invariant = { λ image. (length image.text.now ≤ MOST_IMAGE_BYTES) × (image_read image.text.now
-        ≡ Ok (map (node_of_place image.text.now) image.places.items)) };
+        ≡ Ok (map (node_of_place image.text.now) image.places.items))
+        × (image.places.items ≡ places_in image.text.now) };
 }
 
 /// A node of an image, at its place in the text.
@@ -78,6 +79,7 @@ impl<'a> Image<'a> {
         requires { index < length self.now }
         ensures node { slice_get self.now index ≡ Some (node_in result) }
         ensures rest { IsRestOf (image_text self.now) result.rest.now }
+        ensures after { result.rest.now ≡ text_after self.now index }
     {
         let place = self.places[index];
         let line = next_line(from_index(self.text, place.at as usize));
@@ -140,6 +142,7 @@ fn read_places(alloc: Global, text: &[u8]) -> Result<Vec<NodePlace>, ImageFault>
     requires short { length text.now ≤ MOST_IMAGE_BYTES }
     ensures read { IfOk result (λ places. image_read text.now
         ≡ Ok (map (node_of_place text.now) places.items)) }
+    ensures places { IfOk result (λ places. places.items ≡ places_in text.now) }
     ensures refused { IfErr result (λ fault. IsReadFault fault (image_read text.now)) }
 {
     let places = node_places(alloc, text)?;

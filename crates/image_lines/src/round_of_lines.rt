@@ -5,7 +5,7 @@ ghost use Rattle.text_words.specs.Lines.{pieces_of};
 ghost use Rattle.image_lines.specs.Lines.{node_told};
 ghost use Rattle.image_lines.specs.Told.{nodes_at};
 ghost use Rattle.image_lines.specs.LineFaults.{line_fault};
-ghost use Rattle.image_lines.specs.Places.{node_of_place, place_told};
+ghost use Rattle.image_lines.specs.Places.{node_of_place, place_told, places_in};
 ghost use Rattle.image_lines.specs.ReadFaults.{IsFault};
 ghost use Rattle.image_lines.specs.declared.TheConstants.{MOST_IMAGE_BYTES};
 
@@ -32,6 +32,7 @@ pub(crate) fn node_places(alloc: Global, text: &[u8]) -> Result<Vec<NodePlace>, 
     ensures faultless { IfOk result (λ places. line_fault text.now ≡ None) }
     ensures nodes { IfOk result (λ places. map (node_of_place text.now) places.items
         ≡ nodes_at (pieces_of text.now)) }
+    ensures places { IfOk result (λ places. places.items ≡ places_in text.now) }
     ensures refused { IfErr result (λ fault. IsFault fault (line_fault text.now)) }
 {
     let mut places = Vec::new(alloc);

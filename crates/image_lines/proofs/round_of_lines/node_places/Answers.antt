@@ -2,7 +2,7 @@ use Rattle.std.proofs.Common.{◌≡◌, ◌==◌, ◌+◌, ◌-◌, ◌++◌, r
 use Rattle.text_words.specs.Lines.{pieces_of}
 use Rattle.image_lines.specs.Told.{nodes_at}
 use Rattle.image_lines.specs.Places.{node_of_place}
-use Rattle.image_lines.proofs.RoundLemmas.{at_next, at_fault, at_piece, at_end, one_more, none_left, shorter, dropped}
+use Rattle.image_lines.proofs.RoundLemmas.{at_next, at_fault, at_piece, at_end, one_more, none_left, on_at, placed_more, placed_none, shorter, dropped}
 use Rattle.image_lines.proofs.round_of_lines.node_places.Goals as goal
 
 pub returns-then-not-line-clause-refused : goal.returns-then-not-line-clause-refused
@@ -29,6 +29,10 @@ lines-preserved c =
           one_more c.args.text.now c.next_line-line.result.bytes.now c.next_line-line.result.rest.now (length c.args.text.now - length c.lines.rest.now) c.lines.places.items c.add_place.new.places.items c.in_ok-add_place.ensures (ap pieces_of (sym c.lines.invariant.rest) ∙ pieces)
           ∙ ap (λ l. map (node_of_place c.args.text.now) c.lines.places.items ++ nodes_at (pieces_of l)) (sym c.lines.invariant.rest)
           ∙ c.lines.invariant.nodes;
+      placed =
+          placed_more c.next_line-line.result.bytes.now c.next_line-line.result.rest.now (length c.args.text.now - length c.lines.rest.now) (length c.args.text.now - length c.next_line-line.result.rest.now) c.lines.places.items c.add_place.new.places.items (pieces_of c.lines.rest.now) c.in_ok-add_place.ensures pieces
+          (on_at (length c.args.text.now) c.lines.rest.now c.next_line-line.result.bytes.now c.next_line-line.result.rest.now whole c.lines.invariant.shorter)
+          ∙ c.lines.invariant.placed;
       rest = dropped c.args.text.now c.lines.rest.now c.next_line-line.result.bytes.now c.next_line-line.result.rest.now c.lines.invariant.rest whole c.lines.invariant.shorter;
       shorter = omega (arith, less, c.lines.invariant.shorter);
       counted = omega (arith, less, c.lines.invariant.counted);
@@ -49,3 +53,9 @@ returns-clause-nodes c =
     sym (append-nil (map (node_of_place c.args.text.now) c.lines.places.items))
     ∙ ap (λ l. map (node_of_place c.args.text.now) c.lines.places.items ++ l) (sym (none_left c.lines.rest.now (sym c.is_empty.ensures ∙ c.lines-test.false)))
     ∙ c.lines.invariant.nodes
+
+pub returns-clause-places : goal.returns-clause-places
+returns-clause-places c =
+    sym (append-nil c.lines.places.items)
+    ∙ ap (λ l. c.lines.places.items ++ l) (sym (placed_none c.lines.rest.now (length c.args.text.now - length c.lines.rest.now) (sym c.is_empty.ensures ∙ c.lines-test.false)))
+    ∙ c.lines.invariant.placed

@@ -1,8 +1,10 @@
-use Rattle.std.proofs.Common.{slice_get, ap, sym, ◌∙◌, subst}
-use Rattle.text_words.specs.Lines.{pieces_of}
+use Rattle.std.proofs.Common.{◌<◌, length, slice_get, ap, sym, ◌∙◌, subst}
+use Rattle.std.specs.List.{after_first}
+use Rattle.text_words.specs.Lines.{is_line_feed, pieces_of}
 use Rattle.image_lines.specs.ImageText.{image_text}
-use Rattle.image_lines.specs.Nodes.{IsRestOf}
-use Rattle.image_lines.proofs.NodeLemmas.{text_is, begins, node_is, no_node_line, node_found, rest_found, index_within, nothing_left}
+use Rattle.image_lines.specs.Nodes.{IsRestOf, text_after}
+use Rattle.image_lines.proofs.NodeLemmas.{text_is, begins, node_is, no_node_line, node_found, rest_found, index_within, nothing_left, is_image}
+use Rattle.image_lines.proofs.PlaceLemmas.{rest_at}
 use Rattle.image_lines.proofs.image.Image.node.Goals as goal
 
 pub from_index-requires : goal.from_index-requires
@@ -37,3 +39,12 @@ returns-clause-rest c =
     (index_within c.self.inside.text.now c.self.inside.places.items c.args.self.now c.args.index c.self.view_is c.requires) c.index-place.ensures))
     (sym c.from_index.ensures ∙ c.next_line-line.ensures.whole)
     (nothing_left c.next_line-line.result.ended c.from_index.result.now c.next_line-line.result.rest.now c.next_line-line.ensures.ended c.next_line-line.ensures.rest))
+
+pub returns-clause-after : goal.returns-clause-after
+returns-clause-after c =
+    c.next_line-line.ensures.rest
+    ∙ ap (after_first is_line_feed) c.from_index.ensures
+    ∙ rest_at c.self.inside.text.now _ (is_image c.self.inside.text.now c.self.inside.places.items c.self.invariant.1)
+    (text_is c.self.inside.text.now c.self.inside.places.items c.self.invariant.1)
+    c.self.inside.places.items c.args.index c.index-place.result.now c.self.invariant.2 (subst (λ image. c.args.index < length image) (sym c.self.view_is) c.requires) c.index-place.ensures
+    ∙ ap (λ image. text_after image c.args.index) c.self.view_is
