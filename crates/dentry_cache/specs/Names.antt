@@ -1,4 +1,5 @@
--- Names that are cached: the node that each resolves to, most recently used first.
+-- Names that are cached, each with the node that it resolves to, in the order of their last use, latest
+-- first.
 use Rattle.std.specs.Prelude.{ℕ, Bool, List, [], not, ◌&&◌, ◌==◌, Option}
 use Rattle.std.specs.Map.{lookup}
 use Rattle.std.specs.Str.{bytes_eq}

@@ -14,8 +14,8 @@ use std::alloc::{AllocError, Global};
 use std::marker::Model;
 use std::num::NonZeroUsize;
 
-/// Names with the nodes that they resolve to, at most `MOST_CACHED_NAMES`, by most recent use; and how
-/// often a name was not cached, since there was no memory.
+/// Names with the nodes that they resolve to, at most `MOST_CACHED_NAMES`, in the order of their last use,
+/// latest first; and how often a name was not cached, since there was no memory.
 pub struct NameCache {
     pairs: LruCache<NameKey, u32>,
     refused: u64,

@@ -1,4 +1,4 @@
--- A state in which a record was stored stands for the mount in which it was.
+-- A state in which a record was stored represents the mount in which it was.
 use Rattle.std.proofs.Common.{◌≡◌, ℕ, ◌+◌, Bool, true, false, cond, List, Option, Some, None, Ok, Err}
 use Rattle.std.proofs.Common.{Result, IfSome, refl, sym, ap, subst, ◌∙◌, ◌||◌, ◌&&◌, ◌==◌, not, nat_lt}
 use Rattle.std.proofs.Common.{nat_le, length}
@@ -32,9 +32,9 @@ use Rattle.mount_state.specs.Given.{IsGiven}
 use Rattle.mount_state.proofs.WalkLemmas.{same_cache}
 use Rattle.mount_records.specs.SameButRecords.{SameButRecords}
 
--- ---- what stood against it
+-- ---- what prevented it
 
--- an answer that came is no fault
+-- an answer without a fault
 abbrev came : ℕ → Result ℕ StoreFault
 came version = Ok version
 
@@ -42,7 +42,7 @@ no_fault : (o : Option StoreFault) (version : ℕ) → IfSome o (λ fault. came 
 no_fault None version is = refl
 no_fault (Some fault) version is = absurd (cc)
 
--- no fault is due where no test passed, and then the last of the answers comes
+-- there is no fault if no test passed, and then the last of the answers is given
 unpassed : (a b c d : Bool) (f g h k : StoreFault)
     → cond a (Some f) (cond b (Some g) (cond c (Some h) (cond d (Some k) None))) ≡ None
     → (a ≡ false) × (b ≡ false) × (c ≡ false) × (d ≡ false)

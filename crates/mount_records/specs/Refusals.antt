@@ -1,4 +1,4 @@
--- How the mount tells why a record isn't stored.
+-- How the mount reports why a record isn't stored.
 use Rattle.meta_files.specs.declared.fault.StoreFault.{StoreFault}
 use Rattle.meta_files.specs.declared.fault.StoreFault.TheVariants as fault
 use Rattle.mount_model.specs.declared.reply.Refusal.{Refusal}

@@ -1,5 +1,5 @@
-//! The calls on the records of a mount: load one, store one. Each answers what the one-thread mount does
-//! that the state stands for.
+//! The calls on the records of a mount: load one, store one. Each answers as the one-thread mount that the
+//! state represents.
 #![tactic(auto)]
 
 mod loads;

@@ -11,8 +11,8 @@ use mount_model::{Bytes, Refusal, Reply};
 use mount_state::MountState;
 use std::alloc::Global;
 
-/// Tells the version and a copy of the bytes of the record of this name. NotFound exactly where there is
-/// none; only the copy takes memory.
+/// Returns the version and a copy of the bytes of the record of this name. NotFound exactly when there is
+/// none. Only the copy takes memory.
 pub fn meta_load(alloc: Global, state: &MountState, name: &Bytes) -> Reply
     ensures held { IfSome (record_of state.now.meta name.now)
         (λ kept. IsToldOrNoMemory (Reply.Held kept.0 kept.1) result) }

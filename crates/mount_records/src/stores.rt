@@ -17,12 +17,12 @@ use mount_model::{Bytes, Refusal, Reply};
 use mount_state::MountState;
 use std::alloc::Global;
 
-/// Stores the bytes under the name, in place of the version that is expected (0 stands for none), and
-/// tells the version that the record now has: one more.
+/// Stores the bytes under the name, in place of the expected version (0 means none). Returns the version
+/// that the record now has: one more.
 ///
-/// TooBig for more than `MOST_RECORD_BYTES` bytes, then Changed with the version where it isn't the
-/// expected one, then NoSpace for a new record where there are `MOST_RECORDS`, or for a version that is
-/// `LAST_VERSION`. After a refusal all records are as before.
+/// Refused with TooBig for more than `MOST_RECORD_BYTES` bytes, then with Changed and the version if it
+/// isn't the expected one. Then with NoSpace for a new record if there are `MOST_RECORDS`, or for a version
+/// that is `LAST_VERSION`. After a refusal all records are as before.
 pub fn meta_store(
     alloc: Global,
     state: &mut MountState,
@@ -50,7 +50,7 @@ pub fn meta_store(
     }
 }
 
-// The refusal that tells the fault.
+// Returns the refusal for the fault.
 fn refusal_of(fault: StoreFault) -> Refusal
     ensures { result ≡ refusal_of fault }
 {

@@ -30,7 +30,7 @@ read_given s m caller handle offset len reply st told = ⊎_elim
     (λ none. inr (none, st))
     told
 
--- a close is done or tells a bad handle, and so it never wants memory
+-- a close is done or refused with BadHandle, and so it is never out of memory
 pub close_told : (o : Option ℕ) (reply : Reply) (P : ℕ → Type 0) → (o ≡ None → reply ≡ Refused BadHandle)
     → IfSome o (λ node. (reply ≡ Done) × P node) → (reply ≡ Done) ⊎ (reply ≡ Refused BadHandle)
 close_told None reply P bad closed = inr (bad refl)

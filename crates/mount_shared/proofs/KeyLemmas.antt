@@ -1,4 +1,4 @@
--- How the contracts of the calls on keys make their entries, and what these tell.
+-- How the contracts of the calls on keys make their entries, and what these report.
 use Rattle.std.proofs.Common.{◌≡◌, ◌≢◌, ℕ, Bool, true, false, cond, not, ◌&&◌, ◌==◌, List, Option, Some, None, inl, refl, sym, ap, subst, ◌∙◌}
 use Rattle.std.specs.Prelude.{IfSome, IfNone}
 use Rattle.std.proofs.lemmas.Bool.{true≢false}
@@ -47,7 +47,7 @@ module _ (old new : MountState) (caller : ℕ) (call : Call) (reply : Reply) whe
   added_tells (Some refusal) id faulted accepted = inl faulted
   added_tells None id faulted accepted = accepted
 
-  -- a fault that is found is the answer of whichever mount the state stands for
+  -- a fault that is found is the answer of every mount that the state represents
   addition_due : (raw : List ℕ) → IfSome (add_fault old.ring.claims call.uid raw) (λ refusal. reply ≡ Refused refusal)
       → (m : PlainMount) → StandsFor old m → IsRefusedAsDue (answer_to_add_key m call.uid raw) reply
   addition_due raw faulted m st =
@@ -80,7 +80,7 @@ module _ (old new : MountState) (caller : ℕ) (call : Call) (reply : Reply) whe
 
   -- ---- RemoveKey
 
-  -- no memory is told to be wanting
+  -- the reply is not out of memory
   abbrev IsNoWant : Reply → Type 0
   IsNoWant r = r ≢ Refused NoMemory
 

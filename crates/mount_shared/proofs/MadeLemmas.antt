@@ -75,11 +75,11 @@ itself s = record { disk = refl; next_node = refl; ring = refl; meta = refl; key
 abbrev pub Keeps : MountState → MountState → Reply → Type 0
 Keeps old new reply = is_refused reply ≡ true → SameButCaches old new
 
--- of an operation that takes no memory, none is wanting
+-- an operation that takes no memory is never out of memory
 abbrev pub IsSure : Op → Reply → Type 0
 IsSure o reply = takes_memory o ≡ false → reply ≢ Refused NoMemory
 
--- there is nothing to be shown of one that takes memory
+-- it holds trivially for one that takes memory
 pub takes_some : (o : Op) (reply : Reply) → IsTrue (takes_memory o) → IsSure o reply
 takes_some o reply takes none = absurd (true≢false (sym takes ∙ none))
 

@@ -1,4 +1,4 @@
--- The refusals of the calls on records are due, and leave the records.
+-- The refusals of the calls on records are the expected ones, and leave the records.
 use Rattle.std.proofs.Common.{◌≡◌, ℕ, ◌+◌, Bool, true, false, cond, not, ◌&&◌, ◌||◌, ◌==◌, nat_lt, nat_le, List, length, Option, Some, None, inl, sym, ap, subst, ⊎_elim}
 use Rattle.std.specs.Prelude.{IfSome, IfNone, is_none}
 use Rattle.std.proofs.lemmas.Bool.{true≢false}
@@ -35,7 +35,7 @@ load_due s m st name reply absent =
 
 -- ---- storing
 
--- the fault is told, where there is one
+-- the fault is returned, if there is one
 abbrev TellsFault : Reply → Option StoreFault → Type 0
 TellsFault reply o = IfSome o (λ f. reply ≡ Refused (refusal_of f))
 
@@ -58,7 +58,7 @@ store_due s m st name bytes expected reply told =
     (is_none (record_of m.records name) && nat_le MOST_RECORDS (length m.records)) (version_of m.records name == LAST_VERSION)
     (subst (λ (rs : RecordList). TellsFault reply (store_fault rs name expected bytes)) st.records told)
 
--- ---- what may be told
+-- ---- what may be returned
 
 pub load_told : (o : Option (ℕ × List ℕ)) (reply : Reply) → IfSome o (λ kept. IsToldOrNoMemory (Held kept.0 kept.1) reply)
     → IfNone o (reply ≡ Refused NotFound) → is_load_told reply ≡ true

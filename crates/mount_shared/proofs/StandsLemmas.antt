@@ -1,4 +1,4 @@
--- A mount goes on standing after its history.
+-- A mount is still reached by its history after further calls.
 use Rattle.std.proofs.Common.{◌≡◌, [], ◌∷◌, ◌++◌, length, ap, arith}
 use Rattle.mount_model.specs.PlainMount.{empty_mount}
 use Rattle.mount_model.specs.History.{MountEntry, History, IsLegal}

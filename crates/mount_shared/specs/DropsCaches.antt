@@ -1,4 +1,4 @@
--- What DropCaches leaves of what is kept for speed alone.
+-- What DropCaches leaves of what is cached for speed alone.
 use Rattle.std.specs.Prelude.{◌≡◌, ⊤, []}
 use Rattle.dentry_cache.specs.Names.{with_pairs}
 use Rattle.inode_refs.specs.Evictions.{all_evicted}
@@ -11,7 +11,7 @@ pub record LosesCaches (old new : MountState) : Type 0 where
   pub keys : new.inodes.keys ≡ all_evicted old.inodes
   pub names : new.names ≡ with_pairs old.names []
 
--- by DropCaches; nothing is said of other calls
+-- by DropCaches; other calls are not restricted
 abbrev pub DropsCaches : MountState → MountState → Op → Type 0
 DropsCaches old new DropCaches = LosesCaches old new
 DropsCaches old new op = ⊤

@@ -1,4 +1,4 @@
--- What is lent to a Read.
+-- The pending read of a Read.
 use Rattle.std.specs.Prelude.{⊤, ℕ}
 use Rattle.mount_model.specs.declared.call.Op.{Op}
 use Rattle.mount_model.specs.declared.call.Op.TheVariants.{Read}
@@ -7,8 +7,8 @@ use Rattle.mount_state.specs.declared.state.MountState.{MountState}
 use Rattle.mount_files.specs.Lent.{IsLent}
 use Rattle.mount_files.specs.declared.lent.Lent.{Lent}
 
--- it is the stored bytes of the blocks in which the part lies that was asked for, of the file on which the
--- caller's handle is, and what these are sealed with
+-- it has the stored bytes of the blocks of the requested part, of the file of the caller's handle, and what
+-- these are sealed with
 abbrev pub LendsBlocks : MountState → ℕ → Op → Lent → Type 0
 LendsBlocks s caller (Read handle offset len) lent =
     IsLent s (node_of s.handles.live caller handle) offset len lent

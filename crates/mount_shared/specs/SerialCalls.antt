@@ -16,8 +16,8 @@ abbrev pub serial_view : {M : Type 0} → M → ℕ → ℕ → ℕ → SerialVi
 serial_view machine places caller left =
     record { machine = machine; places = places; caller = caller; left = left }
 
--- the caller has made these calls, whose places count on; and after whichever history the machine stood,
--- it stands after that one with these entries behind it
+-- the caller has made these calls, whose places count on; and every history that reached the machine
+-- reaches it with these entries after it
 pub record SerialCame {M : Type 0} (leads : History → M → Type 0)
     (old : SerialView M) (calls : PlacedCalls) (new : SerialView M) : Type 0 where
   pub placed : calls ≡ numbered old.places (entries_of calls)

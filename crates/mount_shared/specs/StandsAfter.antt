@@ -1,4 +1,4 @@
--- After which histories a mount may stand.
+-- The histories that may reach a mount.
 use Rattle.std.specs.Prelude.{◌≡◌}
 use Rattle.mount_model.specs.History.{History, mount_after}
 use Rattle.mount_model.specs.ClaimHistory.{claims_after}
@@ -6,8 +6,8 @@ use Rattle.mount_model.specs.Lawful.{KeysAgree, IsLawful}
 use Rattle.mount_state.specs.StandsFor.{StandsFor}
 use Rattle.mount_state.specs.declared.state.MountState.{MountState}
 
--- the history is lawful; the claims are those that it leaves, whatever raw keys were added; and where
--- these agree, the state stands for the mount that it leaves
+-- the history is lawful; the claims are those that it leaves, whatever raw keys were added; and if these
+-- agree, the state represents the mount that it leaves
 pub record StandsAfter (history : History) (state : MountState) : Type 0 where
   pub lawful : IsLawful history
   pub claims : state.ring.claims ≡ claims_after history

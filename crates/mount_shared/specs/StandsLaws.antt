@@ -1,4 +1,4 @@
--- A mount goes on standing after its history: by a step, and by want of memory.
+-- A mount is still reached by its history after a step, and after a call that is out of memory.
 use Rattle.std.proofs.Common.{◌≡◌, ◌⊎◌, ℕ, false, IsTrue, [], ◌∷◌, ◌++◌, get_or, drop, length, inl, inr, ⊎_elim, refl, ap, subst, sym, ◌∙◌, arith}
 use Rattle.call_history.specs.Entries.{entry}
 use Rattle.user_claims.specs.Claims.{ClaimSet, no_claims}
@@ -36,7 +36,7 @@ begins (x ∷ h) e (s ∷ start) rest is =
     (λ left. inr (left.0, ap (λ (l : History). x ∷ l) left.1 ∙ ap (λ (y : MountEntry). y ∷ (start ++ left.0)) first))
     (begins h e start rest (ap (drop 1) is))
 
--- a history goes on by a step that changes the claims as it says and tells them as they are
+-- a history continues by a step that changes the claims according to its entry and reports them as they are
 pub more : (h : History) (e : MountEntry) (old new : MountState) → StandsAfter h old
     → ((m : PlainMount) → StandsFor old m → (is_refused e.reply ≡ false → KeyAgrees m.raws e.call.op)
     → TakesStep m e new)
@@ -65,7 +65,7 @@ more h e old new before steps claims told =
       stands = λ agree. subst (StandsFor new) (sym (mount_after-more h e _ (step agree).0)) (step agree).1;
     }
 
--- and by want of memory, where the call may take some: the state stays as it is
+-- and by a call that is out of memory, if it may take some: the state stays as it is
 abbrev pub wanting : ℕ → Call → MountEntry
 wanting caller call = entry caller call (Refused NoMemory)
 

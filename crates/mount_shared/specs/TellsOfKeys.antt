@@ -1,4 +1,4 @@
--- What is told of a key is so in the state itself, whatever raw keys were added.
+-- What is reported of a key is so in the state itself, whatever raw keys were added.
 use Rattle.std.specs.Prelude.{◌≡◌, ⊤, ℕ, Bool, false}
 use Rattle.mount_model.specs.declared.call.Op.{Op}
 use Rattle.mount_model.specs.declared.call.Op.TheVariants.{RemoveKey, RemoveKeyAll, KeyStatus}
@@ -8,14 +8,14 @@ use Rattle.mount_model.specs.declared.reply.KeyState.TheVariants.{Absent}
 use Rattle.mount_state.specs.Held.{HoldsNothing, is_in_use}
 use Rattle.mount_state.specs.declared.state.MountState.{MountState}
 
--- of a key that is told Absent nothing is held
+-- if a key is reported as Absent, nothing of it is held
 abbrev pub AbsentIsGone : MountState → Op → Reply → Type 0
 AbsentIsGone s (KeyStatus id) reply =
     (by_self : Bool) (users : ℕ) → reply ≡ Status Absent by_self users
     → HoldsNothing s.disk s.ring s.inodes s.modes s.names id
 AbsentIsGone s op reply = ⊤
 
--- where no claim is left, busy is told exactly where some handle is on a node whose context names the key
+-- if no claim is left, busy is reported exactly when some handle is on a node whose context names the key
 abbrev pub BusyIsOpen : MountState → Op → Reply → Type 0
 BusyIsOpen s (RemoveKey id) reply = (busy : Bool)
     → reply ≡ Removed false busy → busy ≡ is_in_use s.disk s.handles.live id

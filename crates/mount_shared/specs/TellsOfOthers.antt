@@ -1,4 +1,4 @@
--- What is told of handles and records is so in the state itself, whatever raw keys were added.
+-- What is reported of handles and records is so in the state itself, whatever raw keys were added.
 use Rattle.std.specs.Prelude.{◌≡◌, ⊤, ℕ, ◌+◌, List, Option, Some, None}
 use Rattle.meta_files.specs.Records.{record_of, version_of}
 use Rattle.meta_files.specs.Faults.{store_fault}
@@ -13,7 +13,7 @@ use Rattle.mount_model.specs.OpenHandles.{node_of}
 use Rattle.mount_records.specs.Refusals.{refusal_of}
 use Rattle.mount_state.specs.declared.state.MountState.{MountState}
 
--- a close is refused exactly where the caller has no such handle
+-- a close is refused exactly when the caller has no such handle
 abbrev pub closed_by : Option ℕ → Reply
 closed_by None = Refused BadHandle
 closed_by (Some node) = Done
@@ -32,7 +32,7 @@ abbrev pub StoredBy : Option StoreFault → ℕ → Reply → Type 0
 StoredBy (Some fault) version reply = reply ≡ Refused (refusal_of fault)
 StoredBy None version reply = IsToldOrNoMemory (Stored (version + 1)) reply
 
--- of records it is told what they are
+-- what is reported of records is what they are
 abbrev pub TellsRecords : MountState → Op → Reply → Type 0
 TellsRecords s (MetaLoad name) reply = LoadedBy (record_of s.meta name) reply
 TellsRecords s (MetaStore name expected bytes) reply =

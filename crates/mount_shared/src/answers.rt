@@ -1,4 +1,4 @@
-//! A call is handed to the crate that answers it.
+//! A call is passed to the crate that answers it.
 
 ghost use Rattle.std.specs.Prelude.{◌≡◌, ◌<◌};
 ghost use Rattle.call_history.specs.Entries.{entry};
@@ -21,7 +21,7 @@ use name_crypt::Steps;
 use std::alloc::Global;
 use std::sync::ledger::{Blank, Ledger};
 
-// The answer to a caller's call, which counts the names that it enciphers on a ledger of its own.
+// Returns the answer to a caller's call, and counts the names that it encrypts on a ledger of its own.
 pub(crate) fn answer<L: Ledger>(
     alloc: Global,
     state: &mut MountState,

@@ -15,7 +15,7 @@ use name_crypt::Steps;
 use std::alloc::Global;
 use std::sync::ledger::Ledger;
 
-// The answer to a call on open files and directories. `steps` counts the names that are enciphered.
+// Returns the answer to a call on open files and directories. `steps` counts the names that are encrypted.
 pub(crate) fn answer_on_files<L: Ledger>(
     alloc: Global,
     state: &mut MountState,

@@ -1,4 +1,4 @@
-//! What a mount is made of, and what its replies tell. These functions do nothing: their contracts are laws.
+//! The parts of a mount, and what its replies report. These functions do nothing: their contracts are laws.
 
 ghost use Rattle.std.specs.Prelude.{◌≡◌, ℕ, Bool, false};
 ghost use Rattle.policy_ctx.specs.declared.policy.KeyId.{KeyId};
@@ -9,13 +9,13 @@ ghost use Rattle.mount_shared.specs.declared.mount.Mount.{Mount};
 
 use mount_model::{Op, Reply};
 
-/// A mount is its state and where it takes memory, and nothing else: no copy of a key lies beside them.
+/// A mount is its state and its allocator, and nothing else: it holds no further copy of a key.
 pub fn a_mount_is_its_state()
     ensures { (a b : Mount) → a.alloc ≡ b.alloc → a.state ≡ b.state → a ≡ b }
 {}
 
-/// Whatever raw keys were added, a removal of all claims tells that none is left, and a user's removal exactly
-/// whether another's is.
+/// Whatever raw keys were added, a removal of all claims reports that none is left. A user's removal
+/// reports exactly whether another user's claim is left.
 pub fn removals_tell_which_claims_are_left()
     ensures all { (claims : ClaimSet) (uid : ℕ) (id : KeyId) (others busy : Bool)
         → TellsBy claims uid (Op.RemoveKeyAll id) (Reply.Removed others busy) → others ≡ false }

@@ -1,4 +1,4 @@
-//! What every machine has that stands for a mount.
+//! What every machine has that represents a mount.
 ghost use Rattle.std.specs.Prelude.{ℕ, IsTrue, [], ◌∷◌, ◌++◌};
 ghost use Rattle.call_history.specs.Entries.{entry};
 ghost use Rattle.mount_model.specs.Fits.{Fits};
@@ -15,8 +15,8 @@ use turn_lock::Machine;
 pub trait MountMachine: Machine<Call = Call, Reply = Reply> {
     ghost takes_fitting: { (call : Call) → Fits call → Self.fits call };
 
-    // After whichever history it may stand, it may stand too where a call that takes memory wanted some
-    // after that: such a call leaves it as it is.
+    // A history that reaches it still reaches it with a call after it that takes memory and was out of
+    // memory: such a call leaves it as it is.
     ghost leads_without_memory: { (history : History) (machine : Self) (caller : ℕ) (call : Call)
         → Fits call → IsTrue (takes_memory call.op) → Self.leads history machine
         → Self.leads (history ++ entry caller call (Refused NoMemory) ∷ []) machine };

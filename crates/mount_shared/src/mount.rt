@@ -30,7 +30,7 @@ use std::marker::Brand;
 use std::sync::ledger::Blank;
 use turn_lock::Machine;
 
-/// A mount: all that it stores and holds, and where it takes memory.
+/// A mount: all that it stores and holds, and its allocator.
 #[derive(Drop)]
 pub struct Mount {
     alloc: Global,
@@ -38,7 +38,7 @@ pub struct Mount {
 }
 
 impl Mount {
-    /// The empty mount, before any call: its root alone. AllocError where there is no memory for it.
+    /// Returns the empty mount, before any call: its root alone. AllocError if there is no memory for it.
     pub fn new(alloc: Global) -> Result<Mount, AllocError>
         ensures { IfOk result (λ mount. StandsAfter [] mount.state) }
     {
@@ -46,14 +46,18 @@ impl Mount {
         Ok(Mount { alloc, state })
     }
 
-    /// Answers the caller's call. What comes is the reply, or for a Read what is left to be deciphered
-    /// once the turn is given back.
+    /// Answers the caller's call. Returns the reply, or for a Read the pending read, which is decrypted
+    /// once the turn is over.
     ///
-    /// Whatever raw keys were added: after a refusal all but cached keys and names is as before, removing keys,
-    /// a status, closing and dropping caches never want memory, DropCaches takes every cached name and just
-    /// those cached keys whose node has no handle, a close is refused exactly where the caller has no such
-    /// handle, and of records it is told what they are. Where the state stands for a mount whose answer is a
-    /// refusal, the reply is that one, also where there is no memory.
+    /// Whatever raw keys were added:
+    /// - after a refusal all is as before, except cached keys and names;
+    /// - removing keys, a status, closing and dropping caches never fail for lack of memory;
+    /// - DropCaches removes every cached name, and exactly those cached keys whose node has no handle;
+    /// - a close is refused exactly when the caller has no such handle;
+    /// - what is reported of records is what they are.
+    ///
+    /// If the state represents a mount whose answer is a refusal, the reply is that one, even if there is
+    /// no memory.
     pub fn answer(&mut self, caller: u32, call: &Call) -> Lent
         requires { Fits call.now }
         ensures made { IsMade self.old.state (entry caller call.now (reply_of result)) self.new.state }

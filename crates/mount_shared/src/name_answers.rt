@@ -15,7 +15,7 @@ use name_crypt::Steps;
 use std::alloc::Global;
 use std::sync::ledger::Ledger;
 
-// The reply to a call on names. `steps` counts the names that are enciphered.
+// Returns the reply to a call on names. `steps` counts the names that are encrypted.
 pub(crate) fn reply_on_names<L: Ledger>(
     alloc: Global,
     state: &mut MountState,

@@ -28,7 +28,7 @@ impl<M: MountMachine> SerialMount<M> {
         SerialMount { machine, places: 0 }
     }
 
-    /// The port of a caller, with so many calls.
+    /// Returns the port of a caller, with `left` calls.
     pub fn port(self, caller: u32, left: u64) -> SerialPort<M>
         requires { self.places + left ≤ MOST_PLACES }
         ensures { result ≡ serial_view self.machine self.places caller left }
@@ -41,7 +41,7 @@ impl<M: MountMachine> SerialMount<M> {
     }
 }
 
-/// A caller's port to a machine that nobody else calls meanwhile. In clauses it is a `SerialView`.
+/// A caller's port to a machine that no other caller uses meanwhile. In clauses it is a `SerialView`.
 #[derive(Drop)]
 pub struct SerialPort<M: MountMachine> {
     mount: SerialMount<M>,
@@ -86,7 +86,7 @@ impl<M: MountMachine> SerialPort<M> {
     }
 }
 
-// The machine's reply to a call, with nobody at work meanwhile.
+// Returns the machine's reply to a call, with no other call in progress.
 fn ask<M: MountMachine>(machine: &mut M, caller: u32, call: &Call) -> Reply
     requires { Fits call.now }
     ensures { (history : History) → M.leads history machine.old

@@ -48,7 +48,7 @@ impl<'a, M: MountMachine, W: Wait> SharedPort<'a, M, W> {
     }
 }
 
-// The reply to a call of the mount, where it stands in the history.
+// Returns the reply to a call of the mount, with its place in the history.
 fn placed(at: At<Reply>) -> Placed
     ensures place { result.place ≡ at.place }
     ensures reply { result.reply ≡ at.reply }

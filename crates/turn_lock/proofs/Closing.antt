@@ -23,7 +23,7 @@ module _ {V C R : Type 0} (leads : History C R → V → Type 0) (numbers allowa
   abbrev Rule : TurnState V C R → Type 0
   Rule = Kept leads numbers allowance
 
-  -- the history that the value at home stands after
+  -- the history that reaches the value at home
   pub record Left (id : ℕ) (v : View C R) (slots : List (Option (Standing V C R))) : Type 0 where
     pub history : History C R
     pub value : V

@@ -1,4 +1,4 @@
--- A split, a join and the look after it keep the rule.
+-- A split, a join and the look after it preserve the rule.
 use Rattle.std.proofs.Common.{◌≡◌, ◌≢◌, ℕ, ◌+◌, ◌^◌, ◌<◌, ◌≤◌, true, false, List, [], ◌∷◌, ◌++◌, length, set}
 use Rattle.std.proofs.Common.{get_or, sym, refl, ap, ◌∙◌, subst, ⊎_elim, Option, true≢false, arith}
 use Rattle.std.proofs.lemmas.Bool.{cases_lt}
@@ -25,7 +25,7 @@ module _ {V C R : Type 0} (leads : History C R → V → Type 0) (numbers allowa
   abbrev Rule : TurnState V C R → Type 0
   Rule = Kept leads numbers allowance
 
-  -- the seat that has the turn is not this one, and has it where this one's view has changed
+  -- the seat that has the turn is not this one, and still has it if this one's view has changed
   still_taken : (s : TurnState V C R) (k : Rule s) (id : ℕ) (v w : View C R) → get_elem? s.views id ≡ some v
       → v.turn ≡ false → k.turn ≢ 0
       → (u : View C R) × (get_elem? (set s.views id w) k.holder ≡ some u) × (u.turn ≡ true)

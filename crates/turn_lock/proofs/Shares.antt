@@ -1,4 +1,4 @@
--- Which callers' entries a pass keeps when it is split, and has when it took in another.
+-- Which callers' entries a pass retains when it is split, and has when it took in another.
 use Rattle.std.proofs.Common.{◌≡◌, ◌≢◌, ℕ, ◌<◌, ◌≤◌, Bool, true, false, cond, not, eqb, leb, ltb, List, []}
 use Rattle.std.proofs.Common.{◌∷◌, ◌++◌, length, filter, sym, refl, ap, ◌∙◌, ⊎_elim, append-nil}
 use Rattle.std.proofs.Common.{length-append, arith}
@@ -56,7 +56,7 @@ module _ {C R : Type 0} where
   pub by_not_own : (c who : ℕ) (mine : PlacedList C R) → by who mine ≡ mine → c ≢ who → by c mine ≡ []
   by_not_own c who mine own other = ap (by c) (sym own) ∙ by-by_other c who mine other
 
-  -- of a caller's past and own entries, where it has no own ones
+  -- of a caller's past and own entries, if it has no own ones
   pub by_past : (c : ℕ) (past mine : PlacedList C R) → by c mine ≡ [] → by c (past ++ mine) ≡ by c past
   by_past c past mine none =
       by-append c past mine ∙ (ap (λ (l : PlacedList C R). by c past ++ l) none ∙ append-nil (by c past))

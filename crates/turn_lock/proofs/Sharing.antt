@@ -13,7 +13,7 @@ use Rattle.turn_lock.proofs.Shares.{by-under, by-under_none, by-over, by-over_no
 use Rattle.turn_lock.proofs.Shares.{by_mine}
 
 module _ {C R : Type 0} where
-  -- a caller's entries where one of its own came last
+  -- a caller's entries if the last one is its own
   by_after_call : (who k : ℕ) (past mine : PlacedList C R) (e : Entry C R) → by who mine ≡ mine → e.who ≡ who
       → by who (past ++ (mine ++ (k, e) ∷ [])) ≡ by who past ++ (mine ++ (k, e) ∷ [])
   by_after_call who k past mine e own is =
@@ -79,7 +79,7 @@ module _ {V C R : Type 0} (m : Seated V C R) (who high left made : ℕ) (is : Is
             (cases_lt caller at);
       }
 
-  -- nobody's entries but those of the pass's numbers, its own among them
+  -- no entries but those of the pass's numbers, its own among them
   pub others_none : (caller : ℕ) → ¬ Owns m.0 caller → by caller (m.0.past ++ m.0.mine) ≡ []
   others_none caller other =
       let wide = is.some_number in let from = is.who_is in let to = is.high_is in

@@ -1,4 +1,4 @@
--- A value that stands after no call keeps the rule, with one seat that has all numbers and calls.
+-- A value that is reached after no call meets the rule, with one seat that has all numbers and calls.
 use Rattle.std.proofs.Common.{◌≡◌, ◌≢◌, ℕ, zero, suc, ◌≤◌, [], ◌∷◌, sym, refl, subst, Some, true≢false, le_refl, arith}
 use mathlib.Core.Option.{some, some-injective, some-ne-none}
 use lib.ListN.{get_elem?}

@@ -1,4 +1,4 @@
--- The views of all seats, where one changes, is cut in two or takes over another.
+-- The views of all seats, if one changes, is cut in two or takes over another.
 use Rattle.std.proofs.Common.{◌≡◌, ◌≢◌, ◌⊎◌, ℕ, zero, suc, ◌+◌, ◌<◌, ◌≤◌, List, [], ◌∷◌, ◌++◌, length, set}
 use Rattle.std.proofs.Common.{get_or, sym, refl, ap, ◌∙◌, subst, inl, inr, ⊎_elim, zero-add, arith}
 use Rattle.std.proofs.lemmas.List.Sums.{sum_by-set, sum_by-append}
@@ -25,7 +25,7 @@ module _ {A : Type 0} where
   pub at_written : (l : List A) (i : ℕ) (a b : A) → get_elem? l i ≡ some a → get_elem? (set l i b) i ≡ some b
   at_written l i a b e = set_here l i b (within l i a e)
 
-  -- an element of a list with one more at its end, which stands at that end or before
+  -- an element of a list with one more at its end, which is at that end or before
   pub at_end : (l : List A) (a b : A) (j : ℕ) → get_elem? (l ++ a ∷ []) j ≡ some b
       → (get_elem? l j ≡ some b) ⊎ ((j ≡ length l) × (a ≡ b))
   at_end [] a b zero e = inr (refl, some-injective a b e)
@@ -57,7 +57,7 @@ module _ {C R : Type 0} where
       (λ (t : (j ≢ id) × (get_elem? vs j ≡ some u)). others j u t.0 t.1)
       (at_set vs id j w u e)
 
-  -- what holds of each view after a new seat came
+  -- what holds of each view after a new seat was added
   pub each_new : (P : ℕ → View C R → Type 0) (vs : List (View C R)) (w : View C R) → ((j : ℕ) → P j w)
       → ((j : ℕ) (u : View C R) → get_elem? vs j ≡ some u → P j u)
       → (j : ℕ) (u : View C R) → get_elem? (vs ++ w ∷ []) j ≡ some u → P j u

@@ -9,7 +9,7 @@ use Rattle.turn_lock.specs.Standing.{Standing}
 use Rattle.turn_lock.specs.Turns.{TurnState}
 use Rattle.turn_lock.specs.Views.{Owns}
 
--- The value is at home and may stand after this history, which is lawful and as long as the count. The
+-- The value is at home and is reached by this history, which is lawful and as long as the count. The
 -- history begins with what each seat has seen, and has of each caller the entries that its seat has.
 pub record IsHome {V C R : Type 0} (lawful : History C R → Type 0) (leads : History C R → V → Type 0)
     (s : TurnState V C R) (held : Standing V C R) : Type 0 where

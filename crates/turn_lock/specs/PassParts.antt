@@ -11,7 +11,7 @@ module _ {C R : Type 0} where
   abbrev pub over : ℕ → PlacedList C R → PlacedList C R
   over at placed = filter (λ x. nat_le at x.1.who) placed
 
-  -- what a pass keeps when it is split at a number, and what the new pass gets
+  -- what a pass retains when it is split at a number, and what the new pass gets
   abbrev pub lower_part : ℕ → ℕ → PassView C R → PassView C R
   lower_part at give pass = record pass { high = at; left = pass.left - give; past = under at pass.past }
 

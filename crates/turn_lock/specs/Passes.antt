@@ -11,8 +11,9 @@ pub record SharedView : Type 0 where
   pub numbers : ℕ
   pub allowance : ℕ
 
--- a pass: the shared machine that made it, the caller numbers from who to below high, and the calls left.
--- seen begins the history, mine has the pass's own entries, past those of ended passes that it took in
+-- a pass: the shared machine that made it, the caller numbers from `who` to below `high`, and the calls
+-- left. seen begins the history, mine has the pass's own entries, past those of ended passes that it took
+-- in
 pub record PassView (C R : Type 0) : Type 0 where
   pub table : TableId
   pub who : ℕ

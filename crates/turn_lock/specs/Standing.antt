@@ -1,4 +1,4 @@
--- What lies in the slot while the turn is free: a value, and the history that it stands after.
+-- What is in the slot while the turn is free: a value, and the history that reaches it.
 use Rattle.call_history.specs.Entries.{History}
 
 pub record Standing (V C R : Type 0) : Type 0 where

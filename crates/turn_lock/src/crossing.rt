@@ -1,4 +1,4 @@
-//! What may cross threads: each of the crate's types, wherever the machine may.
+//! What may cross threads: each of the crate's types, if the machine may.
 
 use crate::machine::{At, Machine, Worn};
 use crate::pass::Pass;
@@ -8,8 +8,8 @@ fn may_be_sent<T: Send>(_: &T) {}
 
 fn may_be_shared<T: Sync>(_: &T) {}
 
-// A shared machine may be used by many threads and a pass may be given to one, if the machine may
-// be sent. Nothing is asked of its calls, of what it lends and of its replies.
+// A shared machine may be used by many threads and a pass may be sent to one, if the machine may be sent.
+// Nothing is required of its calls, of its pending results and of its replies.
 fn machines_cross<M: Machine + Send>(shared: &Shared<M>, pass: &Pass<M>) {
     may_be_shared(shared);
     may_be_sent(shared);

@@ -1,4 +1,4 @@
-//! What lies in the slot while the turn is free.
+//! What is in the slot while the turn is free.
 ghost use Rattle.std.specs.Prelude.{◌≡◌, [], IfOk, IfErr};
 ghost use Rattle.turn_lock.specs.Standing.{standing};
 
@@ -14,7 +14,7 @@ pub(crate) struct Recorded<M: Machine> {
     pub(crate) recorder: Recorder<M::Call, M::Reply>,
 }
 
-/// A value with the history that it stands after. Both lie in one box, so that a turn moves one pointer.
+/// A value with the history that reaches it. Both are in one box, so that a turn moves one pointer.
 #[derive(Drop)]
 pub(crate) struct Held<M: Machine> {
     pub(crate) both: Box<Recorded<M>>,
@@ -31,7 +31,7 @@ impl<M: Machine> Model for Held<M> {
 }
 
 impl<M: Machine> Held<M> {
-    // A value that stands after no call. For want of memory it comes back.
+    // Returns a value that is reached after no call. If out of memory, returns the value in the error.
     pub(crate) fn new(alloc: Global, value: M) -> Result<Held<M>, AllocFailed<M>>
         requires leads { M.leads [] value }
         ensures held { IfOk result (λ held. held ≡ standing value []) }

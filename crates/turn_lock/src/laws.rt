@@ -1,4 +1,4 @@
-//! What holds between any two steps on the table, as a function without work whose contract says it.
+//! What holds between any two steps on the table, as a function without work whose contract states it.
 ghost use Rattle.std.specs.Prelude.{◌≡◌, ℕ, slice_index};
 ghost use Rattle.turn_lock.specs.Home.{IsHome};
 ghost use Rattle.turn_lock.specs.Standing.{Standing};
@@ -6,8 +6,8 @@ ghost use Rattle.turn_lock.specs.Turns.{TurnState, Kept};
 
 use crate::machine::Machine;
 
-/// Whenever the turn is free, the value that is held is at home and may stand after the whole counted
-/// history, which is lawful, and which agrees with what every pass has seen and made.
+/// Whenever the turn is free, the held value is at home and is reached by the whole counted history. That
+/// history is lawful, and agrees with what every pass has seen and made.
 pub fn free_value_stands_after_its_history<M: Machine>()
     ensures { (numbers allowance : ℕ) (s : TurnState M M.Call M.Reply) → Kept M.leads numbers allowance s
         → slice_index s.words 0 ≡ 0 → (held : Standing M M.Call M.Reply) × IsHome M.lawful M.leads s held }

@@ -1,6 +1,6 @@
-//! One machine shared by threads behind a turn. Each call has a place in one history, on which all
-//! threads agree: what a caller has seen is a beginning of it, and its own entries stand in it in
-//! order. Proved over any `Machine`, from the machine's laws alone.
+//! One machine shared by threads, which take turns on it. Each call has a place in one history, on which
+//! all threads agree: what a caller has seen is a beginning of it, and its own entries are in it in order.
+//! Proved over any `Machine`, from the machine's laws alone.
 #![tactic(auto)]
 
 mod crossing;

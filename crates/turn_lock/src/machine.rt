@@ -4,8 +4,8 @@ ghost use Rattle.call_history.specs.Entries.{History, entry};
 
 use thiserror::Error;
 
-/// A machine answers calls one after another. A call is begun on the machine itself, and what
-/// `begin` lends is finished apart from it.
+/// A machine answers calls one after another. A call is begun on the machine itself, and the pending result
+/// of `begin` is finished apart from it.
 pub trait Machine: Drop {
     type Call: Drop;
 
@@ -19,7 +19,7 @@ pub trait Machine: Drop {
     ghost reply: { Self.Lent → Self.Reply };
     // The histories that are right.
     ghost lawful: { History Self.Call Self.Reply → Type 0 };
-    // This value may stand after that history.
+    // This history may reach the value.
     ghost leads: { History Self.Call Self.Reply → Self → Type 0 };
 
     /// Answers the call of the caller with the number `who`. The memory that the reply needs is

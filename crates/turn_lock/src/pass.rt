@@ -9,9 +9,9 @@ use crate::view::View;
 use atomic_table::Seat;
 use std::marker::Model;
 
-/// Caller `who`, who owns the numbers from `who` to below `high` and has `left` calls left.
-/// Contracts see what a pass has seen of the history, its own entries (`mine`) and those of ended
-/// passes that it took in (`past`).
+/// Caller `who`, which owns the numbers from `who` to below `high` and has `left` calls left. In contracts
+/// it has what the pass has seen of the history, its own entries (`mine`) and those of ended passes that it
+/// took in (`past`).
 #[derive(Drop)]
 pub struct Pass<M: Machine> {
     pub(crate) seat: Seat<Option<Held<M>>, View<M::Call, M::Reply>>,

@@ -1,4 +1,4 @@
-//! What each atomic step on the table tells the seat that makes it.
+//! What each atomic step on the table returns to the seat that makes it.
 ghost use Rattle.std.specs.Prelude.{ℕ};
 ghost use Rattle.turn_lock.specs.Views.{spent_view};
 ghost use Rattle.turn_lock.specs.Steps.{tried, counted, released, looked};
@@ -35,7 +35,8 @@ impl<M: Machine> Play<Option<Held<M>>, View<M::Call, M::Reply>> for Release {
     ghost then = { λ _. released };
 }
 
-/// Where a pass is cut, and how many calls the new one gets, which the proof of the caller names.
+/// The number at which a pass is split, and how many calls the new one gets; the proof of the caller names
+/// both.
 pub(crate) trait Parts {
     ghost at: { ℕ };
 

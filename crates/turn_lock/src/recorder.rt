@@ -1,4 +1,4 @@
-//! The history beside the value that it led to. It exists in proofs alone.
+//! The history beside the value that it reached. It exists in proofs alone.
 ghost use Rattle.std.specs.Prelude.{◌≡◌, ◌<◌, [], ◌++◌, IfOk};
 ghost use Rattle.call_history.specs.Entries.{History};
 
@@ -57,7 +57,7 @@ impl<C, R> Recorder<C, R> {
         Ok(Recorder { table, seat })
     }
 
-    // Adds what `K` says.
+    // Adds the entries of `K`.
     pub(crate) fn add<K: Said<C, R>>(&mut self)
         ensures { self.new ≡ self.old ++ K.said }
     {

@@ -16,7 +16,7 @@ use std::alloc::{AllocError, AllocFailed, Global};
 use std::marker::{Brand, Model};
 use std::sync::Wait;
 
-/// A machine behind a turn. Each call on it needs a pass that it made.
+/// A machine that is called in turns. Each call on it needs a pass that it made.
 #[derive(Drop)]
 pub struct Shared<M: Machine> {
     table: Table<Option<Held<M>>, View<M::Call, M::Reply>, Limits, Turn, Global>,
@@ -38,9 +38,9 @@ impl<M: Machine> Model for Shared<M> {
 }
 
 impl<M: Machine> Shared<M> {
-    /// Shares the value, which may stand after the empty history. The first pass owns the caller
-    /// numbers from 0 to below `numbers`, and has `allowance` calls. For want of memory the value
-    /// comes back as it was given.
+    /// Shares the value, which the empty history must reach. The first pass owns the caller numbers from 0
+    /// to below `numbers`, and has `allowance` calls. If out of memory, returns the value as it was passed
+    /// in the error.
     pub fn start(
         alloc: Global,
         value: M,
@@ -78,9 +78,9 @@ impl<M: Machine> Shared<M> {
         Ok((Shared { table }, pass))
     }
 
-    /// Makes a call, which is lent, under the pass's number: it waits for the turn, and the answer has the
-    /// reply and its place in the history. `Worn` comes exactly where the pass has no calls left, and
-    /// then nothing has changed.
+    /// Makes a call, which is borrowed, under the pass's number: waits for the turn, and returns the reply
+    /// and its place in the history. Returns `Worn` exactly when the pass has no calls left, and then
+    /// nothing has changed.
     pub fn call<W: Wait>(
         &self,
         rt: &W,
@@ -121,8 +121,8 @@ impl<M: Machine> Shared<M> {
         })
     }
 
-    /// Gives a new pass the numbers from `at` on, and `give` of the calls. This pass keeps the
-    /// others. For want of memory it is as before.
+    /// Returns a new pass with the numbers from `at` on, and `give` of the calls. This pass retains the
+    /// others. If out of memory, it is as before.
     pub fn split(&self, pass: &mut Pass<M>, at: u32, give: u64) -> Result<Pass<M>, AllocError>
         requires belongs { pass.old.table ≡ self.now.table }
         requires numbers { (pass.old.who < at) × (at < pass.old.high) }
