@@ -1,4 +1,4 @@
--- What the tests of a text's beginning tell.
+-- What the tests of a text's beginning mean.
 use Rattle.std.proofs.Common.{◌≡◌, ◌≢◌, ℕ, Bool, true, IsTrue, Option, Some, None, MatchOption, List, ◌++◌, length, drop}
 use Rattle.std.specs.Borrow.{Bor}
 use Rattle.log_check.specs.Certificate.{BeginsWith}

@@ -1,4 +1,4 @@
--- Where no caller awaits anything, the history is a run, whose notes are the callers'; and else it is none.
+-- If no caller awaits anything, the history is a run, whose notes are the callers'; otherwise it is none.
 use Rattle.std.proofs.Common.{◌≡◌, ℕ, Bool, suc, ◌+◌, List, [], ◌∷◌, ◌++◌, length, Option, Some, None, refl, ap, ap₂, sym, ◌∙◌, subst, arith, get_or, add-zero}
 use Rattle.std.specs.Prelude.{All, slice_get, option_map}
 use Rattle.std.specs.List.{flat_map}

@@ -26,7 +26,7 @@ pair who call = (who, call)
 some_same : {A : Type 0} {x y : A} → Some x ≡ Some y → x ≡ y
 some_same same = cc same
 
--- steps go on by their next call, whatever is replied
+-- steps continue by their next call, whatever the reply
 reached_next : {A : Type 0} (steps rest : Steps A) (es : History) (who : ℕ) (call : Call) (reply : Reply) → Reaches steps es rest → next_of steps es ≡ Some (who, call)
     → (more : Steps A) × Reaches steps (es ++ entry who call reply ∷ []) more
 reached_next (Done value) rest [] who call reply so next = absurd (cc next)
@@ -53,7 +53,7 @@ begun_reached (Ask w asked more) rest (x ∷ es) fs so =
     let behind = begun_reached (more x.reply) rest es fs so.2 in
     (behind.0, (so.0, so.1, behind.1))
 
--- no call comes next where the steps are done
+-- there is no next call if the steps are done
 pub none_next : {A : Type 0} (steps : Steps A) (es : History) (value : A) → Reaches steps es (Done value) → next_of steps es ≡ None
 none_next steps [] value so = ap (λ s. next_of s []) so
 none_next (Done other) (x ∷ es) value so = absurd so
@@ -131,7 +131,7 @@ follows_next seed script h e follows =
           (subst (λ (es : History). Reaches (section_steps seed e.who section) es so.0) (entries_of-append (entries_by e.who h) ((length h, e) ∷ [])) so.1),
     )
 
--- behind a whole run comes nothing
+-- after a whole run comes nothing
 pub run_ends : (seed : List ℕ) (script : List Section) (h : History) (e : MountEntry) → IsRunOf seed script h → Follows seed script (h ++ e ∷ []) → ⊥
 run_ends seed script h e run follows =
     let next = follows_next seed script h e follows in

@@ -1,4 +1,4 @@
--- What the first words of a line tell, and that a line is never empty.
+-- What the first words of a line determine, and that a line is never empty.
 use Rattle.std.proofs.Common.{◌≡◌, ℕ, ◌<◌, ◌^◌, List, [], ◌∷◌, ◌++◌, length, codes, refl, ap, sym, ◌∙◌, append_assoc, length-append, arith}
 use Rattle.std.proofs.lemmas.List.{append_cancel_left}
 use Rattle.text_words.specs.Numbers.{decimal_of}
@@ -23,7 +23,7 @@ has_head text place e begins =
     regrouped : (a b c y : List ℕ) → (a ++ (b ++ c)) ++ y ≡ (a ++ b) ++ (c ++ y)
     regrouped a b c y = append_assoc a (b ++ c) y ∙ ap (λ l. a ++ l) (append_assoc b c y) ∙ sym (append_assoc a b (c ++ y))
 
--- so the caller is told by them
+-- so they determine the caller
 pub same_caller : (text : List ℕ) (place who uid : ℕ) (e : MountEntry) → who < 2 ^ 64 → EntryIsInRange e → BeginsWith text (line_head place who uid ++ codes " ")
     → BeginsWith text (entry_text place e) → who ≡ e.who
 same_caller text place who uid e small range head line =
@@ -35,7 +35,7 @@ same_caller text place who uid e small range head line =
     by_fields : (p w u x : List ℕ) → ((p ++ (codes " " ++ (w ++ (codes " " ++ u)))) ++ codes " ") ++ x ≡ p ++ (codes " " ++ (w ++ (codes " " ++ (u ++ (codes " " ++ x)))))
     by_fields p w u x = simp append_assoc
 
--- what stands behind a line is shorter
+-- the text after a line is shorter
 pub behind_shorter : (place : ℕ) (e : MountEntry) (text rest : List ℕ) → text ≡ entry_text place e ++ rest → length rest < length text
 behind_shorter place e text rest is = shorter (entry_text place e) (nothing_told place e []) is
   where

@@ -68,7 +68,7 @@ none_added : (refused : Bool) (own : List (List ℕ)) → own ≡ [] → cond re
 none_added true own none = refl
 none_added false own none = ap (λ (l : List (List ℕ)). l ++ []) none
 
--- where none is added, whatever was replied
+-- if none is added, whatever the reply
 same_raws : (h : History) (caller : ℕ) (call : Call) (a b : Reply) → raw_of call.op ≡ []
     → raws_added (h ++ entry caller call a ∷ []) ≡ raws_added (h ++ entry caller call b ∷ [])
 same_raws [] caller call a b none = none_added (is_refused a) (raw_of call.op) none ∙ sym (none_added (is_refused b) (raw_of call.op) none)
@@ -78,8 +78,9 @@ agree_alike : (g h : History) → raws_added g ≡ raws_added h → KeysAgree h 
 agree_alike g h same agree a b has_a has_b =
     agree a b (subst (λ (l : List (List ℕ)). Contains l a) same has_a) (subst (λ (l : List (List ℕ)). Contains l b) same has_b)
 
--- Behind one history a lawful reply to a call and a legal one are the same, but for want of memory, where the raw keys
--- agree that were added with the legal one: what adding a key is answered comes from the claims, whatever was added.
+-- After one history a lawful reply to a call and a legal one are the same, except out of memory, if the raw
+-- keys agree that were added with the legal one: the answer to adding a key comes from the claims, whatever
+-- was added.
 pub one_lawful_reply : (h : History) (caller : ℕ) (call : Call) (a b : Reply) → IsLawful (h ++ entry caller call a ∷ [])
     → IsLegal (h ++ entry caller call b ∷ []) → KeysAgree (h ++ entry caller call b ∷ []) → OneReply call a b
 one_lawful_reply h caller call a b lawful legal agree = ⊎_elim

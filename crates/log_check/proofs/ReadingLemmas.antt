@@ -1,4 +1,4 @@
--- Who has the next line, and what a line that was read, or wasn't, makes of the callers.
+-- Which caller has the next line, and what a line that was read, or wasn't, makes of the callers.
 use Rattle.std.proofs.Common.{◌≡◌, ◌≢◌, ◌<◌, ◌^◌, ℕ, Bool, ◌+◌, List, [], ◌∷◌, ◌++◌, length, Option, Some, None, refl, ap, sym, ◌∙◌, subst, arith, ⊎_elim, append_assoc, length-append, get_or}
 use Rattle.std.specs.Prelude.{All, slice_get, option_map, codes}
 use Rattle.std.proofs.Math.ListN.{set}
@@ -94,7 +94,7 @@ module _ {M : Type 0} (strict : Bool) (led : History → M → Type 0) where
       ∙ ap (λ (s : Section). next_call seed e.who s (entries_of (entries_by e.who h))) (sym section) ∙ next.2 in
       (at.0, at.1, told_call at.0.caller e.who e.call at.0.waiting asks, own.numbered)
 
-  -- where no caller has the line that the text begins with, nothing goes on
+  -- if no caller has the line that the text begins with, no entry continues the history
   pub blocked_unheard : (seed : List ℕ) (script : List Section) (place : ℕ) (text : List ℕ) (h : History) (callers : List CallerView) (mount : M)
       → IsWhose callers place text None → StandBehind led seed script h callers mount → IsBlocked strict seed script h place text
   blocked_unheard seed script place text h callers mount whose stand e possible begins =
@@ -102,7 +102,7 @@ module _ {M : Type 0} (strict : Bool) (led : History → M → Type 0) where
       whose e.who waits.0 waits.1 e.call waits.2
       (subst (λ (n : ℕ). BeginsWith text (line_head place n e.call.uid ++ codes " ")) (sym waits.3) (has_head text place e begins))
 
-  -- nor where a caller has, but the mount has no reply of such a line
+  -- nor if a caller has it, but the mount has no reply of such a line
   pub blocked_unreplied : (seed : List ℕ) (script : List Section) (place : ℕ) (text : List ℕ) (h : History) (callers : List CallerView) (mount : M)
       (number who : ℕ) (call : Call) → who < 2 ^ 64 → ((caller : CallerView) → slice_get callers number ≡ Some caller → who ≡ caller.caller)
       → IsWhose callers place text (Some (pair number call)) → IsUnreplied strict led mount text place who call

@@ -1,4 +1,4 @@
--- What a mount's reply tells of the others.
+-- What a mount's reply implies for the others.
 use Rattle.std.proofs.Common.{◌≡◌, ◌≢◌, ℕ, Bool, false, IsTrue, List, [], ◌∷◌, ◌++◌, ap, sym, ◌∙◌, subst, ⊎_elim}
 use Rattle.std.proofs.lemmas.Bool.{cases_Bool}
 use Rattle.call_history.specs.Entries.{entry}
@@ -14,8 +14,8 @@ use Rattle.log_check.specs.Certificate.{BeginsWith}
 use Rattle.log_check.specs.Replies.{IsUnreplied}
 use Rattle.log_check.proofs.LegalLemmas.{one_lawful_reply}
 
--- a call that was replied one thing by a mount, which is not want of memory, and whose line the text doesn't begin
--- with, is unreplied, where the text has no want of memory either
+-- if a mount gave a call a reply other than out of memory, whose line the text doesn't begin with, the call
+-- is unreplied, unless the text has out of memory for it
 unreplied_so : {M : Type 0} (strict : Bool) (led : History → M → Type 0) (lawful : (history : History) (mount : M) → led history mount → IsLawful history)
     (old new : M) (text : List ℕ) (place caller : ℕ) (call : Call) (given : Reply)
     → ((history : History) → led history old → led (history ++ entry caller call given ∷ []) new)
@@ -30,7 +30,7 @@ unreplied_so strict led lawful old new text place caller call given goes no_want
     (λ lax. no_wanting lax wants.0 (subst (λ (r : Reply). BeginsWith text (entry_text place (entry caller call r))) same begins)) (cases_Bool strict)) wants.1)
     (one_lawful_reply history caller call given reply (lawful (history ++ entry caller call given ∷ []) new (goes history so)) legal agree)
 
--- the same of entries: the one that was asked has want of memory, and the one that was answered what was given
+-- the same of entries: the entry of the question has out of memory, and the answered one the given reply
 pub unreplied : {M : Type 0} (strict : Bool) (led : History → M → Type 0) (lawful : (history : History) (mount : M) → led history mount → IsLawful history)
     (old new : M) (text : List ℕ) (place : ℕ) (asked answered : MountEntry) (given : Reply)
     → asked.reply ≡ Refused NoMemory → answered ≡ entry asked.who asked.call given

@@ -1,4 +1,4 @@
--- What is said in the end, and what is read from the start on.
+-- The verdict at the end, and what is read from the start on.
 use Rattle.std.proofs.Common.{◌≡◌, ℕ, Bool, true, false, List, [], ◌∷◌, ◌++◌, Result, Ok, Err, IfOk, sym, subst}
 use Rattle.mount_model.specs.History.{History}
 use Rattle.mount_model.specs.Lawful.{IsLawful}

@@ -8,7 +8,7 @@ use Rattle.next_calls.specs.Callers.{CallerView}
 use Rattle.next_calls.specs.EntriesSoFar.{Awaits}
 use Rattle.log_check.specs.Reading.{IsCaller, AreCallers}
 
--- the first so many of them
+-- the first `count` of them
 pub record AreFirst (seed : List ℕ) (script : List Section) (count : ℕ) (callers : List CallerView) : Type 0 where
   pub many : length callers ≡ count
   pub each : (number : ℕ) (caller : CallerView) → slice_get callers number ≡ Some caller → IsCaller seed script [] number caller

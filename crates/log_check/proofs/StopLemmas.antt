@@ -1,4 +1,5 @@
--- Where a text stops being a log it is refused, and no history goes further; where it doesn't, it is certified.
+-- At the place where a text stops being a log it is refused, and no history goes further; if there is no
+-- such place, it is certified.
 use Rattle.std.proofs.Common.{◌≡◌, ◌≢◌, Bool, ◌<◌, ◌≤◌, ◌^◌, ℕ, suc, zero, ◌+◌, List, [], ◌∷◌, ◌++◌, length, refl, ap, sym, ◌∙◌, subst, arith, ⊎_elim, inl, inr, append_assoc, append-nil, add-zero}
 use Rattle.std.specs.Prelude.{◌⊎◌, All, Option, Some, None, slice_get}
 use Rattle.std.proofs.lemmas.Bool.{cases_lt}
@@ -42,7 +43,7 @@ log_from-none : (p : ℕ) → log_from p [] ≡ []
 unfolding log_from
 log_from-none p = refl
 
--- the line of the next entry, and what stands behind it
+-- the line of the next entry, and the text after it
 pub log-more : (h : History) (e : MountEntry) (more : History) → log_text (h ++ e ∷ more) ≡ log_text h ++ (entry_text (length h) e ++ log_from (length h + 1) more)
 log-more h e more =
     let counted : 0 + length h ≡ length h = omega arith in
@@ -102,7 +103,7 @@ module _ (strict : Bool) where
     memory = read.memory;
   }
 
-  -- what a text begins with is one history of so many entries, and one rest
+  -- a text begins with one history of a given number of entries, and has one rest
   same_beginning : (seed : List ℕ) (script : List Section) (g h : History) (x y : List ℕ) → length g ≡ length h → length g < 2 ^ 64
       → All EntryIsInRange g → All EntryIsInRange h → Follows seed script g → Follows seed script h → log_text g ++ x ≡ log_text h ++ y → (g ≡ h) × (x ≡ y)
   same_beginning seed script g h x y long small rg rh fg fh same =

@@ -6,11 +6,11 @@ use Rattle.script_lang.specs.declared.commands.Section.{Section}
 use Rattle.reply_text.specs.Ranges.{EntryIsInRange}
 use Rattle.fsc_session.specs.Meaning.{Follows}
 
--- where it is strict, nothing in the history is out of memory
+-- if it is strict, nothing in the history is out of memory
 abbrev pub HasMemory : Bool → History → Type 0
 HasMemory strict history = IsTrue strict → NeverWantsMemory history
 
--- What may stand in a log of the script with the seed: each caller's entries are a beginning of a run of its
+-- What a log of the script with the seed may contain: each caller's entries are a beginning of a run of its
 -- section, the one-thread mount may reply so, and what a line shows is in the range of its type. No two
 -- different raw keys that were added share an identifier.
 pub record IsPossible (strict : Bool) (seed : List ℕ) (script : List Section) (history : History) : Type 0 where

@@ -12,7 +12,7 @@ IsEnded callers text =
     All (λ caller. caller.waiting ≡ None) callers
     × (text ≡ notes_text (flat_map (λ caller. caller.notes) callers))
 
--- the verdict at this place: certified where all is ended, and else refused here
+-- the verdict at this place: certified if all is ended, and otherwise refused here
 abbrev pub IsVerdictHere : List CallerView → ℕ → List ℕ → Verdict → Type 0
 IsVerdictHere callers place text Certified = IsEnded callers text
 IsVerdictHere callers place text (Refused at) = (at ≡ place) × (¬ IsEnded callers text)

@@ -17,7 +17,7 @@ use Rattle.fsc_session.specs.Meaning.{Follows, whole_log}
 use Rattle.log_check.specs.Certificate.{HasMemory}
 use Rattle.log_check.specs.Verdicts.{IsRefusedAt}
 
--- a history that follows a script goes on by a caller's next call, whatever is replied to it
+-- a history that follows a script continues by a caller's next call, whatever the reply
 abbrev pub NextCallsFollow : Type 0
 NextCallsFollow =
     (seed : List ℕ) (script : List Section) (history : History) (caller : ℕ) (section : Section) (call : Call)
@@ -25,7 +25,7 @@ NextCallsFollow =
     → next_call seed caller section (entries_of (entries_by caller history)) ≡ Some (caller, call)
     → Follows seed script (history ++ entry caller call reply ∷ [])
 
--- the replies that the one-thread mount has to one call behind one history are the same, but for want of
+-- the replies that the one-thread mount has to one call after one history are the same, except out of
 -- memory, which only some calls may have
 abbrev pub MountsHaveOneReply : Type 0
 MountsHaveOneReply =
@@ -33,8 +33,8 @@ MountsHaveOneReply =
     → IsLegal (history ++ entry caller call a ∷ []) → IsLegal (history ++ entry caller call b ∷ [])
     → (a ≡ b) ⊎ (IsTrue (takes_memory call.op) × ((a ≡ Refused NoMemory) ⊎ (b ≡ Refused NoMemory)))
 
--- the log of a lawful run, with its notes, is refused at no place, where its entries are in range and the raw
--- keys that were added agree: so what a program wrote of a run of its own checks, and strictly where nothing in
+-- the log of a lawful run, with its notes, is refused at no place, if its entries are in range and the raw
+-- keys that were added agree. So a program's log of its own run is certified, and strictly if nothing in
 -- the run was out of memory
 abbrev pub LogsOfRunsAreNotRefused : Type 0
 LogsOfRunsAreNotRefused =

@@ -30,8 +30,8 @@ IsWhose callers place text (Some found) =
     (caller : CallerView) × (slice_get callers found.0 ≡ Some caller)
     × IsAwaited caller place text (Some found.1)
 
--- where a line was read, the callers and the mount stand behind the history with one entry more, whose line
--- the text began with; where none was, all is as before, but for the mount, and no entry goes on by such a line
+-- if a line was read, the callers and the mount are after the history with one entry more, whose line the
+-- text began with; if none was, all is as before, except the mount, and no entry continues by such a line
 abbrev pub IsLineRead : {M : Type 0} → Bool → (History → M → Type 0) → List ℕ → List CallerView → ℕ → List ℕ
     → M → List CallerView → ℕ → List ℕ → M → Bool → Type 0
 IsLineRead strict led seed callers place text mount callers' place' text' mount' true =

@@ -1,4 +1,4 @@
--- What a text says that a call was replied, and what a mount may reply.
+-- The reply to a call that a text contains, and what a mount may reply.
 use Rattle.std.specs.Prelude.{◌≡◌, ◌≢◌, ℕ, Bool, IsTrue, List, [], ◌∷◌, ◌++◌}
 use Rattle.call_history.specs.Entries.{entry}
 use Rattle.mount_model.specs.declared.call.Call.{Call}
@@ -11,12 +11,12 @@ use Rattle.reply_text.specs.Log.{entry_text}
 use Rattle.reply_text.specs.Ranges.{EntryIsInRange}
 use Rattle.log_check.specs.Certificate.{BeginsWith}
 
--- where it is strict, the reply isn't want of memory
+-- if it is strict, the reply isn't out of memory
 abbrev pub ReplyHasMemory : Bool → Reply → Type 0
 ReplyHasMemory strict reply = IsTrue strict → reply ≢ Refused NoMemory
 
--- the text begins with the line of this reply to the caller's call, and behind it stands the rest; and which
--- history may have led to the mount before, that one with this entry may have led to it now
+-- the text begins with the line of this reply to the caller's call, and the rest comes after it; and each
+-- history that may reach the mount before may, with this entry, reach it now
 pub record IsReplied {M : Type 0} (strict : Bool) (led : History → M → Type 0) (old new : M) (text : List ℕ)
     (place caller : ℕ) (call : Call) (reply : Reply) (rest : List ℕ) : Type 0 where
   pub line : text ≡ entry_text place (entry caller call reply) ++ rest
@@ -24,8 +24,8 @@ pub record IsReplied {M : Type 0} (strict : Bool) (led : History → M → Type 
   pub memory : ReplyHasMemory strict reply
   pub led_to : (history : History) → led history old → led (history ++ entry caller call reply ∷ []) new
 
--- behind a history that may have led to the mount, the text begins with no line of a reply that the
--- one-thread mount may have to the caller's call
+-- after a history that may reach the mount, the text begins with no line of a reply that the one-thread
+-- mount may have to the caller's call
 abbrev pub IsUnreplied : {M : Type 0} → Bool → (History → M → Type 0) → M → List ℕ → ℕ → ℕ → Call → Type 0
 IsUnreplied strict led mount text place caller call =
     (history : History) → led history mount → (reply : Reply)

@@ -1,4 +1,4 @@
--- Where a text that was read up to a place goes on as no log does.
+-- The place at which a text that was read so far continues as no log does.
 use Rattle.std.specs.Prelude.{◌≡◌, ◌≢◌, ◌<◌, ◌^◌, ℕ, Bool, List, [], ◌∷◌, ◌++◌, length, All}
 use Rattle.mount_model.specs.History.{MountEntry, History}
 use Rattle.mount_model.specs.Lawful.{IsLawful}
@@ -10,7 +10,7 @@ use Rattle.fsc_session.specs.ScriptRun.{IsRunOf, notes_of}
 use Rattle.fsc_session.specs.Meaning.{Follows}
 use Rattle.log_check.specs.Certificate.{HasMemory, IsPossible, BeginsWith}
 
--- so many entries of a history were read from the text, and this is the rest of it
+-- that many entries of a history were read from the text, and this is the rest of it
 pub record IsRead (strict : Bool) (seed : List ℕ) (script : List Section) (text : List ℕ) (place : ℕ)
     (rest : List ℕ) (history : History) : Type 0 where
   pub read : text ≡ log_text history ++ rest
@@ -21,7 +21,7 @@ pub record IsRead (strict : Bool) (seed : List ℕ) (script : List Section) (tex
   pub lawful : IsLawful history
   pub memory : HasMemory strict history
 
--- no entry goes on behind the history, whose line the rest begins with
+-- no entry continues the history whose line the rest begins with
 abbrev pub IsBlocked : Bool → List ℕ → List Section → History → ℕ → List ℕ → Type 0
 IsBlocked strict seed script history place rest =
     (e : MountEntry) → IsPossible strict seed script (history ++ e ∷ [])

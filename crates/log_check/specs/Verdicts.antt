@@ -1,4 +1,4 @@
--- What is said of a text that may be a log.
+-- The verdict on a text that may be a log.
 use Rattle.std.specs.Prelude.{◌≡◌, ◌≢◌, ◌<◌, ◌≤◌, ◌^◌, ℕ, Bool, List, length, All}
 use Rattle.mount_model.specs.History.{History}
 use Rattle.mount_model.specs.Lawful.{IsLawful, KeysAgree}
@@ -11,9 +11,9 @@ use Rattle.log_check.specs.declared.check.Verdict.{Verdict}
 use Rattle.log_check.specs.declared.check.Verdict.TheVariants.{Certified, Refused}
 use Rattle.log_check.specs.Certificate.{HasMemory, IsPossible, BeginsWith}
 
--- The text is the log, with its notes, of a history in which each caller's entries are a run of its section;
--- the history has fewer entries than there are places, is lawful, and a possible one where the raw keys that
--- were added agree. Where it is strict, nothing in it is out of memory.
+-- The text is the log, with its notes, of a history in which each caller's entries are a run of its
+-- section. The history has fewer entries than there are places, is lawful, and a possible one if the raw
+-- keys that were added agree. If it is strict, nothing in it is out of memory.
 pub record IsCertified (strict : Bool) (seed : List ℕ) (script : List Section) (text : List ℕ) : Type 0 where
   pub history : History
   pub runs : IsRunOf seed script history
@@ -24,8 +24,8 @@ pub record IsCertified (strict : Bool) (seed : List ℕ) (script : List Section)
   pub memory : HasMemory strict history
   pub possible : KeysAgree history → IsPossible strict seed script history
 
--- So many entries of a history stand at the beginning of the text: it is lawful, and a possible one where the
--- raw keys that were added agree. Of no possible history the text has more, and it is the log of no possible
+-- The text begins with that many entries of a history, which is lawful, and a possible one if the raw keys
+-- that were added agree. The text has more entries of no possible history, and it is the log of no possible
 -- run.
 pub record IsRefusedAt (strict : Bool) (seed : List ℕ) (script : List Section) (text : List ℕ) (place : ℕ)
     : Type 0 where

@@ -22,13 +22,13 @@ pub enum Verdict {
     Refused { place: u64 },
 }
 
-/// Checks a text against a script, the seed of its run, and a mount that was not called yet.
+/// Checks a text against a script, the seed of its run, and a mount that was not called yet. Returns
+/// `Certified` if the text is a log, and otherwise `Refused`, with the number of lines that can be of one.
 ///
-/// The callers' calls are made anew from what the text says they were replied, the mount answers each, and
-/// the line that comes of it is compared. Where the text has `refused no-memory` for a call that may take
-/// memory, the mount is not asked; a strict check takes no such line. `Certified` comes where the text is a log,
-/// and else `Refused`, with the number of lines that can be of one. The one error is want of memory: the check's
-/// own, or the mount's where it is asked. Then nothing is said of the text.
+/// The callers' calls are made again from the replies in the text, the mount answers each, and the
+/// resulting line is compared. If the text has `refused no-memory` for a call that may take memory, the
+/// mount is not called; a strict check takes no such line. The one error is out of memory: of the check
+/// itself, or of the mount if it is called. Then there is no verdict.
 pub fn check_log<S: Stretch, T: OneThread>(
     alloc: Global,
     stretches: &S,

@@ -1,4 +1,4 @@
-//! What a run of a script has at a place where a log is refused.
+//! What a run of a script has at the place of a log's refusal.
 
 ghost use Rattle.std.specs.Prelude.{◌≡◌, [], All, IfOk, IfSome, length};
 ghost use Rattle.log_check.specs.Due.{IsDue};
@@ -22,18 +22,18 @@ use script_lang::Script;
 use std::alloc::{AllocError, Global};
 use text_words::{decimal_value, next_line, nth_word};
 
-/// What a run of a script has behind the lines that a text has of it.
+/// What a run of a script has after the lines that a text has of it.
 #[derive(Drop)]
 pub enum Due {
-    /// This line, of a caller's next call, and the line of the script that its command stands in.
+    /// This line, of a caller's next call, and the line of the script with its command.
     Line { line: Bytes, command: Option<u32> },
     /// The lines of these notes, since all calls are made.
     Notes(Bytes),
 }
 
-/// What a run of a script has behind so many lines of a text, on a mount that was not called yet; none where no run
-/// has that many of them. Where the text goes on with a line of a caller that has a call to make, it is that
-/// caller's. The one error is want of memory.
+/// Returns what a run of a script has after the first `place` lines of a text, on a mount that was not
+/// called yet, or `None` if no run has that many of them. If the text continues with a line of a caller
+/// that has a call to make, the result is that caller's line. The one error is out of memory.
 pub fn due_behind<S: Stretch, T: OneThread>(
     alloc: Global,
     stretches: &S,
@@ -107,7 +107,7 @@ impl<'a, 't> Reading<'a, 't> {
     }
 }
 
-// The line of the caller's call, with the mount's reply to it. What no log shows of the call is overwritten.
+// Returns the line of the caller's call, with the mount's reply to it. Wipes what no log shows of the call.
 fn due_line<T: OneThread>(
     alloc: Global,
     place: u64,
@@ -130,8 +130,8 @@ fn due_line<T: OneThread>(
     line
 }
 
-// A caller that waits for a reply, by its number, with the call: the one that the text's next line names, where it
-// waits, and else the first.
+// Returns a caller that waits for a reply, by its number, with the call: the one that the text's next line
+// names, if it waits, and otherwise the first.
 fn waiting_caller<'a>(
     alloc: Global,
     callers: &[Caller<'a>],

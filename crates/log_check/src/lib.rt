@@ -1,5 +1,5 @@
 //! A log checked as a certificate: whether a text can be the log of a script with a seed, and if not, up to
-//! where.
+//! which place.
 #![tactic(auto)]
 
 mod check;

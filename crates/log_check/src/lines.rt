@@ -1,4 +1,4 @@
-//! What a text has at a place, compared with what stands in a log there. No number is read from the text.
+//! What a text has at a place, compared with what a log has there. No number is read from the text.
 
 ghost use Rattle.std.specs.Prelude.{◌≡◌, ◌++◌, codes, IfOk, IsTrue, ◌↔◌, MatchOption};
 ghost use Rattle.log_check.specs.Certificate.{BeginsWith};
@@ -12,7 +12,7 @@ use reply_text::entry_line;
 use std::alloc::{AllocError, Global};
 use text_words::push_decimal;
 
-// What stands behind the entry's line, where the text begins with that.
+// Returns the text after the entry's line, if the text begins with that line.
 pub(crate) fn behind_line<'t>(
     alloc: Global,
     place: u64,
@@ -41,7 +41,7 @@ pub(crate) fn is_line_of(
     Ok(text.starts_with(head.as_slice()))
 }
 
-// Place, caller and user, with the space behind them.
+// Returns place, caller and user, with the space after them.
 fn head_of(alloc: Global, place: u64, caller: u32, uid: u32) -> Result<Bytes, AllocError>
     ensures { IfOk result (λ head. head ≡ line_head place caller uid ++ codes " ") }
 {

@@ -1,4 +1,4 @@
-//! Who answers the calls of a log that is checked.
+//! The machine that answers the calls of a log that is checked.
 
 ghost use Rattle.std.specs.Prelude.{ℕ, IsTrue, [], ◌∷◌, ◌++◌};
 ghost use Rattle.call_history.specs.Entries.{entry};
@@ -14,20 +14,20 @@ use mount_model::{Call, Reply};
 
 /// A mount that one thread alone calls, for all callers.
 pub trait OneThread {
-    // Whether the history may have led to it.
+    // Whether the history may reach it.
     ghost led: { History → Self → Type 0 };
 
-    /// Answers the caller's call. Whichever history may have led to the mount, that one with this entry
-    /// behind it may have led to what it is now.
+    /// Answers the caller's call. Each history that may reach the mount before may, with this entry after
+    /// it, reach it now.
     fn answer(&mut self, caller: u32, call: &Call) -> Reply
         requires fits { Fits call.now }
         ensures led { (history : History) → led history self.old
             → led (history ++ entry caller call.now result ∷ []) self.new };
 
-    // What may have led to it is lawful.
+    // Each history that may reach it is lawful.
     ghost led_lawful: { (history : History) (mount : Self) → led history mount → IsLawful history };
 
-    // A call that takes memory and wanted some leaves it as it is.
+    // A call that takes memory and was out of memory leaves it as it is.
     ghost led_without_memory: { (history : History) (mount : Self) (caller : ℕ) (call : Call)
         → Fits call → IsTrue (takes_memory call.op) → led history mount
         → led (history ++ entry caller call (Refused NoMemory) ∷ []) mount };

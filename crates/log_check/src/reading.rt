@@ -1,4 +1,4 @@
-//! A text that is read line by line, with the callers that its lines are told.
+//! A text that is read line by line, with the callers that take its entries.
 
 ghost use Rattle.std.specs.Prelude.{◌≡◌, ◌+◌, ◌<◌, ◌^◌, All, IfOk, length};
 ghost use Rattle.log_check.specs.Endings.{IsVerdictHere};
@@ -13,7 +13,7 @@ use argon_kdf::Stretch;
 use next_calls::{Caller, Remembering};
 use std::alloc::{AllocError, Global};
 
-// A text from a place on, and the callers of a script, who were told what stands before it.
+// A text from a place on, and the callers of a script, which took the entries before it.
 #[derive(Drop)]
 pub(crate) struct Reading<'a, 't> {
     pub(crate) callers: Vec<Caller<'a>>,
@@ -22,8 +22,9 @@ pub(crate) struct Reading<'a, 't> {
 }
 
 impl<'a, 't> Reading<'a, 't> {
-    // Reads the next line: true where a caller may have such a line next, and the mount may reply so; where it is
-    // strict, no line that tells of want of memory. Each caller has a way to stretch of its own.
+    // Reads the next line. Returns true if a caller may have such a line next, and the mount may reply so.
+    // A strict check reads no line of a call that was out of memory. Each caller has a way to stretch of
+    // its own.
     pub(crate) fn read_line<'w, S: Stretch, T: OneThread>(
         &mut self,
         alloc: Global,
@@ -56,7 +57,7 @@ impl<'a, 't> Reading<'a, 't> {
         Ok(true)
     }
 
-    // What is said where no further line was read.
+    // Returns the verdict if no further line was read.
     pub(crate) fn verdict(&self, alloc: Global) -> Result<Verdict, AllocError>
         ensures { IfOk result (IsVerdictHere self.now.callers.items self.now.place self.now.rest.now) }
     {

@@ -1,4 +1,4 @@
-//! What a text says that a call was replied.
+//! The reply to a call that a text contains.
 
 ghost use Rattle.std.specs.Prelude.{◌≡◌, ◌≢◌, ◌++◌, false, IfOk, IsTrue, MatchOption};
 ghost use Rattle.call_history.specs.Entries.{entry};
@@ -18,9 +18,9 @@ use mount_model::{Call, Op, Refusal, Reply};
 use reply_text::entry_in_range;
 use std::alloc::{AllocError, Global};
 
-// What the caller's call was replied, where the text begins with such a line, and what stands behind it.
-// Where the text has want of memory for a call that may have it, the mount is not asked, unless the check is
-// strict. Where the mount is asked and wants memory, there is no memory.
+// Returns the reply to the caller's call, if the text begins with such a line, and the text after it. If
+// the text has out of memory for a call that may have it, the mount is not called, unless the check is
+// strict. If the mount is called and is out of memory, returns AllocError.
 pub(crate) fn replied<'t, T: OneThread>(
     alloc: Global,
     strict: bool,
@@ -48,8 +48,8 @@ pub(crate) fn replied<'t, T: OneThread>(
     }
 }
 
-// The same of the call of an entry that comes with want of memory: what stands behind the line, whose reply the entry
-// has then. It is lent, so that its call is given up in one place.
+// The same for the call of an entry that is passed with NoMemory: returns the text after the line, and puts
+// its reply into the entry. The entry is borrowed, so that its call is dropped in one place.
 fn behind_reply<'t, T: OneThread>(
     alloc: Global,
     strict: bool,
@@ -83,8 +83,8 @@ fn behind_reply<'t, T: OneThread>(
     }
 }
 
-// What stands behind the entry's line, where the text begins with that, its call may want memory, and the check
-// isn't strict.
+// Returns the text after the entry's line, if the text begins with that line, its call may be out of
+// memory, and the check isn't strict.
 fn behind_want<'t>(
     alloc: Global,
     strict: bool,
@@ -105,7 +105,7 @@ fn behind_want<'t>(
     }
 }
 
-// Whether a mount may want memory for it.
+// Whether a mount may be out of memory for it.
 fn takes_memory(op: &Op) -> bool
     ensures { result ≡ takes_memory op.now }
 {
@@ -135,7 +135,7 @@ fn takes_memory(op: &Op) -> bool
     }
 }
 
-// Whether the reply is want of memory.
+// Whether the reply is out of memory.
 fn wants_memory(reply: &Reply) -> bool
     ensures { result ≡ false → reply.now ≢ Reply.Refused Refusal.NoMemory }
 {
@@ -149,7 +149,7 @@ fn put_reply(asked: &mut Entry<Call, Reply>, reply: Reply)
     asked.reply = reply;
 }
 
-// The entry's reply. What no log shows of its call is overwritten as it is let go.
+// Returns the entry's reply. Wipes what no log shows of its call, and drops it.
 fn reply_of(alloc: Global, answered: Entry<Call, Reply>) -> Reply
     ensures { result ≡ answered.reply }
 {

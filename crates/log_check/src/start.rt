@@ -10,8 +10,8 @@ use next_calls::{Caller, Remembering};
 use script_lang::Script;
 use std::alloc::{AllocError, Global};
 
-// So many ways, each of which remembers its own last tags. With one for all, callers whose lines take turns
-// would push each other's out.
+// Returns `count` ways, each of which caches its own last tags. With one for all, callers whose lines
+// alternate would evict each other's.
 pub(crate) fn remembering_ways<'w, S: Stretch>(
     alloc: Global,
     way: &'w S,
@@ -28,14 +28,14 @@ pub(crate) fn remembering_ways<'w, S: Stretch>(
     Ok(ways)
 }
 
-// Overwrites all that they remember.
+// Wipes all that they cache.
 pub(crate) fn forget<'w, S: Stretch>(ways: Vec<Remembering<'w, S>>) {
     for way in ways {
         way.forget();
     }
 }
 
-// Overwrites what no log shows of the calls that they wait for.
+// Wipes what no log shows of the calls that they wait for.
 pub(crate) fn forget_callers(alloc: Global, callers: Vec<Caller<'_>>) {
     for caller in callers {
         caller.forget(alloc);

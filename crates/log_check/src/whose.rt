@@ -1,4 +1,4 @@
-//! Whose line stands at a place of a text.
+//! Which caller's line is at a place of a text.
 
 ghost use Rattle.std.specs.Prelude.{IfOk};
 ghost use Rattle.log_check.specs.NextLines.{IsAwaited, IsWhose};
@@ -8,8 +8,8 @@ use mount_model::Call;
 use next_calls::Caller;
 use std::alloc::{AllocError, Global};
 
-// The number of the caller of whose next call the text begins with a line, and that call; none where it
-// begins with no such line.
+// Returns the number of the caller of whose next call the text begins with a line, and that call, or `None`
+// if it begins with no such line.
 pub(crate) fn whose_line<'a>(
     alloc: Global,
     callers: &[Caller<'a>],
@@ -26,7 +26,7 @@ pub(crate) fn whose_line<'a>(
     Ok(None)
 }
 
-// The call that the caller makes next, where the text begins with its line.
+// Returns the call that the caller makes next, if the text begins with its line.
 fn awaited_line<'a>(
     alloc: Global,
     caller: &Caller<'a>,

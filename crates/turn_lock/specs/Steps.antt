@@ -1,4 +1,4 @@
--- What each atomic step tells the seat that makes it, and what a split and a join make of views.
+-- What each atomic step returns to the seat that makes it, and what a split and a join make of views.
 use Rattle.std.specs.Prelude.{◌≡◌, ◌≢◌, ℕ, ◌+◌, ◌-◌, ◌≤◌, true, false, [], ◌∷◌}
 use Rattle.std.specs.Prelude.{◌++◌, length, if◌then◌else◌, nat_le, Option, Some}
 use Rattle.atomic_table.specs.Table.{Me}
@@ -9,7 +9,7 @@ use Rattle.turn_lock.specs.declared.view.View.{View}
 use Rattle.turn_lock.specs.Standing.{Standing}
 use Rattle.turn_lock.specs.PassParts.{under, over, longer}
 
--- what a seat knows, and the slots in its hand
+-- what a seat knows, and the slots that it holds
 abbrev pub Seated : Type 0 → Type 0 → Type 0 → Type 0
 Seated V C R = Me (Option (Standing V C R)) (View C R)
 

@@ -9,7 +9,7 @@ module _ {C R : Type 0} where
   abbrev pub Owns : View C R → ℕ → Type 0
   Owns v caller = (v.who ≤ caller) × (caller < v.high)
 
-  -- what seat j knows is so, where the holder is the seat that has the turn, if any
+  -- what seat j knows is so, if the holder is the seat that has the turn, if any has it
   pub record Knows (numbers : ℕ) (history : History C R) (turn holder j : ℕ) (v : View C R) : Type 0 where
     pub begins : IsPrefix v.seen history
     pub told_begins : IsPrefix v.told history

@@ -2,7 +2,7 @@ use Rattle.std.proofs.Common.{◌≡◌, ◌+◌, ◌<◌, ◌^◌, length}
 use Rattle.log_check.proofs.SayLemmas.{Stands}
 use Rattle.log_check.proofs.check.read_log.Given as goal
 
--- a history that may have led to the mount was read up to the place
+-- a history that may reach the mount was read up to the place
 abbrev pub invariant-lines : goal.invariant-lines
 invariant-lines g l = record {
   ways : length l.ways ≡ length l.reading.callers.items;
