@@ -16,7 +16,8 @@ COMMENT = b"a comment is a line of its own"
 
 def no_word(name, number, kind, remedy):
     """What is told of a word of a command that is none of its kind."""
-    return b'line 2: "' + name + b'" has a word, number %d behind it, that is no ' % number + kind + b"; " + remedy
+    fault = b'line 2: "' + name + b'" has a word, number %d behind it, that is no ' % number
+    return fault + kind + b"; " + remedy
 
 
 CALLER = b"caller 0\n"
@@ -105,7 +106,8 @@ BAD_ARGUMENTS = [
      'word 4, "a.fsc": the script comes from standard input: fsc replay-linked --seed HEX64 < FILE'),
     (["replay-linked", "--seed", ZEROS, "--serial"], 'word 4, "--serial": --serial stands before --seed'),
     (["replay-linked", "--serial", "--seed", ZEROS, "a.fsc"],
-     'word 5, "a.fsc": the script comes from standard input: fsc replay-linked --serial --seed HEX64 < FILE'),
+     'word 5, "a.fsc": the script comes from standard input: '
+     'fsc replay-linked --serial --seed HEX64 < FILE'),
     (["replay-linked", "--serial", "--seed", ZEROS, "--serial"],
      'word 5, "--serial": one --serial is enough'),
     (["dump", "--serial"], 'word 2, "--serial": dump takes a seed alone: fsc dump --seed HEX64'),

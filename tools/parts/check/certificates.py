@@ -79,8 +79,10 @@ def two_callers(tally):
     """The three logs of two callers, and one that is none; a session's log without its notes, and by another
     seed."""
     raw = bytes(range(64)).hex()
-    script = f"caller 1000\nadd-key {raw}\ncaller 1001\nkey-status raw:{raw}\nkey-status raw:{raw}\n".encode()
-    added, absent, present = f"0 1000 add-key 64 = added {IDENTIFIER}", "absent self=0 users=0", "present self=0 users=1"
+    script = (f"caller 1000\nadd-key {raw}\ncaller 1001\nkey-status raw:{raw}\nkey-status raw:{raw}\n"
+              f"".encode())
+    added = f"0 1000 add-key 64 = added {IDENTIFIER}"
+    absent, present = "absent self=0 users=0", "present self=0 users=1"
     told = [f"1 1001 key-status {IDENTIFIER} = status {state}" for state in (absent, present)]
     for what, lines, place in (("last", [told[0], told[0], added], None),
                                ("between", [told[0], added, told[1]], None),
@@ -176,7 +178,8 @@ def told_faults(tally):
     not_ended = b"is not ended by a line feed; end the last line by a line feed"
     is_none = b'line 2: "mkdri" is no command; fsc --help lists the commands'
     bad = b"caller 1000\nmkdri /a\n"
-    no_room = b"line 2: there was no room to tell why it is at fault; try the script alone, or where more memory is free"
+    no_room = (b"line 2: there was no room to tell why it is at fault; try the script alone, or where more "
+               b"memory is free")
     for what, given, line, told in (
             ("no input", b"", 1, parting), ("a script alone", script, 3, parting),
             ("an empty line behind a script", script + b"\n", 4, parting),

@@ -29,7 +29,8 @@ TEXTS = [
     (b"caller 1\nunlock d p pass:b\r\n", 2), (b"caller 1\nunlock d p pass:\x7f\n", 2),
     (b"caller 1\nunlock d p pass:\x80\n", 2),
 ]
-CUT = b"# two callers\ncaller 1\nadd-key " + b"40" * 32 + b"\n\ncaller 22\nremove-key id:" + b"0a" * 16 + b"\n"
+CUT = (b"# two callers\ncaller 1\nadd-key "
+       b"" + b"40" * 32 + b"\n\ncaller 22\nremove-key id:" + b"0a" * 16 + b"\n")
 
 
 def examples(tally):

@@ -90,7 +90,8 @@ def nodes():
         for _, _, plain, _, listed in own:
             shown = quote_from_bytes(bytes.fromhex(plain), "-._~")
             yield child, [
-                f"node {child} file {its.hex()} 0"], f"{folder} {listed} file 0 -", f"{folder} {shown} file 0 {empty}"
+                f"node {child} file {its.hex()} 0"], f"{folder} {listed} file 0 -", (
+                    f"{folder} {shown} file 0 {empty}")
             child += 1
     for link, pad, plain, stored in rows(text, "TargetByMode", "link", "pad", "plain", "stored"):
         line = f"node {link} link {context(BY_MODE | PADS[pad]).hex()} {stored}"
@@ -99,7 +100,8 @@ def nodes():
     for number, unit, nonce in FILES:
         its, blocks = stored_file(number, unit, nonce, digests)
         lines = [f"node {number} file {its.hex()} {SIZE}", *(f"block {block.hex()}" for block in blocks)]
-        yield number, lines, f"0 f{number} file {SIZE} -", f"0 f{number} file {SIZE} {sha256(contents()).hexdigest()}"
+        shown = f"0 f{number} file {SIZE} {sha256(contents()).hexdigest()}"
+        yield number, lines, f"0 f{number} file {SIZE} -", shown
 
 
 def linux_image():

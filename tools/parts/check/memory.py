@@ -55,7 +55,8 @@ def bad_lines_without_memory(tally):
     if shutil.which("cc") is None:
         return
     known = b'"mkdri" is no command; fsc --help lists the commands'
-    no_room = b"there was no room to tell why it is at fault; try the script alone, or where more memory is free"
+    no_room = (b"there was no room to tell why it is at fault; try the script alone, or where more memory "
+               b"is free")
     with tempfile.TemporaryDirectory() as room:
         failing = Failing(PROGRAM, room)
         for words in (SERIAL, ["dump", *SERIAL[2:]], ["check", *SERIAL[2:]]):
@@ -65,7 +66,8 @@ def bad_lines_without_memory(tally):
                 status, _, told, *_ = failing.run(words, BAD, number, number)
                 if status != NO_MEMORY:
                     reasons.add(told)
-            head, parting = b"fsc: bad line 2\nfsc: ", b"no line --- stands between the script and its log\nfsc: "
+            head = b"fsc: bad line 2\nfsc: "
+            parting = b"no line --- stands between the script and its log\nfsc: "
             wanted = {head + b"line 2: " + message + b"\n" for message in (known, no_room)}
             if words[0] == "check":
                 # of a text that isn't kept nobody knows whether such a line is there

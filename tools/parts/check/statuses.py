@@ -65,7 +65,8 @@ def progress(tally):
     """
     with open(os.path.join(TOP, "examples", "failed-unlock.fsc"), "rb") as file:
         script = file.read()
-    two = b"# two callers\ncaller 0\n\nmkdir /a\n# the second has no comment\nlist /\ncaller 5\ncaller 7\nadd-key " + b"00" * 32 + b"\n"
+    two = (b"# two callers\ncaller 0\n\nmkdir /a\n# the second has no comment\nlist /\ncaller 5\ncaller 7\n"
+           b"add-key " + b"00" * 32 + b"\n")
     names = [(number, line.split(b" ")[0]) for number,
              line in enumerate(script.splitlines(), 1) if number > 1]
     lines = [b"fsc: line %d: %s" % name for name in names]

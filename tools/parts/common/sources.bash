@@ -1,5 +1,5 @@
-# What a proof of the program rests on, for ./fsc, .ci/run and tools/release, which source this file. `top` is the
-# checkout.
+# What a proof of the program rests on, for ./fsc, .ci/run and tools/release, which source this file. `top`
+# is the checkout.
 
 # The kit's line: the file beside its command, else what the command prints.
 kit_line() {

@@ -108,7 +108,8 @@ def with_copy(crate, edit, number, texts, is_edited=True):
     own, files = copied_for(crate, law, edit, texts)
     module = law.file[4:-3]
     names = {modules[file]: f"{modules[file]}_as_{number}" for file in files}
-    names[f"Rattle.{crate}.proofs.{module}.{law.name}"] = f"Rattle.{crate}.proofs.{module}_as_{number}.{law.name}"
+    proofs = f"Rattle.{crate}.proofs."
+    names[f"{proofs}{module}.{law.name}"] = f"{proofs}{module}_as_{number}.{law.name}"
     pattern = re.compile(rf"({'|'.join(sorted(map(re.escape, names), key=len, reverse=True))})(?![\w-])")
     renamed = lambda text: pattern.sub(lambda found: names[found[1]], text)
     made, now = dict(texts), {**texts, **(whole(edit, texts) if is_edited else {})}

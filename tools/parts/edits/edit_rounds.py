@@ -7,13 +7,15 @@ import os
 import re
 from dataclasses import replace
 
-from parts.edits.wrong_edits import BLOCK, FUNCTION, NOTHING, Edit, Function, ensured, every_function, place_of, reduced
+from parts.edits.wrong_edits import BLOCK, FUNCTION, NOTHING, Edit, Function
+from parts.edits.wrong_edits import ensured, every_function, place_of, reduced
 
 # What names another function's proof.
 NAMED = r"\bRattle\.{crate}\.proofs\.([\w.]+)\.(?:Answers|Invariants|Proof)\b"
 # An answer for a goal of the function's end.
 ANSWER = re.compile(r"pub ((?:returns|ends)\b[\w-]*)\s*:")
-HOLE = "use Rattle.{crate}.proofs.{path}.Statement.{{statement}}\n\npub {name}_spec : {{M : Type 1}} → statement M\n{name}_spec = ?\n"
+HOLE = ("use Rattle.{crate}.proofs.{path}.Statement.{{statement}}\n\npub {name}_spec : {{M : Type 1}} → "
+        "statement M\n{name}_spec = ?\n")
 
 
 def holed(crate, texts, untouched, taken, kept=()):
@@ -153,7 +155,8 @@ def with_copies(crate, edits, texts):
         taken.append(Function(home.file, home.of_type, name, first, moved(home.body), moved(home.last),
                               home.is_plain))
         made.append(replace(edit, function=taken[-1]))
-        own, folder = f"Rattle.{crate}.proofs.{place.replace('::', '.')}.", f"proofs/{place.replace('::', '/')}/"
+        own = f"Rattle.{crate}.proofs.{place.replace('::', '.')}."
+        folder = f"proofs/{place.replace('::', '/')}/"
         for file in [text for text in texts if text.startswith(folder)]:
             text = texts[file].replace(own, f"{own[:-len(home.name) - 1]}{name}.")
             texts[f"{folder[:-len(home.name) - 1]}{name}/{file[len(folder):]}"] = text

@@ -1,7 +1,7 @@
 /* What the measure has to find, and what it must not report. Each function is given a secret of 32 bytes.
-   Found are: AES-256 with a table for its S-box, whose addresses depend on the key; a comparison that ends at the first
-   difference; a division of a secret; and secret bytes that the kernel is given. Not reported are: a comparison of all
-   bytes, and a shuffle whose places are secret. */
+   Found are: AES-256 with a table for its S-box, whose addresses depend on the key; a comparison that ends
+   at the first difference; a division of a secret; and secret bytes that the kernel is given. Not reported
+   are: a comparison of all bytes, and a shuffle whose places are secret. */
 #include <stdint.h>
 #include <string.h>
 #include <tmmintrin.h>
@@ -50,7 +50,8 @@ __attribute__((noinline)) void table_cipher(const uint8_t *key, uint8_t *block) 
         for (int c = 0; c < 16; c += 4)
             for (int k = 0; k < 4; k++) {
                 uint8_t a = s[c + k], b = s[c + (k + 1) % 4];
-                block[c + k] = r == 14 ? a : product(a, 2) ^ product(b, 3) ^ s[c + (k + 2) % 4] ^ s[c + (k + 3) % 4];
+                block[c + k] =
+                    r == 14 ? a : product(a, 2) ^ product(b, 3) ^ s[c + (k + 2) % 4] ^ s[c + (k + 3) % 4];
             }
         for (int k = 0; k < 16; k++) block[k] ^= w[16 * r + k];
     }
@@ -77,7 +78,8 @@ __attribute__((noinline)) void all_bytes(const uint8_t *a, const uint8_t *b, uin
 }
 
 __attribute__((noinline)) void secret_shuffle(const uint8_t *places, const uint8_t *table, uint8_t *out) {
-    __m128i bytes = _mm_shuffle_epi8(_mm_loadu_si128((const __m128i *)table), _mm_loadu_si128((const __m128i *)places));
+    __m128i bytes =
+        _mm_shuffle_epi8(_mm_loadu_si128((const __m128i *)table), _mm_loadu_si128((const __m128i *)places));
     _mm_storeu_si128((__m128i *)out, bytes);
 }
 

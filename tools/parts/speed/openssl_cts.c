@@ -19,11 +19,13 @@ int main(int argc, char **argv) {
     memset(key, 7, sizeof key);
     EVP_CIPHER *cipher = EVP_CIPHER_fetch(NULL, "AES-256-CBC-CTS", NULL);
     EVP_CIPHER_CTX *ctx = EVP_CIPHER_CTX_new();
-    OSSL_PARAM form[] = {OSSL_PARAM_construct_utf8_string("cts_mode", (char *)"CS3", 0), OSSL_PARAM_construct_end()};
+    OSSL_PARAM form[] = {OSSL_PARAM_construct_utf8_string("cts_mode", (char *)"CS3", 0),
+                         OSSL_PARAM_construct_end()};
     if (!cipher || !ctx || !EVP_EncryptInit_ex2(ctx, cipher, key, iv, form))
         return 1;
     for (long i = 0; i < count; i++)
-        if (!EVP_EncryptInit_ex2(ctx, NULL, NULL, iv, NULL) || !EVP_EncryptUpdate(ctx, text, &out, text, bytes))
+        if (!EVP_EncryptInit_ex2(ctx, NULL, NULL, iv, NULL) ||
+            !EVP_EncryptUpdate(ctx, text, &out, text, bytes))
             return 1;
     printf("%d\n", text[0]);
     return 0;

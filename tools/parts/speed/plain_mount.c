@@ -1,12 +1,13 @@
-// A plain mount in memory, in C and without proof, to set the mount's calls on names beside: `mkdir`, `unlink`,
-// `stat-warm`, `stat-round`, `stat-cold`, `rename`, `list-plain`, `list-encrypted`, and `mkdir-NAMES`,
-// `unlink-NAMES` and `stat-NAMES` among so many names. The words NAME COUNT make these calls so often, and print
-// the sum of what was told.
+// A plain mount in memory, in C and without proof, to set the mount's calls on names beside: `mkdir`,
+// `unlink`, `stat-warm`, `stat-round`, `stat-cold`, `rename`, `list-plain`, `list-encrypted`, and
+// `mkdir-NAMES`, `unlink-NAMES` and `stat-NAMES` among so many names. The words NAME COUNT make these calls
+// so often, and print the sum of what was told.
 //
 // Nodes stand in an array, and each directory has a hash table of its names as they are stored. Names are
 // enciphered by the shuffles of aes_shuffles.h in CBC with ciphertext stealing, under a key that is drawn by
 // HKDF-SHA512 (OpenSSL's SHA-512) and cached with its round keys; a name of more than 149 stored bytes, for
-// which no-key texts would have to be compared, is refused. Nothing is overwritten before it is freed but keys.
+// which no-key texts would have to be compared, is refused. Nothing is overwritten before it is freed but
+// keys.
 //
 //     gcc -O3 -march=x86-64-v2 plain_mount.c -o plain_mount -lcrypto && ./plain_mount stat-warm 1000
 #define OPENSSL_SUPPRESS_DEPRECATED
@@ -18,10 +19,13 @@
 #include <stdlib.h>
 #include <string.h>
 
-enum { MOST_NAME = 255, MOST_SPELLED = 149, MOST_PARTS = 32, MOST_ENTRIES = 4096, MOST_NODES = 65536, PAGE = 128 };
+enum { MOST_NAME = 255, MOST_SPELLED = 149, MOST_PARTS = 32 };
+enum { MOST_ENTRIES = 4096, MOST_NODES = 65536, PAGE = 128 };
 enum { CONTEXT = 40, POLICY = 24, ID = 16, RUN_NAMES = 64, ROUND_NAMES = 320, FEW = 128, PAGE_START = 2048 };
 
-typedef enum { OK, EXISTS, NOT_FOUND, NOT_DIR, IS_DIR, NOT_EMPTY, NO_KEY, INVAL, TOO_LONG, XDEV, NO_SPACE } fault;
+typedef enum {
+    OK, EXISTS, NOT_FOUND, NOT_DIR, IS_DIR, NOT_EMPTY, NO_KEY, INVAL, TOO_LONG, XDEV, NO_SPACE
+} fault;
 
 // ---- keys
 

@@ -18,7 +18,8 @@
 
 char mounted[MAX_FOLDER + 2];
 
-static struct { off_t at; unsigned char bytes[BLOCK]; } *blocks;	/* of the template, except blocks of zeros */
+/* the blocks of the template, except blocks of zeros */
+static struct { off_t at; unsigned char bytes[BLOCK]; } *blocks;
 static long block_count;
 static off_t image_size;
 static int image = -1, loop_device = -1;

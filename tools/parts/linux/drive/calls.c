@@ -275,7 +275,8 @@ static void read_file(const struct call *call)
 	}
 }
 
-/* The bytes are given, or a length and one byte. What the mount refuses is cut off again where it stands at the end. */
+/* The bytes are given, or a length and one byte. What the mount refuses is cut off again where it stands
+ * at the end. */
 static void write_file(const struct call *call)
 {
 	static unsigned char bytes[MOST_LINE];
@@ -330,7 +331,8 @@ static const struct { const char *name; int paths; void (*make)(const struct cal
 	{ "mkdir", 1, make_directory }, { "create", 1, make_file }, { "symlink", 1, make_link },
 	{ "readlink", 1, read_link }, { "unlink", 1, remove_name }, { "rmdir", 1, remove_name },
 	{ "rename", 2, rename_node }, { "list", 1, list }, { "stat", 1, tell_status }, { "open", 1, open_node },
-	{ "read", 0, read_file }, { "write", 0, write_file }, { "fill", 0, write_file }, { "close", 0, close_handle },
+	{ "read", 0, read_file }, { "write", 0, write_file }, { "fill", 0, write_file },
+	{ "close", 0, close_handle },
 	{ "drop-caches", 0, drop_caches },
 };
 

@@ -58,7 +58,8 @@ void remove_key(const struct call *call)
 	if (key_call("/", all ? FS_IOC_REMOVE_ENCRYPTION_KEY_ALL_USERS : FS_IOC_REMOVE_ENCRYPTION_KEY, &removed))
 		refuse(errno);
 	else
-		put("removed others=%d busy=%d", !!(removed.removal_status_flags & FSCRYPT_KEY_REMOVAL_STATUS_FLAG_OTHER_USERS),
+		put("removed others=%d busy=%d",
+		    !!(removed.removal_status_flags & FSCRYPT_KEY_REMOVAL_STATUS_FLAG_OTHER_USERS),
 		    !!(removed.removal_status_flags & FSCRYPT_KEY_REMOVAL_STATUS_FLAG_FILES_BUSY));
 }
 

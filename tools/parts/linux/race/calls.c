@@ -27,7 +27,8 @@ char root_path[300];
 int root = -1;
 static int caches = -1;
 
-/* The thread is this user from now on, with the rights of root only for user 0. The C library's calls change all threads. */
+/* The thread is this user from now on, with the rights of root only for user 0. The C library's calls
+ * change all threads. */
 void become(unsigned user)
 {
 	if (syscall(SYS_setresuid, -1, user, -1))
@@ -63,7 +64,8 @@ static const char *resolved(const char *path, char *buffer)
 	return buffer;
 }
 
-/* Linux asks for an owner, which the mount doesn't have: the directory is given to the caller until no other has it. */
+/* Linux asks for an owner, which the mount doesn't have: the directory is given to the caller until no
+ * other has it. */
 static void set_policy(const struct call *call)
 {
 	char path[MAX_LINE];
@@ -120,7 +122,8 @@ static void change_name(const struct call *call)
 	else if (!strcmp(call->verb, "rmdir"))
 		done(rmdir(path));
 	else
-		done(syscall(SYS_renameat2, AT_FDCWD, path, AT_FDCWD, resolved(call->arguments[1], other), RENAME_NOREPLACE));
+		done(syscall(SYS_renameat2, AT_FDCWD, path, AT_FDCWD,
+			     resolved(call->arguments[1], other), RENAME_NOREPLACE));
 }
 
 static void make_link(const struct call *call)
@@ -144,7 +147,13 @@ static void read_link(const struct call *call)
 	}
 }
 
-struct directory_entry { uint64_t inode; int64_t next; unsigned short length; unsigned char type; char name[]; };
+struct directory_entry {
+	uint64_t inode;
+	int64_t next;
+	unsigned short length;
+	unsigned char type;
+	char name[];
+};
 
 static int by_name(const void *one, const void *other)
 {
@@ -155,7 +164,8 @@ static int by_name(const void *one, const void *other)
 static void list(const struct call *call)
 {
 	char path[MAX_LINE], buffer[65536], *names[MAX_NAMES];
-	int descriptor = open(resolved(call->arguments[0], path), O_RDONLY | O_DIRECTORY | O_NOFOLLOW | O_CLOEXEC), count = 0;
+	int count = 0;
+	int descriptor = open(resolved(call->arguments[0], path), O_RDONLY | O_DIRECTORY | O_NOFOLLOW | O_CLOEXEC);
 	long length = descriptor < 0 ? -1 : syscall(SYS_getdents64, descriptor, buffer, sizeof buffer);
 
 	if (length < 0) {
@@ -179,7 +189,8 @@ static void list(const struct call *call)
 		close(descriptor);
 }
 
-/* A node is named by its inode; whether its key is available isn't asked, which would take other system calls. */
+/* A node is named by its inode; whether its key is available isn't asked, which would take other system
+ * calls. */
 static void put_stat(const struct call *call)
 {
 	char path[MAX_LINE];
@@ -189,7 +200,8 @@ static void put_stat(const struct call *call)
 		refuse(errno);
 		return;
 	}
-	put("stat %s i%llu %llu enc=%d key=?", S_ISREG(status.stx_mode) ? "file" : S_ISLNK(status.stx_mode) ? "link" : "dir",
+	put("stat %s i%llu %llu enc=%d key=?",
+	    S_ISREG(status.stx_mode) ? "file" : S_ISLNK(status.stx_mode) ? "link" : "dir",
 	    (unsigned long long)status.stx_ino, (unsigned long long)status.stx_size,
 	    !!(status.stx_attributes & STATX_ATTR_ENCRYPTED));
 }
@@ -241,8 +253,9 @@ static void read_file(const struct call *call)
 {
 	unsigned char bytes[MAX_READ];
 	size_t asked = strtoul(call->arguments[2], NULL, 10);
-	ssize_t length = pread(*descriptor_of(call->arguments[0]), bytes, asked < sizeof bytes ? asked : sizeof bytes,
-			       strtoll(call->arguments[1], NULL, 10));
+	ssize_t length =
+	    pread(*descriptor_of(call->arguments[0]), bytes, asked < sizeof bytes ? asked : sizeof bytes,
+		  strtoll(call->arguments[1], NULL, 10));
 
 	if (length < 0) {
 		refuse(errno);
@@ -295,10 +308,13 @@ static void drop_caches(const struct call *call)
 }
 
 static const struct { const char *name; void (*make)(const struct call *); } VERBS[] = {
-	{ "add-key", add_key }, { "remove-key", remove_key }, { "remove-key-all", remove_key }, { "key-status", key_status },
-	{ "set-policy", set_policy }, { "get-policy", get_policy }, { "mkdir", change_name }, { "create", change_name },
+	{ "add-key", add_key }, { "remove-key", remove_key }, { "remove-key-all", remove_key },
+	{ "key-status", key_status },
+	{ "set-policy", set_policy }, { "get-policy", get_policy }, { "mkdir", change_name },
+	{ "create", change_name },
 	{ "symlink", make_link }, { "readlink", read_link }, { "unlink", change_name }, { "rmdir", change_name },
-	{ "rename", change_name }, { "list", list }, { "stat", put_stat }, { "open", open_node }, { "read", read_file },
+	{ "rename", change_name }, { "list", list }, { "stat", put_stat }, { "open", open_node },
+	{ "read", read_file },
 	{ "write", write_file }, { "fill", write_file }, { "close", close_handle }, { "drop-caches", drop_caches },
 };
 

@@ -36,7 +36,8 @@ void remove_key(const struct call *call)
 	if (ioctl(root, all ? FS_IOC_REMOVE_ENCRYPTION_KEY_ALL_USERS : FS_IOC_REMOVE_ENCRYPTION_KEY, &removed))
 		refuse(errno);
 	else
-		put("removed others=%d busy=%d", !!(removed.removal_status_flags & FSCRYPT_KEY_REMOVAL_STATUS_FLAG_OTHER_USERS),
+		put("removed others=%d busy=%d",
+		    !!(removed.removal_status_flags & FSCRYPT_KEY_REMOVAL_STATUS_FLAG_OTHER_USERS),
 		    !!(removed.removal_status_flags & FSCRYPT_KEY_REMOVAL_STATUS_FLAG_FILES_BUSY));
 }
 
@@ -53,10 +54,11 @@ void key_status(const struct call *call)
 		    !!(status.status_flags & FSCRYPT_KEY_STATUS_FLAG_ADDED_BY_SELF), status.user_count);
 }
 
-/* What the mount's last close does: a key without claims is removed. The user has no claim, so a present key stays.
+/* What the mount's last close does: a key without claims is removed. The user has no claim, so a present
+ * key stays.
  *
- * setfsuid away from 0 drops the capabilities of files, and a later change of the effective user from 0 to 0 doesn't
- * restore them: setfsuid(0) does.
+ * setfsuid away from 0 drops the capabilities of files, and a later change of the effective user from 0
+ * to 0 doesn't restore them: setfsuid(0) does.
  */
 void remove_unclaimed_keys(void)
 {

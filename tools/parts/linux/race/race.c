@@ -1,20 +1,21 @@
-/* Has the callers of scripts make their calls at once, and prints when each began and ended, and its reply.
+/* Has the callers of scripts make their calls at once, and prints when each began and ended, and its
+ * reply.
  *
  *     race SCRIPTS TEMPLATE ANSWERS FOLDER
  *
- * SCRIPTS is a text that ends with a line `END`, TEMPLATE an ext4 image; SCRIPTS and ANSWERS may be disks. race runs as
- * root. The lines of SCRIPTS, fields separated by tabs:
- *     S NAME MODE REPEATS SEED PAUSE    the next script; MODE is `free` or `rounds`, PAUSE the longest pause in ns
+ * SCRIPTS is a text that ends with a line `END`, TEMPLATE an ext4 image; SCRIPTS and ANSWERS may be disks.
+ * race runs as root. The lines of SCRIPTS, fields separated by tabs:
+ *     S NAME MODE REPEATS SEED PAUSE    the next script; MODE is `free` or `rounds`, PAUSE the most ns
  *     C CALLER UID                      a caller: a thread with a user of its own
  *     K IDENTIFIER                      a key of the script, which is removed between repetitions
  *     X CALLER PHASE VERB ARGUMENTS..   a call; PHASE is 0 before, 1 together, 2 after
  *
- * Each repetition has a fresh directory as its root and none of the keys; a fresh ext4 comes after REPEATS_OF_A_MOUNT.
- * ANSWERS has for each repetition
+ * Each repetition has a fresh directory as its root and none of the keys; a fresh ext4 comes after
+ * REPEATS_OF_A_MOUNT. ANSWERS has for each repetition
  *     R NAME REPEAT
  *     CALLER INDEX BEGIN END NS NS REPLY
- * BEGIN and END are tickets of one counter, NS are times. A line `F TEXT` is a fault of race's own. The answers of a
- * script are written when it ends, so that a machine that ends early leaves whole histories.
+ * BEGIN and END are tickets of one counter, NS are times. A line `F TEXT` is a fault of race's own. The
+ * answers of a script are written when it ends, so that a machine that ends early leaves whole histories.
  */
 #define _GNU_SOURCE
 #include "race.h"

@@ -16,7 +16,8 @@
 #define MAX_REPLY 20000
 #define ID_BYTES 16
 
-/* When a call is made: alone in the script's order, at once with those of other callers, or alone after these. */
+/* When a call is made: alone in the script's order, at once with those of other callers, or alone after
+ * these. */
 enum phase { BEFORE, TOGETHER, AFTER };
 
 struct call {

@@ -63,7 +63,8 @@ static void meet_others(int *counter, int wanted)
 	wait_for(counter, wanted);
 }
 
-/* Waits for the others at the beginning, and in rounds before each call; else for a drawn time before every other call. */
+/* Waits for the others at the beginning, and in rounds before each call; else for a drawn time before
+ * every other call. */
 static void meet(const struct call *call)
 {
 	wait_for(&turn, script.alone_before);
@@ -91,7 +92,8 @@ static void make_with_tickets(struct call *call)
 	call->reply = strdup(buffer);
 }
 
-/* The thread of a caller is its user; root is the saved user, which it becomes for a moment where a call needs it. */
+/* The thread of a caller is its user; root is the saved user, which it becomes for a moment where a call
+ * needs it. */
 static void *serve(void *argument)
 {
 	me = argument;
