@@ -38,11 +38,11 @@ class Aes:
                                          for word in unmixed[4 * at:4 * at + 4]), *self.words[:4]]
 
     def encrypted(self, block):
-        """The block enciphered."""
+        """The block encrypted."""
         return _through(block, self.words, tables()[0], tables()[2], 1)
 
     def decrypted(self, block):
-        """The block deciphered."""
+        """The block decrypted."""
         return _through(block, self.back, tables()[1], tables()[3], 3)
 
 
@@ -68,7 +68,7 @@ def _through(block, words, table, box, step):
 
 
 def in_xts(key, index, unit, back=False):
-    """A data unit in XTS (IEEE 1619): the first half of the key enciphers, the second makes the tweaks."""
+    """A data unit in XTS (IEEE 1619): the first half of the key encrypts, the second makes the tweaks."""
     cipher = Aes(key[:32])
     tweak = int.from_bytes(Aes(key[32:]).encrypted(index.to_bytes(16, "little")), "little")
     made = []

@@ -34,7 +34,7 @@ def row(name):
 
 
 def examples_certified(tally):
-    """Each example and row behind its script, and with one byte changed, refused at its line or before
+    """Each example and row after its script, and with one byte changed, refused at its line or before
     it."""
     draws = random.Random(18)
     for path in scripts():
@@ -170,7 +170,7 @@ def faulty_certificates(tally):
 
 
 def told_faults(tally):
-    """Behind the number of a line at fault stands why it is, and before that, where no line --- parts the
+    """The number of a line at fault is followed by the reason, and before that, where no line --- parts the
     input, that it lacks one."""
     script = b"caller 1000\ncreate /a\n"
     parting = b"no line --- stands between the script and its log"
@@ -205,7 +205,7 @@ def told_faults(tally):
 
 
 def strictly(tally):
-    """A strict check takes a log of a run, and none that tells of want of memory."""
+    """A strict check takes a log of a run, and none that reports lack of memory."""
     script, log = row("one_key_added_and_removed")
     strict = ["check", "--strict", "--seed", ZEROS]
     tally.wants("a strict check takes the log of one key", checked(script, log, strict) == (0, b"", None))
@@ -219,7 +219,7 @@ def strictly(tally):
 
 
 def differences(tally):
-    """Behind a refusal stands what the log has there, and what a run has."""
+    """After a refusal stands what the log has there, and what a run has."""
     script, log = row("one_key_added_and_removed")
     lines = log.splitlines(keepends=True)
     due = lines[3][:-1] + b" (line %d of the script)" % len(script.splitlines())

@@ -1,4 +1,4 @@
-"""What lies on a mount's disk behind a script, from the script and its log, as docs/FORMATS.md and
+"""What is on a mount's disk after a script, from the script and its log, as docs/FORMATS.md and
 docs/MODEL.md have it."""
 from base64 import urlsafe_b64encode
 from functools import lru_cache
@@ -17,7 +17,7 @@ UUID = b"fsc-memory-mount"
 
 @lru_cache(maxsize=None)
 def drawn_from(raw, use, added, length):
-    """What is drawn from a raw key for a use."""
+    """What is derived from a raw key for a use."""
     return expanded("sha512", extracted("sha512", raw), b"fscrypt\0" + bytes([use]) + added, length)
 
 
@@ -27,7 +27,7 @@ def identifier(raw):
 
 
 def drawn(seed, caller, command, purpose, length):
-    """What a command draws from the seed of a run."""
+    """What a command derives from the seed of a run."""
     number = (16 * command + purpose).to_bytes(8, "little")
     return expanded("sha512", extracted("sha512", seed), b"fsc draw" + bytes([caller]) + number, 64)[:length]
 
@@ -54,13 +54,13 @@ def stored_name(raw, context, number, name):
 
 
 def plain_name(raw, context, number, stored):
-    """What a stored name deciphers to."""
+    """What a stored name decrypts to."""
     iv = start(context, number).to_bytes(8, "little") + bytes(8)
     return from_cts(node_key(raw, context, NAMES), iv, stored).split(b"\0")[0]
 
 
 def in_units(raw, context, number, place, block, back=False):
-    """A block of a file, enciphered unit by unit or deciphered."""
+    """A block of a file, encrypted unit by unit or decrypted."""
     size = 1 << context[4] if context[4] else BLOCK
     key, first = node_key(raw, context, CONTENTS), start(context, number) + place * (BLOCK // size)
     return b"".join(in_xts(key, first + at // size, block[at:at + size], back)
@@ -128,7 +128,7 @@ class Disk:
         return folder.body.pop(self.found(folder, part))
 
     def write(self, node, offset, given):
-        """Writes bytes into a file, which grows by zeros where they begin behind its end."""
+        """Writes bytes into a file, which grows by zeros where they begin after its end."""
         if given:
             node.body = node.body.ljust(offset, b"\0")[:offset] + given + node.body[offset + len(given):]
 

@@ -80,8 +80,8 @@ def beginnings(tally):
 
 
 def lines(tally):
-    """Lines of the grammar are taken, others are told by their number, and so are whole texts and each cut
-    of one."""
+    """Lines of the grammar are taken, others are identified by their number, and so are whole texts and each
+    cut of one."""
     taken, refused = lines_of("examples/lines/taken.txt"), lines_of("examples/lines/refused.txt")
     tally.wants("examples/lines/ has lines", taken and refused)
     is_taken = lambda some: run(SERIAL,

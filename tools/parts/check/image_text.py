@@ -60,7 +60,7 @@ LINES = {
 
 
 class Stored:
-    """A node as an image tells it."""
+    """A node as an image reports it."""
 
     def __init__(self, number, kind, context, more):
         self.number, self.kind, self.context, self.more = number, kind, context, more
@@ -112,7 +112,7 @@ def read(text):
 
 
 def goes_on(nodes, left, line):
-    """Puts what a line tells behind the nodes. False where it may not stand there."""
+    """Adds what a line contains to the nodes. False if it may not be there."""
     block, entry = LINES["block"].fullmatch(line), LINES["entry"].fullmatch(line)
     if left:
         if block:
@@ -189,7 +189,7 @@ def is_open(node, raw):
 
 
 def word(node, stored, raw):
-    """A name or target that this node stores, as a word: what it is, or the text that stands for it."""
+    """A name or target that this node stores, as a word: what it is, or the text that represents it."""
     if node.context is None:
         return escaped(stored)
     plain = plain_name(raw, node.context, node.number, stored) if is_open(node, raw) else b""
@@ -197,7 +197,7 @@ def word(node, stored, raw):
 
 
 def place_of(number, places, raw):
-    """The number of the directory that a node lies in, and its name there."""
+    """The number of the directory that a node is in, and its name there."""
     if number == 0:
         return "- /"
     folder, name = places[number]
@@ -205,7 +205,7 @@ def place_of(number, places, raw):
 
 
 def told(node, raw):
-    """What a line tells of a node's body."""
+    """What a line contains of a node's body."""
     if node.kind == "dir":
         return str(len(node.entries))
     if node.kind == "link":

@@ -29,7 +29,7 @@ def unexplained(logs):
 
 
 def stored_answers(tally):
-    """Each kind of refusal is told as another one once, and each time the comparison finds just that."""
+    """Each kind of refusal is reported as another one once, and each time the comparison finds just that."""
     with open(os.path.join(DATA, "logs.txt"), encoding="utf-8") as file:
         logs = file.read()
     names = sorted(set(re.findall(r" = refused (\S+)\n", logs)))
@@ -47,8 +47,8 @@ def stored_answers(tally):
 
 
 def known_answers(tally):
-    """What Linux is known to answer otherwise it answered, by the row that is told, in each of the stored
-    calls.
+    """What Linux is known to answer otherwise it answered, by the row that is reported, in each of the
+    stored calls.
 
     With its last close a key stays in Linux only where user 0 does not remove it again, as in scripts of
     mode raw.

@@ -1,5 +1,5 @@
-"""What a mount has only so many of: handles, blocks of files, records. One more of each is refused, and room
-that is made serves again."""
+"""What a mount has only that many of: handles, blocks of files, records. One more of each is refused, and
+room that is made serves again."""
 from parts.common.running import SERIAL, run
 
 MOST_HANDLES, MOST_RECORDS, FILES, FILLS = 4_096, 1_024, 64, 16

@@ -11,7 +11,7 @@ APART = b"caller 0\nmkdir /a\nlist /\ncaller 1000\nmkdir /b\nmkdir /b\nlist /\n"
 
 
 def examples_linked(tally):
-    """Each script of examples/linked/ prints the logs of both mounts that stand beside it."""
+    """Each script of examples/linked/ prints the logs of both mounts that are beside it."""
     names = sorted(name[:-4] for name in os.listdir(FOLDER) if name.endswith(".fsc"))
     tally.wants("examples/linked/ has scripts", bool(names))
     for name in names:

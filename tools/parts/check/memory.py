@@ -32,7 +32,7 @@ def failing_allocations(tally):
 
 
 def shown_commands(tally):
-    """On a terminal nothing stands in front of the status of a run that found no memory, also in a
+    """On a terminal nothing is before the status of a run that found no memory, also in a
     command."""
     if shutil.which("cc") is None:
         return
@@ -50,8 +50,8 @@ def shown_commands(tally):
 
 
 def bad_lines_without_memory(tally):
-    """Where there is no memory to keep a text or to look at its line, the line's number is told, and what to
-    do."""
+    """Where there is no memory to keep a text or to look at its line, the line's number is reported, and
+    what to do."""
     if shutil.which("cc") is None:
         return
     known = b'"mkdri" is no command; fsc --help lists the commands'

@@ -1,5 +1,5 @@
 """Inputs that fail, pipes, full devices and files, closed descriptors, signals, seeds, and secrets in what
-is told."""
+is reported."""
 import ctypes
 import mmap
 import os
@@ -26,7 +26,7 @@ def whole(path):
 
 
 def broken_inputs(tally):
-    """A script of which just a beginning can be read: from memory of this process, behind which its file has
+    """A script of which just a beginning can be read: from memory of this process, after which its file has
     ended."""
     script, page = whole(FIRST + ".fsc"), mmap.PAGESIZE
     with tempfile.TemporaryFile() as file, open("/proc/self/mem", "rb", buffering=0) as given:
@@ -46,7 +46,7 @@ def broken_inputs(tally):
 
 
 def full_files(tally):
-    """A file that takes only so many bytes has the beginning of the log of that length, and a fault is
+    """A file that takes only that many bytes has the beginning of the log of that length, and a fault is
     told."""
     script, log = whole(FIRST + ".fsc"), whole(FIRST + ".log")
 
@@ -83,8 +83,8 @@ def slow_pipes(tally):
 
 
 def closed_pipes(tally):
-    """A pipe that nobody reads any more is a fault of writing, whoever closed it and when; no signal ends
-    the program."""
+    """A pipe that nobody reads any more is a fault of writing, whichever caller closed it and when; no
+    signal ends the program."""
     for words in [*ALL_FORMS, SERIAL, THREADED]:
         end, pipe = os.pipe()
         os.close(end)
@@ -154,7 +154,7 @@ def other_forms(tally):
 
 
 def hidden_secrets(tally):
-    """Of a line at fault nothing is told behind its first word, so no secret that stands there."""
+    """Of a line at fault nothing is reported after its first word, so no secret that is there."""
     for line, secret in (
         (b"unlock d p raw:11zz", b"11zz"), (b"unlock d p raw:" + b"ab" * 31, b"abab"),
         (b"unlock d p pass:hun%ter2", b"hun%"),

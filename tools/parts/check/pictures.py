@@ -109,7 +109,7 @@ def pictures_of_two_mounts(tally):
 
 
 def pictures_of_no_log(tally):
-    """What is no log of the script, and a file that can't be read, is told in a line, with status 1."""
+    """What is no log of the script, and a file that can't be read, is reported in a line, with status 1."""
     script = os.path.join(TOP, "examples", "one-key.fsc")
     log = script[:-4] + ".log"
     for what, words, given in (

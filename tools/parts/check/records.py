@@ -1,4 +1,4 @@
-"""Records that were changed behind their users' backs: each digit, line and word, with how unlocking by them
+"""Records that were changed after their users' backs: each digit, line and word, with how unlocking by them
 ends."""
 from parts.common.running import SERIAL, run
 
@@ -14,7 +14,7 @@ LEAST_DIGITS = 16
 
 
 def last_record(lines):
-    """The text of the record that is told last in a run of these lines."""
+    """The text of the record that is reported last in a run of these lines."""
     log = run(SERIAL, "".join(line + "\n" for line in lines).encode())[1].decode()
     told = [line for line in log.splitlines() if " = record " in line]
     return bytes.fromhex(told[-1].split(" ")[-1]).decode()
@@ -93,7 +93,8 @@ def wraps_changed(lines):
 
 
 def changed_records(tally):
-    """Each changed record is stored, and its policy is unlocked: the note tells why it opens or doesn't."""
+    """Each changed record is stored, and its policy is unlocked: the note reports why it opens or
+    doesn't."""
     policy = last_record([*MADE, "meta-get policy/docs"])
     older = "".join(line + "\n" for line in policy.replace("fsc-policy 2", "fsc-policy 1").splitlines()
                     if not line.startswith("options "))

@@ -89,7 +89,7 @@ def progress(tally):
 
 
 def waiting(tally):
-    """At a terminal a line tells that a script is waited for; from a pipe, and of words that are no form,
+    """At a terminal a line reports that a script is waited for; from a pipe, and of words that are no form,
     none does."""
     for words, wanted in ((SERIAL, True), (["replay"], True), (["replay", "-x"], False),
                           (["gen", "0"], False)):

@@ -8,8 +8,8 @@ KEY, IDENTIFIER = "07" * 32, "1101420d499290b005fc681527257159"
 
 
 def claims_replayed(log):
-    """Whether the lines, in order of place, tell what one set of claims on the key answers; and the calls by
-    caller."""
+    """Whether the lines, in order of place, report what one set of claims on the key answers; and the calls
+    by caller."""
     claims, calls = set(), {}
     for place, line in enumerate(log.splitlines()):
         asked, reply = line.split(" = ")

@@ -45,7 +45,7 @@ IN_LINUX = {
     14: ("refused no-key", "what an open file keeps unlocked"),
     16: ("status incomplete self=0 users=0", "the status after the last close on a key without claims"),
 }
-# lines at fault behind `user a 1000`, each with a piece of what is reported
+# lines at fault after `user a 1000`, each with a piece of what is reported
 FAULTS = [
     ("user a 1001", "names a again"), ("user b 01000", "no number from 0 to 4294967295"),
     ("user b 4294967296", "no number from 0 to 4294967295"), ("user c", "the form: user NAME UID"),
@@ -90,7 +90,8 @@ def examples_of_transcripts(tally):
 
 
 def scripts_of_transcripts(tally):
-    """The script of a transcript makes its calls in their order, whoever acts, with bytes for each text."""
+    """The script of a transcript makes its calls in their order, whichever caller acts, with bytes for each
+    text."""
     given = "user a 1\nuser b 2\nuser c 3\n" + "".join(
         f"{name}: mkdir /{name}{at}\n" for at, name in enumerate("abcacbbaccab"))
     status, script, _ = transcript(given, "--script")
@@ -164,7 +165,8 @@ def states_told(printed):
 
 
 def states_of_transcripts(tally):
-    """The state is told after each line that changed it, with --at after one line; of eight users too."""
+    """The state is reported after each line that changed it, with --at after one line; of eight users
+    too."""
     found = states_told(transcript(SHARED, "--state")[1])
     tally.wants("states are those of the model", found == STATES, str(found))
     found = states_told(transcript(SHARED, "--state", "--at", "12")[1])

@@ -10,7 +10,7 @@ WORDS, SLICES = 128, 4
 
 
 def argon2id(password, salt, passes, kib):
-    """The tag of 32 bytes, the first digest, and the blocks as they stand at the end."""
+    """The tag of 32 bytes, the first digest, and the blocks as they are at the end."""
     texts = b"".join(struct.pack("<I", len(field)) + field for field in (password, salt, b"", b""))
     digest = hashlib.blake2b(struct.pack("<6I", 1, 32, kib, passes, 0x13, 2) + texts).digest()
     count = kib // SLICES * SLICES

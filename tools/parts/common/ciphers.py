@@ -54,7 +54,7 @@ def xored(one, other):
 
 
 def encrypted(key, block):
-    """A block enciphered by AES-256 (FIPS 197, 5.1)."""
+    """A block encrypted by AES-256 (FIPS 197, 5.1)."""
     keys = round_keys(key)
     state = xored(block, keys[:16])
     for number in range(1, 15):
@@ -67,7 +67,7 @@ def encrypted(key, block):
 
 
 def mixed(column):
-    """A column of the state behind MixColumns (FIPS 197, 5.1.3)."""
+    """A column of the state after MixColumns (FIPS 197, 5.1.3)."""
     return bytes(times(column[at], 2) ^ times(column[(at + 1) % 4],
                                               3) ^ column[(at + 2) % 4] ^ column[(at + 3) % 4]
                  for at in range(4))
@@ -90,7 +90,7 @@ def in_basis(images, state):
 
 
 def rotated(state, times):
-    """A state with each row rotated to the left by its number, so many times."""
+    """A state with each row rotated to the left by its number, that many times."""
     return bytes(state[at % 4 + 4 * ((at // 4 + times * (at % 4)) % 4)] for at in range(16))
 
 
@@ -159,14 +159,14 @@ def expanded(name, key, info, length):
 
 
 def padded(name, key):
-    """HMAC's inner and outer key, as long as the key alone: behind it the pads are known to all (RFC
+    """HMAC's inner and outer key, as long as the key alone: after it the pads are known to all (RFC
     2104)."""
     assert len(key) <= hashlib.new(name).block_size
     return [bytes(byte ^ pad for byte in key) for pad in (0x36, 0x5C)]
 
 
 def states(name, key):
-    """The states of the two hashes of an HMAC behind its padded keys: who has them can make its tags."""
+    """The states of the two hashes of an HMAC after its padded keys: who has them can make its tags."""
     block = hashlib.new(name).block_size
     return [compressed(name, bytes(byte ^ pad for byte in key.ljust(block, b"\0"))) for pad in (0x36, 0x5C)]
 
@@ -206,7 +206,7 @@ TURNS = {
 
 
 def compressed(name, block):
-    """The state of SHA-256 or SHA-512 behind its first block, in words of the machine (FIPS 180-4, 6.2 and
+    """The state of SHA-256 or SHA-512 after its first block, in words of the machine (FIPS 180-4, 6.2 and
     6.4)."""
     bits, rounds, big0, big1, small0, small1 = TURNS[name]
     most = 2**bits

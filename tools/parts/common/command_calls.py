@@ -18,7 +18,7 @@ SESSION_CALLS = {
 }
 # Plain commands whose call has another name.
 OTHER_NAMES = {"set-policy-bytes": "set-policy", "fill": "write"}
-# No argument behind this one names a record.
+# No argument after this one names a record.
 LAST_LABEL = 4
 
 

@@ -65,7 +65,7 @@ class Entry:
 
     @property
     def words(self):
-        """The words of the call behind its name."""
+        """The words of the call after its name."""
         return self.call.split(" ")[1:]
 
     @property
@@ -126,7 +126,7 @@ def read_log(text):
 
 
 def is_link(entry):
-    """Whether the reply is the record that says that a protector lies on the other mount."""
+    """Whether the reply is the record that says that a protector is on the other mount."""
     label = entry.words[0].removeprefix("protector/")
     return entry.answer[0] == "record" and entry.answer[-1] == f"fsc-link 1\nname {label}\n".encode().hex()
 

@@ -16,7 +16,7 @@ SECONDS = 120
 
 
 def run(words, given=b"", program=PROGRAM, **more):
-    """Runs the program and returns its status, what it wrote and what it told."""
+    """Runs the program and returns its status, what it wrote and what it reported."""
     source = {} if "stdin" in more else {"input": given}
     sink = {} if "stdout" in more else {"stdout": subprocess.PIPE}
     ended = subprocess.run([program, *words], stderr=subprocess.PIPE, timeout=SECONDS, check=False,

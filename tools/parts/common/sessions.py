@@ -47,7 +47,7 @@ def named(what, length):
 
 
 def drawn(command, purpose, length):
-    """What the session's command draws from the seed."""
+    """What the session's command derives from the seed."""
     number = (16 * command + purpose).to_bytes(8, "little")
     return expanded("sha512", extracted("sha512", SEED), b"fsc draw" + bytes([CALLER]) + number, 64)[:length]
 
@@ -149,7 +149,7 @@ class Session:
         self.texts = {name: named(name, 64) for name in ("closed_text", "held_text", "mode_text")}
 
     def words(self):
-        """What the braces of the plan stand for, but for the older record."""
+        """What the braces of the plan represent, but for the older record."""
         told = {name: secret.word() for name, secret in self.secrets.items()}
         told |= {name + "_new": secret.new_word() for name, secret in self.secrets.items()}
         told |= {name: text.hex() for name, text in self.texts.items()}
@@ -207,7 +207,7 @@ class Session:
 
 
 def derived(raw, use, length):
-    """What is drawn from a raw key for this use."""
+    """What is derived from a raw key for this use."""
     return expanded("sha512", extracted("sha512", raw), b"fscrypt\0" + use, length)
 
 
@@ -275,7 +275,7 @@ def cipher_keys(row, key):
 
 
 def seed_keys():
-    """The seed, from which every drawn key follows, and what stands for it."""
+    """The seed, from which every drawn key follows, and what represents it."""
     yield Key("the seed", SEED)
     yield Key("the seed's digits", SEED.hex().encode(), has_words=False)
     middle = extracted("sha512", SEED)

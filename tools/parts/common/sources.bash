@@ -12,7 +12,7 @@ kit_line() {
     fi
 }
 
-# The lines of crates.txt of the program's crate and of those that it stands on, without comments.
+# The lines of crates.txt of the program's crate and of those that it depends on, without comments.
 lines_below() {
     awk '
         { sub(/#.*/, ""); if (!split($0, part, ":")) next }

@@ -10,7 +10,7 @@ import threading
 import time
 from pathlib import Path
 
-# How `rt ci` tells of a crate that it proved, or proved earlier; and how the gate tells how `rt ci` ended.
+# How `rt ci` reports a crate that it proved, or proved earlier; and how the gate reports how `rt ci` ended.
 PROVED = re.compile(r"^rt: (\w+) (?:proved$|is kept: )", re.M)
 ENDED = re.compile(r"^gate: rt ci (passed|failed)$", re.M)
 # How long the processors are looked at, in seconds, and the part of one that must have been idle; and how

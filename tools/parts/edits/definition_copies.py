@@ -1,4 +1,4 @@
-"""Copies of definitions, up to a law that stands on them, in which wrong edits of definitions are tried
+"""Copies of definitions, up to a law that depends on them, in which wrong edits of definitions are tried
 beside each other.
 
 Nothing here runs a prover. `tools/edits` tries the copies, `tools/parts/edits/test_edits` tries this.
@@ -14,7 +14,7 @@ MODULE = re.compile(r"(specs|proofs)/(?!Lib\.)[\w-]+\.antt")
 # What a file imports.
 IMPORT = re.compile(r"^(?:ghost )?use ([\w.+-]+?)(?:\.\{([^}]*)\}| as (\w+));?\n", re.M)
 ITEM = re.compile(r"^(?:ghost )?use [^;]*;\n", re.M)
-# What stands for the copies in which nothing is changed.
+# What represents the copies in which nothing is changed.
 AS_IT_IS = Edit("(as it is)", ())
 
 
@@ -39,7 +39,7 @@ def cited(text, modules):
 
 
 def reached(begin, cites):
-    """These files, and all that they stand on."""
+    """These files, and all that they depend on."""
     found, left = set(), [*begin]
     while left:
         file = left.pop()
@@ -65,16 +65,16 @@ def without_idle(crate, text):
 
 
 def law_of(edit, texts):
-    """The law that is told to refuse the edit: the one function that it tells, if that is no method and lies
-    in a module right below the root."""
+    """The law that is reported to refuse the edit: the one function that it tells, if that is no method and
+    lies in a module right below the root."""
     found = [function for function in every_function(texts) if place_of(function, texts) in edit.refused]
     return found[0] if len(edit.refused) == len(found) == 1 and not found[0].of_type and found[
         0].is_plain and found[0].file.count("/") == 1 else None
 
 
 def is_copied(crate, edit, texts):
-    """Whether an edit is tried in copies: it changes definitions alone, and tells the one law that is to
-    refuse it, which stands on them."""
+    """Whether an edit is tried in copies: it changes definitions alone, and names the one law that is to
+    refuse it, which depends on them."""
     law = None if edit.function else law_of(edit, texts)
     modules = modules_of(crate, texts)
     if not law or law.file in ("src/lib.rt", "src/main.rt") or not all(
@@ -85,7 +85,7 @@ def is_copied(crate, edit, texts):
 
 def copied_for(crate, law, edit, texts):
     """The texts of the law and of its proof as a copy has them, but for the names, by their files; and the
-    files of the definitions and lemmas to copy with it: those that stand on what is edited and on which the
+    files of the definitions and lemmas to copy with it: those that depend on what is edited and on which the
     law stands."""
     modules, lines = modules_of(crate, texts), texts[law.file].split("\n")
     items = "".join(ITEM.findall("\n".join(lines[:law.first]) + "\n"))
@@ -102,7 +102,7 @@ def copied_for(crate, law, edit, texts):
 
 
 def with_copy(crate, edit, number, texts, is_edited=True):
-    """The texts with a copy of the law that is to refuse the edit and of all that stands between them, under
+    """The texts with a copy of the law that is to refuse the edit and of all that is between them, under
     names with this number, in which the edit is made, or nothing; and the copy."""
     law, modules = law_of(edit, texts), modules_of(crate, texts)
     own, files = copied_for(crate, law, edit, texts)
@@ -127,7 +127,7 @@ def with_copy(crate, edit, number, texts, is_edited=True):
 
 
 def with_copies(crate, edits, texts):
-    """The texts with a copy for each of these edits, behind one for each law, or each clause of a law, that
+    """The texts with a copy for each of these edits, after one for each law, or each clause of a law, that
     is to refuse some of them, in which nothing is changed; and the copies."""
     made, copies, once = texts, [], {}
     for edit in edits:

@@ -20,7 +20,7 @@ HOLE = ("use Rattle.{crate}.proofs.{path}.Statement.{{statement}}\n\npub {name}_
 
 def holed(crate, texts, untouched, taken, kept=()):
     """The texts with a hole for the proof of each function of the untouched crate that isn't taken, where
-    its place is sure, and with no body, where another will do. Whatever stands on such a function has its
+    its place is sure, and with no body, where another will do. Whatever depends on such a function has its
     contract, as ever, and its own proof costs nothing, nor does what its body calls. One whose proof another
     proof names keeps it, and so does one that is proved together with others, and those whose folders are
     told."""
@@ -49,8 +49,8 @@ def holed(crate, texts, untouched, taken, kept=()):
 
 
 def needs_no_body(function, lines):
-    """Whether a function's body may be left out where its proof is: no type is told by it, and nothing is
-    computed with it when it is compiled."""
+    """Whether a function's body may be left out where its proof is: no type is identified by it, and nothing
+    is computed with it when it is compiled."""
     head = " ".join(lines[function.first:function.body])
     return function.body < function.last and not re.search(r"-> .*\bimpl\b|\bconst (?:unsafe )?fn\b", head)
 
@@ -90,7 +90,7 @@ def header_of(function, lines):
 
 
 def is_reduced(crate, edit, texts):
-    """Whether an edit is tried in a copy of its function that ensures less: it tells what is needed, the
+    """Whether an edit is tried in a copy of its function that ensures less: it reports what is needed, the
     function ensures more than that, and the copy has a proof of its own, which is no whole text."""
     if not edit.ensures or not has_free_proof(crate, edit.function, texts):
         return False
@@ -132,9 +132,9 @@ def left_out(crate, place, text, goals):
 def with_copies(crate, edits, texts):
     """The texts with copies, at the ends of their files, of the functions that several of these edits are
     of, and the edits each in a function of its own: a copy has another name and the proof of the first,
-    which it doesn't hide and that doesn't hide it. An edit that tells the clause at which it is refused is
+    which it doesn't hide and that doesn't hide it. An edit that names the clause at which it is refused is
     made in a copy that ensures this one alone, or nothing, so that nothing is tried for the others: no
-    clause is a fact that stands in the goals of another. One that tells goals at which it is refused besides
+    clause is a fact that is in the goals of another. One that tells goals at which it is refused besides
     has holes for them, since it is refused where one goal is."""
     texts, made, taken, untouched = dict(texts), [], [], texts
     for edit in edits:
@@ -196,7 +196,7 @@ def changes_nothing(crate, edits, texts):
     """An edit that adds a comment to a function of the crate. Where one of these edits is tried in a copy
     that ensures less the comment is, too, in one that calls no function which is refused, of these in the
     shortest that has an answer for its clause; else it is in a function that has no edit and names none that
-    has, where there is one: what calls a function that is refused is told as not proved."""
+    has, where there is one: what calls a function that is refused is reported as not proved."""
     own = lambda edit: texts.get(f"proofs/{place_of(edit.function, texts).replace('::', '/')}/Answers.antt",
                                  "")
     is_answered = lambda edit: bool(re.search(rf"^pub (?:returns|ends)[\w-]*-clause-{edit.ensures}\b",

@@ -50,7 +50,7 @@ def crates_of(top):
 
 
 def below(crates, name):
-    """The repository's crates that this one stands on, each once, lower ones first."""
+    """The repository's crates that this one depends on, each once, lower ones first."""
     found = []
     for crate in crates[name].own:
         found += [more for more in [*below(crates, crate), crate] if more not in found]
@@ -155,7 +155,7 @@ class Run:
 
 
 class Libraries:
-    """The libraries that checks stand on: those that the gate, or a check, left in the checkout, where they
+    """The libraries that checks depend on: those that the gate, or a check, left in the checkout, where they
     are newer than all that they were built from, and else statements, which are built into a folder of this
     machine by the sums of their texts."""
 

@@ -1,5 +1,5 @@
-"""Wrong edits of the code: how they are read and applied, the functions that they lie in, and what a check
-tells of each.
+"""Wrong edits of the code: how they are read and applied, the functions that they are in, and what a check
+reports each.
 
 Nothing here runs a prover. `tools/edits` tries the edits, `tools/parts/edits/test_edits` tries this.
 """
@@ -28,7 +28,7 @@ PROOF = re.compile(r"(?:\./)?proofs/(\S+?):\d+:\d+: error\b(.*)")
 STATED = re.compile(r"(?:\./)?(?:src|specs)/\S+?:\d+:\d+: error: (`[^`]*`: )?(.*)")
 UNREAD = re.compile(
     r"is not in scope|has no field|is no name|operand is missing|expected the end|cannot continue")
-# A proof that only cites what the edit took away says little of the contract, and what stands on such a
+# A proof that only cites what the edit took away says little of the contract, and what depends on such a
 # proof nothing at all.
 BY_A_NAME = re.compile(r"has no field|record `[^`]*`(?: \(nearest|$)|is not in scope|has no `|was not "
                        r"admitted|which was rejected, w\w+ not checked")
@@ -45,7 +45,7 @@ class BadEdit(Exception):
 @dataclass(frozen=True)
 class Function:
     """A function of a file: the type whose method it is, if any, and its lines with the attributes above it,
-    the first of the body among them, from 0. It is plain where its own name and its type's tell where its
+    the first of the body among them, from 0. It is plain where its own name and its type's report where its
     proof lies: no method of a trait, of some of a type's instances or of a ring. A trait's method has the
     name of its impl besides, as folders of proofs have it, where that is sure."""
     file: str
@@ -61,9 +61,9 @@ class Function:
         return file == self.file and self.first <= number <= self.last
 
     def has_proof(self, path):
-        """Whether this file, below proofs/, is of its proof: a method's lies in the folder of its type,
-        which may stand in another module than the method; another function's in that of its module; and
-        behind it its own name, or that of a ring of functions."""
+        """Whether this file, below proofs/, is of its proof: a method's is in the folder of its type,
+        which may are in another module than the method; another function's in that of its module; and
+        after it its own name, or that of a ring of functions."""
         folders = path.split("/")[:-1]
         if self.of_type:
             at = next((number for number, folder in enumerate(folders) if folder.startswith(self.of_type)),
@@ -78,10 +78,10 @@ class Function:
 @dataclass(frozen=True)
 class Edit:
     """A wrong edit: its name, its replacements (file, old text, new text), the one function whose body it
-    changes, if that is all, and else the functions that are told to be refused by it, if any, by their paths
-    below the crate; and the one clause that its function, or the one that is told, needs to ensure for a
-    refusal, if that is told, or NOTHING; and the goals at which its function is refused besides, where they
-    are told, so that only others are tried."""
+    changes, if that is all, and else the functions that are reported to be refused by it, if any, by their
+    paths below the crate; and the one clause that its function, or the one that is reported, needs to ensure
+    for a refusal, if that is reported, or NOTHING; and the goals at which its function is refused besides,
+    where they are reported, so that only others are tried."""
     name: str
     pairs: tuple
     function: Function = None
@@ -214,7 +214,7 @@ def pairs_of(text):
 
 
 def once(text, old, new):
-    """The text with the new part in place of the old one, which stands in it once."""
+    """The text with the new part in place of the old one, which is in it once."""
     if text.count(old) != 1:
         raise BadEdit(f"its text stands {text.count(old)} times, and not once: {old}")
     return text.replace(old, new)
@@ -389,7 +389,7 @@ def is_tried(edit, line):
 
 
 def tells_most(lines):
-    """Of the lines that refuse an edit the one that tells most of the contract, or an empty text: a fact
+    """Of the lines that refuse an edit the one that reports most of the contract, or an empty text: a fact
     that the function ensures, of which a searched one tells more than a written proof that doesn't fit; else
     what a call of the body asks for, a loop or a type keeps."""
     strong = [line for line in lines if is_strong(line) and goal_of(line)]
@@ -400,7 +400,7 @@ def tells_most(lines):
 
 
 def others_refused(lines):
-    """The goals at which an edit is refused besides the one that tells most, of those that were searched
+    """The goals at which an edit is refused besides the one that reports most, of those that were searched
     for. None, where that is in a file of a written proof, of which it isn't sure that the fact is false."""
     first = tells_most(lines)
     searched = [goal_of(line) for line in lines if GOAL.match(line)
@@ -410,7 +410,7 @@ def others_refused(lines):
 
 def clause_of(line):
     """The clause that a line refuses, an empty one where the function ensures but one, or where the line
-    tells of no contract, as of an edit's own sum that overflows, and NOTHING where it is at what a call of
+    reports no contract, as of an edit's own sum that overflows, and NOTHING where it is at what a call of
     the body asks for, a loop or a type keeps."""
     goal = goal_of(line)
     if not re.match(r"(returns|ends)\b", goal):

@@ -1,5 +1,5 @@
 /* Makes allocations fail, for tools/faults: a shared object that is loaded before the C library. A thread,
- * whose stack the C library allocates by itself, counts as one.
+ * whose stack the C library allocates on its own, counts as one.
  *
  * FSC_FAIL_FROM and FSC_FAIL_TO name the allocations that fail, counted from 1 in the order in which they
  * are asked for, by whichever thread. The file FSC_FAIL_COUNTS, of 16 bytes, has two counts in the end,

@@ -172,7 +172,7 @@ class Judge:
                 yield command, entry
 
     def check_notes(self, notes, refused):
-        """Each note is as in the run without the refused commands, and theirs tell the want of memory."""
+        """Each note is as in the run without the refused commands, and theirs report the lack of memory."""
         due = dict(self.without(refused)[1])
         due |= {(command.caller, command.line): "no-memory" for command in self.order
                 if command.line in refused and is_session(command.words[0])}
@@ -180,7 +180,7 @@ class Judge:
             raise Wrong(f"the notes are {notes} in place of {due}")
 
     def check_callers(self, log):
-        """The same of a run of many callers in threads, as far as each caller's own lines tell it."""
+        """The same of a run of many callers in threads, as far as each caller's own lines report it."""
         entries, notes = parsed(log)
         for caller, section in enumerate(self.sections):
             own = [entry for entry in entries if entry.caller == caller]

@@ -1,4 +1,4 @@
-# Completion of the words of fsc for bash; behind these, and after <, files.
+# Completion of the words of fsc for bash; after these, and after <, files.
 _fsc() {
     local word="${COMP_WORDS[COMP_CWORD]}" at=1 words=()
     [ "$COMP_CWORD" -gt 1 ] && [ "${COMP_WORDS[1]}" = --unproved ] && at=2

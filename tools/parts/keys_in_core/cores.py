@@ -1,4 +1,4 @@
-"""Runs the program under gdb, takes a core of it at each moment, and tells what its heap and its stacks
+"""Runs the program under gdb, takes a core of it at each moment, and reports what its heap and its stacks
 hold.
 
 A core has the registers too; they count as stack, where a call would spill them. How many copies a stack
@@ -29,7 +29,7 @@ def gdb_lines(program, words, files, numbers, room):
     """The commands for gdb: a stop where each of these commands of the session begins, and one where the log
     is written.
 
-    Standard error is a terminal, so the program tells each command that it begins, by one write with the
+    Standard error is a terminal, so the program reports each command that it begins, by one write with the
     command's line in the script. The stop is at that write, and then at the first write to standard output.
     """
     script, terminal = files
@@ -66,7 +66,7 @@ def lines_at_end(program, words, files, room, writes):
 
 
 def taken(name, room):
-    """The commands that take a core at this moment and tell where each part of the memory lies."""
+    """The commands that take a core at this moment and report where each part of the memory lies."""
     return f"echo \\nMOMENT {name}\\n", "info proc mappings", f"gcore {os.path.join(room, name)}"
 
 
@@ -147,10 +147,10 @@ def memory_of(core, told):
 
 
 def stacks_of(told):
-    """Where the stacks lie, from gdb's list of mappings: the main one, and each piece behind a guard page.
+    """Where the stacks lie, from gdb's list of mappings: the main one, and each piece after a guard page.
 
-    The C library takes an arena of the heap at a multiple of 64 MiB; that is how one is told from a thread's
-    stack.
+    The C library takes an arena of the heap at a multiple of 64 MiB; that is how one is reported from a
+    thread's stack.
     """
     rows = re.findall(r"^\s*0x([0-9a-f]+)\s+0x([0-9a-f]+)\s+0x[0-9a-f]+\s+0x[0-9a-f]+\s+([-rwxps]{4})?[ "
                       r"\t]*(\S*)", told, re.M)
@@ -164,7 +164,7 @@ def stacks_of(told):
 
 
 def registers(notes):
-    """The registers that the notes of a core tell of each thread."""
+    """The registers that the notes of a core report each thread."""
     at = 0
     while at + 12 <= len(notes):
         names, length, kind = struct.unpack_from("<III", notes, at)

@@ -1,4 +1,4 @@
-"""How often keys stand in a memory, whole and by their pieces."""
+"""How often keys are in a memory, whole and by their pieces."""
 import collections
 
 PAGE = 4096

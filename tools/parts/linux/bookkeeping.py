@@ -1,4 +1,4 @@
-"""What a log of fsc tells of its mount: its nodes, names, handles and claims.
+"""What a log of fsc contains of its mount: its nodes, names, handles and claims.
 
 It takes each reply as the log has it and decides none. So it can say which facts hold where a kernel answers
 otherwise, and what a refusal may rest on.
@@ -90,7 +90,7 @@ class Bookkeeping:
         return passed, at, ""
 
     def through_link(self, path):
-        """Whether a link stands on the way of a path."""
+        """Whether a link depends on the way of a path."""
         parts = parts_of(path)
         nodes = (self.walk(parts[:at])[1] for at in range(1, len(parts)))
         return any(node is not None and node.kind == "link" for node in nodes)
@@ -206,12 +206,12 @@ class Bookkeeping:
 
     def feed_close(self, caller, handle):
         """With its last handle a key without claims goes, which in Linux lingers; so does that of what
-        stands above."""
+        is above."""
         node = self.handles.pop((caller, handle))
         self.lingering |= {place.key for place in (node, *node.above()) if self.keyless(place)}
 
     def feed_text(self, path, number):
-        """In a locked directory a part is the no-key text of the node that was told."""
+        """In a locked directory a part is the no-key text of the node that was reported."""
         parts = parts_of(path)
         _, home, _ = self.walk(parts[:-1])
         if not parts or home is None or home.kind != "dir" or not self.locked(home):

@@ -117,7 +117,7 @@ class Generator:
         return self.random.randint(0, min(2, self.opened))
 
     def commands(self):
-        """A command, and behind a listing mostly some on what it listed."""
+        """A command, and after a listing mostly some on what it listed."""
         if self.random.random() < 0.05:
             return self.removal()
         verb, = self.random.choices(list(WEIGHTS), WEIGHTS.values())

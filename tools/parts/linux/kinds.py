@@ -38,7 +38,7 @@ def told_held(reply):
 
 
 def held_otherwise(step, here):
-    """Whether of the mount and Linux just the one tells that a key is held, and all else that they tell is
+    """Whether of the mount and Linux just the one reports that a key is held, and all else that they tell is
     the same."""
     rest = [reply.split(" ")[2:] for reply in (step.ours, step.theirs) if reply.startswith("status")]
     return is_key_call(step) and (told_held(step.ours),
@@ -101,7 +101,7 @@ def kept_plain(step, wanted):
 
 
 def open_below(step):
-    """Linux keeps what stands above an open node unlocked."""
+    """Linux keeps what is above an open node unlocked."""
     kept = kept_plain(step, lambda node: step.books.open_below(node) and step.books.users_of(node.key))
     return fits_some(step, kept, False)
 
@@ -118,7 +118,7 @@ def open_unlinked(step):
 
 def lingering(step):
     """With its last close a key without claims goes here; in Linux it lingers, which drive lets it only if
-    it is told.
+    it is reported.
 
     The next removal takes it there, if nothing holds it any more.
     """
@@ -156,7 +156,7 @@ def policy_by_root(step):
 
 
 def through_link(step):
-    """Linux follows a link on the way, which drive tells as ELOOP."""
+    """Linux follows a link on the way, which drive reports as ELOOP."""
     return step.told.get("link") == "1" and step.refused in own_causes(step) and step.denied in causes(step)
 
 

@@ -206,7 +206,7 @@ def directories_above(step):
 
 
 def above_an_open_file(step):
-    """What stands above an open node stays unlocked; its names are plain."""
+    """What is above an open node stays unlocked; its names are plain."""
     kept = directories_above(step)
     if not kept or not step.paths() or not (step.refused or step.verb == "list"):
         return None

@@ -1,6 +1,6 @@
 """What a refusal of a call may rest on, in whatever order the causes are asked.
 
-Each function tells the refusals for which there is a cause in the state before the call, as Linux names
+Each function reports the refusals for which there is a cause in the state before the call, as Linux names
 them.
 """
 import re

@@ -1,4 +1,4 @@
-"""What all steps of logs and answers come to, and how it is told."""
+"""What all steps of logs and answers come to, and how it is reported."""
 import collections
 import dataclasses
 

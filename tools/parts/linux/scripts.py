@@ -47,7 +47,7 @@ class Script:
 def in_this_order(name, users, steps):
     """A script whose serial run takes the steps, a caller and a command each, one after the other.
 
-    A round has a command of each caller, so where a caller has none a filler stands.
+    A round has a command of each caller, so if a caller has none it has a filler.
     """
     made = Script(name, "")
     made.users, made.commands = users, [[] for _ in users]
@@ -126,7 +126,7 @@ def texts_listed(log):
 
 
 def stats_put(script, behind):
-    """The script with so many `stat PATH/*k` behind each of its listings."""
+    """The script with that many `stat PATH/*k` after each of its listings."""
     if not any(behind):
         return script
     steps, counts = [], iter(behind)
@@ -139,10 +139,10 @@ def stats_put(script, behind):
 
 
 def with_stats(program, script):
-    """The script with a `stat PATH/*k` behind each name of a listing that is a no-key text, and its log.
+    """The script with a `stat PATH/*k` after each name of a listing that is a no-key text, and its log.
 
-    The log then tells which node each text is. A command more changes what later ones draw, and so the order
-    of texts: it is tried until each listing has as many behind it as it needs.
+    The log then reports which node each text is. A command more changes what later ones draw, and so the
+    order of texts: it is tried until each listing has as many after it as it needs.
     """
     behind = [0] * sum(command.startswith("list ") for _, command in script.rotation())
     while True:
@@ -155,7 +155,7 @@ def with_stats(program, script):
 
 
 def learn_texts(books, behind, caller, path):
-    """What the stats behind a listing tell of its texts."""
+    """What the stats after a listing report its texts."""
     for line in behind:
         if line.split(" ", 3)[3] == FILLED:
             continue
@@ -167,7 +167,7 @@ def learn_texts(books, behind, caller, path):
 
 
 def in_linux(user):
-    """The user that stands for one of the mount: Linux has none of the last number."""
+    """The user that represents one of the mount: Linux has none of the last number."""
     return str(user if user != NO_USER else STANDS_FOR_IT)
 
 

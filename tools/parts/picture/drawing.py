@@ -43,7 +43,7 @@ class Drawing:
             self.wide = max(self.wide, x + int(7.3 * len(text)) + 12)
 
     def head(self, x, text):
-        """What stands above a lane."""
+        """What is above a lane."""
         x, y = x + 4, self.y(0) - 22
         self.text(x, y, text, more=f' transform="rotate(-55 {x} {y})"')
         self.wide = max(self.wide, x + 56)

@@ -1,7 +1,7 @@
-/* CBC with ciphertext stealing by OpenSSL's library, the round keys made once: openssl speed can't tell it,
- * since this cipher takes one piece a text and every second of its calls is refused there.
+/* CBC with ciphertext stealing by OpenSSL's library, the round keys made once: openssl speed can't report
+ * it, since this cipher takes one piece a text and every second of its calls is refused there.
  *
- * gcc -O2 -o openssl_cts openssl_cts.c -lcrypto; openssl_cts BYTES COUNT enciphers a text COUNT times. */
+ * gcc -O2 -o openssl_cts openssl_cts.c -lcrypto; openssl_cts BYTES COUNT encrypts a text COUNT times. */
 #include <openssl/evp.h>
 #include <openssl/params.h>
 #include <stdio.h>

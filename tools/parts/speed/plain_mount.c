@@ -1,12 +1,12 @@
 // A plain mount in memory, in C and without proof, to set the mount's calls on names beside: `mkdir`,
 // `unlink`, `stat-warm`, `stat-round`, `stat-cold`, `rename`, `list-plain`, `list-encrypted`, and
-// `mkdir-NAMES`, `unlink-NAMES` and `stat-NAMES` among so many names. The words NAME COUNT make these calls
-// so often, and print the sum of what was told.
+// `mkdir-NAMES`, `unlink-NAMES` and `stat-NAMES` among that many names. The words NAME COUNT make these
+// calls that often, and print the sum of what was reported.
 //
-// Nodes stand in an array, and each directory has a hash table of its names as they are stored. Names are
-// enciphered by the shuffles of aes_shuffles.h in CBC with ciphertext stealing, under a key that is drawn by
+// Nodes are in an array, and each directory has a hash table of its names as they are stored. Names are
+// encrypted by the shuffles of aes_shuffles.h in CBC with ciphertext stealing, under a key that is drawn by
 // HKDF-SHA512 (OpenSSL's SHA-512) and cached with its round keys; a name of more than 149 stored bytes, for
-// which no-key texts would have to be compared, is refused. Nothing is overwritten before it is freed but
+// which no-key texts would have to be compared, is refused. Nothing is wiped before it is freed but
 // keys.
 //
 //     gcc -O3 -march=x86-64-v2 plain_mount.c -o plain_mount -lcrypto && ./plain_mount stat-warm 1000
@@ -60,7 +60,7 @@ static void hmac(const struct hmac *h, const uint8_t *message, size_t len, uint8
     OPENSSL_cleanse(&context, sizeof context);
 }
 
-// The first 64 bytes of HKDF-SHA512's expansion for the use, with the nonce behind it.
+// The first 64 bytes of HKDF-SHA512's expansion for the use, with the nonce after it.
 static void draw(const struct hmac *prk, uint8_t use, const uint8_t *nonce, size_t len, uint8_t out[64]) {
     uint8_t info[8 + 1 + 16 + 1] = "fscrypt";
     info[8] = use;
@@ -145,7 +145,7 @@ struct part {
     const uint8_t *bytes;
 };
 
-// The stored form: padded with zeros to a multiple of 32 bytes, at least 16 and at most 255, and enciphered.
+// The stored form: padded with zeros to a multiple of 32 bytes, at least 16 and at most 255, and encrypted.
 static void stored_form(const struct names_key *key, const struct part *name, struct text *out) {
     size_t len = (name->len + 31) / 32 * 32;
     out->len = len > MOST_NAME ? MOST_NAME : len;
@@ -351,7 +351,7 @@ static fault entry_of(uint32_t dir, const struct part *part, struct entry ***slo
     return *slot ? OK : NOT_FOUND;
 }
 
-// The node to which the first parts lead; whether the walk passes a node is told where one is asked for.
+// The node to which the first parts lead; whether the walk passes a node is reported where one is asked for.
 static fault walk(const struct path *path, size_t count, uint32_t *at, uint32_t passed, bool *past) {
     *at = 0;
     for (size_t i = 0; i < count; i++) {
@@ -518,7 +518,7 @@ static struct path numbered(uint32_t number) {
 
 static struct path top_path(void) { return (struct path){1, {TOP}}; }
 
-// The directory, encrypted or not, with so many files.
+// The directory, encrypted or not, with that many files.
 static void set_up(bool encrypted, uint32_t files) {
     struct path top = top_path();
     new_node(DIR, NULL, NONCE);
@@ -630,7 +630,7 @@ static int check(void) {
     return well ? 0 : 1;
 }
 
-// The number behind the family's name, from 1 to 4,096.
+// The number after the family's name, from 1 to 4,096.
 static uint32_t number_of(const char *name, const char *family) {
     size_t len = strlen(family);
     long number = strncmp(name, family, len) == 0 ? atol(name + len) : 0;

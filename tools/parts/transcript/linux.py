@@ -69,7 +69,7 @@ class Asked:
 
 
 def asked_of(step, listed):
-    """A step of the comparison, of which the books stand before the call."""
+    """A step of the comparison, of which the books are before the call."""
     if same(step):
         return Asked(step.caller, step.verb, "")
     kind = kind_of(step)

@@ -6,7 +6,7 @@ from parts.common.log_reader import PAUSE
 
 @dataclasses.dataclass
 class Script:
-    """The sections of a script, of which each command stands beside the step that it is, or beside None."""
+    """The sections of a script, of which each command is beside the step that it is, or beside None."""
     users: list
     sections: list
 
@@ -35,7 +35,7 @@ class Script:
         return Script(self.users, sections)
 
     def level(self):
-        """Pauses at the ends of the shorter sections, so that what is put behind comes after all steps."""
+        """Pauses at the ends of the shorter sections, so that what is put after comes after all steps."""
         rounds = max(map(len, self.sections), default=0)
         for section in self.sections:
             section += [(PAUSE, None)] * (rounds - len(section))

@@ -82,7 +82,7 @@ def questions_of(path, size):
 class Level:
     """A directory whose entries are asked for: its entry of `stat`, and whether the one above is readable.
 
-    None stands for a directory without a policy.
+    None represents a directory without a policy.
     """
     stat: object
     above: object
@@ -161,7 +161,7 @@ class State:
         self.directories = encrypted(asking, root, lambda key: self.state_of(key) == "incomplete")
 
     def state_of(self, key):
-        """The state of a key, as every user is told it; absent if nothing named it."""
+        """The state of a key, as every user is reported it; absent if nothing named it."""
         return next((told[1] for (name, _), told in self.statuses.items() if name == key), "absent")
 
     def key_of(self, handle):

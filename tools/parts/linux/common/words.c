@@ -68,7 +68,7 @@ int read_bytes(const char *text, unsigned char *bytes)
 	return length;
 }
 
-/* Reads a WORD of so many characters, ends it with a NUL, and returns its length. */
+/* Reads a WORD of that many characters, ends it with a NUL, and returns its length. */
 int read_word(const char *text, int characters, char *word)
 {
 	int length = 0;

@@ -63,7 +63,7 @@ static void get_policy(const struct call *call)
 	}
 }
 
-/* What a creation answers; the node's number is the word behind. */
+/* What a creation answers; the node's number is the word after. */
 static void made(const struct call *call, int result, const char *number, int (*undo)(const char *))
 {
 	if (!done(call, result, errno))
@@ -201,7 +201,7 @@ static long size_of_directory(char *key)
 	return count;
 }
 
-/* Where this kernel can't be asked whether the key is at hand, it is told as `?`. */
+/* Where this kernel can't be asked whether the key is at hand, it is reported as `?`. */
 static void tell_status(const struct call *call)
 {
 	struct statx status;

@@ -14,9 +14,9 @@
  *
  * EXPECTED is `ok`, or `no` where the mount refuses: what this kernel does all the same is taken
  * back, or where that can't be the script is cut. In a path the part `@N=TEXT` is the mount's
- * no-key text of node N: the name by which this kernel lists that node stands for it.
+ * no-key text of node N: the name by which this kernel lists that node represents it.
  *
- * Behind an answer stand, each behind a tab, words `key:value` for the comparison: the error, the
+ * After an answer stand, each after a tab, words `key:value` for the comparison: the error, the
  * nodes of a listing, and what was taken back or cut. A line `F TEXT` tells a fault of drive's own.
  */
 #define _GNU_SOURCE
