@@ -15,7 +15,7 @@ COMMENT = b"a comment is a line of its own"
 
 
 def no_word(name, number, kind, remedy):
-    """What is reported a word of a command that is none of its kind."""
+    """What is printed of a word of a command that is none of its kind."""
     fault = b'line 2: "' + name + b'" has a word, number %d behind it, that is no ' % number
     return fault + kind + b"; " + remedy
 
@@ -136,7 +136,7 @@ BAD_ARGUMENTS = [
 
 
 def faulty_lines(tally):
-    """All lines at fault are reported in one run, up to twenty; a command is not told only for want of a
+    """All lines at fault are reported in one run, up to twenty; a command isn't reported only because there is no
     caller before it."""
     script = b"add-key 00\nstat /\ncaller x\nmkdri /a\nstat /\nread 0 0\n"
     wanted = b"".join(b"fsc: line " + line + b"\n" for line in (

@@ -126,7 +126,7 @@ def stored_histories(tally):
 
 
 def by_hand(tally):
-    """A creation whose name comes after a removal is reported from all other kinds."""
+    """A creation whose name comes after a removal is distinguished from all other kinds."""
     with tempfile.TemporaryDirectory() as folder:
         script, answers = os.path.join(folder, "creation.fsc"), os.path.join(folder, "answers.txt")
         with open(script, "w", encoding="utf-8") as file:

@@ -1,4 +1,4 @@
-"""Records that were changed after their users' backs: each digit, line and word, with how unlocking by them
+"""Records that were changed behind their users' backs: each digit, line and word, with how unlocking by them
 ends."""
 from parts.common.running import SERIAL, run
 

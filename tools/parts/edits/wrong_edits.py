@@ -389,7 +389,7 @@ def is_tried(edit, line):
 
 
 def tells_most(lines):
-    """Of the lines that refuse an edit the one that reports most of the contract, or an empty text: a fact
+    """Of the lines that refuse an edit the one that says most of the contract, or an empty text: a fact
     that the function ensures, of which a searched one tells more than a written proof that doesn't fit; else
     what a call of the body asks for, a loop or a type keeps."""
     strong = [line for line in lines if is_strong(line) and goal_of(line)]
@@ -400,7 +400,7 @@ def tells_most(lines):
 
 
 def others_refused(lines):
-    """The goals at which an edit is refused besides the one that reports most, of those that were searched
+    """The goals at which an edit is refused besides the one that says most, of those that were searched
     for. None, where that is in a file of a written proof, of which it isn't sure that the fact is false."""
     first = tells_most(lines)
     searched = [goal_of(line) for line in lines if GOAL.match(line)

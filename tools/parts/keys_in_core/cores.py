@@ -149,7 +149,7 @@ def memory_of(core, told):
 def stacks_of(told):
     """Where the stacks lie, from gdb's list of mappings: the main one, and each piece after a guard page.
 
-    The C library takes an arena of the heap at a multiple of 64 MiB; that is how one is reported from a
+    The C library takes an arena of the heap at a multiple of 64 MiB; that is how one is distinguished from a
     thread's stack.
     """
     rows = re.findall(r"^\s*0x([0-9a-f]+)\s+0x([0-9a-f]+)\s+0x[0-9a-f]+\s+0x[0-9a-f]+\s+([-rwxps]{4})?[ "
@@ -164,7 +164,7 @@ def stacks_of(told):
 
 
 def registers(notes):
-    """The registers that the notes of a core report each thread."""
+    """The registers that the notes of a core have of each thread."""
     at = 0
     while at + 12 <= len(notes):
         names, length, kind = struct.unpack_from("<III", notes, at)

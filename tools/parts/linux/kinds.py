@@ -38,7 +38,7 @@ def told_held(reply):
 
 
 def held_otherwise(step, here):
-    """Whether of the mount and Linux just the one reports that a key is held, and all else that they tell is
+    """Whether of the mount and Linux just the one reports that a key is held, and all else that they report is
     the same."""
     rest = [reply.split(" ")[2:] for reply in (step.ours, step.theirs) if reply.startswith("status")]
     return is_key_call(step) and (told_held(step.ours),

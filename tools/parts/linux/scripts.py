@@ -155,7 +155,7 @@ def with_stats(program, script):
 
 
 def learn_texts(books, behind, caller, path):
-    """What the stats after a listing report its texts."""
+    """What the stats after a listing report of its texts."""
     for line in behind:
         if line.split(" ", 3)[3] == FILLED:
             continue

@@ -1,4 +1,4 @@
-// A sum after a pthread mutex: the rival in C of the kernels `turn-1`, `turn-2` and `turn-4`. The words
+// A sum under a pthread mutex: the rival in C of the kernels `turn-1`, `turn-2` and `turn-4`. The words
 // THREADS COUNT let that many threads add 7 in all COUNT times, each time under the lock, and print the sum.
 // One thread more is started and ended before, since a process that never had a second thread may lock
 // without atomic steps.

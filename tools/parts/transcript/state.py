@@ -161,7 +161,7 @@ class State:
         self.directories = encrypted(asking, root, lambda key: self.state_of(key) == "incomplete")
 
     def state_of(self, key):
-        """The state of a key, as every user is reported it; absent if nothing named it."""
+        """The state of a key, as it is reported to every user; absent if nothing named it."""
         return next((told[1] for (name, _), told in self.statuses.items() if name == key), "absent")
 
     def key_of(self, handle):
