@@ -34,8 +34,8 @@ MountsHaveOneReply =
     → (a ≡ b) ⊎ (IsTrue (takes_memory call.op) × ((a ≡ Refused NoMemory) ⊎ (b ≡ Refused NoMemory)))
 
 -- the log of a lawful run, with its notes, is refused at no place, if its entries are in range and the raw
--- keys that were added agree. So a program's log of its own run is certified, and strictly if nothing in
--- the run was out of memory
+-- keys that were added agree. So a program's log of its own run is not refused, nor by a strict check if
+-- nothing in the run was out of memory
 abbrev pub LogsOfRunsAreNotRefused : Type 0
 LogsOfRunsAreNotRefused =
     (strict : Bool) (seed : List ℕ) (script : List Section) (history : History) (place : ℕ)

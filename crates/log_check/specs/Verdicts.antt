@@ -25,8 +25,8 @@ pub record IsCertified (strict : Bool) (seed : List ℕ) (script : List Section)
   pub possible : KeysAgree history → IsPossible strict seed script history
 
 -- The text begins with that many entries of a history, which is lawful, and a possible one if the raw keys
--- that were added agree. The text has more entries of no possible history, and it is the log of no possible
--- run.
+-- that were added agree. No possible history has more entries with which the text begins, and the text is
+-- the log of no possible run.
 pub record IsRefusedAt (strict : Bool) (seed : List ℕ) (script : List Section) (text : List ℕ) (place : ℕ)
     : Type 0 where
   pub history : History

@@ -1,4 +1,4 @@
--- Names that are cached: the rule, and what they stand for, where some go and where one comes.
+-- Cached names: their rule, and what they represent, if some are removed and if one is added.
 use Rattle.std.proofs.Common.{◌≡◌, ℕ, Bool, true, cond, List, [], ◌∷◌, Contains, Option, Some, None, option_map, Result, Ok, Err, OnOk, OnErr, bytes_eq, inl, inr, refl, sym, ap, subst, ◌∙◌}
 use Rattle.std.proofs.lemmas.Bool.{or_cases, or_left, or_right}
 use Rattle.std.specs.Map.{lookup}
@@ -44,14 +44,14 @@ use Rattle.mount_state.proofs.WalkLemmas.{same_cache}
 -- ---- the rule
 
 module _ (disk : Disk) (claims : ClaimSet) (live : HandleList) (old new : NameList) (rule : NamesForget disk claims old live) where
-  -- where no name comes
+  -- if no name is added
   pub forget_fewer : HoldsNoMore old new → NamesForget disk claims new live
   forget_fewer fewer = record {
     there = λ pair held. rule.there pair (fewer pair held);
     keyed = λ pair held. rule.keyed pair (fewer pair held);
   }
 
-  -- where one comes, of a keyed directory
+  -- if one is added, of a keyed directory
   pub forget_beside : (more : Pair) → HoldsBeside old new more → is_dir_on_disk disk more.0.dir ≡ true → is_unlocked disk claims live more.0.dir ≡ true
       → NamesForget disk claims new live
   forget_beside more beside dir keyed = record {
@@ -65,7 +65,7 @@ module _ (disk : Disk) (claims : ClaimSet) (live : HandleList) (old new : NameLi
     ];
   }
 
--- where directories that names are cached of stay keyed ones
+-- if directories of which names are cached stay keyed ones
 pub forget_when : (old new : Disk) (before after : ClaimSet) (held left : HandleList) (names : NameList) → NamesForget old before names held
     → ((pair : Pair) → Contains names.pairs pair → is_dir_on_disk old pair.0.dir ≡ true → is_unlocked old before held pair.0.dir ≡ true
     → (is_dir_on_disk new pair.0.dir ≡ true) × (is_unlocked new after left pair.0.dir ≡ true))
@@ -75,7 +75,7 @@ forget_when old new before after held left names rule stays = record {
   keyed = λ pair is. (stays pair is (rule.there pair is) (rule.keyed pair is)).1;
 }
 
--- a keyed node stays one where no claim went on any key, nor the last handle on the node
+-- a keyed node stays one unless a claim on some key is lost, or the last handle on the node
 pub keyed_more : (before after : ClaimSet) (held left : HandleList) (node : ℕ) → ((id : KeyId) → is_present before id ≡ true → is_present after id ≡ true)
     → (has_handle held node ≡ true → has_handle left node ≡ true) → (o : Option (List ℕ)) → is_unlocked_under before held node o ≡ true → is_unlocked_under after left node o ≡ true
 keyed_more before after held left node claims handles None is = refl
@@ -85,7 +85,7 @@ keyed_more before after held left node claims handles (Some context) is =
       | inr handle ↦ or_right (is_present after (id_in context)) (has_handle left node) (handles handle)
     ]
 
--- ---- what they stand for
+-- ---- what they represent
 
 module _ (nodes : Nodes) (old new : NameList) (stand : NamesStand old nodes) where
   pub stand_fewer : HoldsNoMore old new → NamesStand new nodes
@@ -107,7 +107,7 @@ pair_of names dir name number is =
     let found = Contains-lookup (is_name dir name) names.pairs number is in
     subst (λ (k : NameKey). Contains names.pairs (k, number)) (sym (same_name dir name found.0 found.2)) found.1
 
--- in a keyed directory a part leads where the entry of this name does
+-- in a keyed directory a part resolves as the entry of this name does
 pub keyed_led : (m : PlainMount) (dir : ℕ) (part : Name) → plain.is_keyed m dir ≡ true → entry m.nodes dir part ≡ led_to m dir part
 keyed_led m dir part keyed =
     ap (λ (f : Name → Name). lookup (λ name. bytes_eq part (f name)) (children m.nodes dir)) (λ i name. sym (shown_plain name) i)
@@ -149,7 +149,7 @@ dir_stands disk next m tree dir is = of (get m.nodes dir) (subst (of_node ⊥ (�
     of None is = absurd is
     of (Some v) is = of_body v.named v.context v.body is
 
--- ---- a name that is kept
+-- ---- a name that is cached
 
 pub kept_or_counted : {T E : Type 0} (r : Result T E) (first old new : NameList) (dir : ℕ) (name : Name) (number : ℕ) → old.refused ≡ first.refused
     → OnOk r (cached new dir name ≡ Some number) → OnErr r (new ≡ one_more_refused old) → IsKept first new dir name number

@@ -1,4 +1,4 @@
--- What lies on the disk of a node's context is the context of the mount's node.
+-- What is on the disk of a node's context is the context of the mount's node.
 use Rattle.std.proofs.Common.{◌≡◌, ℕ, List, length, Option, Some, None, option_map, refl, sym, ap, ◌∙◌}
 use Rattle.policy_ctx.specs.declared.policy.Context.{Context}
 use Rattle.policy_ctx.specs.Context.{context_bytes}
@@ -22,7 +22,7 @@ none_of : {X Y : Type 0} (f : X → Y) (o : Option X) → None ≡ option_map f 
 none_of f None is = refl
 none_of f (Some x) is = absurd (cc)
 
--- ---- what lies on the disk of a context
+-- ---- what is on the disk of a context
 
 module _ (on_disk : Disk) (next : ℕ) (m : PlainMount) (well : IsWellFormed m) (tree : TreeStands on_disk next m) (d : ℕ) where
   -- without one there is no policy

@@ -71,7 +71,7 @@ module _ (disk : Disk) (next : ℕ) (m : PlainMount) (well : IsWellFormed m) (st
       ∙ number_looked_up plain (children m.nodes d)
 
   module _ (c : Context) (under : context_at m.nodes d ≡ Some c) where
-    -- with its key names are shown as they are
+    -- with its key names are visible as they are
     shown_plain : is_keyed m d ≡ true → (name : Name) → shown m d name ≡ name
     shown_plain keyed name = ap (shown_under m d name) under ∙ ap (λ b. cond b name (texts m.raws d c name)) keyed
 

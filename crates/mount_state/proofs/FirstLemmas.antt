@@ -1,4 +1,4 @@
--- The state of the empty mount meets what each state keeps, and stands for that mount.
+-- The state of the empty mount meets the invariants of a state, and represents that mount.
 use Rattle.std.proofs.Common.{◌≡◌, ℕ, [], Option, Some, None, option_map, is_some, unwrap_or, inl, inr, refl, sym, ap, subst, ◌∙◌, arith}
 use Rattle.std.specs.Option.{option_map_or}
 use Rattle.std.specs.FinMap as map
@@ -89,7 +89,7 @@ none_remembered disk claims names live none = record {
   keyed = λ pair held. absurd (none_held names none pair held);
 }
 
--- ---- it stands for the empty mount
+-- ---- it represents the empty mount
 
 no_nodes : Nodes
 no_nodes = empty

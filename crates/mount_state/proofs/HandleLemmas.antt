@@ -252,7 +252,7 @@ index_taken live index after opened caller number kept taken = record {
       | inr other ↦ ap not other
     ]
 
--- ---- room
+-- ---- capacity
 
 pub below_most : (live : HandleList) (opens : ℕ) → (nat_le MOST_HANDLES (length live) || nat_le MOST_OPENS opens) ≡ false → opens + 1 < 2 ^ 32
 below_most live opens free =

@@ -1,4 +1,4 @@
--- A directory's own key that is cached leaves the rule, and what the state stands for.
+-- Caching a directory's own key preserves the rule, and what the state represents.
 use Rattle.std.proofs.Common.{◌≡◌, ℕ, ◌&&◌, ◌||◌, not, true, false, cond, ◌⊎◌, List, [], length, take, drop, Option, Some, None, option_map, is_some, Result, Ok, Err, OnOk, OnErr, inl, inr, refl, sym, ap, subst, ◌∙◌}
 use Rattle.std.specs.Option.{unwrap_or}
 use Rattle.std.proofs.lemmas.Bool.{cases_eq}

@@ -1,4 +1,4 @@
--- In a keyed directory a name leads where its stored form does, under the key that the state has.
+-- In a keyed directory a name resolves as its stored form does, under the key that the state has.
 use Rattle.std.proofs.Common.{◌≡◌, ℕ, ◌<◌, Bool, true, false, cond, not, ◌&&◌, List, [], length, Option, Some, None, option_map, is_some, unwrap_or, bytes_eq, inl, inr, refl, sym, ap, ◌∙◌, subst, arith}
 use Rattle.std.specs.Map.{lookup}
 use Rattle.std.specs.Option.{option_map_or, option_or}
@@ -53,7 +53,7 @@ use Rattle.mount_state.proofs.UserLemmas.{some_from, users_from}
 is_names : (raw : List ℕ) (c : Context) → is_of_kind Names (key_from c raw) ≡ true
 is_names raw c = elim c.policy.by_mode as (λ b. is_of_kind Names (cond b (mode_key_of raw Names) (file_key_of raw Names c.nonce)) ≡ true) [ true ↦ refl | false ↦ refl ]
 
--- a key that is drawn is one of names
+-- a derived key is one of names
 pub drawn_names : (ring : Holding) (c : Context) (key : FileKey) → drawn_key ring c ≡ Some key → is_of_kind Names key ≡ true
 drawn_names ring c key is = by (secret_of ring c.policy.id) is
   where
@@ -87,7 +87,7 @@ stored_dir_kind m n (Some v) is = at v.named v.context v.body is
     at named context (Link target) bad = refl
 
 module _ (m : PlainMount) (dir : ℕ) (c : Context) (here : context_at m.nodes dir ≡ Some c) where
-  -- a cached key, and one that is drawn, is the key of the directory's names
+  -- a cached key, and a derived one, is the key of the directory's names
   pub cached_is : (cache : Cache) (modes : Modes) → CachesStand cache modes m → is_dir_at m.nodes dir ≡ true → (k : FileKey) → cached_key cache modes dir c ≡ Some k → k ≡ node_key m.raws c Names
   cached_is cache modes stand is_dir k is = by_flag c.policy.by_mode refl is
     where
@@ -121,7 +121,7 @@ module _ (m : PlainMount) (dir : ℕ) (c : Context) (here : context_at m.nodes d
           sym (some_same (key_from c raw) k is)
           ∙ sym (ap (λ o. key_from c (unwrap_or o [])) (stand.secrets c.policy.id raw there))
 
-  -- so is one that is cached for the directory, of which the cipher stands ready
+  -- so is one that is cached for the directory with its cipher
   pub own_is : (cache : Cache) (modes : Modes) → CachesStand cache modes m → plain_kind (get m.nodes dir) ≡ Names → (bytes : List ℕ) → own_names_key cache dir c ≡ Some bytes → key.Names bytes ≡ node_key m.raws c Names
   own_is cache modes stand names bytes is = by_flag c.policy.by_mode is
     where
@@ -141,7 +141,7 @@ module _ (m : PlainMount) (dir : ℕ) (c : Context) (here : context_at m.nodes d
       by_flag true bad = let none : None ≡ Some bytes = bad in absurd (cc)
       by_flag false is = of_node (key_at cache dir) refl is
 
-  -- and one that stands elsewhere
+  -- and one that is held elsewhere
   pub other_is : (ring : Holding) (cache : Cache) (modes : Modes) → KeysStand ring m → CachesStand cache modes m → is_dir_at m.nodes dir ≡ true → (k : FileKey) → other_key ring modes c ≡ Some k → k ≡ node_key m.raws c Names
   other_is ring cache modes keys stand is_dir k is = by_used (used_mode_key modes c) refl is
     where
@@ -179,7 +179,7 @@ module _ (m : PlainMount) (dir : ℕ) (c : Context) (here : context_at m.nodes d
         by_case None none under = refl
         by_case (Some k) is under = let bad : None ≡ Some (key_bytes k) = under (of_names k is) in absurd (cc)
 
-  -- where the directory is keyed, the state has the key
+  -- if the directory is keyed, the state has the key
   module _ (disk : Disk) (next : ℕ) (well : IsWellFormed m) (tree : TreeStands disk next m) (is_dir : is_dir_at m.nodes dir ≡ true) where
     pub context_here : context_on_disk (get disk dir) ≡ Some (context_bytes c)
     context_here = context_is disk next m well tree dir ∙ ap (option_map context_bytes) here
@@ -232,7 +232,7 @@ module _ (m : PlainMount) (dir : ℕ) (c : Context) (here : context_at m.nodes d
             from_mode (mode_at modes c.policy.id Names) refl (omega arith) none
         by_flag false flag held none = from_own (key_at cache dir) (rule.file_keys.kept dir c.policy.id (own_here flag) held) none
 
-    -- so its cipher is cached, or the key stands elsewhere
+    -- so its cipher is cached, or the key is held elsewhere
     pub some_cipher : (ring : Holding) (cache : Cache) (modes : Modes) (live : HandleList) → Forgets disk ring.claims cache modes live → HoldsClaimedSecrets ring → ring.claims ≡ m.claims → live ≡ m.handles
         → is_keyed m dir ≡ true → own_names_key cache dir c ≡ None → other_key ring modes c ≡ None → ⊥
     some_cipher ring cache modes live rule secrets claims handles keyed no_own no_other =
@@ -291,7 +291,7 @@ module _ (m : PlainMount) (dir : ℕ) (c : Context) (here : context_at m.nodes d
         ∙ ((λ i. number_under (stored_name (is i) (node_start dir (read_is i)) (read_is i).policy.pad name) (stored_entries disk dir))
         ∙ keyed_led distinct keyed (subst AreBytes is ranged) name plain name_bytes)
 
-    -- so is what is found under a cipher that is made for this once, where none is cached
+    -- so is what is found under a cipher that is made for this call alone, if none is cached
     pub led_by_other : NamesStayDistinct → is_keyed m dir ≡ true
         → (ring : Holding) (cache : Cache) (modes : Modes) (live : HandleList) → Forgets disk ring.claims cache modes live → HoldsClaimedSecrets ring
         → KeysStand ring m → CachesStand cache modes m → live ≡ m.handles

@@ -1,4 +1,4 @@
--- The stored entries of a directory lead where its plain ones do.
+-- The stored entries of a directory resolve as its plain ones do.
 use Rattle.std.proofs.Common.{◌≡◌, ℕ, Bool, true, false, cond, ◌&&◌, List, [], ◌∷◌, Option, Some, None, option_map, is_some, bytes_eq, inl, inr, refl, sym, ap, ◌∙◌}
 use Rattle.std.specs.Map.{lookup, lookup_entry}
 use Rattle.std.proofs.lemmas.Bool.{cases_Bool, true≢false, le-leb}
@@ -26,7 +26,7 @@ use Rattle.mount_state.specs.StandsFor.{TreeStands}
 
 -- ---- texts
 
--- a comparison that is told by equality
+-- a comparison that decides equality
 pub decided : (b : Bool) (x y : List ℕ) → (b ≡ true → x ≡ y) → (x ≡ y → b ≡ true) → b ≡ bytes_eq x y
 decided b x y to from = elim (cases_Bool (bytes_eq x y)) [
   | inl same ↦ from ((bytes_eq-Decides x y).0 same) ∙ sym same
@@ -64,7 +64,7 @@ module _ (disk : Disk) (next : ℕ) (m : PlainMount) (well : IsWellFormed m) (tr
   entries_are : stored_entries disk dir ≡ stored_children (stored_form m.raws dir (context_at m.nodes dir)) (children m.nodes dir)
   entries_are = ap entries_in (tree.nodes dir) ∙ entries_stored m.raws dir (get m.nodes dir)
 
-  -- a test of stored names that agrees with what is shown finds what the part leads to
+  -- a test of stored names that agrees with the visible names finds what the part resolves to
   pub led_by : (part : Name) (test : List ℕ → Bool)
       → ((name : Name) → IsNameOf (children m.nodes dir) name → test (stored_form m.raws dir (context_at m.nodes dir) name) ≡ bytes_eq part (shown m dir name))
       → lookup test (stored_entries disk dir) ≡ led_to m dir part

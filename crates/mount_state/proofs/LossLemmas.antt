@@ -1,4 +1,4 @@
--- Exactly one handle goes where one is closed.
+-- Exactly one handle is removed when one is closed.
 use Rattle.std.proofs.Common.{◌≡◌, ℕ, ◌≤◌, Bool, true, false, cond, not, [], ◌∷◌, ◌++◌, Option, Some, None, IfSome, option_map, inl, inr, refl, sym, ap, ◌∙◌, arith}
 use Rattle.std.specs.List.{count_by, find, filter, list_any}
 use Rattle.std.proofs.lemmas.Bool.{cases_Bool, or_parts}
@@ -53,7 +53,7 @@ fewer_left keep p (h ∷ hs) =
           omega arith
     ]
 
--- where none passes, none goes
+-- if none passes, none is removed
 none_lost : (p : Handle → Bool) (hs : HandleList) → count_by p hs ≤ 0 → filter (λ h. not (p h)) hs ≡ hs
 none_lost p [] few = refl
 none_lost p (h ∷ hs) few =

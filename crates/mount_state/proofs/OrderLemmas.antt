@@ -38,7 +38,7 @@ module _ {X : Type 0} (cmp : X → X → Ordering) (total : IsTotalOrder cmp) (s
   not_itself : (x : X) → below x x ≡ false
   not_itself x = ap is_lt (tied_itself total x)
 
-  -- ---- how often a thing stands
+  -- ---- how often an element occurs
 
   abbrev one : X → X → ℕ
   one z x = cond (is_eq (cmp z x)) 1 0

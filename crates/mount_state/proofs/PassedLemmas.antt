@@ -1,4 +1,4 @@
--- Whether a walk passes a node, told part by part.
+-- Whether a walk passes a node, decided part by part.
 use Rattle.std.proofs.Common.{◌≡◌, ◌<◌, ℕ, ◌+◌, ◌==◌, suc, Bool, true, false, ◌||◌, take, drop, Some, Ok, Err, refl, sym, ap, ◌∙◌}
 use Rattle.std.specs.List.{list_any, slice_get}
 use Rattle.std.proofs.Math.Numerals.{add-one}

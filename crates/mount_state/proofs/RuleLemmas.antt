@@ -1,4 +1,4 @@
--- The status is Absent exactly where nothing of the key is held.
+-- The status is Absent exactly when nothing of the key is held.
 use Rattle.std.proofs.Common.{◌≡◌, ℕ, ◌<◌, ◌≤◌, true, false, not, eqb, ◌&&◌, ◌||◌, List, Option, Some, None, is_some, inl, inr, refl, sym, ap, subst, ◌∙◌, arith}
 use Rattle.std.specs.Option.{option_map_or}
 use Rattle.std.proofs.lemmas.Bool.{cases_Bool, cases_lt, or_cases, and_parts, true≢false, eq-eqb, eqb-true}
@@ -103,7 +103,7 @@ module _ (disk : Disk) (ring : Holding) (cache : Cache) (modes : Modes) (live : 
       ] in
       busy_with one.0 (some_user (λ n. eqb n one.0) live (omega arith)) (ap (λ (k : KeyId). names_key_on_disk disk one.0 k) (sym one.1.1.1.1) ∙ named)
 
-  -- where a handle needs the key, its node has pins and a key of it, or uses a mode key
+  -- if a handle needs the key, its node has pins and a key of it, or uses a mode key
   pub not_busy : inode_users cache id ≤ 0 → users_of modes id ≤ 0 → is_in_use disk live id ≡ false
   not_busy no_inodes no_modes = elim (cases_Bool (is_in_use disk live id)) [
     | inl busy ↦ let one = one_on (λ n. names_key_on_disk disk n id) live busy in absurd (needed one.0 one.1.0 one.1.1)

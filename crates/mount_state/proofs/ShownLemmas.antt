@@ -1,4 +1,4 @@
--- A stored name that has a text is told by what the text shows.
+-- A stored name that has a text is found by what the text spells.
 use Rattle.std.proofs.Common.{◌≡◌, ℕ, ◌<◌, ◌≤◌, Bool, true, false, cond, ◌&&◌, List, [], ◌∷◌, length, Option, Some, None, option_map, bytes_eq, inl, inr, refl, sym, ap, ◌∙◌, arith}
 use Rattle.std.specs.Map.{lookup_entry}
 use Rattle.std.proofs.lemmas.Bool.{cases_lt, true≢false, le-leb, lt-leb}
@@ -26,7 +26,7 @@ all_found : (f g : List ℕ → Bool) (es : Entries) → ((stored : List ℕ) �
 all_found f g [] same = refl
 all_found f g (e ∷ es) same = λ i. cond (same e.0 i) (Some e) (all_found f g es same i)
 
--- where a name is looked up, the entry that is found has it
+-- if a name is looked up, the entry that is found has it
 sought : (name : List ℕ) (es : Entries) → option_map (λ (x : ℕ). (name, x)) (number_under name es) ≡ lookup_entry (bytes_eq name) es
 sought name [] = refl
 sought name (e ∷ es) = (elim (bytes_eq name e.0) as (λ b. (b ≡ true → name ≡ e.0)
@@ -61,7 +61,7 @@ module _ (text : List ℕ) (es : Entries) (ranged : HaveByteNames es) where
           let none : None ≡ Some (shown_bytes stored) = (is stored bytes).0 text_is in
           absurd (cc)
 
--- ---- by a name that is shown whole, and by less than a name
+-- ---- by a name that is spelled whole, and by less than a name
 
 module _ (shown : List ℕ) where
   shown_true : (stored : List ℕ) → is_shown_as shown stored ≡ true → (is_stored stored ≡ true) × (shown ≡ shown_bytes stored)
@@ -69,7 +69,7 @@ module _ (shown : List ℕ) where
       let both = and_true (is_stored stored) (bytes_eq shown (shown_bytes stored)) is in
       (both.0, (bytes_eq-Decides shown (shown_bytes stored)).0 both.1)
 
-  -- what was found under the name that is shown whole
+  -- what was found under the name that is spelled whole
   pub by_whole : (es : Entries) → LEAST_STORED_BYTES ≤ length shown → length shown ≤ MOST_SPELLED_BYTES → (n : Option ℕ) → n ≡ number_under shown es
       → option_map (λ (x : ℕ). (shown, x)) n ≡ lookup_entry (is_shown_as shown) es
   by_whole es least most n is =
@@ -102,7 +102,7 @@ module _ (shown : List ℕ) where
             ]
           ]
 
-  -- what a comparison with what a name shows tells
+  -- what a comparison with what a name spells means
   pub name_tells : (stored : List ℕ) (b : Bool) → LEAST_STORED_BYTES ≤ length stored → length stored ≤ MOST_NAME_BYTES
       → (b ≡ true → shown ≡ shown_bytes stored) → (shown ≡ shown_bytes stored → b ≡ true) → b ≡ is_shown_as shown stored
   name_tells stored b least most to from =

@@ -1,4 +1,4 @@
--- What a state answers of keys is what the mount answers that it stands for.
+-- What a state answers of keys is what the mount that it represents answers.
 use Rattle.std.proofs.Common.{◌≡◌, ℕ, Bool, ◌||◌, List, length, Option, Some, None, option_map, refl, sym, ap, ◌∙◌}
 use Rattle.policy_ctx.specs.declared.policy.KeyId.{KeyId}
 use Rattle.policy_ctx.specs.declared.policy.Context.{Context}
@@ -74,7 +74,7 @@ module _ (disk : Disk) (next : ℕ) (m : PlainMount) (well : IsWellFormed m) (tr
       ap (is_unlocked_under claims live n) (context_is n)
       ∙ keyed_by claims live n (context_at m.nodes n) (sized n (get m.nodes n) refl) same_claims same_live
 
-  -- so it does where its context was read from the disk
+  -- so it does if its context was read from the disk
   pub keyed_told : (claims : ClaimSet) (live : HandleList) → claims ≡ m.claims → live ≡ m.handles → (n : ℕ) (context : List ℕ) → context_on_disk (get disk n) ≡ Some context
       → (b : Bool) → b ≡ is_unlocked_under claims live n (Some context) → b ≡ plain.is_keyed m n
   keyed_told claims live same_claims same_live n context is b told =

@@ -61,7 +61,7 @@ pub some_alike : (p q : ℕ → Bool) (live : HandleList) → ((n : ℕ) → p n
 some_alike p q [] same = refl
 some_alike p q (h ∷ hs) same = λ i. same h.node i || some_alike p q hs same i
 
--- the pins of a node tell whether it has a handle
+-- the pins of a node determine whether it has a handle
 pub pins_tell : (live : HandleList) (node pins : ℕ) → pins ≡ handles_on live node → nat_lt 0 pins ≡ has_handle live node
 pins_tell live node pins count = elim (cases_Bool (has_handle live node)) [
   | inl held ↦

@@ -37,7 +37,7 @@ module _ (m : PlainMount) (path : PathParts) (count i node : ℕ) (part : Name) 
   pub stopped : {w : Walked} → (refusal : Refusal) → Err refusal ≡ stepped m node part → walked_from m node (drop i (take count path)) ≡ w → Err refusal ≡ w
   stopped refusal step on = ap (walked_on (λ x. walked_from m x (drop (suc i) (take count path)))) step ∙ sym goes_on ∙ on
 
--- the last part is looked up where the others lead
+-- the last part is looked up in the directory that the others resolve to
 pub parent_at : (m : PlainMount) (path : PathParts) (d : ℕ) → Ok d ≡ walked m (parent_parts path) → (part : Name) → part ≡ unwrap_or (slice_get path (length path - 1)) []
     → looked_in m d part ≡ parent m path
 parent_at m path d leads part is =

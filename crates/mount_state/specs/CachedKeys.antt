@@ -1,5 +1,5 @@
--- The kind of key that a node of a mount has, and when cached keys stand for the mount: they are what its raw
--- keys and nodes give.
+-- The kind of key that a node of a mount has, and when cached keys represent those of the mount: they are
+-- what its raw keys and nodes give.
 use Rattle.std.specs.Prelude.{◌≡◌, ℕ, [], Option, Some, None}
 use Rattle.std.specs.Option.{unwrap_or}
 use Rattle.policy_ctx.specs.declared.policy.KeyId.{KeyId}
@@ -32,6 +32,6 @@ pub record CachesStand (cache : Cache) (modes : Modes) (m : PlainMount) : Type 0
   pub file_keys : (node : ℕ) (key : NodeKey) (c : Context)
       → key_at cache node ≡ Some key → context_at m.nodes node ≡ Some c
       → key.key ≡ node_key m.raws c (plain_kind (get m.nodes node))
-  -- a mode key is drawn from the raw key of its identifier
+  -- a mode key is derived from the raw key of its identifier
   pub mode_keys : (id : KeyId) (kind : KeyKind) (mode : ModeKey) → mode_at modes id kind ≡ Some mode
       → mode.key ≡ mode_key_of (unwrap_or (raw_in m.raws id) []) kind

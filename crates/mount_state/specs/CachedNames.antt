@@ -32,18 +32,18 @@ is_dir_on_disk disk node = is_dir_node (get disk node)
 pub record NamesForget (disk : Disk) (claims : ClaimSet) (names : NameList) (live : HandleList) : Type 0 where
   -- a name is cached only of a directory that is there
   pub there : (pair : Pair) → Contains names.pairs pair → is_dir_on_disk disk pair.0.dir ≡ true
-  -- and only while its key is at hand: without a claim on it, while a handle is on this very directory
+  -- and only while its key is available: without a claim on it, while a handle is on this very directory
   pub keyed : (pair : Pair) → Contains names.pairs pair → is_unlocked disk claims live pair.0.dir ≡ true
 
 -- ---- what they are
 
 pub record NamesStand (names : NameList) (nodes : Nodes) : Type 0 where
-  -- a cached name leads where the directory's entry does
+  -- a cached name resolves as the directory's entry does
   pub entries : (pair : Pair) → Contains names.pairs pair → entry nodes pair.0.dir pair.0.name ≡ Some pair.1
 
 -- ---- what a look-up leaves
 
--- the name that led there is cached, or there was no memory for it and that was counted
+-- the name of that node is cached, or there was no memory for it and that was counted
 abbrev pub IsKept : NameList → NameList → ℕ → Name → ℕ → Type 0
 IsKept old new dir name number =
     (cached new dir name ≡ Some number) ⊎ (new.refused ≡ one_more old.refused)

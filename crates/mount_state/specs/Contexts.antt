@@ -1,4 +1,4 @@
--- What the contexts that lie on the disk name: a master key, and whether a node has a key of its own.
+-- What the contexts on the disk name: a master key, and whether a node has a key of its own.
 use Rattle.std.specs.Prelude.{ℕ, Bool, false, List, Option, Some, None, not, ◌&&◌}
 use Rattle.policy_ctx.specs.declared.policy.KeyId.{KeyId}
 use Rattle.policy_ctx.specs.KeyIds.{same_id}
@@ -9,7 +9,7 @@ use Rattle.disk_tree.specs.DiskTree.{Disk}
 use Rattle.disk_tree.specs.declared.node.StoredNode.{StoredNode}
 use Rattle.mount_state.specs.StoredKinds.{kind_on_disk, same_kind}
 
--- the bytes of the node's context; none where there is no node
+-- the bytes of the node's context; none if there is no node
 abbrev pub context_on_disk : Option StoredNode → Option (List ℕ)
 context_on_disk None = None
 context_on_disk (Some v) = v.context

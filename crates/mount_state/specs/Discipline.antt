@@ -1,6 +1,6 @@
--- What must be forgotten: what of a master key the state may hold, and what open handles need of it.
--- That a secret stands exactly where a claim does, and a mode key exactly where it has users, the ring
--- and the mode keys keep by themselves (HoldsClaimedSecrets, AreUsed).
+-- What must be forgotten: what of a master key the state may hold, and what open handles need of it. The
+-- ring and the mode keys ensure on their own that a secret is held exactly when there is a claim, and a
+-- mode key exactly when it has users (HoldsClaimedSecrets, AreUsed).
 use Rattle.std.specs.Prelude.{◌≡◌, ℕ, ◌≤◌, true, length, Some, is_some, ◌||◌}
 use Rattle.policy_ctx.specs.declared.policy.KeyId.{KeyId}
 use Rattle.fsc_keys.specs.declared.file_keys.KeyKind.{KeyKind}
@@ -32,7 +32,7 @@ pub record FileKeysForget (disk : Disk) (claims : ClaimSet) (cache : Cache) (liv
   -- a node with a handle has its file key cached
   pub kept : (node : ℕ) (id : KeyId) → uses_own disk node id ≡ true → has_handle live node ≡ true
       → is_some (key_at cache node) ≡ true
-  -- without a claim on the master key, a file key is cached only where the node has a handle
+  -- without a claim on the master key, a file key is cached only if the node has a handle
   pub forgotten : (node : ℕ) (key : NodeKey) → key_at cache node ≡ Some key
       → (is_present claims key.id || has_handle live node) ≡ true
 

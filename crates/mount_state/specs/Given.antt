@@ -10,15 +10,15 @@ pub use Rattle.mount_model.specs.KeyReplies.{IsToldOrNoMemory}
 use Rattle.mount_state.specs.StandsFor.{StandsFor}
 use Rattle.mount_state.specs.declared.state.MountState.{MountState}
 
--- the answer came, and the state stands for its mount
+-- the reply is the answer's, and the state represents its mount
 abbrev pub IsGiven : Answer → Reply → MountState → Type 0
 IsGiven answer reply state = (reply ≡ answer.reply) × StandsFor state answer.mount
 
--- the same, or there was no memory, and the state stands for the mount as it was
+-- the same, or there was no memory, and the state represents the mount as it was
 abbrev pub IsGivenOrNoMemory : PlainMount → Answer → Reply → MountState → Type 0
 IsGivenOrNoMemory m answer reply state =
     IsGiven answer reply state ⊎ ((reply ≡ Refused NoMemory) × StandsFor state m)
 
--- where the answer is a refusal, the reply is that one, also where there is no memory
+-- if the answer is a refusal, the reply is that one, even if there is no memory
 abbrev pub IsRefusedAsDue : Answer → Reply → Type 0
 IsRefusedAsDue answer reply = is_refused answer.reply ≡ true → reply ≡ answer.reply

@@ -10,7 +10,7 @@ use Rattle.mount_model.specs.declared.limits.TheConstants.{MOST_HANDLES, MOST_OP
 pub record Handles : Type 0 where
   -- in the order of their opening
   pub live : HandleList
-  -- how many handles each caller ever opened; nothing stands for none
+  -- how many handles each caller ever opened; no entry means none
   pub opened : Numbered ℕ
 
 abbrev pub no_handles : Handles
@@ -28,7 +28,7 @@ with_handle handles caller node = record {
 abbrev pub without : Handles → ℕ → ℕ → Handles
 without handles caller number = record handles { live = without_handle caller number handles.live }
 
--- so many are open as may be, or the caller opened as many as a number can tell
+-- MOST_HANDLES handles are open, or the caller opened MOST_OPENS
 abbrev pub is_full : Handles → ℕ → Bool
 is_full handles caller =
     nat_le MOST_HANDLES (length handles.live) || nat_le MOST_OPENS (opens_of handles.opened caller)

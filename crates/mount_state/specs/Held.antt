@@ -20,8 +20,8 @@ use Rattle.mount_model.specs.declared.reply.KeyState.{KeyState}
 use Rattle.mount_model.specs.States.{key_state_by}
 use Rattle.mount_state.specs.Contexts.{names_key_on_disk, context_on_disk}
 
--- neither the key's secret is held, nor a file key or a mode key that was drawn from it, nor a plain name of
--- a directory whose context names it
+-- neither the key's secret is held, nor a file key or a mode key that was derived from it, nor a plain name
+-- of a directory whose context names it
 pub record HoldsNothing (disk : Disk) (ring : Holding) (cache : Cache) (modes : Modes) (names : NameList)
     (id : KeyId) : Type 0 where
   pub secret : secret_of ring id ≡ None
@@ -33,7 +33,7 @@ pub record HoldsNothing (disk : Disk) (ring : Holding) (cache : Cache) (modes : 
 abbrev pub is_in_use : Disk → HandleList → KeyId → Bool
 is_in_use disk live id = list_any (λ h. names_key_on_disk disk h.node id) live
 
--- Present where some user has a claim, else Incomplete where a handle needs the key
+-- Present if some user has a claim, otherwise Incomplete if a handle needs the key
 abbrev pub key_state : Disk → ClaimSet → HandleList → KeyId → KeyState
 key_state disk claims live id = key_state_by claims (is_in_use disk live id) id
 

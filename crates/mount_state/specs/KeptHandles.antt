@@ -1,4 +1,4 @@
--- How handles are kept; words of private functions.
+-- How handles are stored; words of private functions.
 use Rattle.std.specs.Prelude.{◌≡◌, ℕ, ◌<◌, ◌≤◌, true, List}
 use Rattle.std.specs.List.{count_by}
 use Rattle.std.specs.declared.cmp.Ordering.{Ordering}
@@ -17,8 +17,8 @@ pair_cmp a b = ordering_then (nat_cmp a.0 b.0) (nat_cmp a.1 b.1)
 abbrev pub opened_in : List (ℕ × ℕ) → Numbered ℕ
 opened_in entries = shown nat_cmp (λ count. count) entries
 
--- the index leads to each handle's node, a number that is live lies below the caller's count, and no two
--- handles of a caller have one number
+-- the index has each handle's node, a live number is below the caller's count, and no two handles of a
+-- caller have one number
 pub record IsIndexed (live : HandleList) (index : BTreeMap (ℕ × ℕ) ℕ) (opened : Numbered ℕ) : Type 0 where
   pub indexed : (caller number : ℕ) → get pair_cmp index (caller, number) ≡ node_of live caller number
   pub numbered : (caller number : ℕ) → is_live live caller number ≡ true → number < opens_of opened caller

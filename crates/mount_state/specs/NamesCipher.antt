@@ -1,4 +1,4 @@
--- The cipher of a directory's names, and what a name leads to under it.
+-- The cipher of a directory's names, and what a name resolves to under it.
 use Rattle.std.specs.Prelude.{◌≡◌, ℕ, true, List, Option, Some, None, option_map, if◌then◌else◌}
 use Rattle.std.specs.Prelude.{IfSome, option_and_then}
 use Rattle.std.specs.Option.{option_or}
@@ -23,26 +23,27 @@ use Rattle.mount_state.specs.NamesKey.{drawn_key}
 abbrev pub own_names_key : Cache → ℕ → Context → Option (List ℕ)
 own_names_key cache node c = if c.policy.by_mode then None else names_key_at cache node
 
--- under flag 8 the key of the mode, where it is in use
+-- under flag 8 the key of the mode, if it is in use
 abbrev pub used_mode_key : Modes → Context → Option FileKey
 used_mode_key modes c =
     if c.policy.by_mode then option_map (λ mode. mode.key) (mode_at modes c.policy.id Names) else None
 
--- the key where it isn't cached for the node itself: that of the mode, else the one that the raw key gives
+-- the key if it isn't cached for the node itself: that of the mode, otherwise the one that the raw key
+-- gives
 abbrev pub other_key : Holding → Modes → Context → Option FileKey
 other_key ring modes c = option_or (used_mode_key modes c) (drawn_key ring c)
 
--- where there is a key, and it is one of names, the cipher is the one under it
+-- if there is a key, and it is one of names, the cipher is the one under it
 abbrev pub IsCipherUnder : Option FileKey → Option (List ℕ) → Type 0
 IsCipherUnder None cipher = cipher ≡ None
 IsCipherUnder (Some key) cipher = is_of_kind Names key ≡ true → cipher ≡ Some (key_bytes key)
 
--- where the stored form of the name leads under the cipher; without one nowhere
+-- the node that the stored form of the name under the cipher resolves to; none without a cipher
 abbrev pub led_under : ℕ → Context → List ℕ → Body → Option (List ℕ) → Option ℕ
 led_under dir c name body cipher = option_and_then
     (λ bytes. number_under (stored_name bytes (node_start dir c) c.policy.pad name) (entries_of body)) cipher
 
--- the name leads there under some such cipher, of bytes
+-- the name resolves to it under some such cipher, of bytes
 abbrev pub LeadsByOther : Holding → Modes → ℕ → Context → List ℕ → Body → Option ℕ → Type 0
 LeadsByOther ring modes dir c name body there =
     (cipher : Option (List ℕ)) × (IsCipherUnder (other_key ring modes c) cipher

@@ -1,4 +1,4 @@
--- The key of a directory's names: where a state has it; and the context that names it.
+-- The key of a directory's names as a state has it, and the context that names it.
 use Rattle.std.specs.Prelude.{◌≡◌, ℕ, List, length, Option, Some, option_map, if◌then◌else◌}
 use Rattle.policy_ctx.specs.declared.policy.Context.{Context}
 use Rattle.policy_ctx.specs.Context.{context_bytes}
@@ -25,7 +25,7 @@ key_from c raw = if c.policy.by_mode then mode_key_of raw Names else file_key_of
 abbrev pub drawn_key : Holding → Context → Option FileKey
 drawn_key ring c = option_map (key_from c) (secret_of ring c.policy.id)
 
--- where the stored context is one of an identifier of 16 bytes, it is this one
+-- if the stored context is one of an identifier of 16 bytes, it is this one
 abbrev pub IsContextIn : Option (List ℕ) → Option Context → Type 0
 IsContextIn stored read = (c : Context) → length c.policy.id.0 ≡ 16 → stored ≡ Some (context_bytes c)
     → read ≡ Some c

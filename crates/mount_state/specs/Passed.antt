@@ -10,7 +10,7 @@ use Rattle.mount_model.specs.EntryPaths.{passed_from}
 abbrev pub passes : PlainMount → ℕ → PathParts → ℕ → Bool
 passes m n path node = list_any (λ x. x == node) (passed_from m n path)
 
--- where the walk leads, and whether it passes the node
+-- the node that the walk reaches, and whether it passes the given node
 abbrev pub with_past : Bool → Walked → Result (ℕ × Bool) Refusal
 with_past past (Err refusal) = Err refusal
 with_past past (Ok n) = Ok (n, past)

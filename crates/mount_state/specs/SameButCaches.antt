@@ -8,6 +8,6 @@ use Rattle.mount_state.specs.declared.state.MountState.{MountState}
 abbrev pub SameButCaches : MountState → MountState → Type 0
 SameButCaches old new = SameBut (CachedKeys ∷ CachedNames ∷ []) old new
 
--- whatever mount it stood for, it stands for still
+-- it still represents each mount that it represented
 abbrev pub StaysFor : MountState → MountState → Type 0
 StaysFor old new = (m : PlainMount) → StandsFor old m → StandsFor new m

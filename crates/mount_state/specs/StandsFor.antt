@@ -1,4 +1,4 @@
--- When a state stands for a mount: each part of it for its part of the mount.
+-- When a state represents a mount: each part of it represents its part of the mount.
 use Rattle.std.specs.Prelude.{◌≡◌, ℕ, List, Some}
 use Rattle.policy_ctx.specs.declared.policy.KeyId.{KeyId}
 use Rattle.key_ring.specs.Holding.{Holding, secret_of}
@@ -15,7 +15,7 @@ use Rattle.mount_state.specs.CachedKeys.{CachesStand}
 -- ---- the tree
 
 pub record TreeStands (disk : Disk) (next_node : ℕ) (m : PlainMount) : Type 0 where
-  -- each node lies on the disk in its stored form, under its number, and no other does
+  -- each node is on the disk in its stored form, under its number, and no other is
   pub nodes : AgreesBy (stored_node m.raws) m.nodes disk
   pub next : next_node ≡ m.next
 

@@ -1,4 +1,4 @@
--- The form in which a node of the mount lies on the disk.
+-- The form in which a node of the mount is stored on the disk.
 use Rattle.std.specs.Prelude.{ℕ, List, length, Option, Some, None, option_map}
 use Rattle.policy_ctx.specs.declared.policy.Context.{Context}
 use Rattle.policy_ctx.specs.Context.{context_bytes}
@@ -13,7 +13,7 @@ use Rattle.disk_tree.specs.declared.node.Body.TheVariants as stored
 use Rattle.mount_model.specs.PlainMount.{Raws}
 use Rattle.mount_model.specs.Sealed.{node_key, node_start, sealed_name}
 
--- a name of the directory n, or the target of the symlink n: enciphered under its policy, else as it is
+-- a name of the directory n, or the target of the symlink n: encrypted under its policy, otherwise as it is
 abbrev pub stored_form : Raws → ℕ → Option Context → Name → List ℕ
 stored_form raws n None name = name
 stored_form raws n (Some c) name = sealed_name raws n c name

@@ -1,4 +1,4 @@
--- The kind of key that a node has by what lies on the disk, and whether a key or a kind is that one.
+-- The kind of key that a node has by its form on the disk, and whether a key or a kind is that one.
 use Rattle.std.specs.Prelude.{Bool, true, false, Option, Some, None}
 use Rattle.fsc_keys.specs.declared.file_keys.KeyKind.{KeyKind}
 use Rattle.fsc_keys.specs.declared.file_keys.KeyKind.TheVariants.{Contents, Names}
@@ -8,7 +8,7 @@ use Rattle.disk_tree.specs.declared.node.StoredNode.{StoredNode}
 use Rattle.disk_tree.specs.declared.node.Body.{Body}
 use Rattle.disk_tree.specs.declared.node.Body.TheVariants.{Dir, File, Link}
 
--- the contents of a file are enciphered, of a directory its names, of a symlink its target as a name
+-- the contents of a file are encrypted, of a directory its names, of a symlink its target as a name
 abbrev pub disk_kind_of : Body → KeyKind
 disk_kind_of (Dir entries) = Names
 disk_kind_of (File blocks size) = Contents

@@ -1,4 +1,4 @@
-//! The context of a node, as it lies on the disk.
+//! The context of a node on the disk.
 
 ghost use Rattle.std.specs.Prelude.{◌≡◌, None, Some, IfSome};
 ghost use Rattle.policy_ctx.specs.Context.{context_bytes, HasSizes};
@@ -7,8 +7,8 @@ ghost use Rattle.mount_state.specs.NamesKey.{IsContextIn};
 use disk_tree::StoredNode;
 use policy_ctx::{Context, decode_context};
 
-/// The context of the node; none where it has none, or where its bytes are no context, which those on the disk
-/// of a mount never are.
+/// Returns the context of the node, or `None` if it has none, or its bytes are no context, which those on
+/// the disk of a mount never are.
 pub fn context_of(node: &StoredNode) -> Option<Context>
     ensures read { IsContextIn node.now.context result }
     ensures none { node.now.context ≡ None → result ≡ None }

@@ -69,9 +69,9 @@ impl HandleTable {
         }
     }
 
-    /// Opens a handle of the caller on the node, and answers its number: how many the caller opened
-    /// before. `NoSpace` exactly where `MOST_HANDLES` are open or the caller opened `MOST_OPENS`. After
-    /// a refusal all handles and counts are as before.
+    /// Opens a handle of the caller on the node. Returns its number: how many the caller opened before.
+    /// `NoSpace` exactly when `MOST_HANDLES` are open or the caller opened `MOST_OPENS`. After a refusal
+    /// all handles and counts are as before.
     pub fn open(&mut self, caller: u32, node: u32) -> Result<u32, HandleFault>
         ensures number { IfOk result (λ number. number ≡ opens_of self.old.opened caller) }
         ensures opened { OnOk result (self.new ≡ with_handle self.old caller node) }
@@ -104,7 +104,7 @@ impl HandleTable {
         counts::count_of(&self.opened, &caller)
     }
 
-    // Puts a new handle behind the others, and counts it.
+    // Appends a new handle, and counts it.
     fn add(&mut self, caller: u32, node: u32) -> Result<u32, AllocError>
         requires { is_full self.old caller ≡ false }
         ensures number { IfOk result (λ number. number ≡ opens_of self.old.opened caller) }
@@ -131,14 +131,14 @@ impl HandleTable {
         }
     }
 
-    /// The node of the caller's handle of this number; none where it isn't open.
+    /// Returns the node of the caller's handle of this number, or `None` if it isn't open.
     pub fn node_of(&self, caller: u32, number: u32) -> Option<u32>
         ensures { result ≡ node_of self.now.live caller number }
     {
         self.index.get(&(caller, number)).copied()
     }
 
-    /// Closes the caller's handle of this number, where it is open, and no other. It takes no memory.
+    /// Closes the caller's handle of this number, if it is open, and no other. Takes no memory.
     pub fn close(&mut self, caller: u32, number: u32)
         ensures left { self.new ≡ without self.old caller number }
         ensures one { IfSome (node_of self.old.live caller number) (LosesOne self.old.live self.new.live) }

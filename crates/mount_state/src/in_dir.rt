@@ -1,4 +1,4 @@
-//! What a name leads to in one directory, and what a no-key text does.
+//! What a name, or a no-key text, resolves to in one directory.
 
 ghost use Rattle.std.specs.Prelude.{◌≡◌, ◌≤◌, length, option_map, IfSome, IsTrue};
 ghost use Rattle.std.specs.Map.{lookup, lookup_entry};
@@ -14,9 +14,9 @@ use name_crypt::{
 };
 
 impl MountState {
-    /// The node to which the name leads in a directory without policy; none where no entry has the
-    /// name. The time doesn't grow with how many entries there are, as long as no names collide in
-    /// their hash.
+    /// Returns the node that the name resolves to in a directory without policy, or `None` if no entry has
+    /// the name. The time doesn't grow with the number of entries, as long as no names collide in their
+    /// hash.
     pub fn entry_by_name(&self, dir: u32, name: &[u8]) -> Option<u32>
         ensures value { result ≡ number_under name.now (children self.now.disk dir) }
         ensures stands { LeadsPlain self.now dir name.now result }
@@ -24,10 +24,10 @@ impl MountState {
         self.disk.entry(dir, name)
     }
 
-    /// The node to which the no-key text leads in a locked directory; none where no name has the text.
-    /// Nothing is deciphered. The time doesn't grow with how many entries there are, as long as no names
+    /// Returns the node that the no-key text resolves to in a locked directory, or `None` if no name has
+    /// the text. Decrypts nothing. The time doesn't grow with the number of entries, as long as no names
     /// collide in their hash; only a text that has a hash is compared with each.
-    // Not inlined: the usual way would keep room for what it makes.
+    // Not inlined: the usual path would reserve stack space for it.
     #[inline(never)]
     pub fn entry_by_text(&self, dir: u32, text: &[u8]) -> Option<u32>
         ensures value { result ≡ lookup (is_text_of text.now) (children self.now.disk dir) }
@@ -47,12 +47,12 @@ impl MountState {
     }
 }
 
-// The node of the first entry whose stored name has the text. The text is decoded once, and told by what it
-// shows.
+// Returns the node of the first entry whose stored name has the text. The text is decoded once, and
+// compared by what it spells.
 fn find_text(entries: &DirEntries, text: &[u8]) -> Option<u32>
     ensures { result ≡ lookup (is_text_of text.now) entries.now }
 {
-    // That a text is told by what it shows, as stored names are bytes.
+    // That a text is determined by what it spells, as stored names are bytes.
     entries.names_are_bytes();
     let Some(shown) = shown_by(text) else {
         return None;
@@ -63,8 +63,8 @@ fn find_text(entries: &DirEntries, text: &[u8]) -> Option<u32>
     }
 }
 
-/// The first entry whose stored name is shown as this, with that name. What is shown whole is the name itself,
-/// and is looked up, by hash; only what stands for a longer name is compared with each entry.
+/// Returns the first entry whose stored name is spelled as `shown`, with that name. A name that is spelled
+/// whole is looked up, by hash. Only what is spelled of a longer name is compared with each entry.
 pub fn entry_shown_as<'a>(entries: &'a DirEntries, shown: &'a [u8]) -> Option<(&'a [u8], u32)>
     ensures found { option_map (λ e. (e.0.now, e.1)) result
         ≡ lookup_entry (is_shown_as shown.now) entries.now }
@@ -97,7 +97,7 @@ fn long_entry<'a>(entries: &'a DirEntries, shown: &[u8]) -> Option<(&'a [u8], u3
     None
 }
 
-// Whether these bytes are a stored name that is shown as that.
+// Whether these bytes are a stored name that is spelled as `shown`.
 fn is_name_shown_as(stored: &[u8], shown: &[u8]) -> bool
     ensures value { result ≡ is_shown_as shown.now stored.now }
     ensures short { IsTrue result → length stored.now ≤ MOST_NAME_BYTES }

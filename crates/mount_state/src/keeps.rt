@@ -1,4 +1,4 @@
-//! The key of a directory's names is cached once a walk drew it.
+//! The key of a directory's names is cached once a walk derived it.
 
 ghost use Rattle.std.specs.Prelude.{◌≡◌, false, Some, IfSome};
 ghost use Rattle.number_map.specs.Numbered as map;
@@ -14,8 +14,8 @@ use fsc_keys::KeyKind;
 use policy_ctx::Context;
 use std::alloc::Global;
 
-// Caches the key of the directory's names, where it is the directory's own and can be drawn. Where
-// there is no memory for it, it isn't cached.
+// Caches the key of the directory's names, if it is the directory's own and can be derived. If there is no
+// memory for it, it isn't cached.
 pub(crate) fn keep_key(alloc: Global, state: &mut MountState, dir: u32)
     requires { IsDirAt state.old.disk dir }
     ensures same { SameButCaches state.old state.new }
@@ -39,7 +39,7 @@ pub(crate) fn keep_key(alloc: Global, state: &mut MountState, dir: u32)
         .is_ok();
 }
 
-// The context of the node, where it has a key of its own.
+// Returns the context of the node, if it has a key of its own.
 fn own_context(disk: &DiskTree, node: u32) -> Option<Context>
     ensures found { IfSome result (λ c. context_on_disk (map.get disk.now node) ≡ Some (context_bytes c)) }
     ensures sized { IfSome result HasSizes }

@@ -1,4 +1,4 @@
-//! What a name leads to in a directory whose key is at hand.
+//! What a name resolves to in a directory whose key is available.
 
 ghost use Rattle.std.specs.Prelude.{◌≡◌, ◌+◌, ◌≤◌, true, false, None, Some, IfSome, is_some, option_copied};
 ghost use Rattle.byte_words.specs.Bytes.{AreBytes};
@@ -27,9 +27,9 @@ use policy_ctx::Context;
 use std::sync::ledger::Ledger;
 
 impl MountState {
-    /// The node to which the name leads in a keyed directory with a policy; none where no entry has the
-    /// name. At most one name is encrypted, and then looked up in a time that doesn't grow with how many
-    /// entries there are, as long as no names collide.
+    /// Returns the node that the name resolves to in a keyed directory with a policy, or `None` if no entry
+    /// has the name. At most one name is encrypted. It is then looked up in a time that doesn't grow with
+    /// the number of entries, as long as no names collide.
     pub fn entry_by_key<L: Ledger>(
         &self,
         dir: u32,
@@ -43,7 +43,7 @@ impl MountState {
         self.entry_in(dir, node, name.bytes(), steps)
     }
 
-    // The same, where the directory was looked up, of a name that lies anywhere.
+    // The same, if the directory was looked up, for a name in any memory.
     pub(crate) fn entry_in<L: Ledger>(
         &self,
         dir: u32,
@@ -56,7 +56,7 @@ impl MountState {
         ensures stands { LeadsKeyed self.now dir name.now result }
         ensures ticks { steps.new ≤ steps.old + 1 }
     {
-        // That two names are stored alike only where they are the same.
+        // That two names are stored alike only if they are the same.
         names_come_back();
         slice_is_bytes(name);
         let context = context_of(node)?;
@@ -66,8 +66,8 @@ impl MountState {
         self.entry_anew(dir, node, &context, name, steps)
     }
 
-    // The node under the name's stored form, by a cipher that is made for this once. Apart from the way with a
-    // cached one, which then keeps no room for round keys.
+    // Returns the node of the name's stored form, by a cipher that is made for this call alone. Separate
+    // from the path with a cached cipher, which so reserves no stack space for round keys.
     #[inline(never)]
     fn entry_anew<L: Ledger>(
         &self,
@@ -108,8 +108,8 @@ impl MountState {
         self.inodes.cipher_of(node)
     }
 
-    // Makes the cipher where none is cached for the directory itself, in this room: under the key of the
-    // mode, where that is in use, else under a key that is drawn from the secret; none where no user has a
+    // Makes the cipher in `room` if none is cached for the directory itself: under the key of the mode, if
+    // that is in use, otherwise under a key that is derived from the secret. Makes none if no user has a
     // claim.
     fn set_other_cipher(&self, context: &Context, room: &mut Option<Aes256>)
         requires { is_some room.old ≡ true }
@@ -129,7 +129,7 @@ impl MountState {
         key.wipe();
     }
 
-    // The key of the mode, where the policy has one for each mode and it is in use.
+    // Returns the key of the mode, if the policy has one for each mode and it is in use.
     fn used_mode_key(&self, context: &Context) -> Option<&FileKey>
         ensures { option_copied result ≡ used_mode_key self.now.modes context.now }
     {
@@ -139,8 +139,8 @@ impl MountState {
         self.modes.key_of(&context.policy.id, KeyKind::Names)
     }
 
-    /// Draws the key of the names from the secret, over another one of names, and tells whether it did: where
-    /// no user has a claim it leaves that one as it was.
+    /// Derives the key of the names from the secret, over another one of names, and returns true. If no
+    /// user has a claim, leaves that one as it was, and returns false.
     pub fn draw_key(&self, context: &Context, key: &mut FileKey) -> bool
         requires { key_kind key.old ≡ Names }
         ensures drawn { result ≡ true → drawn_key self.now.ring context.now ≡ Some key.new }
@@ -161,7 +161,7 @@ impl MountState {
     }
 }
 
-// Makes the cipher under a key of names in this room. A contents key enciphers no name.
+// Makes the cipher under a key of names in `room`. A contents key encrypts no name.
 fn set_cipher(room: &mut Option<Aes256>, key: &FileKey)
     requires { is_some room.old ≡ true }
     ensures value { is_of_kind Names key.now ≡ true → room.new ≡ Some (key_bytes key.now) }
@@ -198,7 +198,7 @@ fn entry_under<L: Ledger>(
     node.body.find(&text[..len])
 }
 
-/// Where the names of the directory, or the symlink's target, count their units from.
+/// Returns the first unit number of the names of the directory, or of the symlink's target.
 pub fn start_of(node: u32, context: &Context) -> u64
     ensures { result ≡ node_start node context.now }
 {

@@ -1,5 +1,5 @@
-//! The state that stands for the one-thread mount: what is stored, the secrets, the cached keys and the
-//! open handles, in a type that keeps what must be forgotten.
+//! The state that represents the one-thread mount: what is stored, the secrets, the cached keys and the
+//! open handles, in a type that ensures what must be forgotten.
 #![tactic(auto)]
 
 mod contexts;

@@ -20,7 +20,7 @@ use meta_files::MetaFiles;
 use policy_ctx::{CONTEXT_LEN, id_in};
 use std::alloc::{AllocError, Global};
 
-/// The number of the node that is made first, behind the root.
+/// The number of the first node that is made after the root.
 const FIRST_NODE: u32 = 1;
 
 impl MountState {
@@ -42,9 +42,9 @@ impl MountState {
         })
     }
 
-    /// Whether the mount holds the key: Present where some user has a claim on it, else Incomplete
-    /// where something open needs it, else Absent. It is Absent exactly where nothing of the key is
-    /// held: no secret, no file key, no mode key, and no plain name of a directory under it.
+    /// Returns whether the mount holds the key: Present if some user has a claim on it, otherwise
+    /// Incomplete if something open needs it, otherwise Absent. It is Absent exactly when nothing of the
+    /// key is held: no secret, no file key, no mode key, and no plain name of a directory under it.
     pub fn status(&self, id: &KeyId) -> KeyState
         ensures value { result ≡ key_state self.now.disk self.now.ring.claims self.now.handles.live id.now }
         ensures absent { result ≡ KeyState.Absent ↔ HoldsNothing self.now.disk self.now.ring self.now.inodes
@@ -60,8 +60,8 @@ impl MountState {
         KeyState::Absent
     }
 
-    /// Whether some handle is on a node whose context names the key. Where none is, no mode key of it
-    /// stands. It takes two look-ups: such a node has the key cached, or uses a mode key.
+    /// Whether some handle is on a node whose context names the key. If none is, no mode key of it is held.
+    /// Takes two look-ups: such a node has the key cached, or uses a mode key.
     pub fn is_busy(&self, id: &KeyId) -> bool
         ensures value { result ≡ is_in_use self.now.disk self.now.handles.live id.now }
         ensures modes { result ≡ false → (kind : KeyKind) → mode_at self.now.modes id.now kind ≡ None }
@@ -70,8 +70,8 @@ impl MountState {
         self.inodes.users_of(id) > 0 || self.modes.users_of(id) > 0
     }
 
-    /// Whether the node's key is at hand: it has no context, or the key that this names is present, or
-    /// a handle is open on this very node. So it is where there is no such node.
+    /// Whether the node's key is available: it has no context, or the key that this names is present, or a
+    /// handle is open on this very node. True too if there is no such node.
     pub fn keyed(&self, node: u32) -> bool
         ensures value { result ≡ is_unlocked self.now.disk self.now.ring.claims self.now.handles.live node }
         ensures stands { (m : PlainMount) → StandsFor self.now m → result ≡ plain.is_keyed m node }
@@ -82,7 +82,7 @@ impl MountState {
         }
     }
 
-    /// The same, where the node was looked up.
+    /// The same, if the node was looked up.
     pub fn keyed_as(&self, node: u32, stored: &StoredNode) -> bool
         requires { map.get self.now.disk node ≡ Some stored.now }
         ensures value { result ≡ is_unlocked self.now.disk self.now.ring.claims self.now.handles.live node }
@@ -102,7 +102,7 @@ impl MountState {
         self.is_present(&id_in(context)) || self.inodes.pins(node) > 0
     }
 
-    // Whether some user has a claim on the key: exactly where its secret is held.
+    // Whether some user has a claim on the key: exactly when its secret is held.
     fn is_present(&self, id: &KeyId) -> bool
         ensures claimed { result ≡ is_present self.now.ring.claims id.now }
         ensures secret { result ≡ is_some (secret_of self.now.ring id.now) }

@@ -1,4 +1,5 @@
-//! Looking a part up in a directory, as its names are stored and shown; a name that led to a node is cached.
+//! Looking a part up in a directory, by stored and by visible names; a name that resolves to a node is
+//! cached.
 
 ghost use Rattle.std.specs.Prelude.{◌≡◌, ◌+◌, ◌≤◌, true, false, None, length, IfSome, IsSome};
 ghost use Rattle.number_map.specs.Numbered as map;
@@ -16,8 +17,9 @@ use name_crypt::{MOST_NAME_BYTES, Steps, is_plain};
 use std::alloc::Global;
 use std::sync::ledger::Ledger;
 
-// The node to which the part leads in a directory with a policy: the one that is cached for the name, else the
-// one that is found, which is then cached, as the key of the directory's names is.
+// Returns the node that the part resolves to in a directory with a policy: the one that is cached for the
+// name, otherwise the one that is found. If the latter is found under the directory's key, it is then
+// cached, and so is that key if there is memory.
 pub(crate) fn number_kept<L: Ledger>(
     alloc: Global,
     state: &mut MountState,
@@ -50,9 +52,9 @@ pub(crate) fn number_kept<L: Ledger>(
     Some(number)
 }
 
-// The node to which the part leads in the directory: plain where it has no policy, by one encryption
-// where its key is at hand, else by the part as a no-key text, and nothing is deciphered. And whether it was
-// looked up by that encryption.
+// Returns the node that the part resolves to in the directory: plain if it has no policy, by one encryption
+// if its key is available, otherwise by the part as a no-key text, and nothing is decrypted. Also returns
+// whether it was looked up by that encryption.
 pub(crate) fn number_of<L: Ledger>(
     state: &MountState,
     dir: u32,

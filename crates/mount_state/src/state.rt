@@ -1,4 +1,4 @@
-//! The state of a mount, and what it keeps by its type.
+//! The state of a mount, and the invariants of its type.
 
 ghost use Rattle.mount_state.specs.CachedNames.{NamesForget};
 ghost use Rattle.mount_state.specs.Discipline.{Forgets};
@@ -11,8 +11,8 @@ use inode_refs::InodeCache;
 use key_ring::{KeyRing, ModeKeys};
 use meta_files::MetaFiles;
 
-/// All that a mount holds: what lies on the disk, claims with their secrets, records, cached keys with
-/// pins, open handles, mode keys, and cached names. No value of it exists that holds more of a master key, or
+/// All that a mount holds: what is on the disk, claims with their secrets, records, cached keys with pins,
+/// open handles, mode keys, and cached names. No value of it exists that holds more of a master key, or
 /// more plain names under it, than it may.
 pub struct MountState {
     /// The stored nodes.
@@ -29,7 +29,7 @@ pub struct MountState {
     pub handles: HandleTable,
     /// The mode keys.
     pub modes: ModeKeys,
-    /// The cached names, each with the node that it leads to.
+    /// The cached names, each with the node that it resolves to.
     pub names: NameCache,
     pub ghost forgets: { Forgets disk ring.claims inodes modes handles.live },
     pub ghost remembers: { NamesForget disk ring.claims names handles.live },

@@ -1,4 +1,4 @@
-//! Where paths lead, in the stored tree.
+//! What paths resolve to, in the stored tree.
 
 ghost use Rattle.std.specs.Prelude.{◌≡◌, ◌+◌, ◌-◌, ◌≤◌, false, None, Ok, Err, take, length};
 ghost use Rattle.std.specs.Prelude.{IfErr, IfOk, IsSome, OnOk};
@@ -24,13 +24,13 @@ use name_crypt::Steps;
 use std::alloc::Global;
 use std::sync::ledger::Ledger;
 
-/// The node of the directory's entry that is shown as the part: its name where the directory is keyed,
-/// else its no-key text.
+/// Returns the node of the directory's entry whose visible name is the part: its name if the directory is
+/// keyed, otherwise its no-key text.
 ///
-/// NotDir where the number is no directory's, then NameTooLong for a part of more than
-/// `MOST_NAME_BYTES` bytes, then NotFound. At most one name is encrypted, and where the name is cached or
-/// the key is absent none, nor is any deciphered. A name that led to a node in a keyed directory with a policy
-/// is cached from then on, unless there was no memory for it, which is counted.
+/// NotDir if the number is no directory's, then NameTooLong for a part of more than `MOST_NAME_BYTES`
+/// bytes, then NotFound. At most one name is encrypted, and none if the name is cached or the key is
+/// absent. Nothing is decrypted. A name that resolves to a node in a keyed directory with a policy is
+/// cached from then on. If there is no memory for that, the failure is counted.
 pub fn entry_of<L: Ledger>(
     alloc: Global,
     state: &mut MountState,
@@ -57,8 +57,8 @@ pub fn entry_of<L: Ledger>(
     }
 }
 
-/// The node to which the path leads from the root. Refused as its first refused part is. At most one
-/// name is encrypted for each part.
+/// Returns the node that the path resolves to from the root. Refused as its first refused part is. At most
+/// one name is encrypted for each part.
 pub fn walked_node<L: Ledger>(
     alloc: Global,
     state: &mut MountState,
@@ -95,8 +95,8 @@ pub fn walked_parent<L: Ledger>(
     }
 }
 
-/// The directory in which the path's last part is to be looked up, refused as `walked_parent` is; and
-/// whether this node is that directory or stands above it: whether the walk there passes it.
+/// Returns the directory of the path's last part, refused as `walked_parent` is. Also returns whether this
+/// node is that directory or above it: whether the walk to it passes the node.
 pub fn walked_parent_past<L: Ledger>(
     alloc: Global,
     state: &mut MountState,
@@ -120,7 +120,7 @@ pub fn walked_parent_past<L: Ledger>(
     }
 }
 
-/// The path's last part; no bytes where it has none.
+/// Returns the path's last part, or no bytes if it has none.
 pub fn last_bytes(path: &Path) -> &[u8]
     ensures { result.now ≡ last_part path.now }
 {
@@ -130,8 +130,8 @@ pub fn last_bytes(path: &Path) -> &[u8]
     }
 }
 
-// The node to which the first parts of the path lead, so many of them, and whether it or one before it
-// is this node.
+// Returns the node that the first `count` parts of the path resolve to, and whether it or one before it is
+// this node.
 fn walked_past<L: Ledger>(
     alloc: Global,
     state: &mut MountState,
@@ -164,7 +164,7 @@ fn walked_past<L: Ledger>(
     Ok((at, past | (at == node)))
 }
 
-// The node to which the first parts of the path lead, so many of them.
+// Returns the node that the first `count` parts of the path resolve to.
 fn walked_parts<L: Ledger>(
     alloc: Global,
     state: &mut MountState,
@@ -191,7 +191,8 @@ fn walked_parts<L: Ledger>(
     Ok(node)
 }
 
-// The directory, where the part may be looked up in it. The key of its names is cached.
+// Returns the directory, if the part may be looked up in it. Caches the key of its names as `keep_key`
+// does.
 fn directory_kept(
     alloc: Global,
     state: &mut MountState,
@@ -214,7 +215,7 @@ fn directory_kept(
     }
 }
 
-// Whether the directory has a policy, where the part may be looked up in it.
+// Returns whether the directory has a policy, if the part may be looked up in it.
 fn directory_for(state: &MountState, dir: u32, part: &[u8]) -> Result<bool, Refusal>
     ensures found { IfOk result (λ _.
         (m : PlainMount) → StandsFor state.now m → looked_in m dir part.now ≡ Ok dir) }

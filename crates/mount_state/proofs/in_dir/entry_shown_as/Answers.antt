@@ -1,4 +1,4 @@
--- A name that is shown whole is looked up, and less than a name is no name's.
+-- A name that is spelled whole is looked up, and less than a name is no name's.
 use Rattle.std.proofs.Common.{Some, None}
 use Rattle.mount_state.proofs.ShownLemmas.{by_whole, by_less}
 use Rattle.mount_state.proofs.in_dir.entry_shown_as.Goals as goal

@@ -1,4 +1,4 @@
--- A text is told by what it shows.
+-- An entry with the text is the entry that the text spells.
 use Rattle.std.proofs.Common.{◌≡◌, ◌∙◌, sym, ap, List, ℕ, Option, Some, None, option_map}
 use Rattle.std.specs.Map.{lookup, lookup_entry}
 use Rattle.disk_tree.specs.Entries.{Entries}

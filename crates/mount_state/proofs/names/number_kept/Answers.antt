@@ -1,4 +1,5 @@
--- A cached name leads where the mount's entry does, and one that is cached anew leads where it was found to.
+-- A cached name resolves as the mount's entry does, and a newly cached one resolves to the node that was
+-- found.
 use Rattle.std.proofs.Common.{rules, ◌≡◌, Some, refl, sym, subst, ◌∙◌}
 use Rattle.dentry_cache.specs.Names.{key_of}
 use Rattle.disk_tree.specs.DiskTree.{Disk, IsDirAt}

@@ -1,5 +1,5 @@
--- The parts that are left lead from the node reached to where all lead from the root, and the state
--- stands for the same mount.
+-- The parts that are left resolve from the node reached to the node of the whole path, and the state
+-- represents the same mount.
 use Rattle.std.proofs.Common.{◌≡◌, ◌+◌, ◌≤◌, take, drop}
 use Rattle.mount_model.specs.PlainMount.{PlainMount}
 use Rattle.mount_model.specs.Walk.{walked_from, walked}
