@@ -61,6 +61,27 @@ FAULTS = [
     ("a: add-key text:" + "x" * 129, "add-key HEX"),
     ("a: close x", "close HANDLE"),
 ]
+# commands that aren't there, with what is written in their place
+OTHER_COMMANDS = {"mkdri": "mkdir PATH", "ls": "list PATH [START]", "mv": "rename PATH PATH"}
+# a key by the policy that names it: its status, a directory under it, and its removal for all
+NAMED = """\
+user anna 1000
+user root 0
+anna: protector login pass:1:64:1:secret
+anna: policy-new docs login pass:secret
+anna: policy-new more login pass:secret
+anna: key-status id:docs                  = status absent self=0 users=0
+anna: unlock docs login pass:secret       = ok
+root: key-status id:docs                  = status present self=0 users=1
+root: key-status id:more                  = status absent self=0 users=0
+anna: mkdir /e
+anna: set-policy /e id:more 32            = refused no-key
+anna: set-policy /e id:docs 32            = ok
+anna: encrypt /e docs                     = ok
+anna: remove-key id:more                  = refused no-key
+root: remove-key-all id:docs              = removed others=0 busy=0
+anna: status docs                         = status absent self=0 users=0
+"""
 
 
 def transcript(given, *words):
@@ -87,6 +108,15 @@ def examples_of_transcripts(tally):
         _, tested, _ = transcript(given, "--tap")
         tally.wants(f"{name} has a test for each expectation", tested[0] == f"1..{count}"
                     and [text[:2] for text in tested[1:]] == ["ok"] * count)
+
+
+def example_of_help(tally):
+    """The transcript that --help shows is answered as it says."""
+    _, printed, _ = transcript("", "--help")
+    given = "".join(it.strip() + "\n" for it in printed if re.match(r"    (user |\w+: )", it))
+    status, answered, told = transcript(given, "--strict")
+    tally.wants("the transcript of --help is answered so", (status, told) == (0, []) and len(answered) > 10,
+                str((answered, told)))
 
 
 def scripts_of_transcripts(tally):
@@ -138,6 +168,12 @@ def bad_lines_of_transcripts(tally):
     for number, ((line, wanted), said) in enumerate(zip(FAULTS, told), 2):
         tally.wants(f"{line[:40]!r} is reported at its line",
                     said.startswith(f"transcript: line {number}: ") and wanted in said, said)
+    for word, form in OTHER_COMMANDS.items():
+        _, _, told = transcript(f"user a 1\na: {word} /a\n")
+        is_so = f"the nearest: {form}" in told[0]
+        tally.wants(f"behind {word} the nearest command is told", is_so, str(told))
+    _, _, told = transcript("user a 1\na: link /a /b\n")
+    tally.wants("a hard link is refused with the reason", "a file has one name" in told[0], str(told))
     for line, wanted in FAULTS[:-5]:
         status, printed, told = transcript(f"user a 1000\n{line}\n", "--script")
         is_so = (status, printed) == (BAD_LINES, []) and wanted in told[0]
@@ -150,6 +186,30 @@ def bad_lines_of_transcripts(tally):
     ended = subprocess.run([TOOL, "/nowhere"], capture_output=True, timeout=SECONDS, check=False)
     tally.wants("a missing file is told", ended.returncode == USAGE and b"can't be read" in ended.stderr
                 and b"Traceback" not in ended.stderr)
+
+
+def keys_by_policies(tally):
+    """`id:POLICY` is the identifier of the policy's key; a policy that isn't there is reported."""
+    status, printed, told = transcript(NAMED)
+    tally.wants("keys are named by their policies", (status, told) == (0, []), str((printed[-8:], told)))
+    status, script, _ = transcript(NAMED, "--script")
+    digits = re.findall(r"id:([0-9a-f]{32}) 32$", "\n".join(script), re.MULTILINE)
+    tally.wants("the script has two identifiers for two policies", len(set(digits)) == 2, str(script))
+    again = NAMED.replace("id:docs 32", f"id:{digits[-1]} 32")
+    tally.wants("an identifier in digits is left as it is", again != NAMED and transcript(again)[0] == 0)
+    without = NAMED.replace("anna: policy-new more login pass:secret\n", "")
+    misspelled = NAMED.replace("id:docs 32", "id:dosc 32")
+    for text, policy, lines in ((misspelled, "dosc", [12]), (without, "more", [8, 10, 13])):
+        status, printed, told = transcript(text)
+        wanted = [f"transcript: line {at}: names the policy {policy}, which no line before it has made"
+                  for at in lines]
+        tally.wants(f"a policy {policy} that isn't there is reported",
+                    (status, printed, told) == (BAD_LINES, [], wanted), str(told))
+    other = transcript(NAMED, "--script", "--seed", "1" * 64)[1]
+    changed = NAMED.replace("policy-new more login pass:secret", "meta-put policy/more 0 text:id%20x%0A")
+    status, _, told = transcript(changed)
+    tally.wants("a record without an identifier names no key", (status, len(told)) == (BAD_LINES, 3), str(told))
+    tally.wants("another seed gives other identifiers", other != script and len(other) == len(script))
 
 
 def states_told(printed):
@@ -191,5 +251,23 @@ def linux_beside_transcripts(tally):
     tally.wants("Linux's answers are told where they differ", found == IN_LINUX, str(found))
 
 
-CHECKS = (examples_of_transcripts, scripts_of_transcripts, differing_answers, bad_lines_of_transcripts,
-          states_of_transcripts, linux_beside_transcripts)
+def reports_without_expectations(tally):
+    """Without = `lock` and `status` are printed with their last reply, other sessions with the outcome."""
+    plain = EXPECTED.sub("", NAMED).replace("remove-key-all id:docs", "stat /")
+    plain += "anna: lock docs\nanna: lock docs\nanna: status more\nanna: lock none\n"
+    _, printed, _ = transcript(plain)
+    answers = {" ".join(command.split()): answer for command, answer in
+               (re.split(r" += ", it) for it in printed if not it.startswith(("#", "user")))}
+    wanted = {"anna: unlock docs login pass:secret": "ok",
+              "anna: status docs": "status present self=1 users=1", "anna: lock docs": "refused",
+              "anna: status more": "status absent self=0 users=0", "anna: lock none": "refused"}
+    tally.wants("lock and status are printed with their replies",
+                {it: answers.get(it) for it in wanted} == wanted, str(answers))
+    lines = [" ".join(it.split()) for it in printed]
+    tally.wants("a lock is printed with what it removed",
+                "anna: lock docs = removed others=0 busy=0" in lines, str(lines))
+
+
+CHECKS = (examples_of_transcripts, example_of_help, scripts_of_transcripts, differing_answers,
+          bad_lines_of_transcripts, keys_by_policies, reports_without_expectations, states_of_transcripts,
+          linux_beside_transcripts)

@@ -13,10 +13,17 @@ LINE_FORM = "NAME: COMMAND [= EXPECTED]"
 USER_FORM = "user NAME UID"
 # the word of a command that is bytes in hexadecimal, counted from 1 after the name
 BYTES_AT = {"add-key": 1, "write": 3, "meta-put": 3, "set-policy-bytes": 2}
+# the word that names a key, counted so too; `id:POLICY` is the identifier of the policy's key
+KEY_AT = {"remove-key": 1, "remove-key-all": 1, "key-status": 1, "set-policy": 2}
+POLICY = re.compile(r"id:(?![0-9A-Fa-f]{32}$)([a-z0-9_-]{1,32})")
+# what a script has in place of `id:POLICY` until the mount has been asked
+UNKNOWN = "0" * 32
 # commands of a script that a transcript doesn't have, with what to do in their place
 NOT_HERE = {
     "caller": f"is no command of a transcript; {USER_FORM} names a caller",
     "pause": "is no command of a transcript; pauses are put in where they are needed",
+    "link": "is no command: a file has one name; rename shows what a directory's policy refuses",
+    "ln": "is no command: a file has one name; for a symlink: symlink PATH TARGET",
 }
 
 
@@ -41,6 +48,20 @@ class Step:
         """The name of the command."""
         return self.command.split(" ")[0]
 
+    @property
+    def policy(self):
+        """The policy that the command names by `id:POLICY`, or nothing."""
+        words = self.shown.split(" ")
+        at = KEY_AT.get(self.verb, len(words))
+        named = POLICY.fullmatch(words[at]) if at < len(words) else None
+        return named[1] if named else ""
+
+    def with_identifier(self, identifier):
+        """The step with this identifier in place of `id:POLICY`."""
+        words = self.command.split(" ")
+        words[KEY_AT[self.verb]] = f"id:{identifier}"
+        return dataclasses.replace(self, command=" ".join(words))
+
 
 @dataclasses.dataclass(frozen=True, order=True)
 class BadLine:
@@ -60,6 +81,10 @@ class Transcript:
     def names(self):
         """The names of the users."""
         return [user.name for user in self.users]
+
+    def refuse(self, step, why):
+        """Takes a step as a line at fault."""
+        self.bad.append(BadLine(step.line, why))
 
 
 class Fault(Exception):
@@ -127,8 +152,9 @@ def read_step(transcript, number, words):
     if words[0] in NOT_HERE:
         raise Fault(f'"{words[0]}" {NOT_HERE[words[0]]}')
     caller = transcript.names().index(name)
-    transcript.steps.append(Step(number, caller, " ".join(words), script_command(words),
-                                 None if expected is None else expected_reply(expected)))
+    step = Step(number, caller, " ".join(words), script_command(words),
+                None if expected is None else expected_reply(expected))
+    transcript.steps.append(step.with_identifier(UNKNOWN) if step.policy else step)
 
 
 def read_transcript(text):

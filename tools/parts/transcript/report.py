@@ -6,6 +6,7 @@ from parts.transcript.reading import hex_of_text
 
 MAX_COLUMN = 64
 INDENT = "#     "
+REPORTING = ("lock", "status")
 PRINTABLE = re.compile(rb"[ -~]+")
 UNESCAPED = "!\"#$&'()*+,/:;<=>?@[\\]^`{|}"
 
@@ -32,8 +33,13 @@ def short(reply):
 
 
 def shown_answer(answer):
-    """What is printed beside the step: the text that is as expected, else the reply or the outcome."""
-    return readable(answer.matching() or answer.texts()[0])
+    """What is printed beside the step: the text that is as expected, else the reply or the outcome.
+
+    The outcome `ok` of `lock` and `status` says less than their last reply, which is printed in its place.
+    """
+    outcome, *replies = answer.texts()
+    is_reported = answer.step.verb in REPORTING and outcome == "ok"
+    return readable(answer.matching() or (replies[0] if is_reported else outcome))
 
 
 def details(answer):

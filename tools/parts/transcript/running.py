@@ -1,5 +1,6 @@
 """Runs the script of a transcript, and returns what each of its steps was answered."""
 import dataclasses
+import difflib
 import os
 import re
 import shutil
@@ -16,6 +17,8 @@ RELEASED = os.path.join(TOP, "fsc")
 BAD_LINE = 3
 FORM_LINE = re.compile(r"^    ([a-z-]+(?: [\[A-Z\]]+)*)(?: |$)", re.MULTILINE)
 FAULT_LINE = re.compile(r"^fsc: line (\d+): (.*)$", re.MULTILINE)
+# what a shell calls a command
+SHELL_NAMES = {"ls": "list", "mv": "rename", "rm": "unlink", "touch": "create", "cat": "read"}
 
 
 class Failure(Exception):
@@ -118,6 +121,11 @@ class Program:
             raise Failure(f"{self.path} printed another log: {fault}") from fault
 
 
+def nearest(verb, forms):
+    """The command that is spelled most alike, or nothing."""
+    return SHELL_NAMES.get(verb) or next(iter(difflib.get_close_matches(verb, forms, 1)), "")
+
+
 def bad_commands(program, script):
     """The steps that fsc refuses, each as a bad line. A pause replaces it, and the rest is tried again."""
     found, forms = [], None
@@ -132,9 +140,10 @@ def bad_commands(program, script):
             step = by_line.get(int(number))
             if step is None:
                 raise Failure(f"{program.path} doesn't take a line of the script: {why}", status)
-            form = forms.get(step.verb)
+            form, near = forms.get(step.verb), forms.get(nearest(step.verb, forms))
             told_form = f"; the form: {form}" if form and not why.endswith(form) else ""
-            found.append(BadLine(step.line, why + told_form))
+            told_near = f"; the nearest: {near}" if near and not form else ""
+            found.append(BadLine(step.line, why + told_form + told_near))
             bad.append(step)
         script = script.without(bad)
 

@@ -1,4 +1,4 @@
-"""Asks the mount, after a step of a transcript, who holds what.
+"""Asks the mount, after a step of a transcript, who holds what, and before one which key a policy has.
 
 The script is cut after the step, and then the callers ask: each user for the status of each key, each caller
 whether its handles are open, and caller 0 for the directories, level by level from the root. None of it
@@ -12,6 +12,8 @@ CHANGING = ("add-key", "remove-key", "remove-key-all", "set-policy", "open", "cl
             "rmdir")
 PAGE = 128
 SHORT = 8
+DIGITS = "0123456789abcdef"
+ID_LINE = len("id ") + 32
 
 
 @dataclasses.dataclass(frozen=True)
@@ -119,6 +121,43 @@ def encrypted(asking, root, is_mixed):
     return found
 
 
+def identifier_in(entry):
+    """The identifier in the policy's record that a call loaded, or nothing."""
+    if entry.answer[0] != "record" or not entry.words[0].startswith("policy/"):
+        return ""
+    lines = bytes.fromhex(entry.answer[2].removeprefix("-")).split(b"\n")
+    found = (it[3:].decode("latin-1") for it in lines if it.startswith(b"id ") and len(it) == ID_LINE)
+    return next((it for it in found if not it.strip(DIGITS)), "")
+
+
+def identifier_of(program, transcript, steps, step):
+    """The identifier of the policy that a step names, as its caller loads it after `steps`, or ""."""
+    question = (step.caller, f"meta-get policy/{step.policy}")
+    entry, = Asking(program, transcript, steps).replies([question])
+    return identifier_in(entry)
+
+
+def find_identifiers(program, transcript):
+    """Puts identifiers in place of the policies that steps name by `id:POLICY`, in the order of the steps.
+
+    The script is cut before such a step, and its caller loads the policy's record. Only `meta-put` gives a
+    policy another identifier.
+    """
+    steps, known = [], {}
+    for step in transcript.steps:
+        if step.verb == "meta-put":
+            known = {}
+        if step.policy:
+            identifier = known.get(step.policy) or identifier_of(program, transcript, steps, step)
+            known[step.policy] = identifier
+            if identifier:
+                step = step.with_identifier(identifier)
+            else:
+                transcript.refuse(step, f"names the policy {step.policy}, which no line before it has made")
+        steps.append(step)
+    transcript.steps = steps
+
+
 def keys_named(found):
     """The identifiers of the keys that the answers name, and the label of each policy that a record has."""
     keys, labels = {}, {}
@@ -127,10 +166,8 @@ def keys_named(found):
             keys[entry.answer[1]] = True
         if entry.verb == "set-policy" and not entry.refusal():
             keys[entry.words[1][16:]] = True
-        if entry.answer[0] == "record" and entry.words[0].startswith("policy/"):
-            lines = bytes.fromhex(entry.answer[2]).split(b"\n")
-            ids = [line[3:].decode("latin-1") for line in lines if line.startswith(b"id ")]
-            labels.update({id: entry.words[0].removeprefix("policy/") for id in ids[:1]})
+        if identifier_in(entry):
+            labels[identifier_in(entry)] = entry.words[0].removeprefix("policy/")
     return list(keys), labels
 
 
