@@ -72,9 +72,9 @@ def known_answers(tally):
 def lacking(folder, config, modules):
     """The exit status of a boot of a kernel with this config and these modules, and what it reports as missing."""
     for name, text in (("vmlinuz-1", ""), ("calls", ""), ("config-1", config)):
-        with open(os.path.join(folder, name), "w", encoding="utf-8") as it:
-            it.write(text)
-    words = [os.path.join(folder, it) for it in ("calls", "answers", "vmlinuz-1")]
+        with open(os.path.join(folder, name), "w", encoding="utf-8") as file:
+            file.write(text)
+    words = [os.path.join(folder, part) for part in ("calls", "answers", "vmlinuz-1")]
     ended = subprocess.run([os.path.join(os.path.dirname(DATA), "boot"), "drive", *words, *modules],
                            check=False, capture_output=True)
     return ended.returncode, re.findall(r"^boot:   (.*)$", ended.stderr.decode(), re.MULTILINE)
@@ -82,24 +82,24 @@ def lacking(folder, config, modules):
 
 def kernels_that_lack(tally):
     """Options and modules that a kernel lacks are reported before it is booted."""
-    with open(os.path.join(os.path.dirname(DATA), "boot"), encoding="utf-8") as it:
-        needed = re.search(r"^NEEDED=\((.*?)\)$", it.read(), re.MULTILINE | re.DOTALL)[1].split()
-    options = [f"CONFIG_{it.split(':')[0]}" for it in needed]
-    modules = {f"CONFIG_{it.split(':')[0]}": it.split(":")[1] for it in needed if ":" in it}
-    built_in = "".join(f"{it}=y\n" for it in options)
+    with open(os.path.join(os.path.dirname(DATA), "boot"), encoding="utf-8") as file:
+        needed = re.search(r"^NEEDED=\((.*?)\)$", file.read(), re.MULTILINE | re.DOTALL)[1].split()
+    options = [f"CONFIG_{option.split(':')[0]}" for option in needed]
+    modules = {f"CONFIG_{option.split(':')[0]}": option.split(":")[1] for option in needed if ":" in option}
+    built_in = "".join(f"{option}=y\n" for option in options)
     tally.wants("some options are needed, and some may be modules", len(options) > len(modules) > 1)
     with tempfile.TemporaryDirectory() as folder:
-        for it in options:
-            found = lacking(folder, built_in.replace(f"{it}=y\n", f"# {it} is not set\n"), [])
-            tally.wants(f"a kernel without {it} is refused", found == (2, [f"{it} is not set"]), str(found))
-        for it, module in modules.items():
-            config = built_in.replace(f"{it}=y\n", f"{it}=m\n")
+        for option in options:
+            found = lacking(folder, built_in.replace(f"{option}=y\n", f"# {option} is not set\n"), [])
+            tally.wants(f"a kernel without {option} is refused", found == (2, [f"{option} is not set"]), str(found))
+        for option, module in modules.items():
+            config = built_in.replace(f"{option}=y\n", f"{option}=m\n")
             found = lacking(folder, config, [])
-            wanted = f"{it} is a module, and there is no --modules"
-            tally.wants(f"a kernel with {it} as a module needs modules", found == (2, [wanted]), str(found))
+            wanted = f"{option} is a module, and there is no --modules"
+            tally.wants(f"a kernel with {option} as a module needs modules", found == (2, [wanted]), str(found))
             found = lacking(folder, config, [folder])
-            wanted = f"{it} is a module, and {folder} has no {module}.ko"
-            tally.wants(f"a kernel with {it} as a module needs that module", found == (2, [wanted]), str(found))
+            wanted = f"{option} is a module, and {folder} has no {module}.ko"
+            tally.wants(f"a kernel with {option} as a module needs that module", found == (2, [wanted]), str(found))
 
 
 CHECKS = (stored_answers, known_answers, kernels_that_lack)

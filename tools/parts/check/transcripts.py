@@ -113,7 +113,7 @@ def examples_of_transcripts(tally):
 def example_of_help(tally):
     """The transcript that --help shows is answered as it says."""
     _, printed, _ = transcript("", "--help")
-    given = "".join(it.strip() + "\n" for it in printed if re.match(r"    (user |\w+: )", it))
+    given = "".join(line.strip() + "\n" for line in printed if re.match(r"    (user |\w+: )", line))
     status, answered, told = transcript(given, "--strict")
     tally.wants("the transcript of --help is answered so", (status, told) == (0, []) and len(answered) > 10,
                 str((answered, told)))
@@ -257,13 +257,13 @@ def reports_without_expectations(tally):
     plain += "anna: lock docs\nanna: lock docs\nanna: status more\nanna: lock none\n"
     _, printed, _ = transcript(plain)
     answers = {" ".join(command.split()): answer for command, answer in
-               (re.split(r" += ", it) for it in printed if not it.startswith(("#", "user")))}
+               (re.split(r" += ", line) for line in printed if not line.startswith(("#", "user")))}
     wanted = {"anna: unlock docs login pass:secret": "ok",
               "anna: status docs": "status present self=1 users=1", "anna: lock docs": "refused",
               "anna: status more": "status absent self=0 users=0", "anna: lock none": "refused"}
     tally.wants("lock and status are printed with their replies",
-                {it: answers.get(it) for it in wanted} == wanted, str(answers))
-    lines = [" ".join(it.split()) for it in printed]
+                {command: answers.get(command) for command in wanted} == wanted, str(answers))
+    lines = [" ".join(line.split()) for line in printed]
     tally.wants("a lock is printed with what it removed",
                 "anna: lock docs = removed others=0 busy=0" in lines, str(lines))
 

@@ -126,8 +126,8 @@ def identifier_in(entry):
     if entry.answer[0] != "record" or not entry.words[0].startswith("policy/"):
         return ""
     lines = bytes.fromhex(entry.answer[2].removeprefix("-")).split(b"\n")
-    found = (it[3:].decode("latin-1") for it in lines if it.startswith(b"id ") and len(it) == ID_LINE)
-    return next((it for it in found if not it.strip(DIGITS)), "")
+    found = (line[3:].decode("latin-1") for line in lines if line.startswith(b"id ") and len(line) == ID_LINE)
+    return next((digits for digits in found if not digits.strip(DIGITS)), "")
 
 
 def identifier_of(program, transcript, steps, step):
