@@ -136,8 +136,8 @@ BAD_ARGUMENTS = [
 
 
 def faulty_lines(tally):
-    """All lines at fault are reported in one run, up to twenty; a command isn't reported only because there is no
-    caller before it."""
+    """All lines at fault are reported in one run, up to twenty; a command isn't reported only
+    because there is no caller before it."""
     script = b"add-key 00\nstat /\ncaller x\nmkdri /a\nstat /\nread 0 0\n"
     wanted = b"".join(b"fsc: line " + line + b"\n" for line in (
         b'1: "add-key" stands before the first caller; begin with caller UID',

@@ -70,7 +70,8 @@ def known_answers(tally):
 
 
 def lacking(folder, config, modules):
-    """The exit status of a boot of a kernel with this config and these modules, and what it reports as missing."""
+    """The exit status of a boot of a kernel with this config and these modules, and what it reports as
+    missing."""
     for name, text in (("vmlinuz-1", ""), ("calls", ""), ("config-1", config)):
         with open(os.path.join(folder, name), "w", encoding="utf-8") as file:
             file.write(text)
@@ -91,15 +92,18 @@ def kernels_that_lack(tally):
     with tempfile.TemporaryDirectory() as folder:
         for option in options:
             found = lacking(folder, built_in.replace(f"{option}=y\n", f"# {option} is not set\n"), [])
-            tally.wants(f"a kernel without {option} is refused", found == (2, [f"{option} is not set"]), str(found))
+            wanted = f"{option} is not set"
+            tally.wants(f"a kernel without {option} is refused", found == (2, [wanted]), str(found))
         for option, module in modules.items():
             config = built_in.replace(f"{option}=y\n", f"{option}=m\n")
             found = lacking(folder, config, [])
             wanted = f"{option} is a module, and there is no --modules"
-            tally.wants(f"a kernel with {option} as a module needs modules", found == (2, [wanted]), str(found))
+            tally.wants(f"a kernel with {option} as a module needs modules",
+                        found == (2, [wanted]), str(found))
             found = lacking(folder, config, [folder])
             wanted = f"{option} is a module, and {folder} has no {module}.ko"
-            tally.wants(f"a kernel with {option} as a module needs that module", found == (2, [wanted]), str(found))
+            tally.wants(f"a kernel with {option} as a module needs that module",
+                        found == (2, [wanted]), str(found))
 
 
 CHECKS = (stored_answers, known_answers, kernels_that_lack)

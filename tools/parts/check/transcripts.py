@@ -208,7 +208,8 @@ def keys_by_policies(tally):
     other = transcript(NAMED, "--script", "--seed", "1" * 64)[1]
     changed = NAMED.replace("policy-new more login pass:secret", "meta-put policy/more 0 text:id%20x%0A")
     status, _, told = transcript(changed)
-    tally.wants("a record without an identifier names no key", (status, len(told)) == (BAD_LINES, 3), str(told))
+    tally.wants("a record without an identifier names no key",
+                (status, len(told)) == (BAD_LINES, 3), str(told))
     tally.wants("another seed gives other identifiers", other != script and len(other) == len(script))
 
 
