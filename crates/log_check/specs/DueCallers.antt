@@ -1,8 +1,10 @@
 -- What comes behind entries that were read from a text.
-use Rattle.std.specs.Prelude.{◌≡◌, ℕ, false, List, [], ◌∷◌, ◌++◌, slice_get, Option, Some, None}
+use Rattle.std.specs.Prelude.{◌≡◌, ◌≢◌, ℕ, false, List, [], ◌∷◌, ◌++◌, slice_get, Option, Some, None}
 use Rattle.call_history.specs.Entries.{entry}
 use Rattle.mount_model.specs.declared.call.Call.{Call}
 use Rattle.mount_model.specs.declared.reply.Reply.{Reply}
+use Rattle.mount_model.specs.declared.reply.Reply.TheVariants.{Refused}
+use Rattle.mount_model.specs.declared.reply.Refusal.TheVariants.{NoMemory}
 use Rattle.mount_model.specs.Fits.{Fits}
 use Rattle.mount_model.specs.History.{History}
 use Rattle.script_lang.specs.declared.commands.Section.{Section}
@@ -25,12 +27,13 @@ abbrev pub IsWaiting : List CallerView → Option (ℕ × Call) → Type 0
 IsWaiting callers None = (number : ℕ) → IsCallAt callers number None
 IsWaiting callers (Some found) = IsCallAt callers found.0 (Some found.1)
 
--- the line of the caller's call with a reply of the mount
+-- the line of the caller's call with a reply of the mount, which isn't out of memory
 pub record IsAnsweredLine {M : Type 0} (led : History → M → Type 0) (old new : M) (place caller : ℕ) (call : Call)
     (line : List ℕ) : Type 0 where
   pub reply : Reply
   pub text_is : line ≡ entry_text place (entry caller call reply)
   pub in_range : EntryIsInRange (entry caller call reply)
+  pub memory : reply ≢ Refused NoMemory
   pub led_to : (history : History) → led history old → led (history ++ entry caller call reply ∷ []) new
 
 -- it comes behind any entries that were read from a text up to here, behind which the callers stand

@@ -1,21 +1,25 @@
 //! What a run of a script has at the place of a log's refusal.
 
-ghost use Rattle.std.specs.Prelude.{◌≡◌, [], All, IfOk, IfSome, length};
+ghost use Rattle.std.specs.Prelude.{◌≡◌, ◌≢◌, [], All, IfOk, IfSome, OnOk, length};
 ghost use Rattle.log_check.specs.Due.{IsDue};
 ghost use Rattle.log_check.specs.DueCallers.{IsAnsweredLine, IsCallAt, IsDueHere, IsWaiting};
 ghost use Rattle.mount_model.specs.Fits.{Fits};
+ghost use Rattle.mount_model.specs.declared.reply.Refusal.TheVariants.{NoMemory};
+ghost use Rattle.mount_model.specs.declared.reply.Reply.TheVariants.{Refused};
+ghost use Rattle.reply_text.specs.Log.{entry_text};
 ghost use Rattle.script_lang.specs.Spelled.{IsSpelled};
 
 use crate::ending::notes_of;
 use crate::one_thread::OneThread;
 use crate::reading::Reading;
+use crate::replied::wants_memory;
 use crate::start::{begin_callers, forget, forget_callers, remembering_ways};
 use argon_kdf::Stretch;
 use call_history::Entry;
 use fsc_commands::wipe_call;
 use fsc_session::scrub_stack;
 use item_list::Bytes;
-use mount_model::Call;
+use mount_model::{Call, Reply};
 use next_calls::{Caller, Remembering};
 use reply_text::{entry_in_range, entry_line};
 use script_lang::Script;
@@ -25,7 +29,7 @@ use text_words::{decimal_value, next_line, nth_word};
 /// What a run of a script has after the lines that a text has of it.
 #[derive(Drop)]
 pub enum Due {
-    /// This line, of a caller's next call, and the line of the script with its command.
+    /// This line, of a caller's next call, and the line of the script that the call's command is on.
     Line { line: Bytes, command: Option<u32> },
     /// The lines of these notes, since all calls are made.
     Notes(Bytes),
@@ -33,7 +37,8 @@ pub enum Due {
 
 /// Returns what a run of a script has after the first `place` lines of a text, on a mount that was not
 /// called yet, or `None` if no run has that many of them. If the text continues with a line of a caller
-/// that has a call to make, the result is that caller's line. The one error is out of memory.
+/// that has a call to make, the result is that caller's line. The one error is out of memory: its own,
+/// or the mount's at a call that it is asked.
 pub fn due_behind<S: Stretch, T: OneThread>(
     alloc: Global,
     stretches: &S,
@@ -125,9 +130,24 @@ fn due_line<T: OneThread>(
         reply,
     };
     entry_in_range(&answered);
-    let line = entry_line(alloc, place, &answered);
+    let line = answered_line(alloc, place, &answered);
     wipe_call(alloc, &mut answered.call);
     line
+}
+
+// The entry's line. If its reply is out of memory, there is no memory to find what a run has.
+fn answered_line(
+    alloc: Global,
+    place: u64,
+    answered: &Entry<Call, Reply>,
+) -> Result<Bytes, AllocError>
+    ensures line { IfOk result (λ line. line ≡ entry_text place answered.now) }
+    ensures memory { OnOk result (answered.now.reply ≢ Refused NoMemory) }
+{
+    if wants_memory(&answered.reply) {
+        return Err(AllocError);
+    }
+    entry_line(alloc, place, answered)
 }
 
 // Returns a caller that waits for a reply, by its number, with the call: the one that the text's next line

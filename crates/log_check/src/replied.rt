@@ -136,7 +136,7 @@ fn takes_memory(op: &Op) -> bool
 }
 
 // Whether the reply is out of memory.
-fn wants_memory(reply: &Reply) -> bool
+pub(crate) fn wants_memory(reply: &Reply) -> bool
     ensures { result ≡ false → reply.now ≢ Reply.Refused Refusal.NoMemory }
 {
     matches!(reply, Reply::Refused(Refusal::NoMemory))
