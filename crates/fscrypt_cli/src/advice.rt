@@ -22,11 +22,11 @@ pub(crate) struct WordFault {
 
 const NO_WORDS: &str = "give a form: fsc replay < SCRIPT runs a script; fsc --help lists the forms";
 
-const HELP_TELLS: &str = "--help tells of the forms and commands";
+const HELP_TELLS: &str = "--help lists the forms and commands";
 
-const VERSION_TELLS: &str = "--version tells the version";
+const VERSION_TELLS: &str = "--version prints the version";
 
-const REPLAY_FIRST: &str = "replay stands first: fsc replay --serial --seed HEX64";
+const REPLAY_FIRST: &str = "replay comes first: fsc replay --serial --seed HEX64";
 
 // First arguments that are no form, and the remedy for each.
 static NO_FORMS: [(&str, &str); 9] = [
@@ -40,7 +40,7 @@ static NO_FORMS: [(&str, &str); 9] = [
     ("--seed", REPLAY_FIRST),
     (
         "--summary",
-        "gen NUMBER stands first: fsc gen NUMBER --summary",
+        "gen NUMBER comes first: fsc gen NUMBER --summary",
     ),
 ];
 
@@ -120,7 +120,7 @@ fn fault_of(words: &[String]) -> Option<WordFault> {
         "check" => fault_of_check(behind),
         "inspect" => fault_of_inspect(behind),
         "--help" | "--version" if behind.is_empty() => None,
-        "--help" | "--version" => at(1, "nothing stands behind --help and --version"),
+        "--help" | "--version" => at(1, "nothing comes after --help and --version"),
         word => at(0, remedy_of_first(word)),
     }
 }
@@ -152,13 +152,13 @@ pub(crate) fn is_path(word: &str) -> bool {
 // Returns the first argument at fault after `gen`.
 fn fault_of_gen(words: &[String]) -> Option<WordFault> {
     match words {
-        [] => at(1, "a number from 0 to 4294967295 stands behind gen"),
+        [] => at(1, "a number from 0 to 4294967295 comes after gen"),
         [number, ..] if decimal_value(number.as_bytes()).is_none() => at(1, NUMBER_OF_GEN),
         [_, option, ..] if option.as_str() != "--summary" => at(
             2,
-            "behind the number of gen stands --summary alone",
+            "after the number of gen comes --summary alone",
         ),
         [_] | [_, _] => None,
-        _ => at(3, "nothing stands behind --summary"),
+        _ => at(3, "nothing comes after --summary"),
     }
 }

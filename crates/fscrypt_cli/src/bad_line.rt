@@ -20,7 +20,7 @@ const LISTED: &str = "fsc --help lists the commands";
 
 // It is printed for a long log after a script too, so it contains both remedies.
 const NO_ROOM: &str =
-    "there was no room to tell why it is at fault; try the script alone, or where more memory is free";
+    "there was no memory to find why it is at fault; try the script alone, or with more memory free";
 
 const COMMENT: &str = "a comment is a line of its own";
 
@@ -210,7 +210,7 @@ fn remedy_of_spelling(word: &[u8], kind: WordKind) -> &'static str {
     match kind {
         WordKind::Path | WordKind::Target | WordKind::Secret | WordKind::NewSecret
             if word.contains(&b'%') => {
-            "behind each % stand two hexadecimal digits, and % itself is %25"
+            "two hexadecimal digits follow each %, and % itself is %25"
         }
         WordKind::Number | WordKind::FilledLength | WordKind::Byte =>
             "write it without leading zeros or a sign",

@@ -83,14 +83,14 @@ pub(crate) static GROUPS: [Group; 7] = [
             ("close HANDLE", "the end of a handle"),
             (
                 "read HANDLE OFFSET LENGTH",
-                "at most so many bytes, up to 4096",
+                "at most that many bytes, up to 4096",
             ),
             ("write HANDLE OFFSET HEX", "these bytes, or none for -"),
             (
                 "fill HANDLE OFFSET LENGTH BYTE",
-                "so many times one byte, 0 to 255",
+                "one byte that many times, 0 to 255",
             ),
-            ("drop-caches", "let go of what is kept for speed"),
+            ("drop-caches", "drop what is cached for speed"),
         ],
     },
     Group {
@@ -113,7 +113,7 @@ pub(crate) static GROUPS: [Group; 7] = [
             ),
             (
                 "protector-link PROTECTOR",
-                "say that it lies on another mount",
+                "say that it is on another mount",
             ),
             (
                 "policy-new POLICY PROTECTOR SECRET [PAD UNIT]",

@@ -38,17 +38,17 @@ protector-link stores links to protectors of mount 0, which they follow.
 gen writes the script that a number gives, from 0 to 4294967295. With --summary
 it runs that script in turns and writes entries, refused, busy and sha256.
 
-dump runs a script in turns, and writes the image of what then lies on the disk.
+dump runs a script in turns, and writes the image of what is then on the disk.
 inspect reads an image and lists its tree: with a raw key of 32 to 64 bytes in
-plain where that key encrypts it, else by the texts that stand for names.
+plain where that key encrypts it, else by the texts that represent names.
 
-check reads a script, a line --- and a log, and tells whether a run of the
+check reads a script, a line --- and a log, and reports whether a run of the
 script with the seed can have printed the log: if not, from which place on, and
 what a run has there. With --strict no call may have been out of memory.
 
 A script has a section for each of up to eight callers, which begins with
-`caller UID`, and in it a command a line. Words are parted by one space. A line
-that begins with # says nothing.
+`caller UID`, and in it a command a line. One space separates words. A line
+that begins with # is a comment.
 ";
 
 // The column of a command's meaning, if its words leave space for it.
@@ -69,8 +69,8 @@ cut: 0 for a block, or 9, 10, 11 or 12 for 512, 1024, 2048 or 4096 bytes.
 SECRET is `raw:` and 64 digits, or `pass:` and a passphrase; a NEWSECRET has the
 costs of stretching before its passphrase: `pass:PASSES:KIB:LANES:`.
 
-A command of a session makes one call to four, and ends with a note behind the
-log's entries, which tells how it ended.
+A command of a session makes one call to four, and ends with a note after the
+log's entries, which says how it ended.
 
 Callers that take turns run the first command of each section in order, then the
 second of each section that has one, and so on. Callers count from 0.
@@ -87,7 +87,7 @@ Example, where SEED is 64 hexadecimal digits:
     fsc replay --serial --seed SEED < examples/two-callers.fsc
 ";
 
-const NO_PARTING_LINE: &str = "no line --- stands between the script and its log";
+const NO_PARTING_LINE: &str = "no line --- is between the script and its log";
 
 const REFUSED: &str = "no run has a log that goes on so: places count from 0, a line each";
 
@@ -158,7 +158,7 @@ fn advise_on_line(rt: &HostRuntime, asked: Asked, line: u32, text: Option<&[u8]>
     match asked {
         Asked::Listing => remark(
             rt,
-            "docs/FORMATS.md tells of the lines of an image, under Images",
+            "docs/FORMATS.md has the lines of an image, under Images",
         ),
         Asked::Verdict => {
             let is_parted = is_parted(text);
@@ -221,6 +221,6 @@ fn tell_of_input(rt: &HostRuntime, asked: Asked) {
 fn tell_of_output(rt: &HostRuntime, asked: Asked) {
     let output = asked.output();
     let _ = eprintln!(rt;
-        "fsc: what was written is a beginning of the {output}; make room and run it again"
+        "fsc: what was written is a beginning of the {output}; free some space and run it again"
     );
 }

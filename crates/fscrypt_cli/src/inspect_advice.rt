@@ -15,7 +15,7 @@ pub(crate) fn fault_of_inspect(words: &[String]) -> Option<WordFault> {
         [] => None,
         [key, ..] if !is_raw_key(key.as_str()) => at(1, remedy_of_raw_key(key.as_str())),
         [_] => None,
-        _ => at(2, "nothing stands behind the key"),
+        _ => at(2, "nothing comes after the key"),
     }
 }
 

@@ -61,7 +61,7 @@ const OPTIONS_OF_REPLAY: &str = "replay has the options --serial and --seed HEX6
 const OPTIONS_OF_LINKED: &str =
     "replay-linked takes a seed: fsc replay-linked --seed HEX64, or with --serial before it";
 
-const SERIAL_FIRST: &str = "--serial stands before --seed";
+const SERIAL_FIRST: &str = "--serial comes before --seed";
 
 const ONE_SERIAL: &str = "one --serial is enough";
 
@@ -96,7 +96,7 @@ fn remedy_of_option(word: &str) -> &'static str {
         return ONE_SERIAL;
     }
     if word == "--summary" {
-        return "--summary stands behind gen NUMBER";
+        return "--summary comes after gen NUMBER";
     }
     if word.starts_with("--seed=") {
         return "the seed is a word of its own: --seed HEX64";
@@ -150,7 +150,7 @@ fn fault_of_digits(words: &[String], place: usize, form: &SeedForm) -> Option<Wo
     requires { place ≤ 3 }
 {
     match words {
-        [] => at(place, "64 hexadecimal digits stand behind --seed"),
+        [] => at(place, "64 hexadecimal digits come after --seed"),
         [seed, ..] if !is_seed(seed.as_str()) => at(place, remedy_of_seed(seed.as_str())),
         [_] => None,
         [_, word, ..] => at(place + 1, remedy_behind_seed(word.as_str(), form)),
@@ -173,7 +173,7 @@ fn remedy_behind_seed(word: &str, form: &SeedForm) -> &'static str {
     match word {
         "--serial" => form.serial,
         "--seed" => "one seed is enough",
-        option if option.starts_with("-") => "nothing stands behind the seed",
+        option if option.starts_with("-") => "nothing comes after the seed",
         _ => form.file,
     }
 }

@@ -19,7 +19,7 @@ use thiserror::Error;
 
 /// The decrypted name begins with NUL, so the stored name was not made under this key.
 #[derive(Clone, Copy, Debug, PartialEq, Eq, Error)]
-#[error("the deciphered name is empty")]
+#[error("the decrypted name is empty")]
 pub struct NotPlain;
 
 /// Returns the stored name of a name or target, under a names key of 32 bytes. `steps` counts one more.

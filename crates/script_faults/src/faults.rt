@@ -16,7 +16,7 @@ pub enum LineFault {
     ByteOrderMark,
     #[error("has a carriage return")]
     CarriageReturn,
-    #[error("has a tab, where one space parts two words")]
+    #[error("has a tab, where one space separates two words")]
     Tab,
     /// A space is at the beginning, at the end, or after another.
     #[error("has a space too many")]
@@ -28,10 +28,10 @@ pub enum LineFault {
     #[error("has too many words")]
     TooManyWords,
     /// The first word that is not of the required kind, by its number among those after the name, from 1.
-    #[error("has a word, number {number} behind it, that is no {kind}")]
+    #[error("has a word, number {number} after it, that is no {kind}")]
     NoSuchWord { number: usize, kind: WordKind },
     /// It is a command before the first caller.
-    #[error("stands before the first caller")]
+    #[error("comes before the first caller")]
     NoCallerYet,
     #[error("names a ninth caller")]
     NinthCaller,

@@ -16,7 +16,7 @@ COMMENT = b"a comment is a line of its own"
 
 def no_word(name, number, kind, remedy):
     """What is printed of a word of a command that is none of its kind."""
-    fault = b'line 2: "' + name + b'" has a word, number %d behind it, that is no ' % number
+    fault = b'line 2: "' + name + b'" has a word, number %d after it, that is no ' % number
     return fault + kind + b"; " + remedy
 
 
@@ -28,11 +28,11 @@ LINES_AT_FAULT = [
     (b"caller 0", b'line 1: "caller" is not ended by a line feed; end the last line by a line feed'),
     (b"\xef\xbb\xbfcaller 0\n", b'line 1: "" begins with a byte order mark; save the script without it'),
     (b"caller 0\r\n", b'line 1: "caller" has a carriage return; save the script with line feeds alone'),
-    (b"caller\t0\n", b'line 1: "caller" has a tab, where one space parts two words; ' + LISTED),
+    (b"caller\t0\n", b'line 1: "caller" has a tab, where one space separates two words; ' + LISTED),
     (b"caller  0\n", b'line 1: "caller" has a space too many; ' + LISTED),
     (b"caller 0 \n", b'line 1: "caller" has a space too many; ' + LISTED),
     (b" caller 0\n", b'line 1: "" has a space too many; ' + LISTED),
-    (b"caller 007\n", b'line 1: "caller" has a word, number 1 behind it, that is no ' + NUMBER
+    (b"caller 007\n", b'line 1: "caller" has a word, number 1 after it, that is no ' + NUMBER
      + b"; write it without leading zeros or a sign"),
     (b"caller\n", b'line 1: "caller" has too few words; caller UID'),
     (b"caller 0 1\n", b'line 1: "caller" has too many words; caller UID'),
@@ -47,14 +47,14 @@ LINES_AT_FAULT = [
     (CALLER + b"unlock d p raw:" + b"1" * 63 + b"\n",
      no_word(b"unlock", 3, SECRET_KIND, b"their number is odd: a byte is two digits")),
     (CALLER + b"unlock d p pass:50%\n",
-     no_word(b"unlock", 3, SECRET_KIND, b"behind each % stand two hexadecimal digits, and % itself is %25")),
+     no_word(b"unlock", 3, SECRET_KIND, b"two hexadecimal digits follow each %, and % itself is %25")),
     (CALLER + b"mkdir /\xc3\xa9\n",
      no_word(b"mkdir", 1, PATH_KIND, b"write a byte outside of ! to ~ as %XX")),
     (CALLER + b"unlock d p pass:correct horse\n",
      b'line 2: "unlock" has too many words; write a space in a passphrase as %20'),
     (CALLER + b"mkdir /a b\n", b'line 2: "mkdir" has too many words; write a space in a path as %20'),
     (CALLER + b"mkdir /a # a directory\n", b'line 2: "mkdir" has too many words; ' + COMMENT),
-    (b"# keys\n\nadd-key 00\n", b'line 3: "add-key" stands before the first caller; begin with caller UID'),
+    (b"# keys\n\nadd-key 00\n", b'line 3: "add-key" comes before the first caller; begin with caller UID'),
     (CALLER * 9, b'line 9: "caller" names a ninth caller; a script has at most eight callers'),
 ]
 BY_INPUT = ": the script comes from standard input: fsc replay < FILE"
@@ -66,15 +66,15 @@ BAD_ARGUMENTS = [
     (["replay", "share.fsc"], 'word 2, "share.fsc"' + BY_INPUT),
     ([*SERIAL, "share.fsc"], 'word 5, "share.fsc"' + BY_INPUT),
     (["frobnicate"], 'word 1, "frobnicate"' + FORMS),
-    (["-h"], 'word 1, "-h": --help tells of the forms and commands'),
-    (["-V"], 'word 1, "-V": --version tells the version'),
-    (["--help", "me"], 'word 2, "me": nothing stands behind --help and --version'),
-    (["--serial"], 'word 1, "--serial": replay stands first: fsc replay --serial --seed HEX64'),
-    (["replay", "--seed", ZEROS, "--serial"], 'word 4, "--serial": --serial stands before --seed'),
+    (["-h"], 'word 1, "-h": --help lists the forms and commands'),
+    (["-V"], 'word 1, "-V": --version prints the version'),
+    (["--help", "me"], 'word 2, "me": nothing comes after --help and --version'),
+    (["--serial"], 'word 1, "--serial": replay comes first: fsc replay --serial --seed HEX64'),
+    (["replay", "--seed", ZEROS, "--serial"], 'word 4, "--serial": --serial comes before --seed'),
     (["replay", "--serial", "--serial"], 'word 3, "--serial": one --serial is enough'),
     (["replay", "--seed", ZEROS, "--seed"], 'word 4, "--seed": one seed is enough'),
     (["replay", "-s"], 'word 2, "-s": replay has the options --serial and --seed HEX64, in this order'),
-    (["replay", "--seed"], "64 hexadecimal digits stand behind --seed"),
+    (["replay", "--seed"], "64 hexadecimal digits come after --seed"),
     (["replay", "--seed", ZEROS[1:]], "word 3: a seed is 64 hexadecimal digits"),
     (["replay", "--seed", "0x" + ZEROS], "word 3: a seed is 64 hexadecimal digits, without 0x"),
     (["replay", "--seed=00"], "word 2: the seed is a word of its own: --seed HEX64"),
@@ -83,17 +83,17 @@ BAD_ARGUMENTS = [
     (["gen", ZEROS], "word 2: gen takes a number from 0 to 4294967295, without leading zeros"),
     ([ZEROS[:32]], "word 1" + FORMS),
     ([ZEROS[:31]], f'word 1, "{ZEROS[:31]}"' + FORMS),
-    (["replay", "--summary"], 'word 2, "--summary": --summary stands behind gen NUMBER'),
-    (["gen"], "a number from 0 to 4294967295 stands behind gen"),
+    (["replay", "--summary"], 'word 2, "--summary": --summary comes after gen NUMBER'),
+    (["gen"], "a number from 0 to 4294967295 comes after gen"),
     (["gen", "007"], 'word 2, "007": gen takes a number from 0 to 4294967295, without leading zeros'),
-    (["gen", "1", "2"], 'word 3, "2": behind the number of gen stands --summary alone'),
-    (["gen", "1", "--summary", "2"], 'word 4, "2": nothing stands behind --summary'),
+    (["gen", "1", "2"], 'word 3, "2": after the number of gen comes --summary alone'),
+    (["gen", "1", "--summary", "2"], 'word 4, "2": nothing comes after --summary'),
     (["dump"], "dump takes a seed alone: fsc dump --seed HEX64"),
     (["check"], "check takes a seed: fsc check --seed HEX64, or with --strict before it"),
     (["check", "a.log"],
      'word 2, "a.log": check takes a seed: fsc check --seed HEX64, or with --strict before it'),
     (["check", "--strict"], "check takes a seed: fsc check --seed HEX64, or with --strict before it"),
-    (["check", "--seed", ZEROS, "--strict"], 'word 4, "--strict": nothing stands behind the seed'),
+    (["check", "--seed", ZEROS, "--strict"], 'word 4, "--strict": nothing comes after the seed'),
     (["replay-linked"],
      "replay-linked takes a seed: fsc replay-linked --seed HEX64, or with --serial before it"),
     (["replay-linked", "a.fsc"], 'word 2, "a.fsc": replay-linked takes a seed: fsc replay-linked --seed '
@@ -104,14 +104,14 @@ BAD_ARGUMENTS = [
     (["replay-linked", "--serial", "--seed", ZEROS[1:]], "word 4: a seed is 64 hexadecimal digits"),
     (["replay-linked", "--seed", ZEROS, "a.fsc"],
      'word 4, "a.fsc": the script comes from standard input: fsc replay-linked --seed HEX64 < FILE'),
-    (["replay-linked", "--seed", ZEROS, "--serial"], 'word 4, "--serial": --serial stands before --seed'),
+    (["replay-linked", "--seed", ZEROS, "--serial"], 'word 4, "--serial": --serial comes before --seed'),
     (["replay-linked", "--serial", "--seed", ZEROS, "a.fsc"],
      'word 5, "a.fsc": the script comes from standard input: '
      'fsc replay-linked --serial --seed HEX64 < FILE'),
     (["replay-linked", "--serial", "--seed", ZEROS, "--serial"],
      'word 5, "--serial": one --serial is enough'),
     (["dump", "--serial"], 'word 2, "--serial": dump takes a seed alone: fsc dump --seed HEX64'),
-    (["dump", "--seed"], "64 hexadecimal digits stand behind --seed"),
+    (["dump", "--seed"], "64 hexadecimal digits come after --seed"),
     (["dump", "--seed", "0x" + ZEROS], "word 3: a seed is 64 hexadecimal digits, without 0x"),
     (["dump", "--seed", ZEROS, "share.fsc"],
      'word 4, "share.fsc": the script comes from standard input: fsc dump --seed HEX64 < FILE'),
@@ -122,7 +122,7 @@ BAD_ARGUMENTS = [
      'word 4, "a.log": the script and its log come from standard input: fsc check --seed HEX64 < FILE'),
     (["check", "--seed", ZEROS, "--serial"],
      'word 4, "--serial": check takes a seed: fsc check --seed HEX64, or with --strict before it'),
-    (["check", "--seed", ZEROS, "-x"], 'word 4, "-x": nothing stands behind the seed'),
+    (["check", "--seed", ZEROS, "-x"], 'word 4, "-x": nothing comes after the seed'),
     (["inspect", "raw:00"],
      'word 2, "raw:00": a raw key is raw: and 64 to 128 hexadecimal digits, an even number'),
     (["inspect", "raw:" + ZEROS + "0"],
@@ -130,7 +130,7 @@ BAD_ARGUMENTS = [
     (["inspect", "id:" + ZEROS[:32]], "word 2: an identifier opens nothing: give the key itself by raw:HEX"),
     (["inspect", "an.image"], 'word 2, "an.image": the image comes from standard input: fsc inspect < FILE'),
     (["inspect", "--seed"], 'word 2, "--seed": inspect takes a raw key, raw:HEX, or nothing'),
-    (["inspect", "raw:" + ZEROS, "more"], 'word 3, "more": nothing stands behind the key'),
+    (["inspect", "raw:" + ZEROS, "more"], 'word 3, "more": nothing comes after the key'),
     ([b"\xff"], "a word of the command line is no text"),
 ]
 
@@ -140,8 +140,8 @@ def faulty_lines(tally):
     because there is no caller before it."""
     script = b"add-key 00\nstat /\ncaller x\nmkdri /a\nstat /\nread 0 0\n"
     wanted = b"".join(b"fsc: line " + line + b"\n" for line in (
-        b'1: "add-key" stands before the first caller; begin with caller UID',
-        b'3: "caller" has a word, number 1 behind it, that is no ' + NUMBER
+        b'1: "add-key" comes before the first caller; begin with caller UID',
+        b'3: "caller" has a word, number 1 after it, that is no ' + NUMBER
         + b"; write it without leading zeros or a sign",
         b'4: "mkdri" is no command; ' + LISTED, b'6: "read" has too few words; read HANDLE OFFSET LENGTH'))
     status, got, told = run(SERIAL, script)

@@ -173,7 +173,7 @@ def told_faults(tally):
     """The number of a line at fault is followed by the reason, and before that, where no line --- parts the
     input, that it lacks one."""
     script = b"caller 1000\ncreate /a\n"
-    parting = b"no line --- stands between the script and its log"
+    parting = b"no line --- is between the script and its log"
     behind = parting + b"\nfsc: "
     not_ended = b"is not ended by a line feed; end the last line by a line feed"
     is_none = b'line 2: "mkdri" is no command; fsc --help lists the commands'

@@ -67,7 +67,7 @@ def bad_lines_without_memory(tally):
                 if status != NO_MEMORY:
                     reasons.add(told)
             head = b"fsc: bad line 2\nfsc: "
-            parting = b"no line --- stands between the script and its log\nfsc: "
+            parting = b"no line --- is between the script and its log\nfsc: "
             wanted = {head + b"line 2: " + message + b"\n" for message in (known, no_room)}
             if words[0] == "check":
                 # of a text that isn't kept nobody knows whether such a line is there
