@@ -1,4 +1,4 @@
--- What a run has behind so many lines of a text.
+-- What a run has after that many lines of a text.
 use Rattle.std.specs.Prelude.{◌≡◌, ◌≢◌, ℕ, List, [], ◌∷◌, ◌++◌, length, slice_get, All, Option, Some}
 use Rattle.call_history.specs.Placed.{entries_of}
 use Rattle.mount_model.specs.declared.reply.Reply.TheVariants.{Refused}

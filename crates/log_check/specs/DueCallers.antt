@@ -1,4 +1,4 @@
--- What comes behind entries that were read from a text.
+-- What comes after entries that were read from a text.
 use Rattle.std.specs.Prelude.{◌≡◌, ◌≢◌, ℕ, false, List, [], ◌∷◌, ◌++◌, slice_get, Option, Some, None}
 use Rattle.call_history.specs.Entries.{entry}
 use Rattle.mount_model.specs.declared.call.Call.{Call}
@@ -36,7 +36,7 @@ pub record IsAnsweredLine {M : Type 0} (led : History → M → Type 0) (old new
   pub memory : reply ≢ Refused NoMemory
   pub led_to : (history : History) → led history old → led (history ++ entry caller call reply ∷ []) new
 
--- it comes behind any entries that were read from a text up to here, behind which the callers stand
+-- it comes after any entries that were read from a text up to here, after which the callers are
 abbrev pub IsDueHere : {M : Type 0} → (History → M → Type 0) → List CallerView → ℕ → List ℕ → M → Due → Type 0
 IsDueHere led callers place rest mount due =
     (seed : List ℕ) (script : List Section) (whole : List ℕ) (history : History)

@@ -15,7 +15,7 @@ TurnState V C R = State (Option (Standing V C R)) (View C R)
 
 module _ {C R : Type 0} where
   -- Word 0 is the turn, which is free at 0, word 1 counts the calls. While the turn is free a value is at
-  -- home, and it stands after the whole history
+  -- home, and the whole history has led to it
   pub record Kept {V : Type 0} (leads : History C R → V → Type 0) (numbers allowance : ℕ)
       (s : TurnState V C R) : Type 0 where
     pub history : History C R
